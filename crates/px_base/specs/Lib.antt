@@ -1,0 +1,4 @@
+pub mod formers
+pub mod ListLaws
+pub mod Sets
+pub mod SetLaws

@@ -1,0 +1,5 @@
+use Rattle.px_terms.specs.MergedNames.{merged_names}
+use Rattle.px_terms.proofs.laws.merged_names.Goals as goal
+
+pub returns : goal.returns
+returns c = merged_names

@@ -1,0 +1,17 @@
+pub mod AtomSets
+pub mod Clauses
+pub mod InstanceLaws
+pub mod Instances
+pub mod Language
+pub mod MergedNames
+pub mod OperatorLaws
+pub mod Operators
+pub mod Order
+pub mod OrderLaws
+pub mod Padding
+pub mod Plans
+pub mod Soundness
+pub mod States
+pub mod Substitution
+pub mod Validity
+pub mod ValidityLaws

@@ -1,0 +1,49 @@
+-- Operator instances: what they need, delete and add, and the world models that they leave.
+use Rattle.std.specs.Prelude.{Bool, not, List, [], ◌∷◌, ◌++◌, Any, map, filter, slice_index_or}
+use Rattle.std.specs.List.{list_any}
+use Rattle.px_terms.specs.declared.atom.Atom.{Atom}
+use Rattle.px_terms.specs.declared.instance.OpInst.{OpInst}
+use Rattle.px_terms.specs.declared.problem.Problem.{Problem}
+use Rattle.px_terms.specs.declared.problem.Schema.{Schema}
+use Rattle.px_terms.specs.Instances.{IsInstance, is_instance}
+use Rattle.px_terms.specs.AtomSets.{atom_set}
+use Rattle.px_terms.specs.Substitution.{substitute_atom}
+
+-- the instance's atoms of a list of the schema
+abbrev pub atoms_of : List Atom → OpInst → List Atom
+atoms_of atoms inst = map (substitute_atom inst.args) atoms
+
+-- one of the delete patterns stands for the atom
+abbrev pub IsDeleted : Schema → OpInst → Atom → Type 0
+IsDeleted schema inst atom = Any (λ pattern. IsInstance atom (substitute_atom inst.args pattern)) schema.del
+
+abbrev pub is_deleted : Schema → OpInst → Atom → Bool
+is_deleted schema inst atom = list_any (λ pattern. is_instance atom (substitute_atom inst.args pattern)) schema.del
+
+-- the set of the atoms that the instance doesn't delete, together with those that it adds
+abbrev pub result_by : Schema → List Atom → OpInst → List Atom
+result_by schema atoms inst = atom_set (filter (λ atom. not (is_deleted schema inst atom)) atoms ++ atoms_of schema.add inst)
+
+-- an operator that the problem hasn't
+abbrev pub no_schema : Schema
+no_schema = record { op = 0; params = 0; pre = []; del = []; add = [] }
+
+abbrev pub schema_of : Problem → OpInst → Schema
+schema_of problem inst = slice_index_or problem.schemas inst.op no_schema
+
+abbrev pub precondition : Problem → OpInst → List Atom
+precondition problem inst = atoms_of (schema_of problem inst).pre inst
+
+abbrev pub adds : Problem → OpInst → List Atom
+adds problem inst = atoms_of (schema_of problem inst).add inst
+
+abbrev pub deletes : Problem → OpInst → Atom → Bool
+deletes problem inst atom = is_deleted (schema_of problem inst) inst atom
+
+abbrev pub result_of : Problem → List Atom → OpInst → List Atom
+result_of problem atoms inst = result_by (schema_of problem inst) atoms inst
+
+-- the instances are applied in order
+abbrev pub results_of : Problem → List Atom → List OpInst → List Atom
+results_of problem atoms [] = atoms
+results_of problem atoms (inst ∷ insts) = results_of problem (result_of problem atoms inst) insts

@@ -1,0 +1,75 @@
+-- Problems whose numbers are in range, and the atoms and operator instances that belong to them.
+use Rattle.std.specs.Prelude.{◌≡◌, ℕ, ◌<◌, ◌≤◌, List, length, All, slice_index, slice_index_or, EachIndex}
+use Rattle.px_terms.specs.declared.atom.Atom.{Atom}
+use Rattle.px_terms.specs.declared.clause.Clause.{Clause}
+use Rattle.px_terms.specs.declared.instance.OpInst.{OpInst}
+use Rattle.px_terms.specs.declared.problem.Problem.{Problem}
+use Rattle.px_terms.specs.declared.problem.Schema.{Schema}
+use Rattle.px_terms.specs.declared.term.Term.{Term}
+use Rattle.px_terms.specs.declared.term.Term.TheVariants.{Obj, Var, Any}
+use Rattle.px_terms.specs.Language.{IsObject, IsPlainBelow, IsVariableBelow}
+use Rattle.px_terms.specs.Operators.{no_schema, schema_of}
+
+-- the term is one of the problem's objects or one of `vars` variables
+abbrev pub IsTermOf : Problem → ℕ → Term → Type 0
+IsTermOf problem vars (Obj n) = n < problem.objects
+IsTermOf problem vars (Var v) = v < vars
+IsTermOf problem vars Any = ⊥
+
+-- the same, or the wild card
+abbrev pub IsPatternTermOf : Problem → ℕ → Term → Type 0
+IsPatternTermOf problem vars (Obj n) = n < problem.objects
+IsPatternTermOf problem vars (Var v) = v < vars
+IsPatternTermOf problem vars Any = Unit {0}
+
+-- the predicate is the problem's, and has this number of arguments
+abbrev pub HasArity : Problem → Atom → Type 0
+HasArity problem atom = (atom.pred < length problem.arities) × (length atom.args ≡ slice_index problem.arities atom.pred)
+
+abbrev pub IsAtomOf : Problem → ℕ → Atom → Type 0
+IsAtomOf problem vars atom = HasArity problem atom × All (IsTermOf problem vars) atom.args
+
+abbrev pub IsPatternOf : Problem → ℕ → Atom → Type 0
+IsPatternOf problem vars atom = HasArity problem atom × All (IsPatternTermOf problem vars) atom.args
+
+-- the schema's variables are its parameters, and `Any` stands in its delete list alone
+pub record IsSchemaWellFormed (schema : Schema) : Type 0 where
+  pub pre : All (λ atom. All (IsPlainBelow schema.params) atom.args) schema.pre
+  pub add : All (λ atom. All (IsPlainBelow schema.params) atom.args) schema.add
+  pub del : All (λ atom. All (IsVariableBelow schema.params) atom.args) schema.del
+
+abbrev pub IsShort : {X : Type 0} → List X → Type 0
+IsShort xs = length xs < 4294967295
+
+pub record IsSchemaOf (problem : Problem) (place : ℕ) (schema : Schema) : Type 0 where
+  pub number : schema.op ≡ place
+  pub params : schema.params ≤ 8
+  pub pre : All (IsAtomOf problem schema.params) schema.pre
+  pub del : All (IsPatternOf problem schema.params) schema.del
+  pub add : All (IsAtomOf problem schema.params) schema.add
+  pub short : IsShort schema.pre × IsShort schema.del × IsShort schema.add
+
+pub record IsAxiomOf (problem : Problem) (clause : Clause) : Type 0 where
+  pub vars : clause.vars ≤ 12
+  pub lits : All (λ lit. IsAtomOf problem clause.vars lit.atom) clause.lits
+
+pub record IsValid (problem : Problem) : Type 0 where
+  pub schemas : EachIndex problem.schemas (λ k. IsSchemaOf problem k (slice_index_or problem.schemas k no_schema))
+  pub axioms : All (IsAxiomOf problem) problem.axioms
+  pub short : IsShort problem.arities × IsShort problem.schemas
+  pub height : (1 ≤ problem.height) × (problem.height ≤ 8)
+  pub nodes : (1 ≤ problem.nodes) × (problem.nodes ≤ 50000)
+  pub shapes : (2 ≤ problem.shapes) × (problem.shapes ≤ 70000)
+  pub no_objects : problem.objects ≡ 0 → All (λ schema. schema.params ≡ 0) problem.schemas × All (λ clause. clause.vars ≡ 0) problem.axioms
+
+-- a ground instance of one of the problem's operators, over any objects
+pub record IsGroundInstanceOf (problem : Problem) (inst : OpInst) : Type 0 where
+  pub op : inst.op < length problem.schemas
+  pub count : length inst.args ≡ (schema_of problem inst).params
+  pub all_objects : All IsObject inst.args
+
+-- a ground instance of one of the problem's operators, over its objects
+pub record IsInstanceOf (problem : Problem) (inst : OpInst) : Type 0 where
+  pub op : inst.op < length problem.schemas
+  pub count : length inst.args ≡ (schema_of problem inst).params
+  pub objects : All (IsTermOf problem 0) inst.args

@@ -1,0 +1,132 @@
+ghost use Rattle.std.specs.Prelude.{◌≡◌, ◌<◌, ◌≤◌, ◌↔◌, ◌++◌, [], ◌∷◌, length, slice_index_or, All, IfOk, OnErr};
+ghost use Rattle.px_terms.specs.Clauses.{ArePlainBelow, HasClauseLength, IsArena};
+
+use crate::atom::Atom;
+use px_base::{NoMemory, Sequence};
+use std::alloc::Global;
+use std::marker::Model;
+use thiserror::Error;
+
+/// A literal: an atom, or its denial.
+#[derive(Clone, Copy, PartialEq, Eq, PartialOrd, Ord, Hash, Debug)]
+pub struct Lit {
+    /// Whether the atom is asserted.
+    pub positive: bool,
+    pub atom: Atom,
+}
+
+/// Why a clause isn't taken.
+#[derive(Debug, Drop, Error)]
+pub enum ArenaErr {
+    /// There is no literal, or more than six.
+    #[error("a clause has one to six literals")]
+    BadLength,
+    /// The arena holds 64 clauses.
+    #[error("there are 64 clauses")]
+    Full,
+    /// There is no memory for the clause.
+    #[error("out of memory")]
+    NoMemory,
+}
+
+/// An axiom: one of its literals is true in every state, whatever its variables, `vars` in number, stand for.
+#[derive(Drop)]
+pub struct Clause {
+    pub vars: u32,
+    pub lits: Sequence<Lit>,
+}
+
+/// The axioms of a problem by their numbers: at most 64 clauses of one to six literals, without wild cards and with
+/// variables in range. Contracts see it as the list of its clauses.
+#[derive(Drop)]
+pub struct ClauseArena {
+    clauses: Vec<Clause>,
+}
+
+impl Model for ClauseArena {
+    ghost use Rattle.std.specs.Prelude.{List};
+    ghost use Rattle.px_terms.specs.declared.clause.Clause.{Clause};
+    ghost use Rattle.px_terms.specs.Clauses.{IsArena};
+
+    ghost Value = { List Clause };
+
+    ghost view = { λ a. a.clauses.items };
+
+    ghost invariant = { λ a. IsArena a.clauses.items };
+}
+
+impl ClauseArena {
+    /// An arena without a clause. Takes no memory.
+    pub fn new(alloc: Global) -> ClauseArena
+        ensures { result ≡ [] }
+    {
+        ClauseArena {
+            clauses: Vec::new(alloc),
+        }
+    }
+
+    /// Adds a clause as the last one, and answers its number.
+    ///
+    /// # Errors
+    /// `BadLength` exactly where there is no literal or more than six; else `Full` exactly where 64 clauses are there;
+    /// else `NoMemory`, where there is none. A refused clause leaves the arena as it was.
+    pub fn push(&mut self, vars: u32, lits: &[Lit]) -> Result<u32, ArenaErr>
+        requires { ArePlainBelow vars lits.now }
+        ensures number { IfOk result (λ number. number ≡ length self.old) }
+        ensures added { IfOk result (λ _. self.new ≡ self.old ++ record { vars = vars; lits = lits.now } ∷ []) }
+        ensures length { (result ≡ Err ArenaErr.BadLength) ↔ (¬ HasClauseLength lits.now) }
+        ensures full { (result ≡ Err ArenaErr.Full) ↔ (HasClauseLength lits.now × (length self.old ≡ 64)) }
+        ensures err { OnErr result (self.new ≡ self.old) }
+    {
+        if lits.is_empty() || lits.len() > 6 {
+            return Err(ArenaErr::BadLength);
+        }
+        let number = self.count();
+        if number == 64 {
+            return Err(ArenaErr::Full);
+        }
+        let lits = match self.copied(lits) {
+            Ok(lits) => lits,
+            Err(NoMemory) => return Err(ArenaErr::NoMemory),
+        };
+        match self.clauses.push(Clause { vars, lits }) {
+            Ok(()) => Ok(number),
+            Err(_) => Err(ArenaErr::NoMemory),
+        }
+    }
+
+    /// A copy of the literals in the arena's memory.
+    fn copied(&self, lits: &[Lit]) -> Result<Sequence<Lit>, NoMemory>
+        ensures { IfOk result (λ copy. copy ≡ lits.now) }
+    {
+        let mut items = Vec::new(*self.clauses.allocator());
+        items.extend_from_slice(lits)?;
+        Ok(Sequence::from_vec(items))
+    }
+
+    /// How many clauses there are.
+    pub fn count(&self) -> u32
+        ensures count { result ≡ length self.now }
+        ensures most { length self.now ≤ 64 }
+    {
+        self.clauses.len() as u32
+    }
+
+    /// How many variables the clause has.
+    pub fn vars(&self, clause: u32) -> u32
+        requires { clause < length self.now }
+        ensures value { (d : Clause) → result ≡ (slice_index_or self.now clause d).vars }
+        ensures arena { IsArena self.now }
+    {
+        self.clauses[clause as usize].vars
+    }
+
+    /// The literals of the clause.
+    pub fn lits(&self, clause: u32) -> &[Lit]
+        requires { clause < length self.now }
+        ensures value { (d : Clause) → result.now ≡ (slice_index_or self.now clause d).lits }
+        ensures arena { IsArena self.now }
+    {
+        self.clauses[clause as usize].lits.as_slice()
+    }
+}

@@ -1,0 +1,35 @@
+//! The language of planning problems, and what plans of them mean.
+//!
+//! # Calling it
+//!
+//! - A [`Term`] is an object, a variable (of an axiom or a goal) or parameter (of an operator), or the wild card.
+//! - An [`Atom`] is a predicate with at most six terms, an [`OpInst`] an operator with at most eight. Both are `Copy`,
+//!   contracts see them as a number with the list of the terms, and they are ordered by number, then by terms from
+//!   the left. `new` answers `None` exactly where there are too many terms.
+//! - [`apply`] and [`apply_inst`] replace variables, [`instance_of`] tests an atom against a pattern with wild cards.
+//! - A [`ClauseArena`] keeps the axioms by number. `push` refuses a clause of no literal or more than six, then a
+//!   sixty-fifth clause; a refused clause leaves it as it was.
+//! - A [`Schema`] is an operator, a [`Problem`] all that a search is about. Fields that are lists are [`Sequence`]s.
+//!   Calls of other crates that are lent a problem ask that it is valid: `IsValid` in `specs/Validity.antt`.
+//! - What a plan is worth stands in `specs/`: finite interpretations (`States`), the states that an operator describes,
+//!   runs, and `Carries` (`Plans`), after Lifschitz 1987. [`merged_names`] is the worked example that two objects may be
+//!   one thing.
+#![tactic(auto)]
+
+mod atom;
+mod clause;
+mod instance;
+mod laws;
+mod problem;
+mod substitution;
+mod term;
+#[cfg(test)]
+mod tests;
+
+pub use atom::{Atom, apply, equal, instance_of};
+pub use clause::{ArenaErr, Clause, ClauseArena, Lit};
+pub use instance::{OpInst, apply_inst};
+pub use laws::merged_names;
+pub use problem::{Problem, Schema};
+pub use px_base::{NoMemory, Sequence};
+pub use term::Term;
