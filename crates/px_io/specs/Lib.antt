@@ -1,0 +1,5 @@
+pub mod Causes
+pub mod Reading
+pub mod Writing
+pub mod Memory
+pub mod Standard

@@ -1,0 +1,20 @@
+-- What a sink holds after a text was put into it.
+use Rattle.std.specs.Prelude.{◌≡◌, ◌<◌, ◌≤◌, ◌+◌, ℕ, List, ◌++◌, length, Option, IfSome}
+use Rattle.std.specs.Io.KnownBytes.{Appends}
+
+-- a part of the text from its start was appended
+pub record AppendsFront (old new : Option (List ℕ)) (text front rest : List ℕ) : Type 0 where
+  pub whole : text ≡ front ++ rest
+  pub appended : Appends old new front
+
+-- a part of the text from its start was appended, and not the whole text
+abbrev pub AppendsProperFront : Option (List ℕ) → Option (List ℕ) → List ℕ → Type 0
+AppendsProperFront old new text = (front : List ℕ) × (rest : List ℕ) × AppendsFront old new text front rest × (0 < length rest)
+
+-- A sink holds all that it is sure to take. Where it is sure of nothing, or doesn't tell what it holds, nothing is said.
+abbrev pub IsFull : Option ℕ → Option (List ℕ) → Type 0
+IsFull sure written = IfSome sure (λ room. IfSome written (λ held. room ≤ length held))
+
+-- what a sink holds and the text together are more than it is sure to take
+abbrev pub HasNoRoomFor : Option ℕ → Option (List ℕ) → List ℕ → Type 0
+HasNoRoomFor sure written text = IfSome sure (λ room. IfSome written (λ held. room < length held + length text))

@@ -1,0 +1,39 @@
+//! Sources and sinks of bytes that count their faults, and the two calls that read and write whole texts.
+//!
+//! # Calling it
+//!
+//! - [`Source`] and [`Sink`] are the two ends of a program. Each tells a contract how often it failed, and may tell
+//!   what it holds: a source the bytes that are left, a sink the bytes that were written. The ends in memory tell
+//!   them, the standard streams don't, so a clause on content says nothing of the standard streams.
+//! - [`read_all`] reads a source to its end, and takes no more than a limit. [`put`] writes a text whole.
+//!   Each has one answer for a failed call, and that answer comes only where the count of faults rose. A count stops
+//!   at the last value of 64 bits, and one that stands there counts as one that rose.
+//! - [`MemSource`] and [`MemSink`] are ends in memory. Each is made with a list of the calls that fail, counted from 0;
+//!   an end with an empty list never fails, but for a sink whose room is full. A source also gives at most so many
+//!   bytes at a call, so a test can cut a text anywhere.
+//! - [`StdSource`] and [`StdSink`] stand over std's readers and writers, as `StdSource::new(rt.stdin())`. That they
+//!   hand the bytes on unchanged is trusted and tested, not proved.
+//! - Nothing is buffered: a source is read by pieces of 4,096 bytes, and a text goes to the sink as it is given.
+//! - `put`, `MemSource::new`, and each `read` and `write` take no memory.
+#![tactic(auto)]
+
+mod causes;
+mod memory_sink;
+mod memory_source;
+mod reading;
+mod sink;
+mod source;
+mod standard;
+#[cfg(test)]
+mod tests;
+mod writing;
+
+pub use causes::{Failed, Fault};
+pub use memory_sink::MemSink;
+pub use memory_source::MemSource;
+pub use px_base::NoMemory;
+pub use reading::{ReadErr, read_all};
+pub use sink::Sink;
+pub use source::Source;
+pub use standard::{StdSink, StdSource};
+pub use writing::put;

@@ -1,0 +1,100 @@
+//! The standard streams. They tell nothing of content.
+ghost use Rattle.std.specs.Prelude.{None, ℕ, ◌≡◌, false};
+
+use crate::{Failed, Sink, Source};
+use std::io::{Read, Write};
+use std::marker::Model;
+
+/// Standard input, or another reader. A read fails where the reader fails, also where it was only interrupted, and
+/// where the number of bytes taken would pass the last value of 64 bits.
+#[derive(Drop)]
+pub struct StdSource<R: Read + Drop> {
+    reader: R,
+    taken: u64,
+    faults: u64,
+}
+
+impl<R: Read + Drop> Model for StdSource<R> {
+    ghost use Rattle.px_io.specs.Standard.{StreamCounts};
+
+    ghost Value = { StreamCounts };
+
+    ghost view = { λ s. record { taken = s.taken; faults = s.faults } };
+}
+
+impl<R: Read + Drop> StdSource<R> {
+    /// The source of what the reader gives from now on. Takes no memory.
+    pub fn new(reader: R) -> Self
+        ensures { result ≡ record { taken = 0; faults = 0 } }
+    {
+        StdSource {
+            reader,
+            taken: 0,
+            faults: 0,
+        }
+    }
+}
+
+impl<R: Read + Drop> Source for StdSource<R> {
+    ghost left = { λ s. None };
+
+    ghost taken = { λ s. s.taken };
+
+    ghost faults = { λ s. s.faults };
+
+    ghost never_fails = { λ s. false };
+
+    fn read(&mut self, into: &mut [u8]) -> Result<usize, Failed> {
+        if let Ok(count) = self.reader.read(into) {
+            if let Some(taken) = self.taken.checked_add(count as u64) {
+                self.taken = taken;
+                return Ok(count);
+            }
+        }
+        self.faults = self.faults.saturating_add(1);
+        Err(Failed)
+    }
+}
+
+/// Standard output, or another writer. A write fails where the writer fails, also where it was only interrupted, and
+/// where it takes no byte of some.
+#[derive(Drop)]
+pub struct StdSink<W: Write + Drop> {
+    writer: W,
+    faults: u64,
+}
+
+impl<W: Write + Drop> Model for StdSink<W> {
+    ghost use Rattle.std.specs.Prelude.{ℕ};
+
+    ghost Value = { ℕ };
+
+    ghost view = { λ s. s.faults };
+}
+
+impl<W: Write + Drop> StdSink<W> {
+    /// The sink that hands all on to the writer. Contracts see it as its count of faults. Takes no memory.
+    pub fn new(writer: W) -> Self
+        ensures { result ≡ 0 }
+    {
+        StdSink { writer, faults: 0 }
+    }
+}
+
+impl<W: Write + Drop> Sink for StdSink<W> {
+    ghost written = { λ s. None };
+
+    ghost faults = { λ s. s };
+
+    ghost sure = { λ s. None };
+
+    fn write(&mut self, bytes: &[u8]) -> Result<usize, Failed> {
+        match self.writer.write(bytes) {
+            Ok(count) if count > 0 || bytes.is_empty() => Ok(count),
+            _ => {
+                self.faults = self.faults.saturating_add(1);
+                Err(Failed)
+            }
+        }
+    }
+}

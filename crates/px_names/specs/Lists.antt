@@ -1,0 +1,71 @@
+-- The names of each kind, in the order of their numbers.
+use Rattle.std.specs.Prelude.{◌≡◌, ◌≢◌, ◌⊎◌, ◌≤◌, ℕ, Bool, List, [], ◌∷◌, ◌++◌, length, All, AllPairs, nat_lt, if◌then◌else◌, not, Option, None, Some}
+use Rattle.std.specs.List.{list_any}
+use Rattle.std.specs.Str.{bytes_eq}
+use Rattle.px_names.specs.Name.{is_name_text, IsName}
+use Rattle.px_names.specs.declared.kind.Kind.{Kind}
+use Rattle.px_names.specs.declared.kind.Kind.TheVariants as kind
+use Rattle.px_names.specs.declared.kind.NameErr.{NameErr}
+use Rattle.px_names.specs.declared.kind.NameErr.TheVariants.{BadName, Duplicate, Full, NoMemory}
+
+-- the names of each kind
+pub record NameLists : Type 0 where
+  pub objects : List (List ℕ)
+  pub predicates : List (List ℕ)
+  pub operators : List (List ℕ)
+  pub results : List (List ℕ)
+
+abbrev pub no_names : NameLists
+no_names = record { objects = []; predicates = []; operators = []; results = [] }
+
+-- how many names of a kind there may be
+abbrev pub limit_of : Kind → ℕ
+limit_of kind.Object = 256
+limit_of kind.Predicate = 64
+limit_of kind.Operator = 32
+limit_of kind.Result = 512
+
+-- the names of a kind
+abbrev pub names_of : Kind → NameLists → List (List ℕ)
+names_of kind.Object names = names.objects
+names_of kind.Predicate names = names.predicates
+names_of kind.Operator names = names.operators
+names_of kind.Result names = names.results
+
+-- no two of the names are equal
+abbrev pub AreDistinct : List (List ℕ) → Type 0
+AreDistinct names = AllPairs (λ earlier later. earlier ≢ later) names
+
+-- the texts are distinct names, at most as many as there may be of the kind
+pub record AreNames (kind : Kind) (names : List (List ℕ)) : Type 0 where
+  pub distinct : AreDistinct names
+  pub named : All IsName names
+  pub fit : length names ≤ limit_of kind
+
+-- the list of each kind is one of names of the kind
+pub record AreNameLists (names : NameLists) : Type 0 where
+  pub objects : AreNames kind.Object names.objects
+  pub predicates : AreNames kind.Predicate names.predicates
+  pub operators : AreNames kind.Operator names.operators
+  pub results : AreNames kind.Result names.results
+
+-- whether a name is in a list
+abbrev pub has_name : List ℕ → List (List ℕ) → Bool
+has_name name names = list_any (bytes_eq name) names
+
+-- the first cause to refuse a name, in the order of the causes
+abbrev pub refusal : Kind → NameLists → List ℕ → Option NameErr
+refusal kind names name = if not (is_name_text name) then Some BadName
+    else (if has_name name (names_of kind names) then Some Duplicate
+    else (if nat_lt (length (names_of kind names)) (limit_of kind) then None else Some Full))
+
+-- a name is refused with this error: the first cause, or want of memory where there is no cause
+abbrev pub IsRefusal : Kind → NameLists → List ℕ → NameErr → Type 0
+IsRefusal kind names name error = (refusal kind names name ≡ Some error) ⊎ ((error ≡ NoMemory) × (refusal kind names name ≡ None))
+
+-- the lists with one more name of a kind
+abbrev pub with_name : Kind → List ℕ → NameLists → NameLists
+with_name kind.Object name names = record names { objects = names.objects ++ name ∷ [] }
+with_name kind.Predicate name names = record names { predicates = names.predicates ++ name ∷ [] }
+with_name kind.Operator name names = record names { operators = names.operators ++ name ∷ [] }
+with_name kind.Result name names = record names { results = names.results ++ name ∷ [] }

@@ -1,0 +1,61 @@
+-- Number and name correspond in a list of distinct names.
+use Rattle.std.specs.Prelude.{◌≡◌, ◌≢◌, ◌↔◌, ◌<◌, ◌+◌, ◌||◌, ℕ, Bool, true, false, Option, Some, None, is_some, List, [], ◌∷◌, length, Contains, position, slice_get, MatchOption, nat_lt}
+use Rattle.std.specs.List.{position_or_len}
+use Rattle.std.specs.Str.{bytes_eq}
+use Rattle.std.proofs.Common.{refl, sym, ap, ◌∙◌, subst, arith, zero, suc, inl, inr}
+use Rattle.std.proofs.lemmas.Slice.Eq.{bytes_eq-Decides}
+use Rattle.std.proofs.lemmas.List.Quantifiers.{position-Some}
+use Rattle.std.proofs.lemmas.Option.{slice_get-get_or, slice_get_within, get_or_from_slice_get}
+use Rattle.px_base.specs.ListLaws.{Contains-none, Contains-first, Contains-later, Contains-cases}
+use Rattle.px_names.specs.Lists.{AreDistinct, has_name}
+
+pub bytes_eq-itself : (name : List ℕ) → bytes_eq name name ≡ true
+bytes_eq-itself name = (bytes_eq-Decides name name).1 refl
+
+pub bytes_eq-other : (a b : List ℕ) → a ≢ b → bytes_eq a b ≡ false
+bytes_eq-other a b other =
+    elim (bytes_eq a b) as (λ test. bytes_eq a b ≡ test → test ≡ false) [ true ↦ λ same. absurd (other ((bytes_eq-Decides a b).0 same)) | false ↦ λ _. refl ] refl
+
+-- a list has a name exactly where the name is in it
+pub has_name-decides : (name : List ℕ) (names : List (List ℕ)) → (has_name name names ≡ true) ↔ Contains names name
+has_name-decides name [] = (λ h. cc, λ h. absurd (Contains-none name h))
+has_name-decides name (x ∷ xs) =
+    elim (bytes_eq name x) as (λ test. bytes_eq name x ≡ test → ((test || has_name name xs) ≡ true) ↔ Contains (x ∷ xs) name) [
+      | true ↦ λ same. (λ _. subst (Contains (x ∷ xs)) (sym ((bytes_eq-Decides name x).0 same)) (Contains-first x xs), λ _. refl)
+      | false ↦ λ other. (
+        λ h. Contains-later x xs name ((has_name-decides name xs).0 h),
+        λ h. elim (Contains-cases x xs name h) [
+          | inl is ↦ absurd (true-or-false (bytes_eq name x) ((bytes_eq-Decides name x).1 (sym is)) other)
+          | inr later ↦ (has_name-decides name xs).1 later
+        ],
+      )
+    ] refl
+  where
+    true-or-false : (b : Bool) → b ≡ true → b ≡ false → ⊥
+    true-or-false b t f = cc
+
+distinct_rest : (x : List ℕ) (xs : List (List ℕ)) → AreDistinct (x ∷ xs) → AreDistinct xs
+distinct_rest x xs distinct i j d before within = distinct (suc i) (suc j) d (omega (arith, before)) (omega (arith, within))
+
+place_of : (names : List (List ℕ)) (number : ℕ) (name : List ℕ) → AreDistinct names → slice_get names number ≡ Some name → position_or_len (bytes_eq name) names ≡ number
+place_of [] number name distinct is = cc
+place_of (x ∷ xs) zero name distinct is = let same : x ≡ name = cc in rw (same, bytes_eq-itself) refl
+place_of (x ∷ xs) (suc number) name distinct is =
+    let within : number < length xs = slice_get_within xs number name is in
+    let other : name ≢ x = λ same. distinct 0 (suc number) x (omega arith) (omega (arith, within)) (sym same ∙ sym (get_or_from_slice_get xs number name x is)) in
+    let rest : position_or_len (bytes_eq name) xs ≡ number = place_of xs number name (distinct_rest x xs distinct) is in
+    let more : 1 + position_or_len (bytes_eq name) xs ≡ suc number = omega (arith, rest) in
+    rw (bytes_eq-other name x other) more
+
+-- the number of a name is found by the name
+pub number_of_name : (names : List (List ℕ)) (number : ℕ) (name : List ℕ) → AreDistinct names → slice_get names number ≡ Some name → position (bytes_eq name) names ≡ Some number
+number_of_name names number name distinct is =
+    let within : number < length names = slice_get_within names number name is in
+    rw (place_of names number name distinct is) (let test : nat_lt number (length names) ≡ true = grind arith in rw test refl)
+
+-- the name of a number that was found is the name that was looked for
+pub name_of_number : (names : List (List ℕ)) (name : List ℕ) (found : Option ℕ) → found ≡ position (bytes_eq name) names → is_some found ≡ has_name name names → MatchOption found (¬ Contains names name) (λ number. slice_get names number ≡ Some name)
+name_of_number names name None is tells = λ there. let has : has_name name names ≡ true = (has_name-decides name names).1 there in cc
+name_of_number names name (Some number) is tells =
+    let place = position-Some (bytes_eq name) names number name (sym is) in
+    slice_get-get_or names number name place.0 ∙ ap Some (sym ((bytes_eq-Decides name _).0 place.1))
