@@ -1,0 +1,66 @@
+ghost use Rattle.std.specs.Prelude.{◌≡◌, ◌+◌, ◌≤◌, ◌++◌, length, All, IfOk};
+ghost use Rattle.px_terms.specs.Language.{IsObject};
+ghost use Rattle.px_terms.specs.Operators.{atoms_of, adds as adds_of, result_of, schema_of as spec_schema_of};
+ghost use Rattle.px_terms.specs.AtomSets.{atom_set};
+ghost use Rattle.px_terms.specs.Validity.{IsSchemaWellFormed, IsValid, IsGroundInstanceOf};
+ghost use Rattle.px_ops.specs.Models.{IsInstanceOfSchema};
+
+use crate::model::Model;
+use crate::operators::adds;
+use px_terms::{NoMemory, OpInst, Problem, Schema};
+
+/// The model that the instance leaves: first all that it deletes goes, then what it adds comes (Fikes and Nilsson 1971).
+///
+/// # Errors
+/// `NoMemory` where there is none for the new model.
+pub fn apply_op(problem: &Problem, model: &Model, inst: &OpInst) -> Result<Model, NoMemory>
+    requires problem { IsValid problem.now }
+    requires inst { IsGroundInstanceOf problem.now inst.now }
+    ensures { IfOk result (λ next. next.atoms ≡ result_of problem.now model.now.atoms inst.now) }
+{
+    let mut next = model.try_copy()?;
+    next.reserve(schema_of(problem, inst).add.len())?;
+    apply_in(problem, &mut next, inst);
+    Ok(next)
+}
+
+/// The same in place, where there is room for what the instance adds. Takes no memory.
+pub fn apply_in(problem: &Problem, model: &mut Model, inst: &OpInst)
+    requires problem { IsValid problem.now }
+    requires inst { IsGroundInstanceOf problem.now inst.now }
+    requires room { length (adds_of problem.now inst.now) ≤ model.old.spare }
+    ensures atoms { model.new.atoms ≡ result_of problem.now model.old.atoms inst.now }
+    ensures spare { model.old.spare ≤ model.new.spare + length (adds_of problem.now inst.now) }
+{
+    let schema = schema_of(problem, inst);
+    model.remove_deleted(schema, inst);
+    add_all(schema, model, inst);
+}
+
+/// The schema of the instance's operator.
+pub(crate) fn schema_of<'a>(problem: &'a Problem, inst: &OpInst) -> &'a Schema
+    requires problem { IsValid problem.now }
+    requires inst { IsGroundInstanceOf problem.now inst.now }
+    ensures schema { result.now ≡ spec_schema_of problem.now inst.now }
+    ensures well_formed { IsSchemaWellFormed result.now }
+    ensures instance { IsInstanceOfSchema result.now inst.now }
+    ensures objects { All IsObject inst.now.args }
+{
+    &problem.schemas.as_slice()[inst.op() as usize]
+}
+
+/// Adds what the instance adds.
+fn add_all(schema: &Schema, model: &mut Model, inst: &OpInst)
+    requires schema { IsSchemaWellFormed schema.now }
+    requires inst { IsInstanceOfSchema schema.now inst.now }
+    requires objects { All IsObject inst.now.args }
+    requires room { length schema.now.add ≤ model.old.spare }
+    ensures atoms { model.new.atoms ≡ atom_set (model.old.atoms ++ atoms_of schema.now.add inst.now) }
+    ensures spare { model.old.spare ≤ model.new.spare + length schema.now.add }
+{
+    let _known = model.atoms();
+    let count = schema.add.len();
+    for k in 0..count {
+        model.insert_spare(adds(schema, inst, k));
+    }
+}

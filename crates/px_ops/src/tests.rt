@@ -1,0 +1,108 @@
+ghost use Rattle.std.specs.Prelude.{◌≡◌, IfOk, length, slice_index_or};
+ghost use Rattle.px_terms.specs.Operators.{no_schema};
+ghost use Rattle.px_terms.specs.Validity.{IsSchemaWellFormed, IsValid};
+
+use crate::{Model, adds, apply_op, deletes, pre};
+use px_terms::{Atom, ClauseArena, NoMemory, OpInst, Problem, Schema, Sequence, Term};
+use std::alloc::Global;
+use std::process::Abort;
+use std::rt::HostRuntime;
+
+#[test]
+fn models_are_sets(rt: HostRuntime) -> Result<(), NoMemory> {
+    let first = Atom::new(0, &[Term::Obj(1)]).expect(&rt, "one argument");
+    let second = Atom::new(0, &[Term::Obj(2)]).expect(&rt, "one argument");
+    let mut model = Model::new(rt.alloc());
+    assert!(&rt; model.insert(second)?);
+    assert!(&rt; model.insert(first)?);
+    assert!(&rt; !model.insert(second)?);
+    assert!(&rt; model.atoms() == [first, second].as_slice());
+    model.reserve(1)?;
+    assert!(&rt; model.remove(&second));
+    assert!(&rt; model.insert_spare(second));
+    let copy = model.try_copy()?;
+    model.clear();
+    assert!(&rt; copy.holds(&second));
+    assert!(&rt; !model.holds(&second));
+    Ok(())
+}
+
+fn sequence_of<T: Copy>(alloc: Global, items: &[T]) -> Result<Sequence<T>, NoMemory>
+    ensures { IfOk result (λ made. made ≡ items.now) }
+{
+    let mut made = Vec::new(alloc);
+    made.extend_from_slice(items)?;
+    Ok(Sequence::from_vec(made))
+}
+
+/// The operator MOVE(x,y), which needs AT(x), deletes AT($) and adds AT(y).
+fn moving(alloc: Global, rt: &impl Abort) -> Result<Schema, NoMemory>
+    ensures well_formed { IfOk result IsSchemaWellFormed }
+    ensures shape { IfOk result (λ s. (s.params ≡ 2) × (length s.pre ≡ 1) × (length s.add ≡ 1)) }
+{
+    let here = Atom::new(0, &[Term::Var(0)]).expect(rt, "one argument");
+    let there = Atom::new(0, &[Term::Var(1)]).expect(rt, "one argument");
+    let any = Atom::new(0, &[Term::Any]).expect(rt, "one argument");
+    Ok(Schema {
+        op: 0,
+        params: 2,
+        pre: sequence_of(alloc, &[here])?,
+        del: sequence_of(alloc, &[any])?,
+        add: sequence_of(alloc, &[there])?,
+    })
+}
+
+/// The problem of that operator over two objects.
+fn moving_problem(alloc: Global, rt: &impl Abort) -> Result<Problem, NoMemory>
+    ensures valid { IfOk result IsValid }
+    ensures shape { IfOk result (λ p. (length p.schemas ≡ 1) × ((slice_index_or p.schemas 0 no_schema).params ≡ 2) × (p.objects ≡ 2)) }
+{
+    let here = Atom::new(0, &[Term::Var(0)]).expect(rt, "one argument");
+    let there = Atom::new(0, &[Term::Var(1)]).expect(rt, "one argument");
+    let any = Atom::new(0, &[Term::Any]).expect(rt, "one argument");
+    let schema = Schema {
+        op: 0,
+        params: 2,
+        pre: sequence_of(alloc, &[here])?,
+        del: sequence_of(alloc, &[any])?,
+        add: sequence_of(alloc, &[there])?,
+    };
+    let mut schemas = Vec::new(alloc);
+    if schemas.push(schema).is_err() {
+        return Err(NoMemory);
+    }
+    Ok(Problem {
+        objects: 2,
+        arities: sequence_of(alloc, &[1u8])?,
+        axioms: ClauseArena::new(alloc),
+        schemas: Sequence::from_vec(schemas),
+        height: 4,
+        nodes: 10000,
+        shapes: 10000,
+    })
+}
+
+#[test]
+fn what_a_move_needs_deletes_and_adds(rt: HostRuntime) -> Result<(), NoMemory> {
+    let schema = moving(rt.alloc(), &rt)?;
+    let start = Atom::new(0, &[Term::Obj(0)]).expect(&rt, "one argument");
+    let end = Atom::new(0, &[Term::Obj(1)]).expect(&rt, "one argument");
+    let step = OpInst::new(0, &[Term::Obj(0), Term::Obj(1)]).expect(&rt, "two arguments");
+    assert!(&rt; deletes(&schema, &step, &start));
+    assert!(&rt; pre(&schema, &step, 0) == start);
+    assert!(&rt; adds(&schema, &step, 0) == end);
+    Ok(())
+}
+
+#[test]
+fn a_move(rt: HostRuntime) -> Result<(), NoMemory> {
+    let problem = moving_problem(rt.alloc(), &rt)?;
+    let start = Atom::new(0, &[Term::Obj(0)]).expect(&rt, "one argument");
+    let end = Atom::new(0, &[Term::Obj(1)]).expect(&rt, "one argument");
+    let step = OpInst::new(0, &[Term::Obj(0), Term::Obj(1)]).expect(&rt, "two arguments");
+    let mut facts = Model::new(rt.alloc());
+    facts.insert(start)?;
+    let after = apply_op(&problem, &facts, &step)?;
+    assert!(&rt; after.atoms() == [end].as_slice());
+    Ok(())
+}
