@@ -1,0 +1,14 @@
+pub mod Basis
+pub mod Derivation
+pub mod Literals
+pub mod Path
+pub mod PlaceLaws
+pub mod ProofTerm
+pub mod Proves
+pub mod ProvesLaws
+pub mod Shapes
+pub mod Soundness
+pub mod Substitution
+pub mod SubstitutionLaws
+pub mod Truth
+pub mod TruthLaws

@@ -1,0 +1,54 @@
+-- Derivations by one set of rules that are derivations by another.
+use Rattle.std.specs.Prelude.{◌↔◌, ℕ, List, [], ◌∷◌, Contains}
+use Rattle.std.proofs.lemmas.List.Elements.{Contains-append_left, Contains-append_right}
+use Rattle.px_base.specs.ListLaws.{Contains-first}
+use Rattle.px_terms.specs.declared.atom.Atom.{Atom}
+use Rattle.px_terms.specs.declared.clause.Clause.{Clause}
+use Rattle.px_terms.specs.declared.clause.Lit.{Lit}
+use Rattle.px_terms.specs.declared.term.Term.{Term}
+use Rattle.px_proof.specs.declared.proof.Leaf.{Leaf}
+use Rattle.px_proof.specs.Basis.{over_names}
+use Rattle.px_proof.specs.Derivation.{Derivation, Derivations, fact, ancestor, step, gap, open_place, none, also, leaves_of, all_leaves_of, leaf_atoms}
+use Rattle.px_proof.specs.PlaceLaws.{Contains-mapped}
+use Rattle.px_proof.specs.Proves.{Rules, Proves, ProvesEach, parts_of, from_atoms, IsName}
+
+-- what the one rules allow beside facts, the others allow
+pub record Allows (old new : Rules) : Type 0 where
+  pub choices : (t : Term) → old.IsChoice t → new.IsChoice t
+  pub gaps : (atom : Atom) → old.IsGap atom → new.IsGap atom
+  pub opens : old.IsOpen → new.IsOpen
+
+module _ (axioms : List Clause) (old new : Rules) (allows : Allows old new) where
+  mutual
+    -- it is enough that the facts at its own leaves are allowed
+    pub proves_by : (path : List Lit) (lit : Lit) (d : Derivation) → ((leaf : Leaf) → Contains (leaves_of d) leaf → old.IsFact leaf → new.IsFact leaf)
+        → Proves old axioms path lit d → Proves new axioms path lit d
+    proves_by path lit (fact leaf) facts proved = (proved.0, facts leaf (Contains-first leaf []) proved.1)
+    proves_by path lit (ancestor i) facts proved = proved
+    proves_by path lit (step number theta place parts) facts proved = (
+      proved.0,
+      record { axiom_at = proved.1.axiom_at; terms = proved.1.terms; choices = λ k d below. allows.choices _ (proved.1.choices k d below); literal_at = proved.1.literal_at },
+      each_by (lit ∷ path) (parts_of proved.0.lits theta place) parts facts proved.2,
+    )
+    proves_by path lit (gap atom) facts proved = (proved.0, allows.gaps atom proved.1)
+    proves_by path lit open_place facts proved = allows.opens proved
+
+    pub each_by : (path lits : List Lit) (ds : Derivations) → ((leaf : Leaf) → Contains (all_leaves_of ds) leaf → old.IsFact leaf → new.IsFact leaf)
+        → ProvesEach old axioms path lits ds → ProvesEach new axioms path lits ds
+    each_by path [] none facts each = tt
+    each_by path (lit ∷ lits) (also d ds) facts each = (
+      proves_by path lit d (λ leaf has. facts leaf (Contains-append_left (leaves_of d) (all_leaves_of ds) leaf has)) each.0,
+      each_by path lits ds (λ leaf has. facts leaf (Contains-append_right (leaves_of d) (all_leaves_of ds) leaf has)) each.1,
+    )
+    each_by path [] (also d ds) facts each = absurd each
+    each_by path (lit ∷ lits) none facts each = absurd each
+
+-- each leaf closes its own atom, so of the leaves only their terms are asked
+pub own_leaves : (axioms : List Clause) (objects params : ℕ) (path : List Lit) (lit : Lit) (d : Derivation)
+    → Proves (over_names objects params) axioms path lit d ↔ Proves (from_atoms (IsName objects params) (leaf_atoms (leaves_of d))) axioms path lit d
+own_leaves axioms objects params path lit d = (
+  proves_by axioms (over_names objects params) (from_atoms (IsName objects params) (leaf_atoms (leaves_of d)))
+      (record { choices = λ t h. h; gaps = λ atom h. h; opens = λ h. h }) path lit d (λ leaf has names. (Contains-mapped (λ (l : Leaf). l.atom) (leaves_of d) leaf has, names)),
+  proves_by axioms (from_atoms (IsName objects params) (leaf_atoms (leaves_of d))) (over_names objects params)
+      (record { choices = λ t h. h; gaps = λ atom h. h; opens = λ h. h }) path lit d (λ leaf has h. h.1),
+)

@@ -1,0 +1,36 @@
+-- Derivations with their variables replaced.
+use Rattle.std.specs.Prelude.{ℕ, List, map, length, All}
+use Rattle.px_terms.specs.Language.{substitute}
+use Rattle.px_terms.specs.Substitution.{substitute_atom}
+use Rattle.px_terms.specs.declared.atom.Atom.{Atom}
+use Rattle.px_terms.specs.declared.clause.Clause.{Clause}
+use Rattle.px_terms.specs.declared.clause.Lit.{Lit}
+use Rattle.px_terms.specs.declared.term.Term.{Term}
+use Rattle.px_proof.specs.declared.proof.Leaf.{Leaf}
+use Rattle.px_proof.specs.Derivation.{Derivation, Derivations, fact, ancestor, step, gap, open_place, none, also}
+use Rattle.px_proof.specs.Literals.{substitute_literal}
+use Rattle.px_proof.specs.Proves.{Proves, from_atoms, IsName}
+
+abbrev pub leaf_under : List Term → Leaf → Leaf
+leaf_under terms leaf = record { column = leaf.column; index = leaf.index; atom = substitute_atom terms leaf.atom }
+
+-- each variable is replaced by the term of its number, in the atoms and in what the steps choose
+abbrev mutual
+  pub derivation_under : List Term → Derivation → Derivation
+  derivation_under terms (fact leaf) = fact (leaf_under terms leaf)
+  derivation_under terms (ancestor i) = ancestor i
+  derivation_under terms (step number theta place parts) = step number (map (substitute terms) theta) place (derivations_under terms parts)
+  derivation_under terms (gap atom) = gap (substitute_atom terms atom)
+  derivation_under terms open_place = open_place
+
+  pub derivations_under : List Term → Derivations → Derivations
+  derivations_under terms none = none
+  derivations_under terms (also d ds) = also (derivation_under terms d) (derivations_under terms ds)
+
+-- whatever the old one proves over objects and as many parameters as there are terms, the new one proves under the
+-- terms, over the objects and parameters that these have, from the atoms under the terms
+abbrev pub StaysProof : List Term → Derivation → Derivation → Type 0
+StaysProof terms old new =
+    (axioms : List Clause) (objects params : ℕ) (atoms : List Atom) (path : List Lit) (lit : Lit) → All (IsName objects params) terms
+    → Proves (from_atoms (IsName objects (length terms)) atoms) axioms path lit old
+    → Proves (from_atoms (IsName objects params) (map (substitute_atom terms) atoms)) axioms (map (substitute_literal terms) path) (substitute_literal terms lit) new

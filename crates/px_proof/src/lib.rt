@@ -1,0 +1,47 @@
+//! Proof terms of linear resolution with ancestors: what they prove, and the tests that they do.
+//!
+//! A literal is closed by a fact, by the complement of one of the literals above it, or by an instance of an axiom
+//! in which it stands; then the complement of each other literal of the instance is proved in turn, under the literal.
+//! An unfinished proof has open places, and a gap closes an atom that some operator could add (Fikes and Nilsson 1971).
+//!
+//! # Calling it
+//!
+//! - [`Proof`] is a proof term, [`Leaf`] a fact that it rests on. Its lists are `Sequence`s: make one of a `Vec` by
+//!   `Sequence::from_vec`. [`Tick`] is a choice at one place, [`Shape`] the choices of a proof in preorder.
+//!   `try_copy` answers an equal value.
+//! - [`check`] tells whether a term is a proof from facts, without variables and gaps. Its yes implies that the literal
+//!   is true in each finite interpretation in which the axioms and the facts are, also where two objects are one
+//!   element of it. [`is_tree`] tells it of a term over objects and parameters, from the atoms of the term's own leaves.
+//!   Both answer for any term: a number that is out of range gives false. They take no memory.
+//! - [`higher_than`], [`leaves`], [`same_shape`] read a term; [`substitute`] replaces its variables, and gives a proof
+//!   where it is given one. [`complement`], [`apply_literal`], [`same_literal`] do for a literal what `px_terms` does
+//!   for an atom.
+//! - Each of these calls itself once for each level of the term. A chain of 1,000 steps is tested.
+//! - What takes memory takes an allocator first, and answers `NoMemory` where there is none. `try_copy` takes it from
+//!   the allocator of what it copies.
+//!
+//! Contracts see a term as a `Derivation` (`specs/Derivation`), by `derivation_of`. `specs/Proves` says what a
+//! derivation proves by given `Rules`: one definition for finished and unfinished proofs, with gaps or without, over
+//! objects or over parameters too. `specs/Soundness` has its soundness, `specs/ProvesLaws` and
+//! `specs/SubstitutionLaws` how derivations stay derivations under other rules and other terms, and `specs/Shapes` the
+//! order of shapes.
+#![tactic(auto)]
+
+mod basis;
+mod checker;
+mod literal;
+mod path;
+mod proof;
+mod shape;
+mod store;
+mod substitution;
+#[cfg(test)]
+mod tests;
+mod traversal;
+
+pub use checker::{check, is_tree};
+pub use literal::{apply_literal, complement, same_literal};
+pub use proof::{Leaf, Proof};
+pub use shape::{Shape, Tick};
+pub use substitution::substitute;
+pub use traversal::{higher_than, leaves, same_shape};

@@ -1,0 +1,27 @@
+ghost use Rattle.std.specs.Prelude.{◌≡◌, slice_get};
+ghost use Rattle.px_proof.specs.Path.{literals_of};
+
+use px_terms::Lit;
+
+/// The literals above a place, the nearest first.
+#[derive(Clone, Copy)]
+pub enum Path<'a> {
+    Root,
+    Under(&'a Lit, &'a Path<'a>),
+}
+
+/// The literal of the path at that place, counted from the nearest.
+pub fn literal_at(path: &Path, place: u32) -> Option<Lit>
+    ensures { result ≡ slice_get (literals_of path.now) place }
+{
+    match path {
+        Path::Root => None,
+        Path::Under(lit, above) => {
+            if place == 0 {
+                Some(**lit)
+            } else {
+                literal_at(above, place - 1)
+            }
+        }
+    }
+}

@@ -1,0 +1,79 @@
+ghost use Rattle.std.specs.Prelude.{◌≡◌, IfOk};
+
+use crate::store::keep;
+use px_base::{NoMemory, Sequence};
+use px_terms::{Atom, Term};
+use std::alloc::Global;
+
+/// A fact that a proof rests on: its atom, and where the fact comes from.
+#[derive(Clone, Copy, PartialEq, Eq, Debug)]
+pub struct Leaf {
+    /// The step that adds the atom, counted from 1, or 0 where it is there at first.
+    pub column: u32,
+    /// The atom's place in the add list of that step, or in the model.
+    pub index: u32,
+    pub atom: Atom,
+}
+
+/// A proof of a literal under a path of literals, which are those that stand above it.
+#[derive(Drop)]
+pub enum Proof {
+    /// The literal is the atom of a fact.
+    Fact(Leaf),
+    /// The literal is the complement of the path's literal of that number, counted from the nearest.
+    Anc(u32),
+    /// The literal stands at `place` of the clause under `theta`, and each other literal's complement is proved.
+    Step {
+        clause: u32,
+        theta: Sequence<Term>,
+        place: u32,
+        subs: Sequence<Proof>,
+    },
+    /// The literal is an atom that isn't proved.
+    Gap(Atom),
+}
+
+impl Proof {
+    /// An equal proof, in memory of the same allocator.
+    ///
+    /// # Errors
+    /// `NoMemory` where there is none for the copy.
+    #[cycle(copies)]
+    pub fn try_copy(&self) -> Result<Proof, NoMemory>
+        ensures { IfOk result (λ copy. copy ≡ self.now) }
+    {
+        match self {
+            Proof::Fact(leaf) => Ok(Proof::Fact(*leaf)),
+            Proof::Anc(place) => Ok(Proof::Anc(*place)),
+            Proof::Step {
+                clause,
+                theta,
+                place,
+                subs,
+            } => {
+                let theta = theta.try_copy()?.into_vec();
+                let subs = copy_each(*theta.allocator(), subs.as_slice())?;
+                Ok(Proof::Step {
+                    clause: *clause,
+                    theta: Sequence::from_vec(theta),
+                    place: *place,
+                    subs: Sequence::from_vec(subs),
+                })
+            }
+            Proof::Gap(atom) => Ok(Proof::Gap(*atom)),
+        }
+    }
+}
+
+/// A copy of each of the proofs.
+#[cycle(copies)]
+fn copy_each(alloc: Global, proofs: &[Proof]) -> Result<Vec<Proof>, NoMemory>
+    ensures { IfOk result (λ copies. copies.items ≡ proofs.now) }
+{
+    let mut copies = Vec::new(alloc);
+    for proof in proofs {
+        let copy = proof.try_copy()?;
+        keep(&mut copies, copy)?;
+    }
+    Ok(copies)
+}
