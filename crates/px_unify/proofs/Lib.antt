@@ -1,0 +1,5 @@
+pub mod Consistency
+pub mod Lists
+pub mod Narrowing
+pub mod Slots
+pub mod Solutions
