@@ -1,6 +1,7 @@
 ghost use Rattle.std.specs.Prelude.{◌≡◌, length, IfOk};
 
 use crate::no_memory::NoMemory;
+use std::alloc::Global;
 use std::marker::Model;
 
 /// A `Vec` that contracts see as the list of its items.
@@ -41,6 +42,11 @@ impl<T> Sequence<T> {
         ensures { result.now ≡ self.now }
     {
         &self.items
+    }
+
+    /// The allocator of the items.
+    pub fn allocator(&self) -> &Global {
+        self.items.allocator()
     }
 
     /// How many items there are.

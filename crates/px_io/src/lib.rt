@@ -5,7 +5,7 @@
 //! - [`Source`] and [`Sink`] are the two ends of a program. Each tells a contract how often it failed, and may tell
 //!   what it holds: a source the bytes that are left, a sink the bytes that were written. The ends in memory tell
 //!   them, the standard streams don't, so a clause on content says nothing of the standard streams.
-//! - [`read_all`] reads a source to its end, and takes no more than a limit. [`put`] writes a text whole.
+//! - [`read_all`] reads a source to its end, and says where more bytes came than a limit. [`put`] writes a text whole.
 //!   Each has one answer for a failed call, and that answer comes only where the count of faults rose. A count stops
 //!   at the last value of 64 bits, and one that stands there counts as one that rose.
 //! - [`MemSource`] and [`MemSink`] are ends in memory. Each is made with a list of the calls that fail, counted from 0;

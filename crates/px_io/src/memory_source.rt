@@ -70,6 +70,7 @@ impl Source for MemSource {
         ensures amount { IfOk result (λ count. count ≡ min (min (length self.old.left) (length into.old)) self.old.most) }
         ensures ok { IfOk result (λ count. self.new ≡ record self.old { left = drop count self.old.left; taken = self.old.taken + count; call = next_call self.old.call }) }
         ensures err { OnErr result (self.new ≡ record self.old { call = next_call self.old.call; faults = next_fault self.old.faults }) }
+        ensures piece { OnErr result (into.new ≡ into.old) }
     {
         let call = self.call;
         self.call = call.saturating_add(1);

@@ -34,7 +34,7 @@ impl From<AllocError> for ReadErr {
 // How many bytes are asked for at once.
 const PIECE: usize = 4096;
 
-/// All bytes up to the end of the source, of which there are at most `limit`.
+/// All bytes up to the end of the source, where there are at most `limit` of them.
 /// Whatever the answer, the bytes that were read are gone from the source.
 ///
 /// # Errors
@@ -47,6 +47,7 @@ pub fn read_all<S: Source>(alloc: Global, source: &mut S, limit: usize) -> Resul
     ensures fault { IsErrOf result ReadErr.Fault → Rose (S.faults source.old) (S.faults source.new) }
     ensures fault_first { IsErrOf result ReadErr.Fault → S.taken source.new ≤ S.taken source.old + limit }
     ensures fault_comes { IsErrOf result ReadErr.Fault → S.never_fails source.old ≡ false }
+    ensures no_memory { IsErrOf result ReadErr.NoMemory → S.faults source.new ≡ S.faults source.old }
     ensures too_long { IsErrOf result ReadErr.TooLong → S.taken source.old + limit < S.taken source.new }
     ensures too_long_first { IsErrOf result ReadErr.TooLong → S.faults source.new ≡ S.faults source.old }
     ensures gone { (came : List ℕ) × Consumes (S.left source.old) (S.left source.new) came × (S.taken source.new ≡ S.taken source.old + length came) }

@@ -25,7 +25,8 @@ pub trait Source {
     /// The answer 0 for a piece that isn't empty is the end of the input.
     ///
     /// # Errors
-    /// `Failed` only where the count of faults rose. No byte is taken then.
+    /// `Failed` only where the count of faults rose. No byte is taken then. What the piece holds after a failure is
+    /// not said, since no reader of the system says it.
     fn read(&mut self, into: &mut [u8]) -> Result<usize, Failed>
         ensures within { ReadsAtMost result into.new }
         ensures bytes { ReadConsumes (left self.old) (left self.new) result into.new }

@@ -5,8 +5,9 @@ use crate::{Failed, Sink, Source};
 use std::io::{Read, Write};
 use std::marker::Model;
 
-/// Standard input, or another reader. A read fails where the reader fails, also where it was only interrupted, and
-/// where the number of bytes taken would pass the last value of 64 bits.
+/// Standard input, or another reader. That it hands on what the reader gives is trusted and tested, and so is this: a read
+/// fails where the reader fails, also where it was only interrupted, and where the number of bytes taken would pass the
+/// last value of 64 bits.
 #[derive(Drop)]
 pub struct StdSource<R: Read + Drop> {
     reader: R,
@@ -56,8 +57,8 @@ impl<R: Read + Drop> Source for StdSource<R> {
     }
 }
 
-/// Standard output, or another writer. A write fails where the writer fails, also where it was only interrupted, and
-/// where it takes no byte of some.
+/// Standard output, or another writer. That it hands on what it is given is trusted and tested, and so is this: a write
+/// fails where the writer fails, also where it was only interrupted, and where it takes no byte of some.
 #[derive(Drop)]
 pub struct StdSink<W: Write + Drop> {
     writer: W,

@@ -1,5 +1,5 @@
 -- The names of each kind, in the order of their numbers.
-use Rattle.std.specs.Prelude.{◌≡◌, ◌≢◌, ◌⊎◌, ◌≤◌, ℕ, Bool, List, [], ◌∷◌, ◌++◌, length, All, AllPairs, nat_lt, if◌then◌else◌, not, Option, None, Some}
+use Rattle.std.specs.Prelude.{◌≡◌, ◌≢◌, ◌⊎◌, ◌≤◌, ◌<◌, Contains, ℕ, Bool, List, [], ◌∷◌, ◌++◌, length, All, AllPairs, nat_lt, if◌then◌else◌, not, Option, None, Some}
 use Rattle.std.specs.List.{list_any}
 use Rattle.std.specs.Str.{bytes_eq}
 use Rattle.px_names.specs.Name.{is_name_text, IsName}
@@ -15,6 +15,7 @@ pub record NameLists : Type 0 where
   pub operators : List (List ℕ)
   pub results : List (List ℕ)
 
+-- no name of any kind
 abbrev pub no_names : NameLists
 no_names = record { objects = []; predicates = []; operators = []; results = [] }
 
@@ -62,6 +63,14 @@ refusal kind names name = if not (is_name_text name) then Some BadName
 -- a name is refused with this error: the first cause, or want of memory where there is no cause
 abbrev pub IsRefusal : Kind → NameLists → List ℕ → NameErr → Type 0
 IsRefusal kind names name error = (refusal kind names name ≡ Some error) ⊎ ((error ≡ NoMemory) × (refusal kind names name ≡ None))
+
+-- the text is a new name, and there is room for it
+abbrev pub IsWelcome : Kind → List (List ℕ) → List ℕ → Type 0
+IsWelcome kind names name = IsName name × (¬ Contains names name) × (length names < limit_of kind)
+
+-- the text is a new name, and there are as many names as there may be
+abbrev pub IsOneTooMany : Kind → List (List ℕ) → List ℕ → Type 0
+IsOneTooMany kind names name = IsName name × (¬ Contains names name) × (length names ≡ limit_of kind)
 
 -- the lists with one more name of a kind
 abbrev pub with_name : Kind → List ℕ → NameLists → NameLists

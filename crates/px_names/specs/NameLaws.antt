@@ -1,5 +1,5 @@
 -- Number and name correspond in a list of distinct names.
-use Rattle.std.specs.Prelude.{◌≡◌, ◌≢◌, ◌↔◌, ◌<◌, ◌+◌, ◌||◌, ℕ, Bool, true, false, Option, Some, None, is_some, List, [], ◌∷◌, length, Contains, position, slice_get, MatchOption, nat_lt}
+use Rattle.std.specs.Prelude.{◌≡◌, ◌≢◌, ◌↔◌, ◌<◌, ◌+◌, ◌||◌, ℕ, Bool, true, false, Option, Some, None, is_some, List, [], ◌∷◌, length, Contains, position, slice_get, MatchOption, nat_lt, MatchBool}
 use Rattle.std.specs.List.{position_or_len}
 use Rattle.std.specs.Str.{bytes_eq}
 use Rattle.std.proofs.Common.{refl, sym, ap, ◌∙◌, subst, arith, zero, suc, inl, inr}
@@ -59,3 +59,11 @@ name_of_number names name None is tells = λ there. let has : has_name name name
 name_of_number names name (Some number) is tells =
     let place = position-Some (bytes_eq name) names number name (sym is) in
     slice_get-get_or names number name place.0 ∙ ap Some (sym ((bytes_eq-Decides name _).0 place.1))
+
+elim_false : (b : Bool) → b ≡ true → b ≡ false → ⊥
+elim_false b t f = cc
+
+-- the test of a name says whether it is in the list
+pub has_name-tells : (name : List ℕ) (names : List (List ℕ)) (answer : Bool) → answer ≡ has_name name names → MatchBool answer (Contains names name) (¬ Contains names name)
+has_name-tells name names true same = (has_name-decides name names).0 (sym same)
+has_name-tells name names false same = λ there. elim_false (has_name name names) ((has_name-decides name names).1 there) (sym same)

@@ -27,3 +27,4 @@ mod tests;
 pub use kind::{Kind, NameErr};
 pub use name::{is_name, split_first, starts_name};
 pub use names::Names;
+pub use px_base::NoMemory;

@@ -1,5 +1,5 @@
 //! A list of names that are found by their hashes.
-ghost use Rattle.std.specs.Prelude.{◌≡◌, ◌<◌, [], ◌∷◌, ◌++◌, length, position, slice_get, Some, false, IfSome, MatchOption, Contains, is_some, OnOk, OnErr};
+ghost use Rattle.std.specs.Prelude.{◌≡◌, ◌<◌, [], ◌∷◌, ◌++◌, length, position, slice_get, Some, false, IfSome, MatchBool, MatchOption, Contains, is_some, OnOk, OnErr};
 ghost use Rattle.std.specs.Str.{bytes_eq};
 ghost use Rattle.px_names.specs.Lists.{has_name};
 
@@ -39,7 +39,8 @@ impl NameList {
     }
 
     pub fn has(&self, name: &str) -> bool
-        ensures { result ≡ has_name name.now self.now }
+        ensures test { result ≡ has_name name.now self.now }
+        ensures member { MatchBool result (Contains self.now name.now) (¬ Contains self.now name.now) }
     {
         self.set.contains(name)
     }

@@ -1,8 +1,8 @@
 //! The names of objects, predicates, operators and results.
-ghost use Rattle.std.specs.Prelude.{◌≡◌, ◌<◌, ◌≤◌, [], ◌∷◌, length, position, slice_get, None, Some, Ok, false, is_some, Contains, IfOk, OnOk, OnErr, MatchOption, MatchResult};
+ghost use Rattle.std.specs.Prelude.{◌≡◌, ◌↔◌, ◌<◌, ◌≤◌, [], ◌∷◌, length, position, slice_get, None, Some, Ok, false, is_some, Contains, IfOk, OnOk, OnErr, MatchOption, MatchResult};
 ghost use Rattle.std.specs.Str.{bytes_eq};
 ghost use Rattle.px_names.specs.Name.{IsName};
-ghost use Rattle.px_names.specs.Lists.{names_of, has_name, refusal, IsRefusal, with_name, no_names, limit_of, AreNames, AreNameLists, NameLists};
+ghost use Rattle.px_names.specs.Lists.{IsOneTooMany, IsWelcome, names_of, has_name, refusal, IsRefusal, with_name, no_names, limit_of, AreNames, AreNameLists, NameLists};
 
 use crate::list::NameList;
 use crate::{Kind, NameErr, is_name};
@@ -58,6 +58,10 @@ impl Names {
         ensures number { IfOk result (λ number. number ≡ length (names_of kind self.old)) }
         ensures declared { OnOk result (self.new ≡ with_name kind name.now self.old) }
         ensures kept { OnErr result (self.new ≡ self.old) }
+        ensures bad_name { (result ≡ Err NameErr.BadName) ↔ (¬ IsName name.now) }
+        ensures duplicate { (result ≡ Err NameErr.Duplicate) ↔ (IsName name.now × Contains (names_of kind self.old) name.now) }
+        ensures full { (result ≡ Err NameErr.Full) ↔ IsOneTooMany kind (names_of kind self.old) name.now }
+        ensures no_memory { result ≡ Err NameErr.NoMemory → IsWelcome kind (names_of kind self.old) name.now }
         ensures refused { MatchResult result (λ _. refusal kind self.old name.now ≡ None) (IsRefusal kind self.old name.now) }
     {
         if !is_name(name) {

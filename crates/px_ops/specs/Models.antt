@@ -12,6 +12,7 @@ use Rattle.px_terms.specs.Order.{atom_cmp, atom_eq, atom_hash_input}
 use Rattle.px_terms.specs.AtomSets.{IsAtomSet}
 use Rattle.px_ops.specs.ModelValue.{ModelValue}
 
+-- a world model: a set of ground atoms, with a number for each place
 pub record IsModel (atoms : List Atom) : Type 0 where
   pub ascending : IsAtomSet atoms
   pub all_ground : All IsGround atoms
@@ -21,6 +22,7 @@ pub record IsModel (atoms : List Atom) : Type 0 where
 abbrev pub model_eq : ModelValue → ModelValue → Bool
 model_eq m n = pointwise atom_eq m.atoms n.atoms
 
+-- what a hash of a model is fed: its atoms
 abbrev pub model_hash_input : ModelValue → fed.HashWrites
 model_hash_input m = fed.slice atom_hash_input m.atoms
 

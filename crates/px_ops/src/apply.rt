@@ -1,6 +1,6 @@
 ghost use Rattle.std.specs.Prelude.{◌≡◌, ◌+◌, ◌≤◌, ◌++◌, length, All, IfOk};
 ghost use Rattle.px_terms.specs.Language.{IsObject};
-ghost use Rattle.px_terms.specs.Operators.{atoms_of, adds as adds_of, result_of, schema_of as spec_schema_of};
+ghost use Rattle.px_terms.specs.Operators.{atoms_of, IsResult, adds as adds_of, result_of, schema_of as spec_schema_of};
 ghost use Rattle.px_terms.specs.AtomSets.{atom_set};
 ghost use Rattle.px_terms.specs.Validity.{IsSchemaWellFormed, IsValid, IsGroundInstanceOf};
 ghost use Rattle.px_ops.specs.Models.{IsInstanceOfSchema};
@@ -8,17 +8,24 @@ ghost use Rattle.px_ops.specs.Models.{IsInstanceOfSchema};
 use crate::model::Model;
 use crate::operators::adds;
 use px_terms::{NoMemory, OpInst, Problem, Schema};
+use std::alloc::Global;
 
 /// The model that the instance leaves: first all that it deletes goes, then what it adds comes (Fikes and Nilsson 1971).
 ///
 /// # Errors
 /// `NoMemory` where there is none for the new model.
-pub fn apply_op(problem: &Problem, model: &Model, inst: &OpInst) -> Result<Model, NoMemory>
+pub fn apply_op(
+    alloc: Global,
+    problem: &Problem,
+    model: &Model,
+    inst: &OpInst,
+) -> Result<Model, NoMemory>
     requires problem { IsValid problem.now }
     requires inst { IsGroundInstanceOf problem.now inst.now }
-    ensures { IfOk result (λ next. next.atoms ≡ result_of problem.now model.now.atoms inst.now) }
+    ensures atoms { IfOk result (λ next. next.atoms ≡ result_of problem.now model.now.atoms inst.now) }
+    ensures result { IfOk result (λ next. IsResult problem.now inst.now model.now.atoms next.atoms) }
 {
-    let mut next = model.try_copy()?;
+    let mut next = model.copy_in(alloc)?;
     next.reserve(schema_of(problem, inst).add.len())?;
     apply_in(problem, &mut next, inst);
     Ok(next)
@@ -26,6 +33,18 @@ pub fn apply_op(problem: &Problem, model: &Model, inst: &OpInst) -> Result<Model
 
 /// The same in place, where there is room for what the instance adds. Takes no memory.
 pub fn apply_in(problem: &Problem, model: &mut Model, inst: &OpInst)
+    requires problem { IsValid problem.now }
+    requires inst { IsGroundInstanceOf problem.now inst.now }
+    requires room { length (adds_of problem.now inst.now) ≤ model.old.spare }
+    ensures atoms { model.new.atoms ≡ result_of problem.now model.old.atoms inst.now }
+    ensures result { IsResult problem.now inst.now model.old.atoms model.new.atoms }
+    ensures spare { model.old.spare ≤ model.new.spare + length (adds_of problem.now inst.now) }
+{
+    replace(problem, model, inst);
+}
+
+/// The same by the lists of atoms.
+fn replace(problem: &Problem, model: &mut Model, inst: &OpInst)
     requires problem { IsValid problem.now }
     requires inst { IsGroundInstanceOf problem.now inst.now }
     requires room { length (adds_of problem.now inst.now) ≤ model.old.spare }

@@ -26,3 +26,4 @@ mod tests;
 pub use apply::{apply_in, apply_op};
 pub use model::Model;
 pub use operators::{adds, deletes, pre};
+pub use px_terms::NoMemory;

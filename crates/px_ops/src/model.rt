@@ -86,6 +86,7 @@ impl Model {
         ensures is_new { IfOk result (λ is_new. MatchBool is_new (¬ Contains self.old.atoms atom) (Contains self.old.atoms atom)) }
         ensures spare { self.old.spare ≤ self.new.spare + 1 }
         ensures room { 1 ≤ self.old.spare → IsOk result }
+        ensures there { Contains self.old.atoms atom → IsOk result }
         ensures err { OnErr result (self.new ≡ self.old) }
     {
         match self.place(&atom) {
@@ -106,7 +107,10 @@ impl Model {
         ensures atoms { self.new.atoms ≡ with_atom atom self.old.atoms }
         ensures spare { self.old.spare ≤ self.new.spare + 1 }
     {
-        let _done = self.atoms.insert(place, atom);
+        match self.atoms.insert(place, atom) {
+            Ok(()) => {}
+            Err(_) => unreachable!(),
+        }
     }
 
     /// Afterwards there is room for `more` further atoms.
@@ -169,7 +173,14 @@ impl Model {
     pub fn try_copy(&self) -> Result<Model, NoMemory>
         ensures { IfOk result (λ copy. copy.atoms ≡ self.now.atoms) }
     {
-        let mut atoms = Vec::new(*self.atoms.allocator());
+        self.copy_in(*self.atoms.allocator())
+    }
+
+    /// The same in memory of another allocator.
+    pub(crate) fn copy_in(&self, alloc: Global) -> Result<Model, NoMemory>
+        ensures { IfOk result (λ copy. copy.atoms ≡ self.now.atoms) }
+    {
+        let mut atoms = Vec::new(alloc);
         atoms.extend_from_slice(&self.atoms)?;
         Ok(Model { atoms })
     }

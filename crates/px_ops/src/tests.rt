@@ -102,7 +102,7 @@ fn a_move(rt: HostRuntime) -> Result<(), NoMemory> {
     let step = OpInst::new(0, &[Term::Obj(0), Term::Obj(1)]).expect(&rt, "two arguments");
     let mut facts = Model::new(rt.alloc());
     facts.insert(start)?;
-    let after = apply_op(&problem, &facts, &step)?;
+    let after = apply_op(rt.alloc(), &problem, &facts, &step)?;
     assert!(&rt; after.atoms() == [end].as_slice());
     Ok(())
 }

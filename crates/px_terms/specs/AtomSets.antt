@@ -5,6 +5,7 @@ use Rattle.px_base.specs.Sets.{with_item, set_of}
 use Rattle.px_terms.specs.declared.atom.Atom.{Atom}
 use Rattle.px_terms.specs.Order.{atom_cmp}
 
+-- the list is a set of atoms: ascending, each once
 abbrev pub IsAtomSet : List Atom → Type 0
 IsAtomSet = IsStrictlySortedBy atom_cmp
 

@@ -4,6 +4,7 @@ pub mod InstanceLaws
 pub mod Instances
 pub mod Language
 pub mod MergedNames
+pub mod MergedNamesLaws
 pub mod OperatorLaws
 pub mod Operators
 pub mod Order

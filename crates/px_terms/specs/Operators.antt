@@ -1,11 +1,11 @@
 -- Operator instances: what they need, delete and add, and the world models that they leave.
-use Rattle.std.specs.Prelude.{Bool, not, List, [], ◌∷◌, ◌++◌, Any, map, filter, slice_index_or}
+use Rattle.std.specs.Prelude.{Bool, not, List, [], ◌∷◌, ◌++◌, Any, map, filter, slice_index_or, ◌↔◌, ◌⊎◌, Contains}
 use Rattle.std.specs.List.{list_any}
 use Rattle.px_terms.specs.declared.atom.Atom.{Atom}
 use Rattle.px_terms.specs.declared.instance.OpInst.{OpInst}
 use Rattle.px_terms.specs.declared.problem.Problem.{Problem}
 use Rattle.px_terms.specs.declared.problem.Schema.{Schema}
-use Rattle.px_terms.specs.Instances.{IsInstance, is_instance}
+use Rattle.px_terms.specs.Instances.{IsGround, IsInstance, is_instance}
 use Rattle.px_terms.specs.AtomSets.{atom_set}
 use Rattle.px_terms.specs.Substitution.{substitute_atom}
 
@@ -17,6 +17,7 @@ atoms_of atoms inst = map (substitute_atom inst.args) atoms
 abbrev pub IsDeleted : Schema → OpInst → Atom → Type 0
 IsDeleted schema inst atom = Any (λ pattern. IsInstance atom (substitute_atom inst.args pattern)) schema.del
 
+-- the test of a deletion, which decides it on ground atoms
 abbrev pub is_deleted : Schema → OpInst → Atom → Bool
 is_deleted schema inst atom = list_any (λ pattern. is_instance atom (substitute_atom inst.args pattern)) schema.del
 
@@ -28,18 +29,23 @@ result_by schema atoms inst = atom_set (filter (λ atom. not (is_deleted schema 
 abbrev pub no_schema : Schema
 no_schema = record { op = 0; params = 0; pre = []; del = []; add = [] }
 
+-- the operator of an instance
 abbrev pub schema_of : Problem → OpInst → Schema
 schema_of problem inst = slice_index_or problem.schemas inst.op no_schema
 
+-- the atoms that the instance needs
 abbrev pub precondition : Problem → OpInst → List Atom
 precondition problem inst = atoms_of (schema_of problem inst).pre inst
 
+-- the atoms that it adds
 abbrev pub adds : Problem → OpInst → List Atom
 adds problem inst = atoms_of (schema_of problem inst).add inst
 
+-- whether it deletes the atom
 abbrev pub deletes : Problem → OpInst → Atom → Bool
 deletes problem inst atom = is_deleted (schema_of problem inst) inst atom
 
+-- the model that it leaves: first all goes that it deletes, then its adds come
 abbrev pub result_of : Problem → List Atom → OpInst → List Atom
 result_of problem atoms inst = result_by (schema_of problem inst) atoms inst
 
@@ -47,3 +53,8 @@ result_of problem atoms inst = result_by (schema_of problem inst) atoms inst
 abbrev pub results_of : Problem → List Atom → List OpInst → List Atom
 results_of problem atoms [] = atoms
 results_of problem atoms (inst ∷ insts) = results_of problem (result_of problem atoms inst) insts
+
+-- the ground atoms afterwards are those from before that the instance doesn't delete, and those that it adds
+abbrev pub IsResult : Problem → OpInst → List Atom → List Atom → Type 0
+IsResult problem inst before after =
+    (atom : Atom) → IsGround atom → Contains after atom ↔ ((Contains before atom × ¬ IsDeleted (schema_of problem inst) inst atom) ⊎ Contains (adds problem inst) atom)

@@ -1,4 +1,5 @@
--- States of the world as finite interpretations, what is true in them, and the actions that operators describe.
+-- States of the world as finite interpretations, what is true in them, and the actions that operators describe
+-- (Lifschitz 1987, for finite interpretations).
 use Rattle.std.specs.Prelude.{◌≡◌, ℕ, ◌<◌, ◌≤◌, Bool, true, false, List, [], length, map, All, Any, Contains, slice_index, slice_index_or}
 use Rattle.px_terms.specs.declared.atom.Atom.{Atom}
 use Rattle.px_terms.specs.declared.clause.Lit.{Lit}
@@ -6,7 +7,7 @@ use Rattle.px_terms.specs.declared.instance.OpInst.{OpInst}
 use Rattle.px_terms.specs.declared.problem.Problem.{Problem}
 use Rattle.px_terms.specs.declared.term.Term.{Term}
 use Rattle.px_terms.specs.declared.term.Term.TheVariants.{Obj, Var, Any as WildCard}
-use Rattle.px_terms.specs.Operators.{precondition, adds, deletes}
+use Rattle.px_terms.specs.Operators.{IsDeleted, precondition, adds, schema_of}
 use Rattle.px_terms.specs.Validity.{IsAtomOf}
 
 -- a finite interpretation: the elements are the numbers below the size; each object has an element, and
@@ -16,6 +17,7 @@ pub record State : Type 0 where
   pub elements : List ℕ
   pub tuples : List (List (List ℕ))
 
+-- there is an element, and each element that is named is one of the state
 pub record IsState (state : State) : Type 0 where
   pub not_empty : 1 ≤ state.size
   pub elements : All (λ e. e < state.size) state.elements
@@ -31,6 +33,7 @@ element_of state values WildCard = 0
 abbrev pub HoldsUnder : State → List ℕ → Atom → Type 0
 HoldsUnder state values atom = Contains (slice_index_or state.tuples atom.pred []) (map (element_of state values) atom.args)
 
+-- the ground atom is true in the state
 abbrev pub Holds : State → Atom → Type 0
 Holds state atom = HoldsUnder state [] atom
 
@@ -38,6 +41,7 @@ Holds state atom = HoldsUnder state [] atom
 abbrev pub AreValues : State → ℕ → List ℕ → Type 0
 AreValues state vars values = (length values ≡ vars) × All (λ e. e < state.size) values
 
+-- the literal is true where the variables have these elements: its atom is, or where it denies the atom, its atom is not
 abbrev pub LiteralHoldsUnder : State → List ℕ → Lit → Type 0
 LiteralHoldsUnder state values lit = signed lit.positive where
   signed : Bool → Type 0
@@ -51,6 +55,6 @@ AxiomsHold problem state = All (λ clause. (values : List ℕ) → AreValues sta
 -- the second state is one that the instance may leave: where the precondition holds, all adds hold afterwards,
 -- and so does each ground atom of the problem that held and isn't deleted. Nothing is asked of atoms with
 -- numbers that the problem hasn't, since no operator speaks of them.
-pub record Describes (problem : Problem) (inst : OpInst) (before after : State) : Type 0 where
-  pub kept : All (Holds before) (precondition problem inst) → (atom : Atom) → IsAtomOf problem 0 atom → Holds before atom → deletes problem inst atom ≡ false → Holds after atom
+pub record Described (problem : Problem) (inst : OpInst) (before after : State) : Type 0 where
+  pub kept : All (Holds before) (precondition problem inst) → (atom : Atom) → IsAtomOf problem 0 atom → Holds before atom → ¬ IsDeleted (schema_of problem inst) inst atom → Holds after atom
   pub added : All (Holds before) (precondition problem inst) → All (Holds after) (adds problem inst)

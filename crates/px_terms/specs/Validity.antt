@@ -26,9 +26,11 @@ IsPatternTermOf problem vars Any = Unit {0}
 abbrev pub HasArity : Problem → Atom → Type 0
 HasArity problem atom = (atom.pred < length problem.arities) × (length atom.args ≡ slice_index problem.arities atom.pred)
 
+-- the atom is one of the problem over its objects and `vars` variables
 abbrev pub IsAtomOf : Problem → ℕ → Atom → Type 0
 IsAtomOf problem vars atom = HasArity problem atom × All (IsTermOf problem vars) atom.args
 
+-- the same of a delete pattern, in which the wild card may stand
 abbrev pub IsPatternOf : Problem → ℕ → Atom → Type 0
 IsPatternOf problem vars atom = HasArity problem atom × All (IsPatternTermOf problem vars) atom.args
 
@@ -38,9 +40,11 @@ pub record IsSchemaWellFormed (schema : Schema) : Type 0 where
   pub add : All (λ atom. All (IsPlainBelow schema.params) atom.args) schema.add
   pub del : All (λ atom. All (IsVariableBelow schema.params) atom.args) schema.del
 
+-- the list has fewer than 4,294,967,295 entries
 abbrev pub IsShort : {X : Type 0} → List X → Type 0
 IsShort xs = length xs < 4294967295
 
+-- the operator at a place of the problem: its number is the place, it has at most eight parameters, and its atoms are the problem's
 pub record IsSchemaOf (problem : Problem) (place : ℕ) (schema : Schema) : Type 0 where
   pub number : schema.op ≡ place
   pub params : schema.params ≤ 8
@@ -49,10 +53,12 @@ pub record IsSchemaOf (problem : Problem) (place : ℕ) (schema : Schema) : Type
   pub add : All (IsAtomOf problem schema.params) schema.add
   pub short : IsShort schema.pre × IsShort schema.del × IsShort schema.add
 
+-- an axiom of the problem has at most twelve variables, and its atoms are the problem's
 pub record IsAxiomOf (problem : Problem) (clause : Clause) : Type 0 where
   pub vars : clause.vars ≤ 12
   pub lits : All (λ lit. IsAtomOf problem clause.vars lit.atom) clause.lits
 
+-- all numbers of the problem are in range, its limits too, and there is an object where a variable or parameter is declared
 pub record IsValid (problem : Problem) : Type 0 where
   pub schemas : EachIndex problem.schemas (λ k. IsSchemaOf problem k (slice_index_or problem.schemas k no_schema))
   pub axioms : All (IsAxiomOf problem) problem.axioms

@@ -1,6 +1,6 @@
 -- What a valid problem says of the schema of one of its instances.
-use Rattle.std.specs.Prelude.{ℕ, List, [], ◌∷◌, length, map, All}
-use Rattle.std.proofs.Common.{◌∙◌, arith}
+use Rattle.std.specs.Prelude.{◌≡◌, Bool, true, false, ℕ, List, [], ◌∷◌, length, map, All}
+use Rattle.std.proofs.Common.{refl, inl, inr, ◌∙◌, arith}
 use Rattle.std.proofs.lemmas.List.{length-map}
 use Rattle.std.proofs.lemmas.List.Elements.{All-head, All-tail, All-cons}
 use Rattle.px_terms.specs.declared.atom.Atom.{Atom}
@@ -11,7 +11,8 @@ use Rattle.px_terms.specs.declared.term.Term.{Term}
 use Rattle.px_terms.specs.declared.term.Term.TheVariants.{Obj, Var, Any as WildCard}
 use Rattle.px_terms.specs.Instances.{IsGround}
 use Rattle.px_terms.specs.Language.{IsObject, IsPlainBelow, IsVariableBelow, substitute}
-use Rattle.px_terms.specs.Operators.{precondition, adds, schema_of}
+use Rattle.px_terms.specs.OperatorLaws.{is_deleted-decides, result_by-members}
+use Rattle.px_terms.specs.Operators.{IsDeleted, IsResult, precondition, adds, deletes, result_of, schema_of}
 use Rattle.px_terms.specs.Substitution.{substitute_atom}
 use Rattle.px_terms.specs.Validity.{IsTermOf, IsPatternTermOf, IsSchemaWellFormed, IsSchemaOf, IsValid, IsGroundInstanceOf, IsInstanceOf, IsAtomOf}
 
@@ -29,6 +30,10 @@ object_term : (problem : Problem) (term : Term) → IsTermOf problem 0 term → 
 object_term problem (Obj n) h = tt
 object_term problem (Var v) h = absurd (omega (arith, h))
 object_term problem WildCard h = h
+
+-- an atom of the problem without variables is ground
+pub atom_of-is_ground : (problem : Problem) (atom : Atom) → IsAtomOf problem 0 atom → IsGround atom
+atom_of-is_ground problem atom is k d below = object_term problem _ (is.1 k d below)
 
 pub instance_objects : (problem : Problem) (inst : OpInst) → IsInstanceOf problem inst → All IsObject inst.args
 instance_objects problem inst is k d below = object_term problem _ (is.objects k d below)
@@ -97,3 +102,42 @@ precondition-is_of problem inst valid is = atoms-are_of problem inst.args is.obj
 
 pub adds-are_of : (problem : Problem) (inst : OpInst) → IsValid problem → IsInstanceOf problem inst → All (IsAtomOf problem 0) (adds problem inst)
 adds-are_of problem inst valid is = atoms-are_of problem inst.args is.objects (schema_of problem inst).add (rw is.count (valid.schemas inst.op is.op).add)
+
+both_answers : {G : Type 0} (b : Bool) → b ≡ false → b ≡ true → G
+both_answers b f t = cc
+
+-- what the test of a deletion passes over isn't deleted
+pub deletes-false : (problem : Problem) (inst : OpInst) (atom : Atom) → IsValid problem → IsGroundInstanceOf problem inst → IsGround atom
+    → deletes problem inst atom ≡ false → ¬ IsDeleted (schema_of problem inst) inst atom
+deletes-false problem inst atom valid is is_ground stays deleted =
+    both_answers (deletes problem inst atom) stays
+    ((is_deleted-decides (schema_of problem inst) inst atom is_ground is.all_objects (rw is.count (instance_schema problem inst valid is).del)).1 deleted)
+
+-- what the test of a deletion finds is deleted
+pub deletes-true : (problem : Problem) (inst : OpInst) (atom : Atom) → IsValid problem → IsGroundInstanceOf problem inst → IsGround atom
+    → deletes problem inst atom ≡ true → IsDeleted (schema_of problem inst) inst atom
+deletes-true problem inst atom valid is is_ground found =
+    (is_deleted-decides (schema_of problem inst) inst atom is_ground is.all_objects (rw is.count (instance_schema problem inst valid is).del)).0 found
+
+-- what isn't deleted passes the test
+pub deletes-passed : (problem : Problem) (inst : OpInst) (atom : Atom) → IsValid problem → IsGroundInstanceOf problem inst → IsGround atom
+    → ¬ IsDeleted (schema_of problem inst) inst atom → deletes problem inst atom ≡ false
+deletes-passed problem inst atom valid is is_ground stays =
+    elim (deletes problem inst atom) as (λ b. deletes problem inst atom ≡ b → b ≡ false) [
+      | true ↦ λ found. absurd (stays (deletes-true problem inst atom valid is is_ground found))
+      | false ↦ λ _. refl
+    ] refl
+
+-- the model that an instance leaves is its result
+pub result_of-is_result : (problem : Problem) (inst : OpInst) (atoms : List Atom) → IsValid problem → IsGroundInstanceOf problem inst → IsResult problem inst atoms (result_of problem atoms inst)
+result_of-is_result problem inst atoms valid is atom is_ground =
+    let members = result_by-members (schema_of problem inst) atoms inst atom in (
+      λ there. elim (members.0 there) [
+        | inl kept ↦ inl (kept.0, deletes-false problem inst atom valid is is_ground kept.1)
+        | inr added ↦ inr added
+      ],
+      λ there. elim there [
+        | inl kept ↦ members.1 (inl (kept.0, deletes-passed problem inst atom valid is is_ground kept.1))
+        | inr added ↦ members.1 (inr added)
+      ],
+    )

@@ -12,11 +12,12 @@ use thiserror::Error;
 pub struct Lit {
     /// Whether the atom is asserted.
     pub positive: bool,
+    /// The atom that is asserted or denied.
     pub atom: Atom,
 }
 
 /// Why a clause isn't taken.
-#[derive(Debug, Drop, Error)]
+#[derive(Clone, Copy, PartialEq, Eq, Debug, Error)]
 pub enum ArenaErr {
     /// There is no literal, or more than six.
     #[error("a clause has one to six literals")]
@@ -32,7 +33,9 @@ pub enum ArenaErr {
 /// An axiom: one of its literals is true in every state, whatever its variables, `vars` in number, stand for.
 #[derive(Drop)]
 pub struct Clause {
+    /// How many variables it has, numbered from 0.
     pub vars: u32,
+    /// Its literals, from one to six in an arena.
     pub lits: Sequence<Lit>,
 }
 

@@ -6,3 +6,6 @@ returns-in-Ok-clause-ok c = with_atom-there c.args.self.now.atoms c.args.atom c.
 
 pub returns-in_ok-reserve-in-Err-clause-is_new : goal.returns-in_ok-reserve-in-Err-clause-is_new
 returns-in_ok-reserve-in-Err-clause-is_new c = missing c.args.self.now.atoms c.args.atom c.in-Err.place c.in-Err.ensures.place
+
+pub returns-in_err-reserve-in-Err-clause-there : goal.returns-in_err-reserve-in-Err-clause-there
+returns-in_err-reserve-in-Err-clause-there c = λ there. absurd (missing c.args.self.now.atoms c.args.atom c.in-Err.place c.in-Err.ensures.place there)

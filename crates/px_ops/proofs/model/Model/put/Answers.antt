@@ -7,13 +7,13 @@ pub invariant_of-self : goal.invariant_of-self
 invariant_of-self c =
     let place = rw (← c.self.view_is) at c.requires.place in
     let room : 1 ≤ min (vec_capacity c.self.inside.atoms) 4294967295 - length c.self.inside.atoms.items = rw (← c.self.view_is) at c.requires.room in
-    let short : length c.insert-done.new.self.items ≤ 4294967295 =
-    inserted_short c.self.inside.atoms.items c.insert-done.new.self.items c.args.atom c.args.place (is_ok c.insert-done.result) c.insert-done.ensures.items (omega (arith, room)) in
-    inserted_model c.self.inside.atoms.items c.insert-done.new.self.items c.args.atom c.args.place (is_ok c.insert-done.result) place c.insert-done.ensures.items c.self.invariant c.requires.is_ground short
+    let short : length c.insert.new.self.items ≤ 4294967295 =
+    inserted_short c.self.inside.atoms.items c.insert.new.self.items c.args.atom c.args.place (is_ok c.insert.result) c.insert.ensures.items (omega (arith, room)) in
+    inserted_model c.self.inside.atoms.items c.insert.new.self.items c.args.atom c.args.place (is_ok c.insert.result) place c.insert.ensures.items c.self.invariant c.requires.is_ground short
 
 pub returns-clause-atoms : goal.returns-clause-atoms
 returns-clause-atoms c =
     let room : 1 ≤ min (vec_capacity c.self.inside.atoms) 4294967295 - length c.self.inside.atoms.items = rw (← c.self.view_is) at c.requires.room in
     rw (← c.self.view_is)
-    (inserted c.self.inside.atoms.items c.insert-done.new.self.items c.args.atom c.args.place (is_ok c.insert-done.result) (rw (← c.self.view_is) at c.requires.place) c.insert-done.ensures.items
-    (c.insert-done.ensures.succeeds (omega (arith, room))))
+    (inserted c.self.inside.atoms.items c.insert.new.self.items c.args.atom c.args.place (is_ok c.insert.result) (rw (← c.self.view_is) at c.requires.place) c.insert.ensures.items
+    (c.insert.ensures.succeeds (omega (arith, room))))

@@ -1,0 +1,28 @@
+//! Replies and their texts.
+//!
+//! # Calling it
+//!
+//! - [`Reply`] is what a command answers, and [`reply_text`] gives its text, in UTF-8. The text is `reply_text` of
+//!   `specs/Replies.antt`, which reads as a table: for each reply its words, then its list of lines. Each line ends with
+//!   a line feed; an indented line begins with two spaces; numbers are decimal; `steps`, `moves` and `nodes` never
+//!   change with the number before them.
+//! - `reply_text` asks that each number which it prints as a name has that name (`IsNamed`). A reply of a search that
+//!   met its limit only counts its nodes, so nothing is asked of them.
+//! - [`ShownTerm`], [`ShownAtom`] and [`ShownInstance`] lend a term, an atom or an operator instance with the names, and
+//!   print as in a script: `NAME(ARGUMENT,ARGUMENT)`, and `NAME` alone without arguments. Of the variables those below
+//!   `params` are parameters, `p1` and on, and those after them are variables of a goal, `?1` and on. Each is made by a
+//!   struct literal, where the caller shows that the numbers have their names; what it writes is its `output`, a
+//!   definition of `specs/Texts.antt`.
+//! - A new reply is a variant of `Reply`, an equation of `IsNamed` and of `reply_text`, and an arm of `push_reply` in
+//!   `src/text.rt`: one function that appends each kind of line, and one loop for each list of lines.
+#![tactic(auto)]
+
+mod reply;
+mod shown;
+#[cfg(test)]
+mod tests;
+mod text;
+
+pub use reply::Reply;
+pub use shown::{ShownAtom, ShownInstance, ShownTerm};
+pub use text::reply_text;

@@ -1,0 +1,107 @@
+//! The texts of replies. Each kind of line has one function that appends it, and each list of lines one loop.
+ghost use Rattle.std.specs.Prelude.{◌≡◌, ◌∷◌, [], ◌++◌, All, IfOk, OnOk, map, string_bytes};
+ghost use Rattle.std.specs.Fmt.{decimal};
+ghost use Rattle.px_printer.specs.Texts.{IsNamedAtom, IsNamedInstance, atom_text, instance_text, indented_line, numbered_lines, lines_of};
+ghost use Rattle.px_printer.specs.Replies.{IsNamed, reply_text};
+
+use crate::reply::Reply;
+use crate::shown::{ShownAtom, ShownInstance};
+use px_base::NoMemory;
+use px_names::{Kind, Names};
+use px_terms::{Atom, OpInst};
+use std::alloc::{AllocError, Global};
+use std::fmt::Write;
+
+/// The text of a reply, in UTF-8.
+///
+/// # Errors
+/// `NoMemory` where there is none for the text.
+pub fn reply_text(alloc: Global, reply: &Reply, names: &Names) -> Result<Vec<u8>, NoMemory>
+    requires named { IsNamed names.now reply.now }
+    ensures text { IfOk result (λ text. text.items ≡ reply_text names.now reply.now) }
+{
+    let mut text = String::new(alloc);
+    push_reply(&mut text, reply, names)?;
+    Ok(text.into_bytes())
+}
+
+/// Appends the lines of a reply.
+fn push_reply(text: &mut String, reply: &Reply, names: &Names) -> Result<(), AllocError>
+    requires named { IsNamed names.now reply.now }
+    ensures { OnOk result (string_bytes text.new ≡ string_bytes text.old ++ reply_text names.now reply.now) }
+{
+    match reply {
+        Reply::Plan { name, moves, steps } => {
+            let name = names.text(Kind::Result, *name);
+            let count = steps.len();
+            write!(text, "plan {name} {count} steps {moves} moves\n")?;
+            push_steps(text, steps.as_slice(), names)
+        }
+        Reply::Exhausted { name } => {
+            let name = names.text(Kind::Result, *name);
+            write!(text, "exhausted {name}\n")
+        }
+        Reply::NodeLimit { name, nodes, moves } => {
+            let name = names.text(Kind::Result, *name);
+            write!(text, "nodelimit {name} {nodes} nodes {moves} moves\n")
+        }
+        Reply::FactsAre { atoms } => {
+            let count = atoms.len();
+            write!(text, "facts {count}\n")?;
+            push_atoms(text, atoms.as_slice(), names)
+        }
+    }
+}
+
+/// Appends a line for each step, numbered from 1.
+fn push_steps(text: &mut String, steps: &[OpInst], names: &Names) -> Result<(), AllocError>
+    requires { All (IsNamedInstance names.now) steps.now }
+    ensures { OnOk result (string_bytes text.new ≡ string_bytes text.old ++ numbered_lines 1 (map (instance_text names.now 0) steps.now)) }
+{
+    for (index, step) in steps.iter().enumerate() {
+        push_step(text, index + 1, step, names)?;
+    }
+    Ok(())
+}
+
+/// Appends the line of a step.
+fn push_step(
+    text: &mut String,
+    number: usize,
+    step: &OpInst,
+    names: &Names,
+) -> Result<(), AllocError>
+    requires { IsNamedInstance names.now step.now }
+    ensures { OnOk result (string_bytes text.new ≡ string_bytes text.old ++ indented_line (decimal number ∷ instance_text names.now 0 step.now ∷ [])) }
+{
+    let step = ShownInstance {
+        inst: step,
+        names,
+        params: 0,
+    };
+    write!(text, "  {number} {step}\n")
+}
+
+/// Appends a line for each atom.
+fn push_atoms(text: &mut String, atoms: &[Atom], names: &Names) -> Result<(), AllocError>
+    requires { All (IsNamedAtom names.now) atoms.now }
+    ensures { OnOk result (string_bytes text.new ≡ string_bytes text.old ++ lines_of (map (atom_text names.now 0) atoms.now)) }
+{
+    for atom in atoms {
+        push_atom(text, atom, names)?;
+    }
+    Ok(())
+}
+
+/// Appends the line of an atom.
+fn push_atom(text: &mut String, atom: &Atom, names: &Names) -> Result<(), AllocError>
+    requires { IsNamedAtom names.now atom.now }
+    ensures { OnOk result (string_bytes text.new ≡ string_bytes text.old ++ indented_line (atom_text names.now 0 atom.now ∷ [])) }
+{
+    let atom = ShownAtom {
+        atom,
+        names,
+        params: 0,
+    };
+    write!(text, "  {atom}\n")
+}

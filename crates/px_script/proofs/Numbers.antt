@@ -1,0 +1,35 @@
+-- The number of decimal digits, up to 32 bits.
+use Rattle.std.proofs.Common.{◌≡◌, ℕ, ◌<◌, ◌^◌, ◌-◌, true, List, [], ◌∷◌, length, min, refl, sym, ◌∙◌, subst, inl, inr, arith}
+use Rattle.std.proofs.lemmas.Bool.{cases_lt}
+use Rattle.std.proofs.lemmas.Str.{encode_ascii, encodes-chars}
+use Rattle.std.specs.Char.{is_ascii_digit}
+use Rattle.std.specs.Prelude.{Result, Ok, Err, encode_utf8_all}
+use Rattle.std.specs.Result.{OkIff, result_unwrap_or}
+use Rattle.std.specs.Str.{IsUtf8, chars, all_ascii_digits}
+use Rattle.std.specs.Str.Parse.{ParsesUnsigned, digits_value}
+use Rattle.std.proofs.lemmas.Str.Parse.{IsNumeralModel, parse_digits, numerals_by_value, tells_all_ascii_digits}
+use Rattle.px_script.specs.Lexemes.{number_value}
+use Rattle.px_script.proofs.Firsts.{and_both, digit-range}
+
+pub own : IsNumeralModel (λ ds. all_ascii_digits ds ≡ true) (digits_value 10)
+own = numerals_by_value (λ ds. all_ascii_digits ds ≡ true) tells_all_ascii_digits
+
+capped : {E : Type 0} (r : Result ℕ E) (value : ℕ) (P : Type 0) → P → OkIff r (P × (value < 2 ^ 32)) value → result_unwrap_or r (2 ^ 32 - 1) ≡ min value (2 ^ 32 - 1)
+capped (Ok n) value P p is = omega (arith, is.0.1, is.1)
+capped (Err e) value P p is = elim (cases_lt value (2 ^ 32)) [ inl small ↦ absurd (is (p, small)) | inr large ↦ omega (arith, large) ]
+
+-- digits are their own bytes
+pub encodes-digits : (cs : List ℕ) → all_ascii_digits cs ≡ true → encode_utf8_all cs ≡ cs
+encodes-digits [] all = refl
+encodes-digits (c ∷ cs) all =
+    let both = and_both (is_ascii_digit c) (all_ascii_digits cs) all in
+    let range = digit-range c both.0 in
+    rw (encode_ascii c (omega (arith, range.1)), encodes-digits cs both.1) refl
+
+-- what `parse` answers for the text of digits, with the greatest number in place of an error
+pub parsed-digits : {E : Type 0} (text : List ℕ) (r : Result ℕ E) → IsUtf8 text → 0 < length (chars text) → all_ascii_digits (chars text) ≡ true → ParsesUnsigned 32 10 text r
+    → result_unwrap_or r (2 ^ 32 - 1) ≡ number_value (chars text)
+parsed-digits text r u some all parses =
+    let same : chars text ≡ text = sym (encodes-digits (chars text) all) ∙ encodes-chars text u in
+    let P : List ℕ → Type 0 = λ t. ParsesUnsigned 32 10 t r in
+    capped r (digits_value 10 (chars text)) _ some (parse_digits own 32 (chars text) r (subst P (sym same) parses) all)

@@ -1,0 +1,16 @@
+pub mod Lexemes
+pub mod Lines
+pub mod Statements
+pub mod Buildings
+pub mod Commands
+pub mod Domain
+pub mod Declarations
+pub mod Content
+pub mod Stages
+pub mod Faults
+pub mod Scripts
+pub mod Scanning
+pub mod Progress
+pub mod Parsing
+pub mod Plain
+pub mod Ranges

@@ -1,0 +1,66 @@
+-- Which bytes are a script, and which fault is the first.
+use Rattle.std.specs.Prelude.{◌≡◌, ◌⊎◌, ℕ, ◌+◌, true, false, List, [], ◌∷◌, take, None, Some, count_by, ◌==◌}
+use Rattle.std.specs.Str.{IsUtf8}
+use Rattle.std.specs.Str.Lossy.{utf8_valid_len}
+use Rattle.px_script.specs.Lexemes.{Lexeme, Lexes}
+use Rattle.px_script.specs.Lines.{lines_of}
+use Rattle.px_script.specs.Statements.{Statement, Forms, begins_with_word}
+use Rattle.px_script.specs.Declarations.{Declared, OpenBlock, nothing_declared, has_building, after_line}
+use Rattle.px_script.specs.Content.{ScriptValue, content_of}
+use Rattle.px_script.specs.Faults.{Refusal, fault_of, coded}
+
+-- Line n has no fault, and leaves this declared.
+abbrev pub PassesLexemes : ℕ → Declared → List Lexeme → Declared → Type 0
+PassesLexemes n d [] after = after ≡ d
+PassesLexemes n d (lexeme ∷ lexemes) after = (s : Statement) × Forms (has_building d) (lexeme ∷ lexemes) s × (fault_of d s ≡ None) × (after ≡ after_line n d s)
+
+abbrev pub Passes : ℕ → Declared → List ℕ → Declared → Type 0
+Passes n d line after = (lexemes : List Lexeme) × Lexes line lexemes × PassesLexemes n d lexemes after
+
+-- the lines from number n on have no fault
+abbrev pub PassAll : ℕ → Declared → List (List ℕ) → Declared → Type 0
+PassAll n d [] after = after ≡ d
+PassAll n d (line ∷ lines) after = (next : Declared) × Passes n d line next × PassAll (n + 1) next lines after
+
+-- the first fault of a line, in the order of the causes
+abbrev pub FailsLexemes : Declared → List Lexeme → Refusal → Type 0
+FailsLexemes d [] refusal = ⊥
+FailsLexemes d (lexeme ∷ lexemes) refusal = let line = lexeme ∷ lexemes in
+    ((begins_with_word line ≡ false) × (Some refusal ≡ coded 3))
+    ⊎ ((begins_with_word line ≡ true) × ((s : Statement) → Forms (has_building d) line s → ⊥) × (Some refusal ≡ coded 2))
+    ⊎ ((s : Statement) × Forms (has_building d) line s × (fault_of d s ≡ Some refusal))
+
+abbrev pub Fails : Declared → List ℕ → Refusal → Type 0
+Fails d line refusal = (((lexemes : List Lexeme) → Lexes line lexemes → ⊥) × (Some refusal ≡ coded 2))
+    ⊎ ((lexemes : List Lexeme) × Lexes line lexemes × FailsLexemes d lexemes refusal)
+
+-- the first of the lines from number n on that has a fault
+abbrev pub FailsIn : ℕ → Declared → List (List ℕ) → ℕ → Refusal → Type 0
+FailsIn n d [] at refusal = (block : OpenBlock) × (d.block ≡ Some block) × (at ≡ block.line) × (Some refusal ≡ coded 10)
+FailsIn n d (line ∷ lines) at refusal = (Fails d line refusal × (at ≡ n))
+    ⊎ ((next : Declared) × Passes n d line next × FailsIn (n + 1) next lines at refusal)
+
+-- the bytes are a script that declares this
+pub record Spells (bytes : List ℕ) (script : Declared) : Type 0 where
+  pub text : IsUtf8 bytes
+  pub lines : PassAll 1 nothing_declared (lines_of bytes) script
+  pub closed : script.block ≡ None
+
+-- The bytes are a script about this. Scripts that differ in their lines alone can be about the same.
+pub record IsScript (bytes : List ℕ) (script : ScriptValue) : Type 0 where
+  pub last : Declared
+  pub spells : Spells bytes last
+  pub is : script ≡ content_of last
+
+-- the first fault of the bytes
+abbrev pub FirstFault : List ℕ → ℕ → Refusal → Type 0
+FirstFault bytes line refusal = ((IsUtf8 bytes → ⊥) × (line ≡ 1 + count_by (λ b. b == 10) (take (utf8_valid_len bytes) bytes)) × (Some refusal ≡ coded 1))
+    ⊎ (IsUtf8 bytes × FailsIn 1 nothing_declared (lines_of bytes) line refusal)
+
+-- For all bytes exactly one of the two holds, and it determines what it names.
+pub record ReadsOneWay (bytes : List ℕ) : Type 0 where
+  pub one : ((script : Declared) × Spells bytes script) ⊎ ((line : ℕ) × (refusal : Refusal) × FirstFault bytes line refusal)
+  pub not_both : (script : Declared) (line : ℕ) (refusal : Refusal) → Spells bytes script → FirstFault bytes line refusal → ⊥
+  pub one_script : (a b : Declared) → Spells bytes a → Spells bytes b → a ≡ b
+  pub one_content : (a b : ScriptValue) → IsScript bytes a → IsScript bytes b → a ≡ b
+  pub one_fault : (k m : ℕ) (a b : Refusal) → FirstFault bytes k a → FirstFault bytes m b → (k ≡ m) × (a ≡ b)

@@ -1,0 +1,15 @@
+pub mod Exclusion
+pub mod FitLemmas
+pub mod Frontier
+pub mod FrontierSteps
+pub mod GatherLemmas
+pub mod Loops
+pub mod MissingLemmas
+pub mod MoveLaws
+pub mod MoveOrder
+pub mod Openness
+pub mod OriginLemmas
+pub mod PlanLemmas
+pub mod SchemaLemmas
+pub mod SearchLemmas
+pub mod Walking

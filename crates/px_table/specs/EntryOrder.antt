@@ -1,0 +1,32 @@
+-- Equality and order of entries, as their `==` and `cmp` compute them, and what they say.
+use Rattle.std.specs.Prelude.{◌≡◌, Bool}
+use Rattle.std.specs.Bool.{Decides}
+use Rattle.std.specs.Ordering.{nat_cmp, ordering_then}
+use Rattle.std.specs.Cmp.Lexicographic.{slice_cmp}
+use Rattle.std.specs.declared.cmp.Ordering.{Ordering}
+use Rattle.std.specs.declared.cmp.Ordering.TheVariants.{Less, Greater}
+use Rattle.px_terms.specs.Order.{instance_cmp}
+use Rattle.px_table.specs.contracts.entry.EntryOrd.TheImpl as entry_order
+use Rattle.px_table.specs.contracts.entry.EntryPartialEq.TheImpl as entry_equality
+use Rattle.px_table.specs.declared.entry.Entry.{Entry}
+use Rattle.px_table.specs.declared.entry.Entry.TheVariants.{Op, Macro}
+
+abbrev pub entry_eq : Entry → Entry → Bool
+entry_eq = (entry_equality.ghosts).eq
+
+abbrev pub entry_cmp : Entry → Entry → Ordering
+entry_cmp = (entry_order.ghosts).cmp
+
+-- Operators come before tables. Operators are ordered by number and then by arguments, tables by number, then by how
+-- many steps are taken, then by objects.
+abbrev pub order_of : Entry → Entry → Ordering
+order_of (Op first) (Op second) = instance_cmp first second
+order_of (Op first) (Macro number prefix sigma) = Less
+order_of (Macro number prefix sigma) (Op second) = Greater
+order_of (Macro number prefix sigma) (Macro number' prefix' sigma') =
+    ordering_then (nat_cmp number number') (ordering_then (nat_cmp prefix prefix') (slice_cmp nat_cmp sigma sigma'))
+
+-- `cmp` is this order, and `==` is equality
+pub record EntriesAreOrdered : Type 0 where
+  pub order : (first second : Entry) → entry_cmp first second ≡ order_of first second
+  pub equality : (first second : Entry) → Decides (entry_eq first second) (first ≡ second)

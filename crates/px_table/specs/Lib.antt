@@ -1,0 +1,4 @@
+pub mod EntryLaws
+pub mod EntryOrder
+pub mod NodeLaws
+pub mod Nodes

@@ -1,0 +1,14 @@
+//! Laws about the definitions. The calls do nothing.
+ghost use Rattle.px_table.specs.EntryOrder.{EntriesAreOrdered};
+ghost use Rattle.px_table.specs.Nodes.{NodesAreCompared};
+
+/// Entries are ordered as a search tries them: operators before learned tables, and so on by `order_of`. `==` of
+/// entries is equality.
+pub fn entries_are_ordered()
+    ensures { EntriesAreOrdered }
+{}
+
+/// Nodes are equal exactly where their models have the same atoms and their stacks are the same.
+pub fn nodes_are_compared()
+    ensures { NodesAreCompared }
+{}
