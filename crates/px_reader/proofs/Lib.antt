@@ -1,0 +1,9 @@
+pub mod TokenLemmas
+pub mod Parameters
+pub mod FaultTests
+pub mod Seen
+pub mod Facts
+pub mod LimitLemmas
+pub mod LineLemmas
+pub mod LineSteps
+pub mod Outcomes

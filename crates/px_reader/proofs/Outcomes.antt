@@ -1,0 +1,76 @@
+-- What reading a text, and bytes, ends with.
+use Rattle.std.proofs.Common.{◌≡◌, ℕ, ◌+◌, ◌≤◌, List, [], ◌∷◌, map, take, drop, length, refl, sym, ap, ◌∙◌, subst, inl, inr, arith}
+use Rattle.std.specs.Prelude.{Some, Result, Ok, Err, IfOk, IfErr, count_by, ◌==◌}
+use Rattle.std.specs.Result.{IsErrAnd}
+use Rattle.std.specs.List.{slice_split}
+use Rattle.std.specs.Str.{IsUtf8, bytes_eq, chars}
+use Rattle.std.proofs.lemmas.List.{length-map, length-drop}
+use Rattle.std.proofs.lemmas.Simd.{map-map}
+use Rattle.std.proofs.lemmas.List.Sums.{count_by-le-length}
+use Rattle.std.proofs.lemmas.List.Splits.{length-slice_split}
+use Rattle.px_script.specs.Content.{ScriptValue}
+use Rattle.px_script.specs.Declarations.{Declared, OpenBlock}
+use Rattle.px_script.specs.Faults.{Refusal}
+use Rattle.px_script.specs.Lines.{mark, without_mark, without_return, lines_of}
+use Rattle.px_script.specs.Ranges.{IsInRange}
+use Rattle.px_script.specs.Scripts.{PassAll, FailsIn, IsScript, FirstFault, ReadsOneWay}
+use Rattle.px_script.proofs.Fronts.{by_test}
+use Rattle.px_script.proofs.Kept.{in-range}
+use Rattle.px_script.proofs.Law.{reads-one-way}
+use Rattle.px_reader.specs.declared.script.Script.{Script}
+use Rattle.px_reader.specs.declared.script.ScriptErr.{ScriptErr}
+use Rattle.px_reader.specs.declared.script.ScriptErr.TheVariants.{Refused, NoMemory}
+use Rattle.px_reader.specs.LineReads.{characters_of, LinesFail, HasFirstFault, IsRead, IsRefused, NamesFault, content, refusal_told}
+use denote.Ref.{Bor}
+
+pub text-fails : (text : List ℕ) (error : ScriptErr) → IsUtf8 text → LinesFail (lines_of text) error → HasFirstFault text error
+text-fails text (Refused refused) utf8 fails = inr (utf8, fails)
+text-fails text NoMemory utf8 fails = tt
+
+-- after lines without a fault an open block is the first
+pub left-open : (n : ℕ) (d : Declared) (lines : List (List ℕ)) (last : Declared) (block : OpenBlock) → PassAll n d lines last → last.block ≡ Some block → FailsIn n d lines block.line (record { code = 10; limit = 0 })
+left-open n d [] last block same opened = (block, ap (λ e. e.block) (sym same) ∙ opened, refl, refl)
+left-open n d (line ∷ lines) last block passes opened = inr (passes.0, passes.1, left-open (n + 1) passes.0 lines last block passes.2 opened)
+
+-- the lines of a text by its parts
+pub parts-lines : (parts : List (Bor (List ℕ))) (text : List ℕ) → map (λ part. part.now) parts ≡ slice_split (λ b. b == 10) (without_mark text) → characters_of parts ≡ lines_of text
+parts-lines parts text is = sym (map-map (λ line. chars (without_return line)) (λ part. part.now) parts) ∙ ap (map (λ line. chars (without_return line))) is
+
+unmarked-short : (text : List ℕ) → length (without_mark text) ≤ length text
+unmarked-short text = by_test (bytes_eq (take 3 text) mark)
+    (λ e. rw (e, length-drop) omega arith)
+    (λ e. rw e omega arith)
+
+-- there is at most one line more than there are bytes
+pub few-parts : (parts : List (Bor (List ℕ))) (text : List ℕ) → map (λ part. part.now) parts ≡ slice_split (λ b. b == 10) (without_mark text) → length parts ≤ length text + 1
+few-parts parts text is =
+    let lengths : length parts ≡ count_by (λ b. b == 10) (without_mark text) + 1 = sym (length-map parts (λ part. part.now)) ∙ ap length is ∙ length-slice_split (λ b. b == 10) (without_mark text) in
+    omega (arith, lengths, count_by-le-length (λ b. b == 10) (without_mark text), unmarked-short text)
+
+pub err-carried : {A : Type 0} (r : Result A ScriptErr) (P : ScriptErr → Type 0) (x : ScriptErr) → IsErrAnd r (λ e. e ≡ x) → P x → IfErr r P
+err-carried (Ok a) P x is p = tt
+err-carried (Err e) P x is p = subst P (sym is) p
+
+pub ranges-read : (bytes : List ℕ) (r : Result Script ScriptErr) → IfOk r (λ s. IsScript bytes (content s)) → IfOk r (λ s. IsInRange (content s))
+ranges-read bytes (Ok s) is = in-range bytes (content s) is
+ranges-read bytes (Err error) is = tt
+
+module _ (bytes : List ℕ) where
+  law : ReadsOneWay bytes
+  law = reads-one-way bytes
+
+  error-read : (error : ScriptErr) → HasFirstFault bytes error → (value : ScriptValue) → IsScript bytes value → error ≡ NoMemory
+  error-read (Refused refused) fault value is = absurd (law.not_both is.last refused.line (refusal_told refused) is.spells fault)
+  error-read NoMemory fault value is = refl
+
+  error-named : (error : ScriptErr) → HasFirstFault bytes error → (line : ℕ) (refusal : Refusal) → FirstFault bytes line refusal → NamesFault error line refusal
+  error-named (Refused refused) fault line refusal first = law.one_fault refused.line line (refusal_told refused) refusal fault first
+  error-named NoMemory fault line refusal first = tt
+
+  pub all-scripts : (r : Result Script ScriptErr) → IfOk r (λ s. IsScript bytes (content s)) → IfErr r (HasFirstFault bytes) → (value : ScriptValue) → IsScript bytes value → IsRead r value
+  all-scripts (Ok s) script fault value is = law.one_content (content s) value script is
+  all-scripts (Err error) script fault value is = error-read error fault value is
+
+  pub all-faults : (r : Result Script ScriptErr) → IfOk r (λ s. IsScript bytes (content s)) → IfErr r (HasFirstFault bytes) → (line : ℕ) (refusal : Refusal) → FirstFault bytes line refusal → IsRefused r line refusal
+  all-faults (Ok s) script fault line refusal first = law.not_both script.last line refusal script.spells first
+  all-faults (Err error) script fault line refusal first = error-named error fault line refusal first

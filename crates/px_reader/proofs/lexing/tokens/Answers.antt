@@ -1,0 +1,33 @@
+use Rattle.std.proofs.Common.{◌≡◌, ◌++◌, ◌∷◌, [], map, arith}
+use Rattle.std.proofs.lemmas.Grind.{common_steps}
+use Rattle.std.proofs.lemmas.List.{map-append}
+use Rattle.std.specs.Str.{chars}
+use Rattle.px_reader.specs.Views.{lexeme_of}
+use Rattle.px_script.proofs.Firsts.{found-begins}
+use Rattle.px_script.proofs.Readings.{Begins-shorter}
+use Rattle.px_script.proofs.Reading.{one-more-read, all-read, none-read}
+use Rattle.px_reader.proofs.lexing.tokens.Goals as goal
+
+pub loop-token-smaller : goal.loop-token-smaller
+loop-token-smaller c =
+    let scan = rw c.in-Ok-Some.field-0-is at c.in-Ok-Some.ensures in
+    Begins-shorter (chars c.loop-token.rest.now) (lexeme_of c.in-Ok-Some.token) (chars c.in-Ok-Some.after.now)
+    (found-begins (chars c.loop-token.rest.now) (lexeme_of c.in-Ok-Some.token) (chars c.in-Ok-Some.after.now) scan.0)
+
+pub loop-token-preserved : goal.loop-token-preserved
+loop-token-preserved c =
+    let scan = rw c.in-Ok-Some.field-0-is at c.in-Ok-Some.ensures in
+    let pushed : c.push.new.self.items ≡ c.loop-token.tokens.items ++ c.in-Ok-Some.token ∷ [] = grind (arith, common_steps) in (
+      rw (pushed, map-append) (one-more-read (chars c.args.line.now) (map lexeme_of c.loop-token.tokens.items) (chars c.loop-token.rest.now)
+          (lexeme_of c.in-Ok-Some.token) (chars c.in-Ok-Some.after.now) c.loop-token.invariant.0 scan.0),
+      scan.1,
+    )
+
+pub returns-in-Ok-None-clause-tokens : goal.returns-in-Ok-None-clause-tokens
+returns-in-Ok-None-clause-tokens c =
+    let scan = rw c.in-Ok-None.field-0-is at c.in-Ok-None.ensures in
+    all-read (chars c.args.line.now) (map lexeme_of c.loop-token.tokens.items) (chars c.loop-token.rest.now) c.loop-token.invariant.0 scan
+
+pub returns-in-Err-clause-refused : goal.returns-in-Err-clause-refused
+returns-in-Err-clause-refused c = λ all lexes.
+    none-read (chars c.args.line.now) (map lexeme_of c.loop-token.tokens.items) (chars c.loop-token.rest.now) c.loop-token.invariant.0 c.in-Err.ensures all lexes

@@ -1,0 +1,11 @@
+use Rattle.std.proofs.Common.{map, length}
+use Rattle.std.specs.Str.{IsUtf8, chars}
+use Rattle.px_script.specs.Progress.{ReadSoFar}
+use Rattle.px_reader.specs.Views.{lexeme_of}
+use Rattle.px_reader.proofs.lexing.tokens.Given as goal
+
+abbrev pub invariant-loop-token : goal.invariant-loop-token
+invariant-loop-token l = ReadSoFar (chars l.line) (map lexeme_of l.tokens.items) (chars l.rest) × IsUtf8 l.rest
+
+abbrev pub decreases-loop-token : goal.decreases-loop-token
+decreases-loop-token l = length (chars l.rest)

@@ -1,0 +1,41 @@
+use Rattle.std.proofs.Common.{◌≡◌, refl, sym, ap, ◌∙◌, subst, inr, length, arith}
+use Rattle.px_script.specs.Declarations.{nothing_declared}
+use Rattle.px_script.specs.Lines.{lines_of}
+use Rattle.px_script.specs.Scripts.{PassAll, FailsIn}
+use Rattle.px_reader.specs.LineReads.{characters_of, HasFirstFault, LinesFail, content}
+use Rattle.px_reader.specs.Readers.{declared_of}
+use Rattle.px_reader.proofs.Outcomes.{parts-lines, few-parts, left-open, text-fails, err-carried}
+use Rattle.px_reader.proofs.reading.read_text.Goals as goal
+
+pub read_each-requires-clause-few : goal.read_each-requires-clause-few
+read_each-requires-clause-few c =
+    let few = few-parts c.in-Ok.lines.items c.args.text.now (rw c.without_mark.ensures at c.in-Ok.ensures) in
+    let same = ap length c.deref.ensures.value in
+    omega (arith, few, same, c.requires)
+
+pub returns-in_err-read_each-clause-refused : goal.returns-in_err-read_each-clause-refused
+returns-in_err-read_each-clause-refused c =
+    let lines : characters_of c.deref.result.now ≡ lines_of c.args.text.now = ap characters_of c.deref.ensures.value ∙ parts-lines c.in-Ok.lines.items c.args.text.now (rw c.without_mark.ensures at c.in-Ok.ensures) in
+    err-carried c.from_residual.result (HasFirstFault c.args.text.now) c.in_err-read_each.field-0.0 c.from_residual.ensures.1
+    (text-fails c.args.text.now c.in_err-read_each.field-0.0 c.utf8.text (subst (λ ls. LinesFail ls c.in_err-read_each.field-0.0) lines c.in_err-read_each.ensures.fails))
+
+pub returns-in-Ok-finish-clause-script : goal.returns-in-Ok-finish-clause-script
+returns-in-Ok-finish-clause-script c =
+    let lines : characters_of c.deref.result.now ≡ lines_of c.args.text.now = ap characters_of c.deref.ensures.value ∙ parts-lines c.in-Ok.lines.items c.args.text.now (rw c.without_mark.ensures at c.in-Ok.ensures) in
+    record {
+      last = declared_of c.read_each.new.reader;
+      spells = record {
+        text = c.utf8.text;
+        lines = subst (λ ls. PassAll 1 nothing_declared ls (declared_of c.read_each.new.reader)) lines c.in_ok-read_each.ensures.passes;
+        closed = c.in-Ok-finish.ensures.0;
+      };
+      is = c.in-Ok-finish.ensures.1;
+    }
+
+pub returns-clause-refused : goal.returns-clause-refused
+returns-clause-refused c =
+    let lines : characters_of c.deref.result.now ≡ lines_of c.args.text.now = ap characters_of c.deref.ensures.value ∙ parts-lines c.in-Ok.lines.items c.args.text.now (rw c.without_mark.ensures at c.in-Ok.ensures) in
+    let passes = subst (λ ls. PassAll 1 nothing_declared ls (declared_of c.read_each.new.reader)) lines c.in_ok-read_each.ensures.passes in
+    let block = c.in-Err.ensures.0 in
+    let fails = left-open 1 nothing_declared (lines_of c.args.text.now) (declared_of c.read_each.new.reader) block passes c.in-Err.ensures.1 in
+    subst (HasFirstFault c.args.text.now) (sym c.refused.ensures) (inr (c.utf8.text, rw c.in-Err.ensures.2 fails))

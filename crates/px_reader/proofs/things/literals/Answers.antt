@@ -1,0 +1,29 @@
+use Rattle.std.proofs.Common.{◌≡◌, ◌++◌, ◌∷◌, [], ◌-◌, take, drop, length, ap, ◌∙◌, arith}
+use Rattle.std.proofs.lemmas.Grind.{common_steps}
+use Rattle.std.proofs.lemmas.List.{length-drop}
+use Rattle.px_script.specs.Parsing.{literal_at}
+use Rattle.px_script.proofs.Walks.{literal-advances}
+use Rattle.px_reader.specs.StatementViews.{literal_view}
+use Rattle.px_reader.proofs.TokenLemmas.{things-more, things-none, things-end}
+use Rattle.px_reader.proofs.things.literals.Goals as goal
+
+pub things-preserved : goal.things-preserved
+things-preserved c =
+    let tokens = c.args.tokens.now in
+    let rest : take (length tokens - c.things.at) (drop c.things.at tokens) ≡ drop c.things.at tokens = grind (arith, common_steps) in
+    let found = rw c.in-Some.is at c.in_ok-literal.ensures.found in
+    let within = rw c.in-Some.is at c.in_ok-literal.ensures.within in
+    let pushed : c.push.new.self.items ≡ c.things.literals.items ++ c.in-Some.literal ∷ [] = grind (arith, common_steps) in (
+      rw pushed (things-more literal_view literal_at literal-advances tokens c.things.at c.things.literals.items _ rest c.things.invariant.0 c.in-Some.literal c.in-Some.count found),
+      omega (arith, within, ap length rest ∙ length-drop c.things.at tokens, c.things-test.true),
+    )
+
+pub returns-in-None : goal.returns-in-None
+returns-in-None c =
+    let tokens = c.args.tokens.now in
+    let rest : take (length tokens - c.things.at) (drop c.things.at tokens) ≡ drop c.things.at tokens = grind (arith, common_steps) in
+    let found = rw c.in-None.is at c.in_ok-literal.ensures.found in
+    things-none literal_view literal_at literal-advances tokens c.things.at c.things.literals.items _ rest c.things.invariant.0 c.things-test.true found
+
+pub returns : goal.returns
+returns c = things-end literal_view literal_at literal-advances c.args.tokens.now c.things.at c.things.literals.items c.things.invariant.0 c.things-test.false

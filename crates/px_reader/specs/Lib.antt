@@ -1,0 +1,10 @@
+pub mod Classes
+pub mod StatementViews
+pub mod Tokens
+pub mod Views
+pub mod Words
+pub mod Roles
+pub mod Readers
+pub mod Checks
+pub mod FaultViews
+pub mod LineReads

@@ -1,0 +1,75 @@
+-- What reading a line, and all lines, ends with.
+use Rattle.std.specs.Prelude.{◌≡◌, ◌⊎◌, ℕ, List, [], map, Option, None, Some, Ok, Err, Result, MatchResult}
+use Rattle.std.specs.Str.{chars}
+use Rattle.px_script.specs.Content.{ScriptValue}
+use Rattle.px_script.specs.Declarations.{Declared, OpenBlock, nothing_declared}
+use Rattle.px_script.specs.Faults.{Refusal, fault_of}
+use Rattle.px_script.specs.Lines.{without_return}
+use Rattle.px_script.specs.Scripts.{Fails, FailsIn, FirstFault}
+use Rattle.px_script.specs.Statements.{Statement}
+use Rattle.px_reader.specs.declared.fault.Fault.{Fault}
+use Rattle.px_reader.specs.declared.fault.LineErr.{LineErr}
+use Rattle.px_reader.specs.declared.fault.LineErr.TheVariants as line
+use Rattle.px_reader.specs.declared.script.Refused.{Refused}
+use Rattle.px_reader.specs.declared.script.ScriptErr.{ScriptErr}
+use Rattle.px_reader.specs.declared.script.ScriptErr.TheVariants as script
+use Rattle.px_reader.specs.declared.script.Script.{Script}
+use Rattle.px_reader.specs.FaultViews.{refusal_of}
+use Rattle.px_reader.specs.Readers.{command_view}
+use denote.Ref.{Bor}
+
+-- a statement's fault is the first, unless memory ran out
+abbrev pub StatementFails : Declared → Statement → LineErr → Type 0
+StatementFails d s (line.Fault fault) = fault_of d s ≡ Some (refusal_of fault)
+StatementFails d s line.NoMemory = Unit {0}
+
+-- a line's fault is the first, unless memory ran out
+abbrev pub LineFails : Declared → List ℕ → LineErr → Type 0
+LineFails d characters (line.Fault fault) = Fails d characters (refusal_of fault)
+LineFails d characters line.NoMemory = Unit {0}
+
+-- the characters of lines without what ends them
+abbrev pub characters_of : List (Bor (List ℕ)) → List (List ℕ)
+characters_of lines = map (λ l. chars (without_return l.now)) lines
+
+abbrev pub refusal_told : Refused → Refusal
+refusal_told refused = record { code = refused.code; limit = refused.limit }
+
+-- the refusal of an input for a fault of a line
+abbrev pub told : ℕ → Fault → ScriptErr
+told line fault = script.Refused (record { line = line; code = (refusal_of fault).code; limit = (refusal_of fault).limit })
+
+-- the lines have this first fault, unless memory ran out
+abbrev pub LinesFail : List (List ℕ) → ScriptErr → Type 0
+LinesFail lines (script.Refused refused) = FailsIn 1 nothing_declared lines refused.line (refusal_told refused)
+LinesFail lines script.NoMemory = Unit {0}
+
+-- the bytes have this first fault, unless memory ran out
+abbrev pub HasFirstFault : List ℕ → ScriptErr → Type 0
+HasFirstFault bytes (script.Refused refused) = FirstFault bytes refused.line (refusal_told refused)
+HasFirstFault bytes script.NoMemory = Unit {0}
+
+-- what a script is about, as contracts see it
+abbrev pub content : Script → ScriptValue
+content s = record {
+  version = s.version;
+  names = s.names;
+  problem = s.problem;
+  facts = s.facts.atoms;
+  building = None;
+  commands = map command_view s.commands;
+}
+
+-- the script is about this, unless memory ran out
+abbrev pub IsRead : Result Script ScriptErr → ScriptValue → Type 0
+IsRead result value = MatchResult result (λ s. content s ≡ value) (λ error. error ≡ script.NoMemory)
+
+-- the refusal names this line and this fault, unless memory ran out
+abbrev pub NamesFault : ScriptErr → ℕ → Refusal → Type 0
+NamesFault (script.Refused refused) line refusal = (refused.line ≡ line) × (refusal_told refused ≡ refusal)
+NamesFault script.NoMemory line refusal = Unit {0}
+
+-- the input is refused, for this fault of this line unless memory ran out
+abbrev pub IsRefused : Result Script ScriptErr → ℕ → Refusal → Type 0
+IsRefused (Ok s) line refusal = ⊥
+IsRefused (Err error) line refusal = NamesFault error line refusal

@@ -1,0 +1,89 @@
+-- What the definitions see of statements.
+use Rattle.std.specs.Prelude.{ℕ, List, map, drop, Option, Vec}
+use Rattle.std.specs.Option.{option_map}
+use Rattle.std.specs.declared.alloc.Global.{Global}
+use Rattle.px_script.specs.Lexemes.{Lexeme}
+use Rattle.px_script.specs.Statements as spec
+use Rattle.px_reader.specs.Views.{lexeme_of}
+use Rattle.px_reader.specs.declared.token.Token.{Token}
+use Rattle.px_reader.specs.declared.statement.Argument.{Argument}
+use Rattle.px_reader.specs.declared.statement.Argument.TheVariants as argument
+use Rattle.px_reader.specs.declared.statement.WrittenAtom.{WrittenAtom}
+use Rattle.px_reader.specs.declared.statement.WrittenLiteral.{WrittenLiteral}
+use Rattle.px_reader.specs.declared.statement.WrittenLiteral.TheVariants as literal
+use Rattle.px_reader.specs.declared.statement.WrittenAtomEdit.{WrittenAtomEdit}
+use Rattle.px_reader.specs.declared.statement.WrittenAtomEdit.TheVariants as atom_edit
+use Rattle.px_reader.specs.declared.statement.WrittenRoomEdit.{WrittenRoomEdit}
+use Rattle.px_reader.specs.declared.statement.WrittenRoomEdit.TheVariants as room_edit
+use Rattle.px_reader.specs.declared.statement.Binding.{Binding}
+use Rattle.px_reader.specs.declared.statement.Statement.{Statement}
+use Rattle.px_reader.specs.declared.statement.Statement.TheVariants as statement
+use denote.Ref.{Bor}
+
+abbrev pub lexemes_of : List Token → List Lexeme
+lexemes_of tokens = map lexeme_of tokens
+
+abbrev pub text_of : Bor (List ℕ) → List ℕ
+text_of s = s.now
+
+abbrev pub argument_view : Argument → spec.Argument
+argument_view (argument.Named n) = spec.named n.now
+argument_view (argument.Variable v) = spec.open_variable v.now
+argument_view argument.Anything = spec.anything
+
+abbrev pub atom_view : WrittenAtom → spec.WrittenAtom
+atom_view atom = record { predicate = atom.predicate.now; arguments = map argument_view atom.arguments.items }
+
+abbrev pub literal_view : WrittenLiteral → spec.WrittenLiteral
+literal_view (literal.Positive atom) = spec.positive (atom_view atom)
+literal_view (literal.Negative atom) = spec.negative (atom_view atom)
+
+abbrev pub atom_edit_view : WrittenAtomEdit → spec.WrittenAtomEdit
+atom_edit_view (atom_edit.Insert atom) = spec.insert (atom_view atom)
+atom_edit_view (atom_edit.Remove atom) = spec.remove (atom_view atom)
+
+abbrev pub room_edit_view : WrittenRoomEdit → spec.WrittenRoomEdit
+room_edit_view (room_edit.RobotTo r) = spec.robot_to r.now
+room_edit_view (room_edit.BoxTo b r) = spec.box_to b.now r.now
+room_edit_view (room_edit.DoorTo d is_open) = spec.door_to d.now is_open
+
+abbrev pub binding_view : Binding → spec.Binding
+binding_view binding = record { parameter = binding.parameter; object = binding.object.now }
+
+abbrev pub statement_view : Statement → spec.Statement
+statement_view (statement.Script n) = spec.script n
+statement_view (statement.Object ns) = spec.object (map text_of ns.items)
+statement_view (statement.Predicate n a) = spec.predicate n.now a
+statement_view (statement.Axiom literals) = spec.«axiom» (map literal_view literals.items)
+statement_view (statement.Operator n ps) = spec.operator n.now (map text_of ps.items)
+statement_view (statement.Pre atoms) = spec.pre (map atom_view atoms.items)
+statement_view (statement.Delete atoms) = spec.delete (map atom_view atoms.items)
+statement_view (statement.Add atoms) = spec.add (map atom_view atoms.items)
+statement_view statement.Building = spec.building
+statement_view (statement.Room n) = spec.room n.now
+statement_view (statement.Door n one other is_open) = spec.door n.now one.now other.now is_open
+statement_view (statement.Box n r) = spec.box n.now r.now
+statement_view (statement.Robot r) = spec.robot r.now
+statement_view statement.End = spec.end
+statement_view (statement.Fact atoms) = spec.fact (map atom_view atoms.items)
+statement_view (statement.Height n) = spec.height n
+statement_view (statement.Nodes n) = spec.nodes n
+statement_view (statement.Shapes n) = spec.shapes n
+statement_view (statement.Plan n atoms) = spec.plan n.now (map atom_view atoms.items)
+statement_view (statement.Learn n source) = spec.learn n.now source.now
+statement_view (statement.Show n) = spec.show n.now
+statement_view (statement.DisturbAtoms turn between edits) = spec.disturb_atoms turn between (map atom_edit_view edits.items)
+statement_view (statement.DisturbRooms turn between edits) = spec.disturb_rooms turn between (map room_edit_view edits.items)
+statement_view (statement.Run n bindings) = spec.run n.now (map binding_view bindings.items)
+statement_view statement.Facts = spec.facts
+
+-- a list, where there is one
+abbrev pub list_view : {X Y : Type 0} → (X → Y) → Option (Vec X Global) → Option (List Y)
+list_view view found = option_map (λ v. map view v.items) found
+
+-- what was read of the tokens and the place after it, as what it is and the lexemes that follow
+abbrev pub front_view : {X Y : Type 0} → (X → Y) → List Token → Option (X × ℕ) → Option (Y × List Lexeme)
+front_view view tokens found = option_map (λ p. (view p.0, lexemes_of (drop p.1 tokens))) found
+
+abbrev pub items_view : {X Y : Type 0} → (X → Y) → Vec X Global → List Y
+items_view view items = map view items.items

@@ -1,0 +1,198 @@
+//! Lists of tokens: names to the end of a line, and items between parentheses.
+ghost use Rattle.std.specs.Prelude.{◌≡◌, ◌≤◌, ◌<◌, ◌+◌, drop, length, IfOk, IfSome, IsTrue, map};
+ghost use Rattle.std.specs.Option.{option_map};
+ghost use Rattle.px_script.specs.Lexemes.{sign};
+ghost use Rattle.px_script.specs.Parsing.{argument_of, name_of, names_of, item_at, items_after, items_at, opens};
+ghost use Rattle.px_reader.specs.Views.{lexeme_of};
+ghost use Rattle.px_reader.specs.StatementViews.{lexemes_of, argument_view, text_of, list_view, front_view, items_view};
+
+use crate::statement::Argument;
+use crate::token::Token;
+use px_base::NoMemory;
+use std::alloc::Global;
+
+/// The argument that a token is.
+fn argument_of(token: Token<'_>) -> Option<Argument<'_>>
+    ensures { option_map argument_view result ≡ argument_of (lexeme_of token.entry) }
+{
+    match token {
+        Token::Name(name) => Some(Argument::Named(name)),
+        Token::Variable(name) => Some(Argument::Variable(name)),
+        Token::Sign('$') => Some(Argument::Anything),
+        _ => None,
+    }
+}
+
+/// The name that a token is.
+fn name_of(token: Token<'_>) -> Option<&str>
+    ensures { option_map text_of result ≡ name_of (lexeme_of token.entry) }
+{
+    match token {
+        Token::Name(name) => Some(name),
+        _ => None,
+    }
+}
+
+/// The names that the tokens are, to the last.
+pub fn names<'a>(alloc: Global, tokens: &[Token<'a>]) -> Result<Option<Vec<&'a str>>, NoMemory>
+    ensures { IfOk result (λ found. list_view text_of found ≡ names_of (lexemes_of tokens.now)) }
+{
+    let mut names = Vec::new(alloc);
+    for token in tokens {
+        let Token::Name(name) = *token else {
+            return Ok(None);
+        };
+        names.push(name)?;
+    }
+    Ok(Some(names))
+}
+
+/// An argument in front, and the sign after it.
+fn argument_and_sign<'a>(tokens: &[Token<'a>]) -> Option<(Argument<'a>, char)>
+    ensures item { option_map (λ p. (argument_view p.0, p.1, lexemes_of (drop 2 tokens.now))) result ≡ item_at argument_of (lexemes_of tokens.now) }
+    ensures two { IfSome result (λ p. 2 ≤ length tokens.now) }
+{
+    match tokens {
+        [item, Token::Sign(sign), ..] => match argument_of(*item) {
+            Some(argument) => Some((argument, *sign)),
+            None => None,
+        },
+        _ => None,
+    }
+}
+
+/// The same at a place.
+fn argument_at<'a>(tokens: &[Token<'a>], at: usize) -> Option<(Argument<'a>, char)>
+    requires { at ≤ length tokens.now }
+    ensures item { option_map (λ p. (argument_view p.0, p.1, lexemes_of (drop (at + 2) tokens.now))) result ≡ item_at argument_of (lexemes_of (drop at tokens.now)) }
+    ensures two { IfSome result (λ p. at + 2 ≤ length tokens.now) }
+{
+    argument_and_sign(&tokens[at..])
+}
+
+/// A name in front, and the sign after it.
+fn name_and_sign<'a>(tokens: &[Token<'a>]) -> Option<(&'a str, char)>
+    ensures item { option_map (λ p. (text_of p.0, p.1, lexemes_of (drop 2 tokens.now))) result ≡ item_at name_of (lexemes_of tokens.now) }
+    ensures two { IfSome result (λ p. 2 ≤ length tokens.now) }
+{
+    match tokens {
+        [item, Token::Sign(sign), ..] => match name_of(*item) {
+            Some(name) => Some((name, *sign)),
+            None => None,
+        },
+        _ => None,
+    }
+}
+
+/// The same at a place.
+fn name_at<'a>(tokens: &[Token<'a>], at: usize) -> Option<(&'a str, char)>
+    requires { at ≤ length tokens.now }
+    ensures item { option_map (λ p. (text_of p.0, p.1, lexemes_of (drop (at + 2) tokens.now))) result ≡ item_at name_of (lexemes_of (drop at tokens.now)) }
+    ensures two { IfSome result (λ p. at + 2 ≤ length tokens.now) }
+{
+    name_and_sign(&tokens[at..])
+}
+
+/// The arguments from a place on, between commas and up to a closing parenthesis, and the place after it.
+fn arguments_after<'a>(
+    alloc: Global,
+    tokens: &[Token<'a>],
+    start: usize,
+) -> Result<Option<(Vec<Argument<'a>>, usize)>, NoMemory>
+    requires { start ≤ length tokens.now }
+    ensures found { IfOk result (λ found. front_view (items_view argument_view) tokens.now found ≡ items_after argument_of (lexemes_of (drop start tokens.now))) }
+    ensures within { IfOk result (λ found. IfSome found (λ p. (start ≤ p.1) × (p.1 ≤ length tokens.now))) }
+{
+    let mut arguments = Vec::new(alloc);
+    let mut at = start;
+    while let Some((argument, sign)) = argument_at(tokens, at) {
+        arguments.push(argument)?;
+        at += 2;
+        if sign == ')' {
+            return Ok(Some((arguments, at)));
+        }
+        if sign != ',' {
+            return Ok(None);
+        }
+    }
+    Ok(None)
+}
+
+/// The same for names.
+fn names_after<'a>(
+    alloc: Global,
+    tokens: &[Token<'a>],
+    start: usize,
+) -> Result<Option<(Vec<&'a str>, usize)>, NoMemory>
+    requires { start ≤ length tokens.now }
+    ensures found { IfOk result (λ found. front_view (items_view text_of) tokens.now found ≡ items_after name_of (lexemes_of (drop start tokens.now))) }
+    ensures within { IfOk result (λ found. IfSome found (λ p. (start ≤ p.1) × (p.1 ≤ length tokens.now))) }
+{
+    let mut names = Vec::new(alloc);
+    let mut at = start;
+    while let Some((name, sign)) = name_at(tokens, at) {
+        names.push(name)?;
+        at += 2;
+        if sign == ')' {
+            return Ok(Some((names, at)));
+        }
+        if sign != ',' {
+            return Ok(None);
+        }
+    }
+    Ok(None)
+}
+
+/// The arguments in parentheses at a place, or none, and the place after them.
+pub fn arguments_at<'a>(
+    alloc: Global,
+    tokens: &[Token<'a>],
+    at: usize,
+) -> Result<Option<(Vec<Argument<'a>>, usize)>, NoMemory>
+    requires { at ≤ length tokens.now }
+    ensures found { IfOk result (λ found. front_view (items_view argument_view) tokens.now found ≡ items_at argument_of (lexemes_of (drop at tokens.now))) }
+    ensures within { IfOk result (λ found. IfSome found (λ p. (at ≤ p.1) × (p.1 ≤ length tokens.now))) }
+{
+    if opens(tokens, at) {
+        arguments_after(alloc, tokens, at + 1)
+    } else {
+        Ok(Some((Vec::new(alloc), at)))
+    }
+}
+
+/// The same for names.
+pub fn names_at<'a>(
+    alloc: Global,
+    tokens: &[Token<'a>],
+    at: usize,
+) -> Result<Option<(Vec<&'a str>, usize)>, NoMemory>
+    requires { at ≤ length tokens.now }
+    ensures found { IfOk result (λ found. front_view (items_view text_of) tokens.now found ≡ items_at name_of (lexemes_of (drop at tokens.now))) }
+    ensures within { IfOk result (λ found. IfSome found (λ p. (at ≤ p.1) × (p.1 ≤ length tokens.now))) }
+{
+    if opens(tokens, at) {
+        names_after(alloc, tokens, at + 1)
+    } else {
+        Ok(Some((Vec::new(alloc), at)))
+    }
+}
+
+/// Does an opening parenthesis stand at the place?
+fn opens(tokens: &[Token<'_>], at: usize) -> bool
+    requires { at ≤ length tokens.now }
+    ensures opens { result ≡ opens (lexemes_of (drop at tokens.now)) }
+    ensures some { IsTrue result → at < length tokens.now }
+{
+    begins_open(&tokens[at..])
+}
+
+/// Does an opening parenthesis stand in front?
+fn begins_open(tokens: &[Token<'_>]) -> bool
+    ensures opens { result ≡ opens (lexemes_of tokens.now) }
+    ensures some { IsTrue result → 0 < length tokens.now }
+{
+    match tokens {
+        [Token::Sign(sign), ..] => *sign == '(',
+        _ => false,
+    }
+}

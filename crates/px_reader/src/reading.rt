@@ -1,0 +1,89 @@
+//! Reads all lines of an input.
+ghost use Rattle.std.specs.Prelude.{◌≡◌, ℕ, ◌<◌, ◌+◌, ◌-◌, ◌^◌, ◌==◌, IfOk, IfErr, OnOk, length, count_by};
+ghost use Rattle.px_script.specs.Content.{ScriptValue};
+ghost use Rattle.px_script.specs.Declarations.{nothing_declared};
+ghost use Rattle.px_script.specs.Faults.{Refusal};
+ghost use Rattle.px_script.specs.Ranges.{IsInRange};
+ghost use Rattle.px_script.specs.Scripts.{PassAll, IsScript, FirstFault};
+ghost use Rattle.px_reader.specs.LineReads.{characters_of, refusal_told, LinesFail, HasFirstFault, IsRead, IsRefused, content, told};
+ghost use Rattle.px_reader.specs.Readers.{declared_of};
+
+use crate::fault::{Fault, LineErr};
+use crate::lines::{parts, without_mark, without_return};
+use crate::reader::Reader;
+use crate::script::{Refused, Script, ScriptErr};
+use std::alloc::Global;
+use std::str;
+
+fn refused(line: u32, fault: Fault) -> ScriptErr
+    ensures { result ≡ told line fault }
+{
+    ScriptErr::Refused(Refused {
+        line,
+        code: fault.code(),
+        limit: fault.limit(),
+    })
+}
+
+/// Reads the lines in turn.
+fn read_each(reader: &mut Reader, lines: &[&str]) -> Result<(), ScriptErr>
+    requires start { declared_of reader.old ≡ nothing_declared }
+    requires few { length lines.now < 2 ^ 32 }
+    ensures passes { OnOk result (PassAll 1 nothing_declared (characters_of lines.now) (declared_of reader.new)) }
+    ensures fails { IfErr result (LinesFail (characters_of lines.now)) }
+{
+    for (index, line) in lines.iter().enumerate() {
+        let number = index as u32 + 1;
+        match reader.read_line(number, without_return(line)) {
+            Ok(()) => {}
+            Err(LineErr::Fault(fault)) => return Err(refused(number, fault)),
+            Err(LineErr::NoMemory) => return Err(ScriptErr::NoMemory),
+        }
+    }
+    Ok(())
+}
+
+/// Reads the lines of a text.
+fn read_text(alloc: Global, text: &str) -> Result<Script, ScriptErr>
+    requires { length text.now < 2 ^ 32 - 1 }
+    ensures script { IfOk result (λ script. IsScript text.now (content script)) }
+    ensures refused { IfErr result (HasFirstFault text.now) }
+{
+    let Ok(lines) = parts(alloc, without_mark(text)) else {
+        return Err(ScriptErr::NoMemory);
+    };
+    let Ok(mut reader) = Reader::new(alloc) else {
+        return Err(ScriptErr::NoMemory);
+    };
+    read_each(&mut reader, &lines)?;
+    match reader.finish() {
+        Ok(script) => Ok(script),
+        Err(line) => Err(refused(line, Fault::MissingEnd)),
+    }
+}
+
+/// The line of the byte after these.
+fn line_after(front: &[u8]) -> u32
+    requires { length front.now < 2 ^ 32 - 1 }
+    ensures { result ≡ 1 + count_by (λ b. b == 10) front.now }
+{
+    front.iter().filter(|byte| **byte == b'\n').count() as u32 + 1
+}
+
+/// Reads a script of version 1, or finds its first fault.
+///
+/// # Errors
+/// `Refused` where the bytes are no script, with the first fault; `NoMemory` where an allocation fails.
+pub fn read_script(alloc: Global, bytes: &[u8]) -> Result<Script, ScriptErr>
+    requires { length bytes.now < 2 ^ 32 - 1 }
+    ensures script { IfOk result (λ script. IsScript bytes.now (content script)) }
+    ensures in_range { IfOk result (λ script. IsInRange (content script)) }
+    ensures refused { IfErr result (HasFirstFault bytes.now) }
+    ensures all_scripts { (value : ScriptValue) → IsScript bytes.now value → IsRead result value }
+    ensures all_faults { (line : ℕ) (refusal : Refusal) → FirstFault bytes.now line refusal → IsRefused result line refusal }
+{
+    match str::from_utf8(bytes) {
+        Ok(text) => read_text(alloc, text),
+        Err(error) => Err(refused(line_after(&bytes[..error.valid_up_to()]), Fault::NotText)),
+    }
+}

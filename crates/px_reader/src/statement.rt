@@ -1,0 +1,77 @@
+//! What a line says.
+
+/// An argument of an atom.
+#[derive(Clone, Copy, Debug, PartialEq, Eq)]
+pub enum Argument<'a> {
+    Named(&'a str),
+    Variable(&'a str),
+    Anything,
+}
+
+/// An atom by names.
+#[derive(Debug, Drop)]
+pub struct WrittenAtom<'a> {
+    pub predicate: &'a str,
+    pub arguments: Vec<Argument<'a>>,
+}
+
+/// An atom with a sign.
+#[derive(Debug, Drop)]
+pub enum WrittenLiteral<'a> {
+    Positive(WrittenAtom<'a>),
+    Negative(WrittenAtom<'a>),
+}
+
+/// An edit of the atoms of a world.
+#[derive(Debug, Drop)]
+pub enum WrittenAtomEdit<'a> {
+    Insert(WrittenAtom<'a>),
+    Remove(WrittenAtom<'a>),
+}
+
+/// An edit of a building: the robot to a room, a box to a room, a door open or not.
+#[derive(Clone, Copy, Debug, PartialEq, Eq)]
+pub enum WrittenRoomEdit<'a> {
+    RobotTo(&'a str),
+    BoxTo(&'a str, &'a str),
+    DoorTo(&'a str, bool),
+}
+
+/// A parameter of a learned table, by its number from 1, and an object's name.
+#[derive(Clone, Copy, Debug, PartialEq, Eq)]
+pub struct Binding<'a> {
+    pub parameter: u32,
+    pub object: &'a str,
+}
+
+/// A line by its form.
+#[derive(Debug, Drop)]
+pub enum Statement<'a> {
+    Script(u32),
+    Object(Vec<&'a str>),
+    Predicate(&'a str, u32),
+    Axiom(Vec<WrittenLiteral<'a>>),
+    Operator(&'a str, Vec<&'a str>),
+    Pre(Vec<WrittenAtom<'a>>),
+    Delete(Vec<WrittenAtom<'a>>),
+    Add(Vec<WrittenAtom<'a>>),
+    Building,
+    Room(&'a str),
+    /// Its name, its two rooms, and whether it is open.
+    Door(&'a str, &'a str, &'a str, bool),
+    Box(&'a str, &'a str),
+    Robot(&'a str),
+    End,
+    Fact(Vec<WrittenAtom<'a>>),
+    Height(u32),
+    Nodes(u32),
+    Shapes(u32),
+    Plan(&'a str, Vec<WrittenAtom<'a>>),
+    Learn(&'a str, &'a str),
+    Show(&'a str),
+    /// The turn, whether between sensing and acting, and the edits.
+    DisturbAtoms(u32, bool, Vec<WrittenAtomEdit<'a>>),
+    DisturbRooms(u32, bool, Vec<WrittenRoomEdit<'a>>),
+    Run(&'a str, Vec<Binding<'a>>),
+    Facts,
+}

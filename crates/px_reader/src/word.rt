@@ -1,0 +1,70 @@
+//! The words that may begin a line.
+ghost use Rattle.std.specs.Prelude.{◌≡◌, false, MatchOption};
+ghost use Rattle.std.specs.List.{list_any};
+ghost use Rattle.std.specs.Str.{bytes_eq};
+ghost use Rattle.px_script.specs.Statements.{words};
+ghost use Rattle.px_reader.specs.Words.{word_text};
+
+/// A word that begins a line.
+#[derive(Clone, Copy, Debug, PartialEq, Eq)]
+pub enum Word {
+    Script,
+    Object,
+    Predicate,
+    Axiom,
+    Operator,
+    Pre,
+    Delete,
+    Add,
+    Building,
+    Room,
+    Door,
+    Box,
+    Robot,
+    End,
+    Fact,
+    Height,
+    Nodes,
+    Shapes,
+    Plan,
+    Learn,
+    Show,
+    Disturb,
+    Run,
+    Facts,
+}
+
+impl Word {
+    /// The word of this name.
+    pub fn named(name: &str) -> Option<Word>
+        ensures { MatchOption result (list_any (bytes_eq name.now) words ≡ false) (λ word. name.now ≡ word_text word) }
+    {
+        match name {
+            "script" => Some(Word::Script),
+            "object" => Some(Word::Object),
+            "predicate" => Some(Word::Predicate),
+            "axiom" => Some(Word::Axiom),
+            "operator" => Some(Word::Operator),
+            "pre" => Some(Word::Pre),
+            "delete" => Some(Word::Delete),
+            "add" => Some(Word::Add),
+            "building" => Some(Word::Building),
+            "room" => Some(Word::Room),
+            "door" => Some(Word::Door),
+            "box" => Some(Word::Box),
+            "robot" => Some(Word::Robot),
+            "end" => Some(Word::End),
+            "fact" => Some(Word::Fact),
+            "height" => Some(Word::Height),
+            "nodes" => Some(Word::Nodes),
+            "shapes" => Some(Word::Shapes),
+            "plan" => Some(Word::Plan),
+            "learn" => Some(Word::Learn),
+            "show" => Some(Word::Show),
+            "disturb" => Some(Word::Disturb),
+            "run" => Some(Word::Run),
+            "facts" => Some(Word::Facts),
+            _ => None,
+        }
+    }
+}

@@ -1,0 +1,6 @@
+pub mod AnswerLemmas
+pub mod Fewness
+pub mod Named
+pub mod OutcomeLemmas
+pub mod Plain
+pub mod Ready

@@ -1,0 +1,15 @@
+use Rattle.std.proofs.Common.{◌≡◌, get_or, length, arith}
+use Rattle.std.proofs.lemmas.Grind.{common_steps}
+use Rattle.px_reader.specs.declared.command.Command.TheVariants as command
+use Rattle.px_run.proofs.Ready.{plan-ready}
+use Rattle.px_run.proofs.session.answer.Goals as goal
+
+pub plan-requires-clause-name : goal.plan-requires-clause-name
+plan-requires-clause-name c =
+    let here : get_or c.args.script.now.commands c.args.place c.index-as_slice-place.result ≡ command.Plan c.in-Plan.name c.in-Plan.goal c.in-Plan.vars = grind (arith, common_steps) in
+    (plan-ready c.args.script.now.problem (length c.args.script.now.names.results) c.args.script.now.commands c.args.place c.index-as_slice-place.result c.in-Plan.name c.in-Plan.vars c.in-Plan.goal c.requires.ready.commands c.requires.place here).0
+
+pub plan-requires-clause-goal : goal.plan-requires-clause-goal
+plan-requires-clause-goal c =
+    let here : get_or c.args.script.now.commands c.args.place c.index-as_slice-place.result ≡ command.Plan c.in-Plan.name c.in-Plan.goal c.in-Plan.vars = grind (arith, common_steps) in
+    rw c.as_slice-in-Plan.ensures (plan-ready c.args.script.now.problem (length c.args.script.now.names.results) c.args.script.now.commands c.args.place c.index-as_slice-place.result c.in-Plan.name c.in-Plan.vars c.in-Plan.goal c.requires.ready.commands c.requires.place here).1

@@ -1,0 +1,5 @@
+pub mod Replies
+pub mod Transcripts
+pub mod Outcomes
+pub mod Exits
+pub mod Sessions

@@ -1,0 +1,111 @@
+-- The outcomes of the top call.
+use Rattle.std.specs.Prelude.{◌≡◌, ◌⊎◌, ◌<◌, ◌≤◌, ◌+◌, ℕ, Bool, true, false, List, [], ◌∷◌, ◌++◌, length, codes, Option, Some}
+use Rattle.std.specs.Str.{bytes_eq}
+use Rattle.std.specs.Io.KnownBytes.{Appends}
+use Rattle.px_io.specs.Causes.{Rose}
+use Rattle.px_io.specs.Reading.{ReadToEnd}
+use Rattle.px_io.specs.Writing.{HasNoRoomFor}
+use Rattle.px_reader.specs.declared.script.Refused.{Refused}
+use Rattle.px_script.specs.Content.{ScriptValue}
+use Rattle.px_script.specs.Scripts.{IsScript}
+use Rattle.px_run.specs.Transcripts.{Transcript, Begun, IsTextOf, IsBegunOf, IsNextOf, IsRefused, IsWritten, usage_text, refused_text}
+use Rattle.px_run.specs.declared.status.Status.{Status}
+use Rattle.px_run.specs.declared.status.Status.TheVariants as status
+
+-- the words are the one word `run`
+abbrev pub takes : List (List ℕ) → Bool
+takes [] = false
+takes (word ∷ []) = bytes_eq word (codes "run")
+takes (word ∷ more ∷ words) = false
+
+-- what a source tells, before a call and after it
+pub record SourceEnds : Type 0 where
+  pub left : Option (List ℕ)
+  pub left_after : Option (List ℕ)
+  pub taken : ℕ
+  pub taken_after : ℕ
+  pub faults : ℕ
+  pub faults_after : ℕ
+  pub never_fails : Bool
+
+-- what a sink tells, before a call and after it
+pub record SinkEnds : Type 0 where
+  pub written : Option (List ℕ)
+  pub written_after : Option (List ℕ)
+  pub faults : ℕ
+  pub faults_after : ℕ
+  pub sure : Option ℕ
+
+-- how many bytes are read at most
+abbrev pub limit : ℕ
+limit = 1048576
+
+-- these bytes came, the source had no more, and no read failed
+abbrev pub Came : SourceEnds → List ℕ → Type 0
+Came e bytes = ReadToEnd limit bytes e.left e.left_after e.taken e.taken_after e.faults e.faults_after
+
+-- this text was written, and no write failed
+pub record Wrote (e : SinkEnds) (text : List ℕ) : Type 0 where
+  pub appended : Appends e.written e.written_after text
+  pub no_fault : e.faults_after ≡ e.faults
+
+-- A text was written and a proper front of the next one, and then a write failed. The sink wasn't sure to take both.
+pub record Broke (e : SinkEnds) (done next : List ℕ) : Type 0 where
+  pub front : List ℕ
+  pub rest : List ℕ
+  pub whole : next ≡ front ++ rest
+  pub proper : 0 < length rest
+  pub appended : Appends e.written e.written_after (done ++ front)
+  pub rose : Rose e.faults e.faults_after
+  pub no_room : HasNoRoomFor e.sure e.written (done ++ next)
+
+-- the outcomes where the words aren't taken
+abbrev pub UsageRight : SinkEnds → Status → Type 0
+UsageRight sink status.Usage = Wrote sink usage_text
+UsageRight sink status.WriteFault = Broke sink [] usage_text
+UsageRight sink _ = ⊥
+
+-- The outcomes of `run`.
+abbrev pub RunRight : SourceEnds → SinkEnds → Status → Type 0
+RunRight source sink status.Done = (bytes : List ℕ) × (text : List ℕ) × Came source bytes × Transcript bytes text × Wrote sink text
+RunRight source sink (status.Refused refused) = (bytes : List ℕ) × Came source bytes × IsRefused bytes refused × Wrote sink (refused_text refused)
+RunRight source sink status.ReadFault = Rose source.faults source.faults_after × (source.taken_after ≤ source.taken + limit) × (source.never_fails ≡ false) × Wrote sink []
+RunRight source sink status.TooLong = (source.taken + limit < source.taken_after) × (source.faults_after ≡ source.faults) × Wrote sink []
+RunRight source sink status.WriteFault = (bytes : List ℕ) × (done : List ℕ) × (next : List ℕ) × Came source bytes × IsWritten bytes done next × Broke sink done next
+RunRight source sink status.NoMemory = Wrote sink [] ⊎ ((bytes : List ℕ) × (text : List ℕ) × Came source bytes × Begun bytes text × Wrote sink text)
+RunRight source sink status.Usage = ⊥
+
+-- the table of the statuses, by whether the words are taken
+abbrev pub StatusRight : Bool → SourceEnds → SinkEnds → Status → Type 0
+StatusRight false source sink result = UsageRight sink result
+StatusRight true source sink result = RunRight source sink result
+
+-- A script of told bytes, and no count that rose, give the whole transcript, or memory ran out.
+abbrev pub Completes : SourceEnds → SinkEnds → Status → Type 0
+Completes source sink result = (bytes : List ℕ) (script : ScriptValue) → source.left ≡ Some bytes → length bytes ≤ limit → IsScript bytes script
+    → (Rose source.faults source.faults_after → ⊥) → (Rose sink.faults sink.faults_after → ⊥) → (result ≡ status.Done) ⊎ (result ≡ status.NoMemory)
+
+-- So do a source that never fails, and a sink that is sure to take all that may be written.
+abbrev pub CompletesSurely : SourceEnds → SinkEnds → Status → Type 0
+CompletesSurely source sink result = (bytes : List ℕ) (script : ScriptValue) (held : List ℕ) (room : ℕ) → source.left ≡ Some bytes → length bytes ≤ limit → IsScript bytes script
+    → source.never_fails ≡ true → sink.written ≡ Some held → sink.sure ≡ Some room → ((text : List ℕ) → IsBegunOf script text → length held + length text ≤ room)
+    → (result ≡ status.Done) ⊎ (result ≡ status.NoMemory)
+
+-- Told bytes that are no script are refused, if no read failed, no write failed and memory didn't run out.
+abbrev pub Refuses : SourceEnds → SinkEnds → Status → Type 0
+Refuses source sink result = (bytes : List ℕ) (refused : Refused) → source.left ≡ Some bytes → length bytes ≤ limit → IsRefused bytes refused
+    → (Rose source.faults source.faults_after → ⊥) → (result ≡ status.Refused refused) ⊎ (result ≡ status.NoMemory) ⊎ (result ≡ status.WriteFault)
+
+-- the outcomes of answering the commands of a script
+abbrev pub ExecutedRight : ScriptValue → SinkEnds → Status → Type 0
+ExecutedRight script sink status.Done = (text : List ℕ) × IsTextOf script text × Wrote sink text
+ExecutedRight script sink status.WriteFault = (done : List ℕ) × (next : List ℕ) × IsNextOf script done next × Broke sink done next
+ExecutedRight script sink status.NoMemory = (text : List ℕ) × IsBegunOf script text × Wrote sink text
+ExecutedRight script sink _ = ⊥
+
+-- the outcomes of writing a refusal
+abbrev pub RefusalRight : Refused → SinkEnds → Status → Type 0
+RefusalRight refused sink (status.Refused answered) = (answered ≡ refused) × Wrote sink (refused_text refused)
+RefusalRight refused sink status.WriteFault = Broke sink [] (refused_text refused)
+RefusalRight refused sink status.NoMemory = Wrote sink []
+RefusalRight refused sink _ = ⊥

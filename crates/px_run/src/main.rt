@@ -1,0 +1,57 @@
+//! Plans by the rules of the STRIPS system.
+//!
+//! # Calling it
+//!
+//! - The one word `run` reads a script from standard input, and writes the replies to its commands to standard output.
+//!   Every other list of words is answered by how the program is called. The exit status is that of `Status::exit`.
+//! - [`top::planex_main`] is the program without its streams: it takes the words, a source and a sink, which may be
+//!   in memory, and answers a `Status`. Its contract is one table over the statuses (`specs/Outcomes`): what each
+//!   status says of what came from the source and of what was written.
+//! - What is written for a script is a transcript (`specs/Transcripts`): one lawful reply for each command, in order.
+//!   Which replies are lawful is told by `Lawful` (`specs/Replies`). A `plan` is answered by how the search for it ends,
+//!   and the facts carry the steps of a plan that is found to its goal. `facts` is answered by the facts, which ascend.
+//! - Bytes that aren't a script are refused with the line, the code and the limit of their first fault, as `px_script`
+//!   defines it. Nothing is answered before the whole script was read.
+//! - A refusal, and the reply to each command, is written by one `put`. After a write that failed, all earlier replies
+//!   and a proper front of the text were written.
+//! - At most 1,048,576 bytes are read; more are answered `TooLong`.
+#![tactic(auto)]
+
+mod running;
+mod session;
+mod status;
+#[cfg(test)]
+mod tests;
+mod top;
+
+use px_io::{StdSink, StdSource};
+use status::Status;
+use std::process::ExitCode;
+use std::{env, io};
+
+/// The words of the command line, without the program's name.
+fn words(rt: &HostRuntime) -> io::Result<Vec<String>> {
+    let mut words = Vec::new(rt.alloc());
+    for word in env::args(rt)?.skip(1) {
+        words.push(word)?;
+    }
+    Ok(words)
+}
+
+fn main(rt: HostRuntime) -> ExitCode {
+    let alloc = rt.alloc();
+    let owned = match words(&rt) {
+        Ok(owned) => owned,
+        Err(error) if error.kind() == io::ErrorKind::OutOfMemory => return Status::NoMemory.exit(),
+        Err(_) => return Status::Usage.exit(),
+    };
+    let mut lent = Vec::new(alloc);
+    for word in &owned {
+        if lent.push(word.as_str()).is_err() {
+            return Status::NoMemory.exit();
+        }
+    }
+    let mut source = StdSource::new(rt.stdin());
+    let mut sink = StdSink::new(rt.stdout());
+    top::planex_main(alloc, &lent, &mut source, &mut sink).exit()
+}

@@ -1,0 +1,110 @@
+//! The top call.
+ghost use Rattle.std.specs.Prelude.{◌≡◌, ◌+◌, Bool, List, ℕ, map, false, true, length, IfOk, string_bytes};
+ghost use Rattle.std.specs.Io.KnownBytes.{Consumes};
+ghost use Rattle.px_run.specs.Transcripts.{refused_text};
+ghost use Rattle.px_run.specs.Outcomes.{takes, UsageRight, RefusalRight, RunRight, StatusRight, Completes, CompletesSurely, Refuses};
+
+use crate::running::execute;
+use crate::status::Status;
+use px_io::{ReadErr, Sink, Source, put, read_all};
+use px_reader::{Refused, ScriptErr, read_script};
+use std::alloc::{AllocError, Global};
+
+/// How many bytes are read at most.
+const LIMIT: usize = 1_048_576;
+
+const USAGE: &str = "usage: planex run | planex demo ROOMS SEED\n";
+
+/// Are the words taken?
+fn takes(words: &[&str]) -> bool
+    ensures { result ≡ takes (map (λ word. word.now) words.now) }
+{
+    match words {
+        [word] => *word == "run",
+        _ => false,
+    }
+}
+
+/// Does all that the program does: `words` are those of the command line, without the program's name.
+pub fn planex_main<S: Source, K: Sink>(
+    alloc: Global,
+    words: &[&str],
+    source: &mut S,
+    sink: &mut K,
+) -> Status
+    ensures right { StatusRight (takes (map (λ word. word.now) words.now))
+        (record { left = S.left source.old; left_after = S.left source.new; taken = S.taken source.old; taken_after = S.taken source.new; faults = S.faults source.old; faults_after = S.faults source.new; never_fails = S.never_fails source.old })
+        (record { written = K.written sink.old; written_after = K.written sink.new; faults = K.faults sink.old; faults_after = K.faults sink.new; sure = K.sure sink.old })
+        result }
+    ensures completes { takes (map (λ word. word.now) words.now) ≡ true → Completes
+        (record { left = S.left source.old; left_after = S.left source.new; taken = S.taken source.old; taken_after = S.taken source.new; faults = S.faults source.old; faults_after = S.faults source.new; never_fails = S.never_fails source.old })
+        (record { written = K.written sink.old; written_after = K.written sink.new; faults = K.faults sink.old; faults_after = K.faults sink.new; sure = K.sure sink.old })
+        result }
+    ensures completes_surely { takes (map (λ word. word.now) words.now) ≡ true → CompletesSurely
+        (record { left = S.left source.old; left_after = S.left source.new; taken = S.taken source.old; taken_after = S.taken source.new; faults = S.faults source.old; faults_after = S.faults source.new; never_fails = S.never_fails source.old })
+        (record { written = K.written sink.old; written_after = K.written sink.new; faults = K.faults sink.old; faults_after = K.faults sink.new; sure = K.sure sink.old })
+        result }
+    ensures refuses { takes (map (λ word. word.now) words.now) ≡ true → Refuses
+        (record { left = S.left source.old; left_after = S.left source.new; taken = S.taken source.old; taken_after = S.taken source.new; faults = S.faults source.old; faults_after = S.faults source.new; never_fails = S.never_fails source.old })
+        (record { written = K.written sink.old; written_after = K.written sink.new; faults = K.faults sink.old; faults_after = K.faults sink.new; sure = K.sure sink.old })
+        result }
+    ensures gone { (came : List ℕ) × Consumes (S.left source.old) (S.left source.new) came × (S.taken source.new ≡ S.taken source.old + length came) }
+    ensures untaken { takes (map (λ word. word.now) words.now) ≡ false → source.new ≡ source.old }
+{
+    if !takes(words) {
+        return usage(sink);
+    }
+    run(alloc, source, sink)
+}
+
+/// Writes how the program is called.
+fn usage<K: Sink>(sink: &mut K) -> Status
+    ensures { UsageRight (record { written = K.written sink.old; written_after = K.written sink.new; faults = K.faults sink.old; faults_after = K.faults sink.new; sure = K.sure sink.old }) result }
+{
+    match put(sink, USAGE.as_bytes()) {
+        Ok(()) => Status::Usage,
+        Err(_) => Status::WriteFault,
+    }
+}
+
+/// Reads a script, and answers its commands.
+fn run<S: Source, K: Sink>(alloc: Global, source: &mut S, sink: &mut K) -> Status
+    ensures right { RunRight
+        (record { left = S.left source.old; left_after = S.left source.new; taken = S.taken source.old; taken_after = S.taken source.new; faults = S.faults source.old; faults_after = S.faults source.new; never_fails = S.never_fails source.old })
+        (record { written = K.written sink.old; written_after = K.written sink.new; faults = K.faults sink.old; faults_after = K.faults sink.new; sure = K.sure sink.old })
+        result }
+    ensures gone { (came : List ℕ) × Consumes (S.left source.old) (S.left source.new) came × (S.taken source.new ≡ S.taken source.old + length came) }
+{
+    let bytes = match read_all(alloc, source, LIMIT) {
+        Ok(bytes) => bytes,
+        Err(ReadErr::Fault) => return Status::ReadFault,
+        Err(ReadErr::TooLong) => return Status::TooLong,
+        Err(ReadErr::NoMemory) => return Status::NoMemory,
+    };
+    match read_script(alloc, &bytes) {
+        Ok(script) => execute(alloc, &script, sink),
+        Err(ScriptErr::Refused(refused)) => refuse(alloc, refused, sink),
+        Err(ScriptErr::NoMemory) => Status::NoMemory,
+    }
+}
+
+/// The text of a refusal.
+fn refused_text(alloc: Global, refused: Refused) -> Result<String, AllocError>
+    ensures { IfOk result (λ text. string_bytes text ≡ refused_text refused) }
+{
+    let Refused { line, code, limit } = refused;
+    format!(in alloc; "refused line {line} code {code} limit {limit}\n")
+}
+
+/// Writes where and why a script is refused.
+fn refuse<K: Sink>(alloc: Global, refused: Refused, sink: &mut K) -> Status
+    ensures { RefusalRight refused (record { written = K.written sink.old; written_after = K.written sink.new; faults = K.faults sink.old; faults_after = K.faults sink.new; sure = K.sure sink.old }) result }
+{
+    let Ok(text) = refused_text(alloc, refused) else {
+        return Status::NoMemory;
+    };
+    match put(sink, text.as_bytes()) {
+        Ok(()) => Status::Refused(refused),
+        Err(_) => Status::WriteFault,
+    }
+}
