@@ -1,15 +1,15 @@
 -- Derivations with their variables replaced.
-use Rattle.std.specs.Prelude.{ℕ, List, map, length, All}
-use Rattle.px_terms.specs.Language.{substitute}
+use Rattle.std.specs.Prelude.{ℕ, ◌≤◌, List, [], map, length, All, Contains}
+use Rattle.px_terms.specs.Language.{substitute, IsObject}
 use Rattle.px_terms.specs.Substitution.{substitute_atom}
 use Rattle.px_terms.specs.declared.atom.Atom.{Atom}
 use Rattle.px_terms.specs.declared.clause.Clause.{Clause}
 use Rattle.px_terms.specs.declared.clause.Lit.{Lit}
 use Rattle.px_terms.specs.declared.term.Term.{Term}
 use Rattle.px_proof.specs.declared.proof.Leaf.{Leaf}
-use Rattle.px_proof.specs.Derivation.{Derivation, Derivations, fact, ancestor, step, gap, open_place, none, also}
+use Rattle.px_proof.specs.Derivation.{Derivation, Derivations, fact, ancestor, step, gap, open_place, none, also, leaves_of, leaf_atoms}
 use Rattle.px_proof.specs.Literals.{substitute_literal}
-use Rattle.px_proof.specs.Proves.{Proves, from_atoms, IsName}
+use Rattle.px_proof.specs.Proves.{Proves, from_atoms, from_facts, IsName, IsTree}
 
 abbrev pub leaf_under : List Term → Leaf → Leaf
 leaf_under terms leaf = record { column = leaf.column; index = leaf.index; atom = substitute_atom terms leaf.atom }
@@ -34,3 +34,20 @@ StaysProof terms old new =
     (axioms : List Clause) (objects params : ℕ) (atoms : List Atom) (path : List Lit) (lit : Lit) → All (IsName objects params) terms
     → Proves (from_atoms (IsName objects (length terms)) atoms) axioms path lit old
     → Proves (from_atoms (IsName objects params) (map (substitute_atom terms) atoms)) axioms (map (substitute_literal terms) path) (substitute_literal terms lit) new
+
+-- of whatever literal the old one is a tree, over objects and no more parameters than there are terms, of that literal
+-- under the terms the new one is a tree, over the objects and parameters that these have
+abbrev pub StaysTree : List Term → Derivation → Derivation → Type 0
+StaysTree terms old new =
+    (axioms : List Clause) (objects params new_params : ℕ) (lit : Lit) → params ≤ length terms → All (IsName objects new_params) terms
+    → IsTree axioms objects params lit old
+    → IsTree axioms objects new_params (substitute_literal terms lit) new
+
+-- where the terms are objects: of whatever literal the old one is a tree, the new one is a proof of that literal under
+-- the terms, from any facts among which each leaf's atom under the terms is
+abbrev pub ProvesFromFacts : List Term → Derivation → Derivation → Type 0
+ProvesFromFacts terms old new =
+    (axioms : List Clause) (objects params : ℕ) (facts : List Atom) (lit : Lit) → params ≤ length terms → All IsObject terms
+    → All (Contains facts) (map (substitute_atom terms) (leaf_atoms (leaves_of old)))
+    → IsTree axioms objects params lit old
+    → Proves (from_facts facts) axioms [] (substitute_literal terms lit) new

@@ -34,7 +34,7 @@ pub enum Proof {
 }
 
 impl Proof {
-    /// An equal proof, in memory of the same allocator.
+    /// An equal proof, each list of it in memory of the allocator of the list that it copies.
     ///
     /// # Errors
     /// `NoMemory` where there is none for the copy.
@@ -51,11 +51,11 @@ impl Proof {
                 place,
                 subs,
             } => {
-                let theta = theta.try_copy()?.into_vec();
-                let subs = copy_each(*theta.allocator(), subs.as_slice())?;
+                let theta = theta.try_copy()?;
+                let subs = copy_each(*subs.allocator(), subs.as_slice())?;
                 Ok(Proof::Step {
                     clause: *clause,
-                    theta: Sequence::from_vec(theta),
+                    theta,
                     place: *place,
                     subs: Sequence::from_vec(subs),
                 })

@@ -50,6 +50,14 @@ impl Shape {
         self.ticks.as_slice()
     }
 
+    /// The ticks in preorder, given back. Takes no memory.
+    pub fn into_ticks(self) -> Vec<Tick>
+        ensures { result.items ≡ self }
+    {
+        let Shape { ticks } = self;
+        ticks.into_vec()
+    }
+
     /// An equal shape, in memory of the same allocator.
     ///
     /// # Errors

@@ -2,7 +2,7 @@ ghost use Rattle.std.specs.Prelude.{◌≡◌, All, IfOk, length, map as map_lis
 ghost use Rattle.px_terms.specs.Language.{IsVariableBelow, substitute as substitute_term};
 ghost use Rattle.px_proof.specs.Derivation.{derivations, terms_of, all_terms_of};
 ghost use Rattle.px_proof.specs.ProofTerm.{derivation_of};
-ghost use Rattle.px_proof.specs.Substitution.{derivation_under, derivations_under, StaysProof};
+ghost use Rattle.px_proof.specs.Substitution.{derivation_under, derivations_under, StaysProof, StaysTree, ProvesFromFacts};
 
 use crate::proof::{Leaf, Proof};
 use crate::store::keep;
@@ -10,7 +10,10 @@ use px_base::{NoMemory, Sequence};
 use px_terms::{Term, apply};
 use std::alloc::Global;
 
-/// The proof with each variable replaced by the map's term of its number.
+/// The proof with each variable replaced by the map's term of its number. Where [`is_tree`](crate::is_tree) accepts
+/// the proof of a literal, and the map gives each parameter an object or a parameter in range, it accepts the new
+/// proof of that literal under the map; where the map gives objects, [`check`](crate::check) accepts it from the
+/// leaves' atoms under the map.
 ///
 /// # Errors
 /// `NoMemory` where there is none for the proof.
@@ -18,6 +21,8 @@ pub fn substitute(alloc: Global, proof: &Proof, map: &[Term]) -> Result<Proof, N
     requires { All (IsVariableBelow (length map.now)) (terms_of (derivation_of proof.now)) }
     ensures value { IfOk result (λ made. derivation_of made ≡ derivation_under map.now (derivation_of proof.now)) }
     ensures proves { IfOk result (λ made. StaysProof map.now (derivation_of proof.now) (derivation_of made)) }
+    ensures tree { IfOk result (λ made. StaysTree map.now (derivation_of proof.now) (derivation_of made)) }
+    ensures proves_from_facts { IfOk result (λ made. ProvesFromFacts map.now (derivation_of proof.now) (derivation_of made)) }
 {
     substitute_all(alloc, proof, map)
 }
