@@ -1,6 +1,6 @@
 -- Derivations by one set of rules that are derivations by another.
-use Rattle.std.specs.Prelude.{◌↔◌, ℕ, List, [], ◌∷◌, Contains}
-use Rattle.std.proofs.lemmas.List.Elements.{Contains-append_left, Contains-append_right}
+use Rattle.std.specs.Prelude.{◌↔◌, ℕ, List, [], ◌∷◌, All, Contains}
+use Rattle.std.proofs.lemmas.List.Elements.{All-nil, All-append, Contains-append_left, Contains-append_right}
 use Rattle.px_base.specs.ListLaws.{Contains-first}
 use Rattle.px_terms.specs.declared.atom.Atom.{Atom}
 use Rattle.px_terms.specs.declared.clause.Clause.{Clause}
@@ -8,7 +8,7 @@ use Rattle.px_terms.specs.declared.clause.Lit.{Lit}
 use Rattle.px_terms.specs.declared.term.Term.{Term}
 use Rattle.px_proof.specs.declared.proof.Leaf.{Leaf}
 use Rattle.px_proof.specs.Basis.{over_names}
-use Rattle.px_proof.specs.Derivation.{Derivation, Derivations, fact, ancestor, step, gap, open_place, none, also, leaves_of, all_leaves_of, leaf_atoms}
+use Rattle.px_proof.specs.Derivation.{Derivation, Derivations, fact, ancestor, step, gap, open_place, none, also, leaves_of, all_leaves_of, leaf_atoms, terms_of, all_terms_of}
 use Rattle.px_proof.specs.PlaceLaws.{Contains-mapped}
 use Rattle.px_proof.specs.Proves.{Rules, Proves, ProvesEach, parts_of, from_atoms, IsName}
 
@@ -42,6 +42,35 @@ module _ (axioms : List Clause) (old new : Rules) (allows : Allows old new) wher
     )
     each_by path [] (also d ds) facts each = absurd each
     each_by path (lit ∷ lits) none facts each = absurd each
+
+-- whatever the rules allow has only such terms
+pub record AllowsOnly (IsTerm : Term → Type 0) (rules : Rules) : Type 0 where
+  pub choices : (t : Term) → rules.IsChoice t → IsTerm t
+  pub facts : (leaf : Leaf) → rules.IsFact leaf → All IsTerm leaf.atom.args
+  pub gaps : (atom : Atom) → rules.IsGap atom → All IsTerm atom.args
+
+module _ (axioms : List Clause) (IsTerm : Term → Type 0) (rules : Rules) (only : AllowsOnly IsTerm rules) where
+  mutual
+    -- then each derivation by them has only such terms
+    pub only_terms : (path : List Lit) (lit : Lit) (d : Derivation) → Proves rules axioms path lit d → All IsTerm (terms_of d)
+    only_terms path lit (fact leaf) proved = only.facts leaf proved.1
+    only_terms path lit (ancestor i) proved = All-nil IsTerm
+    only_terms path lit (step number theta place parts) proved =
+        All-append IsTerm theta (all_terms_of parts) (λ k d below. only.choices _ (proved.1.choices k d below)) (only_terms_each (lit ∷ path) (parts_of proved.0.lits theta place) parts proved.2)
+    only_terms path lit (gap atom) proved = only.gaps atom proved.1
+    only_terms path lit open_place proved = All-nil IsTerm
+
+    only_terms_each : (path lits : List Lit) (ds : Derivations) → ProvesEach rules axioms path lits ds → All IsTerm (all_terms_of ds)
+    only_terms_each path [] none each = All-nil IsTerm
+    only_terms_each path (lit ∷ lits) (also d ds) each = All-append IsTerm (terms_of d) (all_terms_of ds) (only_terms path lit d each.0) (only_terms_each path lits ds each.1)
+    only_terms_each path [] (also d ds) each = absurd each
+    only_terms_each path (lit ∷ lits) none each = absurd each
+
+-- a proof from given atoms has no other terms than those that may be chosen
+pub terms_from : (IsTerm : Term → Type 0) (axioms : List Clause) (atoms : List Atom) (path : List Lit) (lit : Lit) (d : Derivation)
+    → Proves (from_atoms IsTerm atoms) axioms path lit d → All IsTerm (terms_of d)
+terms_from IsTerm axioms atoms path lit d =
+    only_terms axioms IsTerm (from_atoms IsTerm atoms) (record { choices = λ t h. h; facts = λ leaf from. from.1; gaps = λ atom h. absurd h }) path lit d
 
 -- each leaf closes its own atom, so of the leaves only their terms are asked
 pub own_leaves : (axioms : List Clause) (objects params : ℕ) (path : List Lit) (lit : Lit) (d : Derivation)

@@ -149,26 +149,26 @@ object_under objects terms all Any h = absurd h
 pub stays_tree : (terms : List Term) (d : Derivation) → StaysTree terms d (derivation_under terms d)
 stays_tree terms d axioms objects params new_params lit enough names tree =
     let goes : (t : Term) → IsName objects params t → IsName objects new_params (substitute terms t) =
-        λ t h. name_under objects new_params terms names t (name_of_more objects params (length terms) enough t h) in
+    λ t h. name_under objects new_params terms names t (name_of_more objects params (length terms) enough t h) in
     record {
       proves = proves_under axioms terms (from_atoms (IsName objects params) (leaf_atoms (leaves_of d))) (from_atoms (IsName objects new_params) (leaf_atoms (leaves_of (derivation_under terms d))))
-      record {
-        choices = goes;
-        facts = λ leaf from. (
-          subst (λ (atoms : List Atom). Contains atoms (substitute_atom terms leaf.atom)) (sym (leaf_atoms-under terms d)) (Contains-mapped (substitute_atom terms) (leaf_atoms (leaves_of d)) leaf.atom from.0),
-          each_choice terms (IsName objects params) (IsName objects new_params) goes leaf.atom.args from.1,
-        );
-        gaps = λ atom h. h;
-        opens = λ h. h;
-      }
-      [] lit d tree.proves;
+          record {
+            choices = goes;
+            facts = λ leaf from. (
+              subst (λ (atoms : List Atom). Contains atoms (substitute_atom terms leaf.atom)) (sym (leaf_atoms-under terms d)) (Contains-mapped (substitute_atom terms) (leaf_atoms (leaves_of d)) leaf.atom from.0),
+              each_choice terms (IsName objects params) (IsName objects new_params) goes leaf.atom.args from.1,
+            );
+            gaps = λ atom h. h;
+            opens = λ h. h;
+          }
+          [] lit d tree.proves;
       terms = each_choice terms (IsName objects params) (IsName objects new_params) goes lit.atom.args tree.terms;
     }
 
 pub proves_from_facts : (terms : List Term) (d : Derivation) → ProvesFromFacts terms d (derivation_under terms d)
 proves_from_facts terms d axioms objects params facts lit enough all among tree =
     let goes : (t : Term) → IsName objects params t → IsObject (substitute terms t) =
-        λ t h. object_under objects terms all t (name_of_more objects params (length terms) enough t h) in
+    λ t h. object_under objects terms all t (name_of_more objects params (length terms) enough t h) in
     proves_under axioms terms (from_atoms (IsName objects params) (leaf_atoms (leaves_of d))) (from_facts facts)
     record {
       choices = goes;

@@ -1,11 +1,12 @@
 ghost use Rattle.std.specs.Prelude.{◌≡◌, ◌↔◌, ◌<◌, ◌+◌, IsTrue, Some, [], ◌∷◌, length, slice_get, All, map};
 ghost use Rattle.px_terms.specs.Clauses.{ArePlainBelow};
+ghost use Rattle.px_terms.specs.Language.{IsObject};
 ghost use Rattle.px_terms.specs.declared.clause.Clause.{Clause};
 ghost use Rattle.px_proof.specs.Basis.{rules_of};
-ghost use Rattle.px_proof.specs.Derivation.{derivations, step, leaves_of, leaf_atoms};
+ghost use Rattle.px_proof.specs.Derivation.{derivations, step, leaves_of, leaf_atoms, terms_of};
 ghost use Rattle.px_proof.specs.Path.{literals_of};
 ghost use Rattle.px_proof.specs.ProofTerm.{derivation_of};
-ghost use Rattle.px_proof.specs.Proves.{Proves, ProvesEach, UsesClause, IsTree, from_facts, instance_of, parts_of};
+ghost use Rattle.px_proof.specs.Proves.{Proves, ProvesEach, UsesClause, IsName, IsTree, from_facts, instance_of, parts_of};
 ghost use Rattle.px_proof.specs.Truth.{Follows, FollowsUnder};
 
 use crate::basis::{Basis, are_choices, is_leaf};
@@ -141,6 +142,7 @@ fn is_literal_at(lits: &[Lit], theta: &[Term], place: u32, lit: &Lit) -> bool
 /// The proofs are those of linear resolution with ancestors. Takes no memory; it calls itself once for each level.
 pub fn check(arena: &ClauseArena, facts: &[Atom], lit: &Lit, proof: &Proof) -> bool
     ensures exact { IsTrue result ↔ Proves (from_facts facts.now) arena.now [] lit.now (derivation_of proof.now) }
+    ensures terms { IsTrue result → All IsObject (terms_of (derivation_of proof.now)) }
     ensures sound { IsTrue result → Follows arena.now facts.now lit.now }
 {
     proves(proof, arena, &Basis::Facts(facts), &Path::Root, lit)
@@ -153,6 +155,7 @@ pub fn check(arena: &ClauseArena, facts: &[Atom], lit: &Lit, proof: &Proof) -> b
 /// Takes no memory; it calls itself once for each level.
 pub fn is_tree(arena: &ClauseArena, objects: u32, params: u32, lit: &Lit, proof: &Proof) -> bool
     ensures exact { IsTrue result ↔ IsTree arena.now objects params lit.now (derivation_of proof.now) }
+    ensures terms { IsTrue result → All (IsName objects params) (terms_of (derivation_of proof.now)) }
     ensures sound { IsTrue result → FollowsUnder arena.now params (leaf_atoms (leaves_of (derivation_of proof.now))) lit.now }
 {
     let names = Basis::Names { objects, params };

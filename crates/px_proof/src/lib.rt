@@ -7,15 +7,16 @@
 //! # Calling it
 //!
 //! - [`Proof`] is a proof term, [`Leaf`] a fact that it rests on. Its lists are `Sequence`s: make one of a `Vec` by
-//!   `Sequence::from_vec`. [`Tick`] is a choice at one place, [`Shape`] the choices of a proof in preorder.
-//!   `try_copy` answers an equal value.
+//!   `Sequence::from_vec`. [`Tick`] is a choice at one place, [`Shape`] the choices of a proof in preorder, made of a
+//!   `Vec` and given back as one without memory. `try_copy` answers an equal value.
 //! - [`check`] tells whether a term is a proof from facts, without variables and gaps. Its yes implies that the literal
 //!   is true in each finite interpretation in which the axioms and the facts are, also where two objects are one
 //!   element of it. [`is_tree`] tells it of a term over objects and parameters, from the atoms of the term's own leaves.
-//!   Both answer for any term: a number that is out of range gives false. They take no memory.
-//! - [`higher_than`], [`leaves`], [`same_shape`] read a term; [`substitute`] replaces its variables, and gives a proof
-//!   where it is given one. [`complement`], [`apply_literal`], [`same_literal`] do for a literal what `px_terms` does
-//!   for an atom.
+//!   Where they say yes, only objects stand in the term, or only those objects and parameters. Both answer for any
+//!   term: a number that is out of range gives false. They take no memory.
+//! - [`higher_than`], [`leaves`], [`same_shape`] read a term. [`substitute`] replaces its variables: of what [`is_tree`]
+//!   accepts it makes what [`is_tree`] accepts, and with objects for them what [`check`] accepts.
+//! - [`complement`], [`apply_literal`], [`same_literal`] do for a literal what `px_terms` does for an atom.
 //! - Each of these calls itself once for each level of the term. A chain of 1,000 steps is tested.
 //! - What takes memory takes an allocator first, and answers `NoMemory` where there is none. `try_copy` takes it from
 //!   the allocator of what it copies.
