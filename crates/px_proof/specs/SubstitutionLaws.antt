@@ -15,7 +15,7 @@ use Rattle.px_proof.specs.declared.proof.Leaf.{Leaf}
 use Rattle.px_proof.specs.Derivation.{Derivation, Derivations, fact, ancestor, step, gap, open_place, none, also, leaves_of, all_leaves_of, leaf_atoms}
 use Rattle.px_proof.specs.Literals.{substitute_literal, complement_of}
 use Rattle.px_proof.specs.PlaceLaws.{slice_get-map, map-remove, Contains-mapped}
-use Rattle.px_proof.specs.Proves.{Rules, Proves, ProvesEach, instance_of, parts_of, from_atoms, from_facts, IsName, IsTree}
+use Rattle.px_proof.specs.Proves.{Rules, Proves, ProvesEach, instance_of, parts_of, from_atoms, from_facts, IsName}
 use Rattle.px_proof.specs.Substitution.{leaf_under, derivation_under, derivations_under, StaysProof, StaysTree, ProvesFromFacts}
 
 -- ---- replacing twice is replacing once
