@@ -60,12 +60,12 @@ abbrev pub IsEntry : Problem → Entry → Type 0
 IsEntry problem (Op inst) = IsInstanceOf problem inst
 IsEntry problem (Macro number prefix sigma) = ⊥
 
--- the steps that applying the entry takes
+-- the steps that applying the entry takes; of a MACROP, which is no entry here, none
 abbrev pub effect_of : Entry → List OpInst
 effect_of (Op inst) = inst ∷ []
 effect_of (Macro number prefix sigma) = []
 
--- what the entry needs: an operator its precondition, proved from the model
+-- what the entry needs: an operator its precondition, proved from the model; a MACROP, which is no entry here, nothing
 abbrev pub obligations_of : Problem → List Atom → Entry → List Obligation
 obligations_of problem model (Op inst) = record { formula = precondition problem inst; facts = model } ∷ []
 obligations_of problem model (Macro number prefix sigma) = []

@@ -21,7 +21,9 @@ use thiserror::Error;
 /// A plan: the moves to the first solved node, and the operator instances that they apply, in order.
 #[derive(Drop)]
 pub struct Found {
+    /// The moves, from the initial node on.
     pub moves: Sequence<Move>,
+    /// The operator instances, in the order in which they are applied.
     pub steps: Sequence<OpInst>,
 }
 
