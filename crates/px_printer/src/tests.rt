@@ -118,10 +118,7 @@ fn limit_is_right(alloc: Global, names: &Names) -> Result<bool, NoMemory>
     requires { 1 ≤ length names.now.results }
 {
     let mut nodes = Vec::new(alloc);
-    nodes.push(Node::new(
-        Model::new(alloc),
-        Sequence::from_vec(Vec::new(alloc)),
-    ))?;
+    nodes.push(Node::new(Model::new(alloc), Sequence::from_vec(Vec::new(alloc))))?;
     let reply = Reply::NodeLimit {
         name: 0,
         nodes: Sequence::from_vec(nodes),

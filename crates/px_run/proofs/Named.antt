@@ -1,7 +1,7 @@
 -- All numbers of a reply have names.
-use Rattle.std.proofs.Common.{◌≡◌, ℕ, List, [], ◌∷◌, refl, sym, ap, subst, arith}
+use Rattle.std.proofs.Common.{◌≡◌, ℕ, List, [], sym, ap, subst, arith}
 use Rattle.std.specs.Prelude.{All}
-use Rattle.std.proofs.lemmas.List.Elements.{All-head, All-tail, All-cons, All-nil, Contains-push}
+use Rattle.std.proofs.lemmas.List.Elements.{All-nil, Contains-push}
 use Rattle.px_names.specs.Lists.{NameLists}
 use Rattle.px_printer.specs.Texts.{IsNamedTerm, IsNamedAtom, IsNamedInstance}
 use Rattle.px_terms.specs.declared.atom.Atom.{Atom}
@@ -9,7 +9,6 @@ use Rattle.px_terms.specs.declared.instance.OpInst.{OpInst}
 use Rattle.px_terms.specs.declared.problem.Problem.{Problem}
 use Rattle.px_terms.specs.declared.term.Term.{Term}
 use Rattle.px_terms.specs.declared.term.Term.TheVariants.{Obj, Var, Any}
-use Rattle.px_terms.specs.Operators.{results_of}
 use Rattle.px_terms.specs.Validity.{IsTermOf, IsAtomOf, IsInstanceOf}
 use Rattle.px_table.specs.declared.entry.Move.{Move}
 use Rattle.px_search.specs.Ends.{Task, IsFound}

@@ -1,5 +1,5 @@
 //! The nodes that moves lead to.
-ghost use Rattle.std.specs.Prelude.{◌≡◌, ◌∷◌, ◌++◌, [], All, IfOk, OnOk};
+ghost use Rattle.std.specs.Prelude.{◌≡◌, ◌∷◌, ◌++◌, All, IfOk, OnOk};
 ghost use Rattle.px_terms.specs.Operators.{results_of};
 ghost use Rattle.px_terms.specs.Validity.{IsValid};
 ghost use Rattle.px_search.specs.Entries.{IsEntry, effect_of};
@@ -14,10 +14,7 @@ use std::alloc::Global;
 pub fn start_node(alloc: Global, initial: &Model) -> Result<Node, NoMemory>
     ensures { IfOk result (λ start. start ≡ initial_node initial.now.atoms) }
 {
-    Ok(Node::new(
-        initial.try_copy()?,
-        Sequence::from_vec(Vec::new(alloc)),
-    ))
+    Ok(Node::new(initial.try_copy()?, Sequence::from_vec(Vec::new(alloc))))
 }
 
 /// The node that the move leads to.
@@ -40,10 +37,7 @@ fn applied(alloc: Global, problem: &Problem, node: &Node) -> Result<Node, NoMemo
 {
     let mut below = Vec::new(alloc);
     let Some((top, rest)) = node.stack().split_first() else {
-        return Ok(Node::new(
-            node.model().try_copy()?,
-            Sequence::from_vec(below),
-        ));
+        return Ok(Node::new(node.model().try_copy()?, Sequence::from_vec(below)));
     };
     push_copies(&mut below, rest)?;
     Ok(Node::new(
@@ -76,10 +70,7 @@ fn pushed(alloc: Global, node: &Node, entry: &Entry) -> Result<Node, NoMemory>
     let mut stack = Vec::new(alloc);
     stack.push(entry.try_copy()?)?;
     push_copies(&mut stack, node.stack())?;
-    Ok(Node::new(
-        node.model().try_copy()?,
-        Sequence::from_vec(stack),
-    ))
+    Ok(Node::new(node.model().try_copy()?, Sequence::from_vec(stack)))
 }
 
 /// Appends copies of the entries.

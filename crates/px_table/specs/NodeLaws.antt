@@ -1,5 +1,4 @@
 -- The laws of nodes: `==` says that they are the same, and equal ones are hashed alike.
-use Rattle.std.specs.Prelude.{◌≡◌}
 use Rattle.std.proofs.lemmas.Bool.Decides.{Decides-and, Decides-like}
 use Rattle.std.specs.Cmp.{IsEquivalence}
 use Rattle.std.specs.Cmp.Lexicographic.{pointwise_decides}

@@ -3,7 +3,7 @@ use Rattle.std.specs.Prelude.{◌↔◌, All, Contains, AllPairs}
 use Rattle.std.specs.declared.cmp.Ordering.TheVariants.{Less}
 use Rattle.px_terms.specs.declared.instance.OpInst.{OpInst}
 use Rattle.px_table.specs.declared.entry.Move.{Move}
-use Rattle.px_table.specs.declared.entry.Move.TheVariants.{Apply, Push}
+use Rattle.px_table.specs.declared.entry.Move.TheVariants.{Apply}
 use Rattle.px_search.specs.Nodes.{IsAllowed, move_cmp}
 use Rattle.px_search.specs.Pushes.{push_of}
 use Rattle.px_search.proofs.GatherLemmas.{moves_are_pushes, moves_are_apply, pushes_ascend}
