@@ -22,7 +22,7 @@ reply_text names (Plan name moves steps) =
 reply_text names (Exhausted name) =
     line (codes "exhausted" ∷ name_text names kind.Result name ∷ [])
 reply_text names (NodeLimit name nodes moves) =
-    line (codes "nodelimit" ∷ name_text names kind.Result name ∷ decimal nodes ∷ codes "nodes" ∷ decimal moves ∷ codes "moves" ∷ [])
+    line (codes "nodelimit" ∷ name_text names kind.Result name ∷ decimal (length nodes) ∷ codes "nodes" ∷ decimal moves ∷ codes "moves" ∷ [])
 reply_text names (FactsAre atoms) =
     line (codes "facts" ∷ decimal (length atoms) ∷ [])
     ++ lines_of (map (atom_text names 0) atoms)

@@ -13,16 +13,20 @@
 //!   `params` are parameters, `p1` and on, and those after them are variables of a goal, `?1` and on. Each is made by a
 //!   struct literal, where the caller shows that the numbers have their names; what it writes is its `output`, a
 //!   definition of `specs/Texts.antt`.
+//! - [`usage_text`] and [`refused_text`] give the texts that answer no command: how the program is called, and where and
+//!   why a script is refused (`specs/Notices.antt`).
 //! - A new reply is a variant of `Reply`, an equation of `IsNamed` and of `reply_text`, and an arm of `push_reply` in
 //!   `src/text.rt`: one function that appends each kind of line, and one loop for each list of lines.
 #![tactic(auto)]
 
+mod notice;
 mod reply;
 mod shown;
 #[cfg(test)]
 mod tests;
 mod text;
 
+pub use notice::{refused_text, usage_text};
 pub use reply::Reply;
 pub use shown::{ShownAtom, ShownInstance, ShownTerm};
 pub use text::reply_text;

@@ -1,4 +1,5 @@
 use px_base::Sequence;
+use px_table::Node;
 use px_terms::{Atom, OpInst};
 
 /// What a command answers.
@@ -22,8 +23,8 @@ pub enum Reply {
     NodeLimit {
         /// The number of the plan's name.
         name: u32,
-        /// How many nodes were kept.
-        nodes: u32,
+        /// The kept nodes, in the order in which they were found.
+        nodes: Sequence<Node>,
         /// How many moves lead to the node after them.
         moves: u32,
     },

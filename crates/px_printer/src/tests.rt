@@ -2,9 +2,11 @@ ghost use Rattle.std.specs.Prelude.{◌≤◌, All, IfOk, length};
 ghost use Rattle.px_printer.specs.Replies.{IsNamed};
 ghost use Rattle.px_printer.specs.Texts.{IsNamedTerm, IsNamedAtom, IsNamedInstance};
 
-use crate::{Reply, ShownTerm, reply_text};
+use crate::{Reply, ShownTerm, refused_text, reply_text, usage_text};
 use px_base::{NoMemory, Sequence};
 use px_names::{Kind, NameErr, Names};
+use px_ops::Model;
+use px_table::Node;
 use px_terms::{Atom, OpInst, Term};
 use std::alloc::Global;
 use std::rt::HostRuntime;
@@ -115,9 +117,11 @@ fn facts_are_right(alloc: Global, names: &Names) -> Result<bool, NoMemory>
 fn limit_is_right(alloc: Global, names: &Names) -> Result<bool, NoMemory>
     requires { 1 ≤ length names.now.results }
 {
+    let mut nodes = Vec::new(alloc);
+    nodes.push(Node::new(Model::new(alloc), Sequence::from_vec(Vec::new(alloc))))?;
     let reply = Reply::NodeLimit {
         name: 0,
-        nodes: 1,
+        nodes: Sequence::from_vec(nodes),
         moves: 1,
     };
     has_text(alloc, &reply, names, "nodelimit P1 1 nodes 1 moves\n")
@@ -152,5 +156,13 @@ fn parameters_come_before_the_variables_of_a_goal(rt: HostRuntime) -> Result<(),
     assert!(&rt; variable_text(rt.alloc(), 0)?.as_str() == "p1");
     assert!(&rt; variable_text(rt.alloc(), 1)?.as_str() == "p2");
     assert!(&rt; variable_text(rt.alloc(), 2)?.as_str() == "?1");
+    Ok(())
+}
+
+#[test]
+fn notices_have_their_texts(rt: HostRuntime) -> Result<(), NoMemory> {
+    assert!(&rt; usage_text() == "usage: planex run | planex demo ROOMS SEED\n");
+    let refused = refused_text(rt.alloc(), 12, 3, 0)?;
+    assert!(&rt; refused.as_slice() == b"refused line 12 code 3 limit 0\n".as_slice());
     Ok(())
 }

@@ -43,7 +43,8 @@ fn push_reply(text: &mut String, reply: &Reply, names: &Names) -> Result<(), All
         }
         Reply::NodeLimit { name, nodes, moves } => {
             let name = names.text(Kind::Result, *name);
-            write!(text, "nodelimit {name} {nodes} nodes {moves} moves\n")
+            let count = nodes.len();
+            write!(text, "nodelimit {name} {count} nodes {moves} moves\n")
         }
         Reply::FactsAre { atoms } => {
             let count = atoms.len();

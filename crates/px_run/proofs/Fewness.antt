@@ -1,7 +1,7 @@
 -- A plan has no more moves than there are nodes before the solved one.
 use Rattle.std.proofs.Common.{◌≡◌, ◌⊎◌, ℕ, zero, suc, ◌<◌, ◌≤◌, List, [], ◌∷◌, ◌++◌, length, refl, sym, ap, ◌∙◌, subst, inl, inr, arith, Some, slice_get, length-append}
-use Rattle.px_search.specs.declared.node.Move.{Move}
-use Rattle.px_search.specs.declared.node.Node.{Node}
+use Rattle.px_table.specs.declared.entry.Move.{Move}
+use Rattle.px_table.specs.declared.node.Node.{Node}
 use Rattle.px_search.specs.Ends.{Task, IsFound, BeginsWith}
 use Rattle.px_search.specs.Moves.{CanMake, reached, IsLeast}
 use Rattle.px_search.specs.Nodes.{initial_node, IsAllowed, IsBefore, after}

@@ -1,7 +1,7 @@
 -- All numbers of a reply have names.
-use Rattle.std.proofs.Common.{◌≡◌, ℕ, List, [], ◌∷◌, refl, sym, ap, subst, arith}
+use Rattle.std.proofs.Common.{◌≡◌, ℕ, List, [], sym, ap, subst, arith}
 use Rattle.std.specs.Prelude.{All}
-use Rattle.std.proofs.lemmas.List.Elements.{All-head, All-tail, All-cons, All-nil, Contains-push}
+use Rattle.std.proofs.lemmas.List.Elements.{All-nil, Contains-push}
 use Rattle.px_names.specs.Lists.{NameLists}
 use Rattle.px_printer.specs.Texts.{IsNamedTerm, IsNamedAtom, IsNamedInstance}
 use Rattle.px_terms.specs.declared.atom.Atom.{Atom}
@@ -9,13 +9,12 @@ use Rattle.px_terms.specs.declared.instance.OpInst.{OpInst}
 use Rattle.px_terms.specs.declared.problem.Problem.{Problem}
 use Rattle.px_terms.specs.declared.term.Term.{Term}
 use Rattle.px_terms.specs.declared.term.Term.TheVariants.{Obj, Var, Any}
-use Rattle.px_terms.specs.Operators.{results_of}
 use Rattle.px_terms.specs.Validity.{IsTermOf, IsAtomOf, IsInstanceOf}
-use Rattle.px_search.specs.declared.node.Move.{Move}
-use Rattle.px_search.specs.declared.node.Move.TheVariants.{Apply, Push}
+use Rattle.px_table.specs.declared.entry.Move.{Move}
 use Rattle.px_search.specs.Ends.{Task, IsFound}
-use Rattle.px_search.specs.Moves.{CanMake}
-use Rattle.px_search.specs.Nodes.{IsAllowed, after, steps_of}
+use Rattle.px_search.specs.Entries.{IsEntry}
+use Rattle.px_search.specs.Nodes.{steps_of}
+use Rattle.px_search.proofs.PlanLemmas.{steps_entries}
 use Rattle.px_run.specs.Sessions.{AreNamesOf}
 
 abbrev number_of : Term → ℕ
@@ -44,21 +43,10 @@ named-instance problem names all inst of = record {
   objects = λ k d below. named-term problem names all _ (of.objects k d below);
 }
 
-module _ (problem : Problem) (goal : List Atom) where
-  -- the steps of moves are instances of the problem's operators
-  steps-entries : (model : List Atom) (stack : List OpInst) (moves : List Move) → All (IsInstanceOf problem) stack
-      → CanMake (IsAllowed problem goal) (after problem) (record { model = model; stack = stack }) moves → All (IsInstanceOf problem) (steps_of stack moves)
-  steps-entries model stack [] entries can = All-nil (IsInstanceOf problem)
-  steps-entries model stack (Push e ∷ moves) entries can = steps-entries model (e ∷ stack) moves (All-cons (IsInstanceOf problem) e stack can.0.0.is_entry entries) can.1
-  steps-entries model [] (Apply ∷ moves) entries can = absurd (can.0.0 refl)
-  steps-entries model (e ∷ below) (Apply ∷ moves) entries can =
-      All-cons (IsInstanceOf problem) e (steps_of below moves) (All-head (IsInstanceOf problem) e below entries)
-      (steps-entries (results_of problem model (e ∷ [])) below moves (All-tail (IsInstanceOf problem) e below entries) can.1)
-
 found-entries : (task : Task) (moves : List Move) → IsFound task moves → All (IsInstanceOf task.problem) (steps_of [] moves)
 found-entries task moves found =
     let can = (found.beginning.least moves (Contains-push found.earlier moves)).made in
-    steps-entries task.problem task.goal task.initial [] moves (All-nil (IsInstanceOf task.problem)) can
+    steps_entries task.problem task.goal task.initial [] moves (All-nil (IsEntry task.problem)) can
 
 -- the steps of a plan have names
 pub named-steps : (task : Task) (names : NameLists) (moves : List Move) (steps : List OpInst) → AreNamesOf task.problem names → IsFound task moves → steps ≡ steps_of [] moves → All (IsNamedInstance names) steps

@@ -9,7 +9,7 @@ use Rattle.px_script.specs.Content.{ScriptValue}
 use Rattle.px_script.specs.Faults.{Refusal}
 use Rattle.px_script.specs.Scripts.{IsScript}
 use Rattle.px_script.proofs.Law.{reads-one-way}
-use Rattle.px_run.specs.Transcripts.{IsNextOf, IsRefused, refused_text}
+use Rattle.px_run.specs.Transcripts.{IsNextOf, IsRefused, refusal_text}
 use Rattle.px_run.specs.Outcomes.{SourceEnds, SinkEnds, Came, ExecutedRight, RefusalRight, RunRight, Completes, CompletesSurely, Refuses, limit}
 use Rattle.px_run.specs.declared.status.Status.{Status}
 use Rattle.px_run.specs.declared.status.Status.TheVariants as status
@@ -26,7 +26,7 @@ run-executed source sink bytes script (status.Refused refused) came is right = e
 
 pub run-refused : (source : SourceEnds) (sink : SinkEnds) (bytes : List ℕ) (refused : Refused) (result : Status) → Came source bytes → IsRefused bytes refused → RefusalRight refused sink result → RunRight source sink result
 run-refused source sink bytes refused (status.Refused answered) came fault right = subst (λ r. RunRight source sink (status.Refused r)) (sym right.0) (bytes, came, fault, right.1)
-run-refused source sink bytes refused status.WriteFault came fault right = (bytes, [], refused_text refused, came, inl (refused, fault, refl, refl), right)
+run-refused source sink bytes refused status.WriteFault came fault right = (bytes, [], refusal_text refused, came, inl (refused, fault, refl, refl), right)
 run-refused source sink bytes refused status.NoMemory came fault right = inl right
 run-refused source sink bytes refused status.Done came fault right = elim right [ ]
 run-refused source sink bytes refused status.Usage came fault right = elim right [ ]

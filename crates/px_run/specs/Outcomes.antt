@@ -5,10 +5,11 @@ use Rattle.std.specs.Io.KnownBytes.{Appends}
 use Rattle.px_io.specs.Causes.{Rose}
 use Rattle.px_io.specs.Reading.{ReadToEnd}
 use Rattle.px_io.specs.Writing.{HasNoRoomFor}
+use Rattle.px_printer.specs.Notices.{usage_text}
 use Rattle.px_reader.specs.declared.script.Refused.{Refused}
 use Rattle.px_script.specs.Content.{ScriptValue}
 use Rattle.px_script.specs.Scripts.{IsScript}
-use Rattle.px_run.specs.Transcripts.{Transcript, Begun, IsTextOf, IsBegunOf, IsNextOf, IsRefused, IsWritten, usage_text, refused_text}
+use Rattle.px_run.specs.Transcripts.{Transcript, Begun, IsTextOf, IsBegunOf, IsNextOf, IsRefused, IsWritten, refusal_text}
 use Rattle.px_run.specs.declared.status.Status.{Status}
 use Rattle.px_run.specs.declared.status.Status.TheVariants as status
 
@@ -68,7 +69,7 @@ UsageRight sink _ = ⊥
 -- The outcomes of `run`.
 abbrev pub RunRight : SourceEnds → SinkEnds → Status → Type 0
 RunRight source sink status.Done = (bytes : List ℕ) × (text : List ℕ) × Came source bytes × Transcript bytes text × Wrote sink text
-RunRight source sink (status.Refused refused) = (bytes : List ℕ) × Came source bytes × IsRefused bytes refused × Wrote sink (refused_text refused)
+RunRight source sink (status.Refused refused) = (bytes : List ℕ) × Came source bytes × IsRefused bytes refused × Wrote sink (refusal_text refused)
 RunRight source sink status.ReadFault = Rose source.faults source.faults_after × (source.taken_after ≤ source.taken + limit) × (source.never_fails ≡ false) × Wrote sink []
 RunRight source sink status.TooLong = (source.taken + limit < source.taken_after) × (source.faults_after ≡ source.faults) × Wrote sink []
 RunRight source sink status.WriteFault = (bytes : List ℕ) × (done : List ℕ) × (next : List ℕ) × Came source bytes × IsWritten bytes done next × Broke sink done next
@@ -105,7 +106,7 @@ ExecutedRight script sink _ = ⊥
 
 -- the outcomes of writing a refusal
 abbrev pub RefusalRight : Refused → SinkEnds → Status → Type 0
-RefusalRight refused sink (status.Refused answered) = (answered ≡ refused) × Wrote sink (refused_text refused)
-RefusalRight refused sink status.WriteFault = Broke sink [] (refused_text refused)
+RefusalRight refused sink (status.Refused answered) = (answered ≡ refused) × Wrote sink (refusal_text refused)
+RefusalRight refused sink status.WriteFault = Broke sink [] (refusal_text refused)
 RefusalRight refused sink status.NoMemory = Wrote sink []
 RefusalRight refused sink _ = ⊥

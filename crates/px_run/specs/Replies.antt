@@ -8,7 +8,7 @@ use Rattle.px_printer.specs.declared.reply.Reply.TheVariants as reply
 use Rattle.px_script.specs.Commands as command
 use Rattle.px_search.specs.Ends.{Task, task_of, IsFound, IsExhausted, IsNodeLimit}
 use Rattle.px_search.specs.Nodes.{steps_of}
-use Rattle.px_search.specs.declared.node.Move.{Move}
+use Rattle.px_table.specs.declared.entry.Move.{Move}
 use Rattle.px_terms.specs.AtomSets.{IsAtomSet}
 use Rattle.px_terms.specs.Plans.{Carries}
 use Rattle.px_terms.specs.declared.atom.Atom.{Atom}

@@ -1,6 +1,6 @@
 -- What is to be written for the bytes that were read.
-use Rattle.std.specs.Prelude.{◌≡◌, ◌⊎◌, ℕ, List, [], ◌∷◌, ◌++◌, codes}
-use Rattle.std.specs.Fmt.{decimal}
+use Rattle.std.specs.Prelude.{◌≡◌, ◌⊎◌, ℕ, List, [], ◌∷◌, ◌++◌}
+use Rattle.px_printer.specs.Notices.{refused_text}
 use Rattle.px_printer.specs.Replies.{reply_text}
 use Rattle.px_printer.specs.declared.reply.Reply.{Reply}
 use Rattle.px_reader.specs.declared.script.Refused.{Refused}
@@ -54,14 +54,12 @@ Begun bytes text = (script : ScriptValue) × IsScript bytes script × IsBegunOf 
 abbrev pub IsRefused : List ℕ → Refused → Type 0
 IsRefused bytes refused = FirstFault bytes refused.line (record { code = refused.code; limit = refused.limit })
 
-abbrev pub usage_text : List ℕ
-usage_text = codes "usage: planex run | planex demo ROOMS SEED\n"
-
-abbrev pub refused_text : Refused → List ℕ
-refused_text r = codes "refused line " ++ (decimal r.line ++ (codes " code " ++ (decimal r.code ++ (codes " limit " ++ (decimal r.limit ++ codes "\n")))))
+-- the text of a refusal
+abbrev pub refusal_text : Refused → List ℕ
+refusal_text refused = refused_text refused.line refused.code refused.limit
 
 -- what is written at once for the bytes, and what before it: the refusal, and nothing; or the reply to a command, and those
 -- to the commands before it
 abbrev pub IsWritten : List ℕ → List ℕ → List ℕ → Type 0
-IsWritten bytes done next = ((refused : Refused) × IsRefused bytes refused × (done ≡ []) × (next ≡ refused_text refused))
+IsWritten bytes done next = ((refused : Refused) × IsRefused bytes refused × (done ≡ []) × (next ≡ refusal_text refused))
     ⊎ ((script : ScriptValue) × IsScript bytes script × IsNextOf script done next)

@@ -1,19 +1,17 @@
 //! The top call.
-ghost use Rattle.std.specs.Prelude.{◌≡◌, ◌+◌, Bool, List, ℕ, map, false, true, length, IfOk, string_bytes};
+ghost use Rattle.std.specs.Prelude.{◌≡◌, ◌+◌, Bool, List, ℕ, map, false, true, length};
 ghost use Rattle.std.specs.Io.KnownBytes.{Consumes};
-ghost use Rattle.px_run.specs.Transcripts.{refused_text};
 ghost use Rattle.px_run.specs.Outcomes.{takes, UsageRight, RefusalRight, RunRight, StatusRight, Completes, CompletesSurely, Refuses};
 
 use crate::running::execute;
 use crate::status::Status;
 use px_io::{ReadErr, Sink, Source, put, read_all};
+use px_printer::{refused_text, usage_text};
 use px_reader::{Refused, ScriptErr, read_script};
-use std::alloc::{AllocError, Global};
+use std::alloc::Global;
 
 /// How many bytes are read at most.
 const LIMIT: usize = 1_048_576;
-
-const USAGE: &str = "usage: planex run | planex demo ROOMS SEED\n";
 
 /// Are the words taken?
 fn takes(words: &[&str]) -> bool
@@ -61,7 +59,7 @@ pub fn planex_main<S: Source, K: Sink>(
 fn usage<K: Sink>(sink: &mut K) -> Status
     ensures { UsageRight (record { written = K.written sink.old; written_after = K.written sink.new; faults = K.faults sink.old; faults_after = K.faults sink.new; sure = K.sure sink.old }) result }
 {
-    match put(sink, USAGE.as_bytes()) {
+    match put(sink, usage_text().as_bytes()) {
         Ok(()) => Status::Usage,
         Err(_) => Status::WriteFault,
     }
@@ -88,22 +86,15 @@ fn run<S: Source, K: Sink>(alloc: Global, source: &mut S, sink: &mut K) -> Statu
     }
 }
 
-/// The text of a refusal.
-fn refused_text(alloc: Global, refused: Refused) -> Result<String, AllocError>
-    ensures { IfOk result (λ text. string_bytes text ≡ refused_text refused) }
-{
-    let Refused { line, code, limit } = refused;
-    format!(in alloc; "refused line {line} code {code} limit {limit}\n")
-}
-
 /// Writes where and why a script is refused.
 fn refuse<K: Sink>(alloc: Global, refused: Refused, sink: &mut K) -> Status
     ensures { RefusalRight refused (record { written = K.written sink.old; written_after = K.written sink.new; faults = K.faults sink.old; faults_after = K.faults sink.new; sure = K.sure sink.old }) result }
 {
-    let Ok(text) = refused_text(alloc, refused) else {
+    let Refused { line, code, limit } = refused;
+    let Ok(text) = refused_text(alloc, line, code, limit) else {
         return Status::NoMemory;
     };
-    match put(sink, text.as_bytes()) {
+    match put(sink, &text) {
         Ok(()) => Status::Refused(refused),
         Err(_) => Status::WriteFault,
     }

@@ -21,13 +21,14 @@ use Rattle.px_terms.specs.OrderLaws.{instance_eq-decides, instance_eq-equivalenc
 use Rattle.px_terms.specs.Operators.{atoms_of, precondition}
 use Rattle.px_terms.specs.Substitution.{substitute_atom}
 use Rattle.px_terms.specs.Validity.{IsTermOf}
-use Rattle.px_search.specs.declared.node.Node.{Node}
-use Rattle.px_search.specs.declared.node.Move.{Move}
-use Rattle.px_search.specs.declared.node.Move.TheVariants.{Apply, Push}
+use Rattle.px_table.specs.declared.entry.Entry.TheVariants.{Op, Macro}
+use Rattle.px_table.specs.declared.node.Node.{Node}
+use Rattle.px_table.specs.declared.entry.Move.{Move}
+use Rattle.px_table.specs.declared.entry.Move.TheVariants.{Apply, Push}
 use Rattle.px_search.specs.Entries.{Obligation, HasAnswer, HasGap, IsApplicable, IsAddable, IsOpen, IsGapOf, obligations_of}
 use Rattle.px_search.specs.Nodes.{needs_at, IsAllowed, move_cmp}
 use Rattle.px_search.specs.Matching.{Gathers, IsSchemaAt, IsObjectAt}
-use Rattle.px_search.specs.Pushes.{AddsBy, AddsOf, IsPushable, IsPushableBy}
+use Rattle.px_search.specs.Pushes.{AddsBy, AddsOf, IsPushable, IsPushableBy, push_of}
 use Rattle.px_search.proofs.Loops.{Contains-pushed, take_next}
 use Rattle.px_search.proofs.Openness.{open_formula, from, IsClosed}
 use Rattle.px_search.proofs.SchemaLemmas.{precondition_here, adds_here}
@@ -116,7 +117,7 @@ adds_by_pattern schema gap inst h = let r = Contains-from_mapped (substitute_ato
 
 -- where an entry is open, an atom of its precondition that no operator adds is a fact
 pub static_fact : (problem : Problem) (schema : Schema) (facts : List Atom) (needed : Atom) (inst : OpInst) → IsSchemaAt problem schema → schema.op ≡ inst.op → Contains schema.pre needed
-    → IsOpen problem (obligations_of problem facts inst) → (IsAddable problem needed → ⊥) → Contains facts (substitute_atom inst.args needed)
+    → IsOpen problem (obligations_of problem facts (Op inst)) → (IsAddable problem needed → ⊥) → Contains facts (substitute_atom inst.args needed)
 static_fact problem schema facts needed inst at op has opened static =
     let all = (open_formula problem facts (precondition problem inst)).1 opened in
     let there = subst (λ l. Contains l (substitute_atom inst.args needed)) (sym (precondition_here problem schema inst at op)) (Contains-mapped (substitute_atom inst.args) schema.pre needed has) in
@@ -169,15 +170,15 @@ module _ (problem : Problem) (goal : List Atom) (node : Node) (formula : List At
 
   -- where the formula has no answer, they are the pushes
   pub moves_are_pushes : (gaps : List Atom) (entries : List OpInst) → (All (Contains node.model) formula → ⊥) → ((gap : Atom) → Contains gaps gap ↔ IsGapOf problem (from problem node.model formula ∷ []) gap)
-      → ((inst : OpInst) → Contains entries inst ↔ IsPushable problem node gaps inst) → (m : Move) → IsAllowed problem goal node m ↔ Contains (map Push entries) m
+      → ((inst : OpInst) → Contains entries inst ↔ IsPushable problem node gaps inst) → (m : Move) → IsAllowed problem goal node m ↔ Contains (map push_of entries) m
   moves_are_pushes gaps entries none are exact Apply = (
     λ can. absurd (none (answered can.1)),
-    λ has. absurd (no_apply (Contains-from_mapped Push entries Apply has)),
+    λ has. absurd (no_apply (Contains-from_mapped push_of entries Apply has)),
   ) where
-    no_apply : (e : OpInst) × Contains entries e × (Push e ≡ Apply) → ⊥
+    no_apply : (e : OpInst) × Contains entries e × (push_of e ≡ Apply) → ⊥
     no_apply (e, h, is) = cc
-  moves_are_pushes gaps entries none are exact (Push e) = (
-    λ can. Contains-mapped Push entries e ((exact e).1 (record {
+  moves_are_pushes gaps entries none are exact (Push (Op e)) = (
+    λ can. Contains-mapped push_of entries e ((exact e).1 (record {
       is_entry = can.0.is_entry;
       fresh = can.0.fresh;
       gap = can.0.gap;
@@ -186,7 +187,7 @@ module _ (problem : Problem) (goal : List Atom) (node : Node) (formula : List At
       open_entry = can.1;
     })),
     λ has.
-        let r = Contains-from_mapped Push entries (Push e) has in
+        let r = Contains-from_mapped push_of entries (Push (Op e)) has in
         let p = (exact e).0 (subst (Contains entries) (same_entry r.0 e r.2) r.1) in (
           record {
             is_entry = p.is_entry;
@@ -198,8 +199,14 @@ module _ (problem : Problem) (goal : List Atom) (node : Node) (formula : List At
           p.open_entry,
         ),
   ) where
-    same_entry : (x y : OpInst) → Push x ≡ Push y → x ≡ y
+    same_entry : (x y : OpInst) → push_of x ≡ push_of y → x ≡ y
     same_entry x y h = cc
+  moves_are_pushes gaps entries none are exact (Push (Macro number prefix sigma)) = (
+    λ can. absurd can.0.is_entry,
+    λ has. absurd (no_macro (Contains-from_mapped push_of entries (Push (Macro number prefix sigma)) has)),
+  ) where
+    no_macro : (e : OpInst) × Contains entries e × (push_of e ≡ Push (Macro number prefix sigma)) → ⊥
+    no_macro (e, h, is) = cc
 
   -- where it has one, only the top entry can be applied
   pub moves_are_apply : (moves : List Move) → All (Contains node.model) formula → ((node.stack ≡ []) × (moves ≡ [])) ⊎ ((node.stack ≡ [] → ⊥) × (moves ≡ Apply ∷ [])) → (m : Move) → IsAllowed problem goal node m ↔ Contains moves m
@@ -223,8 +230,8 @@ module _ (problem : Problem) (goal : List Atom) (node : Node) (formula : List At
     λ has. (h.0, subst IsApplicable (sym needs) (All-cons HasAnswer (from problem node.model formula) [] all (λ k d below. absurd (omega (arith, below))))),
   )
 
-pub pushes_ascend : (entries : List OpInst) → IsStrictlySortedBy instance_cmp entries → AllPairs (λ m n. move_cmp m n ≡ Less) (map Push entries)
+pub pushes_ascend : (entries : List OpInst) → IsStrictlySortedBy instance_cmp entries → AllPairs (λ m n. move_cmp m n ≡ Less) (map push_of entries)
 pushes_ascend [] sorted i j d less below = absurd (omega (arith, below))
 pushes_ascend (x ∷ xs) sorted i j d less below =
-    let within : j < length (x ∷ xs) = omega (arith, below, length-map (x ∷ xs) Push) in
-    rw (get_or-map Push (x ∷ xs) i x d (omega (arith, less, within)), get_or-map Push (x ∷ xs) j x d within) (ascending_pairs instance_cmp (x ∷ xs) sorted i j x less within)
+    let within : j < length (x ∷ xs) = omega (arith, below, length-map (x ∷ xs) push_of) in
+    rw (get_or-map push_of (x ∷ xs) i x d (omega (arith, less, within)), get_or-map push_of (x ∷ xs) j x d within) (ascending_pairs instance_cmp (x ∷ xs) sorted i j x less within)

@@ -1,7 +1,7 @@
 -- Following the origins of a node back to the first one.
 use Rattle.std.proofs.Common.{◌≡◌, ◌++◌, ◌≤◌, ◌<◌, ℕ, zero, suc, List, [], ◌∷◌, length, reverse, refl, sym, ap, ◌∙◌, arith, Some, slice_get, append_assoc}
 use Rattle.std.proofs.lemmas.List.{append-nil, reverse-append}
-use Rattle.px_search.specs.declared.node.Move.{Move}
+use Rattle.px_table.specs.declared.entry.Move.{Move}
 use Rattle.px_search.specs.declared.origins.Origin.{Origin}
 use Rattle.px_search.specs.Origins.{Trace}
 

@@ -5,15 +5,15 @@ use Rattle.std.specs.List.{list_any}
 use Rattle.std.proofs.lemmas.List.{length-map, length-append}
 use Rattle.std.proofs.lemmas.Map.Views.{list_any-from_Contains, Contains-from_any}
 use Rattle.indexmap.specs.IndexSet.{insert_key}
-use Rattle.px_terms.specs.Validity.{IsInstanceOf}
+use Rattle.px_search.specs.Entries.{IsEntry}
 use Rattle.px_search.specs.declared.breadth_first.Found.{Found}
 use Rattle.px_search.specs.declared.breadth_first.SearchErr.{SearchErr}
 use Rattle.px_search.specs.declared.breadth_first.SearchErr.TheVariants.{NodeLimit}
-use Rattle.px_search.specs.declared.node.Move.{Move}
-use Rattle.px_search.specs.declared.node.Node.{Node}
+use Rattle.px_table.specs.declared.entry.Move.{Move}
+use Rattle.px_table.specs.declared.node.Node.{Node}
 use Rattle.px_search.specs.declared.origins.Origin.{Origin}
-use Rattle.px_search.specs.NodeOrder.{node_eq}
-use Rattle.px_search.specs.NodeOrderLaws.{node_eq-decides, node_eq-equivalence}
+use Rattle.px_table.specs.Nodes.{node_eq}
+use Rattle.px_table.specs.NodeLaws.{node_eq-decides, node_eq-equivalence}
 use Rattle.px_search.specs.Nodes.{initial_node, IsSolved, after}
 use Rattle.px_search.specs.Origins.{AreEarlier, Trace}
 use Rattle.px_search.specs.Ends.{Task, IsFound, IsExhausted, IsNodeLimit}
@@ -155,7 +155,7 @@ module _ (task : Task) (nodes : List Node) (origins : List Origin) (next : ℕ) 
       subst (IsFound task) (same_at (s.found ++ new_moves ∷ []) (length made) new_moves plan at_last (traced (s.found ++ new_moves ∷ []) new_trace)) (walk-found task s.found nodes next moves i at.0 m s.walking at.1 at.2 inside m_is not_seen room solved)
 
   pub search-full : (count : ℕ) → (Contains nodes there → ⊥) → task.problem.nodes ≤ length nodes
-      → ((found : List (List Move)) → Trace made found → (last : List Move) × (slice_get found (length made) ≡ Some last) × (count ≡ length last)) → IsNodeLimit task task.problem.nodes count
+      → ((found : List (List Move)) → Trace made found → (last : List Move) × (slice_get found (length made) ≡ Some last) × (count ≡ length last)) → IsNodeLimit task nodes count
   search-full count not_seen full traced =
       let whole = traced (s.found ++ new_moves ∷ []) new_trace in
       let same : new_moves ≡ whole.0 = same_at (s.found ++ new_moves ∷ []) (length made) new_moves whole.0 at_last whole.1 in
@@ -174,10 +174,10 @@ pub search-exhausted : (task : Task) (nodes : List Node) (origins : List Origin)
 search-exhausted task nodes origins next s all = walk-exhausted task s.found nodes next s.walking all
 
 -- the entries on the stack of a found node are the problem's
-pub found_entries : (task : Task) (nodes : List Node) (origins : List Origin) (next : ℕ) (tried : List Move) (node : Node) → Searching task nodes origins next tried → slice_get nodes next ≡ Some node → All (IsInstanceOf task.problem) node.stack
+pub found_entries : (task : Task) (nodes : List Node) (origins : List Origin) (next : ℕ) (tried : List Move) (node : Node) → Searching task nodes origins next tried → slice_get nodes next ≡ Some node → All (IsEntry task.problem) node.stack
 found_entries task nodes origins next tried node s at =
     let r = reached_by task s.found nodes next tried node s.walking at in
-    subst (λ (n : Node). All (IsInstanceOf task.problem) n.stack) r.2 (stack_entries task.problem task.goal task.initial [] r.0 (no_entries (IsInstanceOf task.problem)) r.1)
+    subst (λ (n : Node). All (IsEntry task.problem) n.stack) r.2 (stack_entries task.problem task.goal task.initial [] r.0 (no_entries (IsEntry task.problem)) r.1)
 
 pub node_at : (keys slice : List Node) (next : ℕ) (node : Node) → slice ≡ keys → next < length keys → node ≡ get_or slice next node → slice_get keys next ≡ Some node
 node_at keys slice next node same below is = at_index keys next node below ∙ ap Some (sym (is ∙ ap (λ (l : List Node). get_or l next node) same))
@@ -192,5 +192,10 @@ found_at_start task plan room solved traced =
     none_at : (k : ℕ) (origin : Origin) → slice_get [] k ≡ Some origin → ⊥
     none_at k origin at = cc
 
-pub limit_parts : (a b c d : ℕ) → ◌≡◌ {A = Result Found SearchErr} (Err (NodeLimit a b)) (Err (NodeLimit c d)) → (a ≡ c) × (b ≡ d)
-limit_parts a b c d h = (cc, cc)
+pub limit_parts : (a c : List Node) (b d : ℕ) → ◌≡◌ {A = Result Found SearchErr} (Err (NodeLimit a b)) (Err (NodeLimit c d)) → (a ≡ c) × (b ≡ d)
+limit_parts a c b d h = (cc, cc)
+
+-- the items but one more, where they are so many
+pub take_kept : {A : Type 0} (xs : List A) (x : A) (n : ℕ) → n ≡ length xs → take n (xs ++ x ∷ []) ≡ xs
+take_kept [] x n long = rw long refl
+take_kept (y ∷ xs) x n long = rw long (ap (λ t. y ∷ t) (take_kept xs x (length xs) refl))

@@ -6,8 +6,8 @@ use Rattle.std.specs.Cmp.{nat_cmp_is, tied_itself}
 use Rattle.std.specs.Cmp.Lexicographic.{slice_cmp}
 use Rattle.std.proofs.lemmas.List.{length-map, map-append, length-append, take_more}
 use Rattle.std.proofs.lemmas.List.Elements.{Contains-append_left, Contains-push, Contains-push_cases}
-use Rattle.px_search.specs.declared.node.Move.{Move}
-use Rattle.px_search.specs.declared.node.Node.{Node}
+use Rattle.px_table.specs.declared.entry.Move.{Move}
+use Rattle.px_table.specs.declared.node.Node.{Node}
 use Rattle.px_search.specs.Nodes.{initial_node, IsSolved, IsAllowed, after, move_cmp, IsBefore}
 use Rattle.px_search.specs.Ends.{Task, AreMoves, node_of, BeginsWith, NoneSolved, IsFound, IsExhausted, IsNodeLimit}
 use Rattle.px_search.proofs.Frontier.{Frontier, frontier-beginning, frontier-all, frontier-reaches, contains_place, place_of, at_index, place-within, reached-append, order_of}
@@ -190,14 +190,14 @@ module _ (task : Task) where
       solved = subst (IsSolved task.goal) (sym new_goes) is_solved;
     }
 
-    pub walk-full : (count : ℕ) → (Contains nodes (next_node node m) → ⊥) → length nodes ≡ task.problem.nodes → count ≡ length new_list → IsNodeLimit task task.problem.nodes count
+    pub walk-full : (count : ℕ) → (Contains nodes (next_node node m) → ⊥) → length nodes ≡ task.problem.nodes → count ≡ length new_list → IsNodeLimit task nodes count
     walk-full count not_seen full count_is = record {
       earlier = found;
       last = new_list;
       beginning = new_begins not_seen;
       unsolved = w.unsolved;
       full = counted ∙ full;
-      nodes_are = sym (counted ∙ full);
+      nodes_are = w.nodes_are;
       moves_are = count_is;
     }
 

@@ -1,10 +1,10 @@
 -- How a search ends. Nodes come in the order of their least lists of moves: fewer moves first, and then the lesser entry
 -- at the first different push. A node is given by its least list.
-use Rattle.std.specs.Prelude.{◌≡◌, ◌<◌, ◌≤◌, ℕ, List, [], ◌∷◌, ◌++◌, length, Contains}
+use Rattle.std.specs.Prelude.{◌≡◌, ◌<◌, ◌≤◌, ℕ, List, [], ◌∷◌, ◌++◌, length, map, Contains}
 use Rattle.px_terms.specs.declared.atom.Atom.{Atom}
 use Rattle.px_terms.specs.declared.problem.Problem.{Problem}
-use Rattle.px_search.specs.declared.node.Move.{Move}
-use Rattle.px_search.specs.declared.node.Node.{Node}
+use Rattle.px_table.specs.declared.entry.Move.{Move}
+use Rattle.px_table.specs.declared.node.Node.{Node}
 use Rattle.px_search.specs.Moves.{CanMake, reached, IsBeginning, IsAll}
 use Rattle.px_search.specs.Nodes.{initial_node, IsSolved, IsAllowed, after, IsBefore}
 
@@ -51,12 +51,12 @@ pub record IsExhausted (task : Task) : Type 0 where
   pub unsolved : (moves : List Move) → AreMoves task moves → IsSolved task.goal (node_of task moves) → ⊥
   pub room : length lists ≤ task.problem.nodes
 
--- none of the first nodes, as many as may be kept, is solved, and so many moves reach a further one
-pub record IsNodeLimit (task : Task) (nodes moves : ℕ) : Type 0 where
+-- These are the first nodes, as many as may be kept, in order. None of them is solved, and so many moves reach a further one.
+pub record IsNodeLimit (task : Task) (nodes : List Node) (moves : ℕ) : Type 0 where
   pub earlier : List (List Move)
   pub last : List Move
   pub beginning : BeginsWith task (earlier ++ last ∷ [])
   pub unsolved : NoneSolved task earlier
   pub full : length earlier ≡ task.problem.nodes
-  pub nodes_are : nodes ≡ length earlier
+  pub nodes_are : nodes ≡ map (node_of task) earlier
   pub moves_are : moves ≡ length last

@@ -1,11 +1,14 @@
--- What may stand on the stack of a search: what an entry needs, does and adds. Entries are operators here, each with one
--- thing that it needs and one step that it takes. The words are for several of both, since learned plans come with such.
+-- What may stand on the stack of a search: what an entry needs, does and adds. No table is learned, so the entries are
+-- the operators, each with one thing that it needs and one step that it takes. The words are for several of both, since a
+-- MACROP has as many as it has steps.
 use Rattle.std.specs.Prelude.{◌≡◌, ◌⊎◌, false, List, [], ◌∷◌, All, Any, Contains}
 use Rattle.px_terms.specs.declared.atom.Atom.{Atom}
 use Rattle.px_terms.specs.declared.instance.OpInst.{OpInst}
 use Rattle.px_terms.specs.declared.problem.Problem.{Problem}
 use Rattle.px_terms.specs.Operators.{precondition, adds, deletes}
 use Rattle.px_terms.specs.Validity.{IsInstanceOf}
+use Rattle.px_table.specs.declared.entry.Entry.{Entry}
+use Rattle.px_table.specs.declared.entry.Entry.TheVariants.{Op, Macro}
 
 -- ---- answers and gaps
 
@@ -51,20 +54,21 @@ IsGapOf problem needs gap = IsOpen problem needs × Any (λ needed. HasGap probl
 
 -- ---- entries
 
-abbrev pub Entry : Type 0
-Entry = OpInst
-
--- an instance of one of the problem's operators over its objects
+-- an instance of one of the problem's operators over its objects; a MACROP is none, since there is no table that it could
+-- be of
 abbrev pub IsEntry : Problem → Entry → Type 0
-IsEntry problem entry = IsInstanceOf problem entry
+IsEntry problem (Op inst) = IsInstanceOf problem inst
+IsEntry problem (Macro number prefix sigma) = ⊥
 
--- the steps that applying the entry takes
+-- the steps that applying the entry takes; of a MACROP, which is no entry here, none
 abbrev pub effect_of : Entry → List OpInst
-effect_of entry = entry ∷ []
+effect_of (Op inst) = inst ∷ []
+effect_of (Macro number prefix sigma) = []
 
--- what the entry needs: its precondition, proved from the model
+-- what the entry needs: an operator its precondition, proved from the model; a MACROP, which is no entry here, nothing
 abbrev pub obligations_of : Problem → List Atom → Entry → List Obligation
-obligations_of problem model entry = record { formula = precondition problem entry; facts = model } ∷ []
+obligations_of problem model (Op inst) = record { formula = precondition problem inst; facts = model } ∷ []
+obligations_of problem model (Macro number prefix sigma) = []
 
 -- some step adds the atom, and no later one deletes it
 abbrev pub IsAdded : Problem → List OpInst → Atom → Type 0

@@ -2,9 +2,6 @@ pub mod Ends
 pub mod Entries
 pub mod Matching
 pub mod Moves
-pub mod NodeOrder
-pub mod NodeOrderLaws
-pub mod NodeValue
 pub mod Nodes
 pub mod Origins
 pub mod Pushes

@@ -8,11 +8,12 @@ use Rattle.px_terms.specs.declared.atom.Atom.{Atom}
 use Rattle.px_terms.specs.declared.instance.OpInst.{OpInst}
 use Rattle.px_terms.specs.declared.problem.Problem.{Problem}
 use Rattle.px_terms.specs.Operators.{results_of}
-use Rattle.px_terms.specs.Order.{instance_cmp}
-use Rattle.px_search.specs.declared.node.Move.{Move}
-use Rattle.px_search.specs.declared.node.Move.TheVariants.{Apply, Push}
-use Rattle.px_search.specs.declared.node.Node.{Node}
-use Rattle.px_search.specs.Entries.{Obligation, Entry, HasAnswer, IsApplicable, IsOpen, IsGapOf, IsEntry, IsAdded, effect_of, obligations_of}
+use Rattle.px_table.specs.declared.entry.Entry.{Entry}
+use Rattle.px_table.specs.declared.entry.Move.{Move}
+use Rattle.px_table.specs.declared.entry.Move.TheVariants.{Apply, Push}
+use Rattle.px_table.specs.declared.node.Node.{Node}
+use Rattle.px_table.specs.EntryOrder.{order_of}
+use Rattle.px_search.specs.Entries.{Obligation, HasAnswer, IsApplicable, IsOpen, IsGapOf, IsEntry, IsAdded, effect_of, obligations_of}
 
 abbrev pub initial_node : List Atom → Node
 initial_node model = record { model = model; stack = [] }
@@ -62,7 +63,7 @@ abbrev pub move_cmp : Move → Move → Ordering
 move_cmp Apply Apply = Equal
 move_cmp Apply (Push entry) = Less
 move_cmp (Push entry) Apply = Greater
-move_cmp (Push entry) (Push other) = instance_cmp entry other
+move_cmp (Push entry) (Push other) = order_of entry other
 
 abbrev pub moves_cmp : List Move → List Move → Ordering
 moves_cmp = then_cmp (on length nat_cmp) (slice_cmp move_cmp)

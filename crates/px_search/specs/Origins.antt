@@ -2,7 +2,7 @@
 -- from, and the move.
 use Rattle.std.specs.Prelude.{◌≡◌, ◌≤◌, ℕ, List, [], ◌∷◌, ◌++◌, Some, slice_get}
 use Rattle.std.proofs.Common.{suc}
-use Rattle.px_search.specs.declared.node.Move.{Move}
+use Rattle.px_table.specs.declared.entry.Move.{Move}
 use Rattle.px_search.specs.declared.origins.Origin.{Origin}
 
 -- each node was found from one before it

@@ -1,40 +1,55 @@
-ghost use Rattle.std.specs.Prelude.{◌≡◌, ◌<◌, ◌≤◌, ◌^◌, ◌↔◌, ◌⊎◌, ℕ, List, [], length, slice_get, All, IsTrue, IsErrOf, IfOk, IfErr};
+ghost use Rattle.std.specs.Prelude.{◌≡◌, ◌<◌, ◌≤◌, ◌^◌, ◌↔◌, ◌⊎◌, ℕ, List, [], length, slice_get, take, All, IsTrue, IsErrOf, IfOk, IfErr};
 ghost use Rattle.px_terms.specs.Plans.{Carries};
 ghost use Rattle.px_terms.specs.Validity.{IsAtomOf, IsValid};
 ghost use Rattle.px_search.specs.Ends.{IsFound, IsExhausted, IsNodeLimit, task_of};
-ghost use Rattle.px_search.specs.Nodes.{IsSolved, initial_node, steps_of};
+ghost use Rattle.px_search.specs.Nodes.{IsSolved, steps_of};
 ghost use Rattle.px_search.specs.Origins.{AreEarlier, Trace};
 ghost use Rattle.px_search.specs.declared.breadth_first.SearchErr.TheVariants.{NoMemory as OutOfMemory};
 
 use crate::needs::has_all;
-use crate::node::{Move, Node};
+use crate::node::{after, start_node};
 use crate::origins::{Origin, moves_to, steps_of_moves};
 use crate::pushes::moves_from;
 use indexmap::IndexSet;
 use px_ops::Model;
+use px_table::{Move, Node};
 use px_terms::{Atom, NoMemory, OpInst, Problem, Sequence};
 use std::alloc::{AllocFailed, Global};
+use std::fmt;
 use thiserror::Error;
 
 /// A plan: the moves to the first solved node, and the operator instances that they apply, in order.
 #[derive(Drop)]
 pub struct Found {
+    /// The moves, from the initial node on.
     pub moves: Sequence<Move>,
+    /// The operator instances, in the order in which they are applied.
     pub steps: Sequence<OpInst>,
 }
 
 /// Why no plan is answered.
-#[derive(Debug, Drop, Error)]
+#[derive(Drop, Error)]
 pub enum SearchErr {
     /// No list of moves reaches a solved node.
     #[error("no list of moves reaches a solved node")]
     Exhausted,
-    /// So many nodes were found, as many as the problem allows, none of them solved, and so many moves reach a further one.
-    #[error("{nodes} nodes were found, and {moves} moves reach a further one")]
-    NodeLimit { nodes: u32, moves: u32 },
+    /// The first nodes were found, as many as the problem allows. None of them is solved, and there is a further one.
+    #[error("as many nodes were found as may be kept, and {moves} moves reach a further one")]
+    NodeLimit {
+        /// The nodes, in the order in which they were found.
+        nodes: Sequence<Node>,
+        /// How many moves reach the further one.
+        moves: u32,
+    },
     /// There is no memory for the search.
     #[error("out of memory")]
     NoMemory,
+}
+
+impl fmt::Debug for SearchErr {
+    fn fmt<W: fmt::Write>(&self, f: &mut fmt::Formatter<W>) -> fmt::Result {
+        write!(f, "{self}")
+    }
 }
 
 impl<T: Drop> From<AllocFailed<T>> for SearchErr {
@@ -82,10 +97,10 @@ pub fn search(
     ensures steps { IfOk result (λ found. found.steps ≡ steps_of [] found.moves) }
     ensures carries { IfOk result (λ found. Carries problem.now initial.now.atoms found.steps 0 goal.now) }
     ensures exhausted { IsErrOf result SearchErr.Exhausted → IsExhausted (task_of problem.now initial.now.atoms goal.now) }
-    ensures node_limit { (nodes moves : ℕ) → IsErrOf result (SearchErr.NodeLimit nodes moves) → IsNodeLimit (task_of problem.now initial.now.atoms goal.now) nodes moves }
+    ensures node_limit { (nodes : List Node) (moves : ℕ) → IsErrOf result (SearchErr.NodeLimit nodes moves) → IsNodeLimit (task_of problem.now initial.now.atoms goal.now) nodes moves }
     ensures always_found { (moves : List Move) → IsFound (task_of problem.now initial.now.atoms goal.now) moves → IfOk result (λ found. found.moves ≡ moves) × IfErr result (λ e. e ≡ SearchErr.NoMemory) }
     ensures always_exhausted { IsExhausted (task_of problem.now initial.now.atoms goal.now) → IsErrOf result SearchErr.Exhausted ⊎ IsErrOf result SearchErr.NoMemory }
-    ensures always_node_limit { (nodes moves : ℕ) → IsNodeLimit (task_of problem.now initial.now.atoms goal.now) nodes moves → IsErrOf result (SearchErr.NodeLimit nodes moves) ⊎ IsErrOf result SearchErr.NoMemory }
+    ensures always_node_limit { (nodes : List Node) (moves : ℕ) → IsNodeLimit (task_of problem.now initial.now.atoms goal.now) nodes moves → IsErrOf result (SearchErr.NodeLimit nodes moves) ⊎ IsErrOf result SearchErr.NoMemory }
 {
     found_by_moves(alloc, problem, initial, goal)
 }
@@ -101,7 +116,7 @@ fn found_by_moves(
     ensures found { IfOk result (λ found. IsFound (task_of problem.now initial.now.atoms goal.now) found.moves) }
     ensures steps { IfOk result (λ found. found.steps ≡ steps_of [] found.moves) }
     ensures exhausted { result ≡ Err SearchErr.Exhausted → IsExhausted (task_of problem.now initial.now.atoms goal.now) }
-    ensures node_limit { (nodes moves : ℕ) → result ≡ Err (SearchErr.NodeLimit nodes moves) → IsNodeLimit (task_of problem.now initial.now.atoms goal.now) nodes moves }
+    ensures node_limit { (nodes : List Node) (moves : ℕ) → result ≡ Err (SearchErr.NodeLimit nodes moves) → IsNodeLimit (task_of problem.now initial.now.atoms goal.now) nodes moves }
 {
     let start = start_node(alloc, initial)?;
     if is_solved(goal, &start) {
@@ -114,21 +129,19 @@ fn found_by_moves(
     while next < nodes.len() {
         let moves = moves_from(alloc, problem, goal, &nodes.as_slice()[next])?;
         for last in &moves {
-            let there = nodes.as_slice()[next].after(alloc, problem, *last)?;
+            let there = after(alloc, problem, &nodes.as_slice()[next], last)?;
             let solved = is_solved(goal, &there);
             if !nodes.insert(there)? {
                 continue;
             }
             origins.push(Origin {
                 parent: next,
-                last: *last,
+                last: last.try_copy()?,
             })?;
             if nodes.len() > problem.nodes as usize {
                 let moves = count_to(alloc, &origins)?;
-                return Err(SearchErr::NodeLimit {
-                    nodes: problem.nodes,
-                    moves,
-                });
+                let nodes = first_nodes(alloc, nodes, problem.nodes as usize)?;
+                return Err(SearchErr::NodeLimit { nodes, moves });
             }
             if solved {
                 return Ok(plan_of(alloc, &origins)?);
@@ -139,11 +152,17 @@ fn found_by_moves(
     Err(SearchErr::Exhausted)
 }
 
-/// The node of the initial model and the empty stack.
-fn start_node(alloc: Global, initial: &Model) -> Result<Node, NoMemory>
-    ensures { IfOk result (λ start. start ≡ initial_node initial.now.atoms) }
+/// So many of the nodes, in the order in which they were found. None of them is copied.
+fn first_nodes(
+    alloc: Global,
+    nodes: IndexSet<Node>,
+    count: usize,
+) -> Result<Sequence<Node>, NoMemory>
+    ensures { IfOk result (λ first. first ≡ take count nodes.keys) }
 {
-    Ok(Node::new(initial.try_copy()?, Sequence::from_vec(Vec::new(alloc))))
+    let mut nodes = nodes;
+    nodes.truncate(count);
+    Ok(Sequence::from_vec(nodes.into_iter().collect(alloc)?))
 }
 
 /// The number of moves to the last of the nodes.

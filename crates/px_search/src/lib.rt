@@ -9,21 +9,22 @@
 //!   steps are worth: in each run of them that begins where the initial model holds, each precondition is met, and the
 //!   run ends in the goal.
 //! - `Exhausted`: no list of moves reaches a solved node.
-//! - `NodeLimit`: none of the first `nodes` nodes is solved, which are as many as the problem allows, and `moves` moves
-//!   reach a further one.
+//! - `NodeLimit`: `nodes` are the first nodes, in order, as many as the problem allows. None of them is solved, and
+//!   `moves` moves reach a further one.
 //! - `NoMemory`, of which nothing more is said.
 //!
 //! The clauses `found`, `exhausted` and `node_limit` say what each answer means, and the clauses `always_..` that where
 //! this holds, the answer is that one, if memory suffices. The definitions are in `specs/`:
 //!
-//! - `Entries`: an entry of a stack is an operator instance over the problem's objects. A formula has an answer where
+//! - `Entries`: an entry of a stack is an operator instance over the problem's objects. (No table is learned, so no MACROP
+//!   is an entry.) A formula has an answer where
 //!   each of its atoms is a fact; it has gaps where each atom is a fact, or missing and of a predicate that some operator
 //!   adds, and one is missing. What has an answer or a gap is open.
 //! - `Nodes`: a node is a model with a stack of entries, and is solved where the stack is empty and the goal has an
 //!   answer. `Apply` applies the top entry, where its precondition has an answer. `Push` puts an entry on the stack that
 //!   isn't there, adds a gap of the top entry's precondition (or of the goal, where the stack is empty), and is open.
 //! - `Ends`: nodes come in the order of their least lists of moves: fewer moves first, and then, at the first different
-//!   push, the lesser entry (by the number of its operator, then by its arguments).
+//!   push, the lesser entry (`order_of` of `px_table`: by the number of its operator, then by its arguments).
 //!
 //! A formula without variables has one list of gap proofs, since there are no axioms, and a formula of at most 12 atoms
 //! has at most 2^12 - 1 unfinished ones. So no formula of that size comes to a limit of 10,000 shapes of unfinished
@@ -40,4 +41,3 @@ mod pushes;
 mod tests;
 
 pub use breadth_first::{Found, SearchErr, search};
-pub use node::Move;

@@ -1,16 +1,16 @@
-ghost use Rattle.std.specs.Prelude.{◌≡◌, ◌⊎◌, ◌↔◌, ◌∷◌, [], length, All, Any, Contains, IsTrue, IfOk};
+ghost use Rattle.std.specs.Prelude.{◌≡◌, ◌⊎◌, ◌↔◌, ◌∷◌, List, [], length, All, Any, Contains, IsTrue, IfOk};
 ghost use Rattle.px_terms.specs.Operators.{precondition};
 ghost use Rattle.px_terms.specs.Validity.{IsValid, IsInstanceOf};
-ghost use Rattle.px_search.specs.Entries.{IsAddable, IsOpen, IsGapOf, obligations_of};
+ghost use Rattle.px_search.specs.Entries.{IsAddable, IsEntry, IsOpen, IsGapOf, obligations_of};
 ghost use Rattle.px_search.specs.Matching.{IsSchemaAt};
 ghost use Rattle.px_search.specs.Nodes.{needs_at};
 
-use crate::node::Node;
 use px_ops::{Model, pre};
+use px_table::{Entry, Node};
 use px_terms::{Atom, NoMemory, OpInst, Problem, Schema};
 use std::alloc::Global;
 
-/// The schema of the entry's operator.
+/// The schema of the instance's operator.
 pub fn schema_of<'a>(problem: &'a Problem, entry: &OpInst) -> &'a Schema
     requires problem { IsValid problem.now }
     requires entry { IsInstanceOf problem.now entry.now }
@@ -77,13 +77,13 @@ fn is_open(problem: &Problem, model: &Model, formula: &[Atom]) -> bool
     true
 }
 
-/// Has the entry's precondition an answer or a gap?
+/// Has the operator's precondition an answer or a gap?
 pub fn is_open_entry(problem: &Problem, model: &Model, schema: &Schema, entry: &OpInst) -> bool
     requires problem { IsValid problem.now }
     requires schema { IsSchemaAt problem.now schema.now }
     requires entry { IsInstanceOf problem.now entry.now }
     requires op { schema.now.op ≡ entry.now.op }
-    ensures { IsTrue result ↔ IsOpen problem.now (obligations_of problem.now model.now.atoms entry.now) }
+    ensures { IsTrue result ↔ IsOpen problem.now (obligations_of problem.now model.now.atoms (Entry.Op entry.now)) }
 {
     for k in 0..schema.pre.len() {
         if !is_closed(problem, model, &pre(schema, entry, k)) {
@@ -121,7 +121,7 @@ pub fn gaps(
     missing(alloc, model, formula)
 }
 
-/// The precondition of the entry.
+/// The precondition of the instance.
 fn precondition_of(alloc: Global, problem: &Problem, entry: &OpInst) -> Result<Vec<Atom>, NoMemory>
     requires problem { IsValid problem.now }
     requires entry { IsInstanceOf problem.now entry.now }
@@ -135,6 +135,18 @@ fn precondition_of(alloc: Global, problem: &Problem, entry: &OpInst) -> Result<V
     Ok(atoms)
 }
 
+/// What the entry needs.
+fn formula_of(alloc: Global, problem: &Problem, entry: &Entry) -> Result<Vec<Atom>, NoMemory>
+    requires problem { IsValid problem.now }
+    requires entry { IsEntry problem.now entry.now }
+    ensures { IfOk result (λ atoms. (model : List Atom) → obligations_of problem.now model entry.now ≡ record { formula = atoms.items; facts = model } ∷ []) }
+{
+    match entry {
+        Entry::Op(inst) => precondition_of(alloc, problem, inst),
+        Entry::Macro { .. } => unreachable!(),
+    }
+}
+
 /// What the node needs: the precondition of its top entry, or the goal where its stack is empty.
 pub fn formula(
     alloc: Global,
@@ -143,11 +155,11 @@ pub fn formula(
     node: &Node,
 ) -> Result<Vec<Atom>, NoMemory>
     requires problem { IsValid problem.now }
-    requires stack { All (IsInstanceOf problem.now) node.now.stack }
+    requires stack { All (IsEntry problem.now) node.now.stack }
     ensures { IfOk result (λ atoms. needs_at problem.now goal.now node.now ≡ record { formula = atoms.items; facts = node.now.model } ∷ []) }
 {
     match node.stack().split_first() {
-        Some((top, _)) => precondition_of(alloc, problem, top),
+        Some((top, _)) => formula_of(alloc, problem, top),
         None => {
             let mut atoms = Vec::new(alloc);
             atoms.extend_from_slice(goal)?;

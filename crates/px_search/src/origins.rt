@@ -1,13 +1,14 @@
-ghost use Rattle.std.specs.Prelude.{◌≡◌, ◌≤◌, List, [], length, slice_get, IfOk};
+ghost use Rattle.std.specs.Prelude.{◌≡◌, ◌≤◌, ◌++◌, List, [], length, slice_get, IfOk, OnOk};
+ghost use Rattle.px_search.specs.Entries.{effect_of};
 ghost use Rattle.px_search.specs.Nodes.{steps_of};
 ghost use Rattle.px_search.specs.Origins.{Trace, AreEarlier};
 
-use crate::node::Move;
+use px_table::{Entry, Move};
 use px_terms::{NoMemory, OpInst};
 use std::alloc::Global;
 
 /// How a node was found: by a move from the node at the place `parent`.
-#[derive(Clone, Copy, Debug)]
+#[derive(Drop)]
 pub struct Origin {
     pub parent: usize,
     pub last: Move,
@@ -23,8 +24,8 @@ pub fn moves_to(alloc: Global, origins: &[Origin], place: usize) -> Result<Vec<M
     let mut moves = Vec::new(alloc);
     let mut here = place;
     while here > 0 {
-        let origin = origins[here - 1];
-        moves.extend_from_slice(&[origin.last])?;
+        let origin = &origins[here - 1];
+        moves.push(origin.last.try_copy()?)?;
         here = origin.parent;
     }
     moves.reverse();
@@ -39,13 +40,24 @@ pub fn steps_of_moves(alloc: Global, moves: &[Move]) -> Result<Vec<OpInst>, NoMe
     let mut stack = Vec::new(alloc);
     for last in moves {
         match last {
-            Move::Push(entry) => stack.extend_from_slice(&[*entry])?,
+            Move::Push(entry) => stack.push(entry.try_copy()?)?,
             Move::Apply => {
                 if let Some(top) = stack.pop() {
-                    steps.extend_from_slice(&[top])?;
+                    push_effect(&mut steps, &top)?;
                 }
             }
         }
     }
     Ok(steps)
+}
+
+/// Appends the steps that applying the entry takes.
+fn push_effect(steps: &mut Vec<OpInst>, entry: &Entry) -> Result<(), NoMemory>
+    ensures { OnOk result (steps.new.items ≡ steps.old.items ++ effect_of entry.now) }
+{
+    match entry {
+        Entry::Op(inst) => steps.push(*inst)?,
+        Entry::Macro { .. } => {}
+    }
+    Ok(())
 }

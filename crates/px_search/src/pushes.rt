@@ -3,15 +3,15 @@ ghost use Rattle.std.specs.List.Sorted.{IsStrictlySortedBy};
 ghost use Rattle.std.specs.declared.cmp.Ordering.TheVariants.{Less};
 ghost use Rattle.px_terms.specs.Order.{instance_cmp};
 ghost use Rattle.px_terms.specs.Validity.{IsValid, IsInstanceOf, IsTermOf};
-ghost use Rattle.px_search.specs.Entries.{IsOpen, obligations_of};
+ghost use Rattle.px_search.specs.Entries.{IsEntry, IsOpen, obligations_of};
 ghost use Rattle.px_search.specs.Matching.{Gathers, HasForm, IsSchemaAt};
 ghost use Rattle.px_search.specs.Nodes.{IsAllowed, move_cmp};
-ghost use Rattle.px_search.specs.Pushes.{AddsBy, AddsOf, IsAmong, IsPushable, IsPushableBy};
+ghost use Rattle.px_search.specs.Pushes.{AddsBy, AddsOf, IsAmong, IsPushable, IsPushableBy, push_of};
 
 use crate::matching::{filled, joined, matched, open_instance};
 use crate::needs::{formula, gaps, has_all, is_addable, is_open_entry};
-use crate::node::{Move, Node};
 use px_ops::Model;
+use px_table::{Entry, Move, Node};
 use px_terms::{Atom, NoMemory, OpInst, Problem, Schema, Term, apply, equal};
 use std::alloc::Global;
 
@@ -40,9 +40,9 @@ fn is_object(problem: &Problem, term: Term) -> bool
 
 /// Is the instance on the stack?
 fn is_stacked(node: &Node, inst: &OpInst) -> bool
-    ensures { IsTrue result ↔ Contains node.now.stack inst.now }
+    ensures { IsTrue result ↔ Contains node.now.stack (Entry.Op inst.now) }
 {
-    node.stack().contains(inst)
+    node.stack().contains(&Entry::Op(*inst))
 }
 
 /// May the instance of the schema be pushed, since it adds the gap by the pattern?
@@ -86,7 +86,7 @@ fn candidates(
     requires schema { IsSchemaAt problem.now schema.now }
     requires pattern { Contains schema.now.add pattern.now }
     ensures form { IfOk result (λ found. All (HasForm schema.now.op schema.now.params) found.items) }
-    ensures complete { IfOk result (λ found. (inst : OpInst) → IsInstanceOf problem.now inst → AddsBy schema.now pattern.now gap.now inst → IsOpen problem.now (obligations_of problem.now model.now.atoms inst) → Contains found.items inst) }
+    ensures complete { IfOk result (λ found. (inst : OpInst) → IsInstanceOf problem.now inst → AddsBy schema.now pattern.now gap.now inst → IsOpen problem.now (obligations_of problem.now model.now.atoms (Entry.Op inst)) → Contains found.items inst) }
 {
     let mut partial = Vec::new(alloc);
     match matched(&open_instance(schema), pattern, gap) {
@@ -222,13 +222,13 @@ fn pushes(
     Ok(entries)
 }
 
-/// The pushes of the entries.
-fn pushes_of(alloc: Global, entries: &[OpInst]) -> Result<Vec<Move>, NoMemory>
-    ensures { IfOk result (λ moves. moves.items ≡ map Move.Push entries.now) }
+/// The pushes of the operators.
+fn pushes_of(alloc: Global, insts: &[OpInst]) -> Result<Vec<Move>, NoMemory>
+    ensures { IfOk result (λ moves. moves.items ≡ map push_of insts.now) }
 {
     let mut moves = Vec::new(alloc);
-    for entry in entries {
-        moves.extend_from_slice(&[Move::Push(*entry)])?;
+    for inst in insts {
+        moves.push(Move::Push(Entry::Op(*inst)))?;
     }
     Ok(moves)
 }
@@ -241,7 +241,7 @@ pub fn moves_from(
     node: &Node,
 ) -> Result<Vec<Move>, NoMemory>
     requires problem { IsValid problem.now }
-    requires stack { All (IsInstanceOf problem.now) node.now.stack }
+    requires stack { All (IsEntry problem.now) node.now.stack }
     ensures all { IfOk result (λ moves. (m : Move) → IsAllowed problem.now goal.now node.now m ↔ Contains moves.items m) }
     ensures order { IfOk result (λ moves. AllPairs (λ m n. move_cmp m n ≡ Less) moves.items) }
 {
@@ -253,7 +253,7 @@ pub fn moves_from(
     }
     let mut moves = Vec::new(alloc);
     if !node.stack().is_empty() {
-        moves.extend_from_slice(&[Move::Apply])?;
+        moves.push(Move::Apply)?;
     }
     Ok(moves)
 }

@@ -79,7 +79,9 @@ fn two_nodes_are_too_few(rt: HostRuntime) -> Result<(), NoMemory> {
     let end = Atom::new(0, &[Term::Obj(1)]).expect(&rt, "one argument");
     let found = search(rt.alloc(), &problem, &Model::new(rt.alloc()), &[end]);
     let is_limit = match found {
-        Err(SearchErr::NodeLimit { nodes, moves }) => nodes == 2 && moves == 1,
+        Err(SearchErr::NodeLimit { nodes, moves }) => nodes.len() == 2
+            && nodes.as_slice()[1].stack().len() == 1
+            && moves == 1,
         _ => false,
     };
     assert!(&rt; is_limit);

@@ -1,10 +1,14 @@
 -- The laws of entries: their order, and that `==` is equality.
 use Rattle.std.specs.Prelude.{◌≡◌}
-use Rattle.std.proofs.Common.{refl, ap}
+use Rattle.std.proofs.Common.{refl, ap, sym, ◌∙◌}
 use Rattle.std.proofs.lemmas.Bool.Decides.{Decides-and, Decides-eqb, Decides-like}
 use Rattle.std.proofs.lemmas.Slice.Eq.{bytes_eq-Decides}
 use Rattle.std.specs.Bool.{Decides}
+use Rattle.std.specs.Cmp.{IsTotalOrder, Equal-is}
+use Rattle.std.specs.Ordering.{ordering_reverse}
+use Rattle.std.specs.declared.cmp.Ordering.TheVariants.{Equal}
 use Rattle.px_terms.specs.OrderLaws.{instance_eq-decides}
+use Rattle.px_table.specs.contracts.entry.EntryOrd.TheImpl.Laws as entry_order
 use Rattle.px_table.specs.declared.entry.Entry.{Entry}
 use Rattle.px_table.specs.declared.entry.Entry.TheVariants.{Op, Macro}
 use Rattle.px_table.specs.EntryOrder.{entry_eq, entry_cmp, order_of, EntriesAreOrdered}
@@ -25,3 +29,15 @@ entry_eq-decides (Macro n p s) (Macro m q t) =
 
 pub entries_are_ordered : EntriesAreOrdered
 entries_are_ordered = record { order = entry_cmp-is; equality = entry_eq-decides }
+
+-- the order is total
+pub order_of-total : IsTotalOrder order_of
+order_of-total = record {
+  antisymm = λ x y. sym (entry_cmp-is x y) ∙ entry_order.total-law.antisymm x y ∙ ap ordering_reverse (entry_cmp-is y x);
+  trans = λ x y z h k. sym (entry_cmp-is x z) ∙ entry_order.total-law.trans x y z (entry_cmp-is x y ∙ h) (entry_cmp-is y z ∙ k);
+  congr = λ x y z h. sym (entry_cmp-is x z) ∙ entry_order.total-law.congr x y z (entry_cmp-is x y ∙ h) ∙ entry_cmp-is y z;
+}
+
+-- two that the order doesn't tell apart are the same
+pub order_of-same : (first second : Entry) → order_of first second ≡ Equal → first ≡ second
+order_of-same first second e = (entry_eq-decides first second).0 (entry_order.matches_eq-law first second ∙ (Equal-is (entry_cmp first second)).1 (entry_cmp-is first second ∙ e))

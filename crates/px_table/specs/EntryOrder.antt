@@ -1,11 +1,13 @@
--- Equality and order of entries, as their `==` and `cmp` compute them, and what they say.
+-- Equality, order and hashes of entries, as their `==`, `cmp` and `hash` compute them, and what they say.
 use Rattle.std.specs.Prelude.{◌≡◌, Bool}
 use Rattle.std.specs.Bool.{Decides}
 use Rattle.std.specs.Ordering.{nat_cmp, ordering_then}
 use Rattle.std.specs.Cmp.Lexicographic.{slice_cmp}
+use Rattle.std.specs.Hash as fed
 use Rattle.std.specs.declared.cmp.Ordering.{Ordering}
 use Rattle.std.specs.declared.cmp.Ordering.TheVariants.{Less, Greater}
 use Rattle.px_terms.specs.Order.{instance_cmp}
+use Rattle.px_table.specs.contracts.entry.EntryHash.TheImpl as entry_hash
 use Rattle.px_table.specs.contracts.entry.EntryOrd.TheImpl as entry_order
 use Rattle.px_table.specs.contracts.entry.EntryPartialEq.TheImpl as entry_equality
 use Rattle.px_table.specs.declared.entry.Entry.{Entry}
@@ -16,6 +18,10 @@ entry_eq = (entry_equality.ghosts).eq
 
 abbrev pub entry_cmp : Entry → Entry → Ordering
 entry_cmp = (entry_order.ghosts).cmp
+
+-- what a hash of an entry is fed
+abbrev pub entry_hash_input : Entry → fed.HashWrites
+entry_hash_input = (entry_hash.ghosts).hash_input
 
 -- Operators come before tables. Operators are ordered by number and then by arguments, tables by number, then by how
 -- many steps are taken, then by objects.

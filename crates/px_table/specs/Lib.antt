@@ -1,4 +1,5 @@
 pub mod EntryLaws
 pub mod EntryOrder
 pub mod NodeLaws
+pub mod NodeValue
 pub mod Nodes

@@ -8,7 +8,7 @@ pub fn entries_are_ordered()
     ensures { EntriesAreOrdered }
 {}
 
-/// Nodes are equal exactly where their models have the same atoms and their stacks are the same.
+/// Nodes are equal exactly where they are the same: the same atoms, and the same stack.
 pub fn nodes_are_compared()
     ensures { NodesAreCompared }
 {}

@@ -8,9 +8,9 @@
 //!   `specs/EntryLaws.antt` has the laws). It can be a key of
 //!   a map or a member of a set.
 //! - [`Move`] is a step of the search: an entry is pushed, or the top entry is applied.
-//! - [`Node`] is a world model with a stack of entries. Two nodes are equal, and are hashed alike, where their models
-//!   have the same atoms and their stacks are the same (`IsSameNode` of `specs/Nodes.antt`); how much room is left in a
-//!   model doesn't count.
+//! - [`Node`] is a world model with a stack of entries, the top one first. Contracts see it as these two lists
+//!   (`NodeValue` in `specs/NodeValue.antt`); how much room is left in its model doesn't count. Two nodes are equal, and
+//!   are hashed alike, where these are the same (`specs/Nodes.antt`, with the laws in `specs/NodeLaws.antt`).
 //! - `try_copy` of each answers an equal value, or `NoMemory`.
 #![tactic(auto)]
 

@@ -45,15 +45,15 @@ fn nodes_are_their_atoms_and_stack(rt: HostRuntime) -> Result<(), NoMemory> {
     model.insert(atom)?;
     let mut stack = Vec::new(rt.alloc());
     stack.push(operator(0, 1))?;
-    let node = Node {
-        model,
-        stack: Sequence::from_vec(stack),
-    };
-    let mut copy = node.try_copy()?;
-    copy.model.reserve(9)?;
+    stack.push(operator(0, 2))?;
+    let mut roomy = model.try_copy()?;
+    roomy.reserve(9)?;
+    let node = Node::new(model, Sequence::from_vec(stack));
+    let copy = node.try_copy()?;
     assert!(&rt; copy == node);
-    assert!(&rt; copy.stack.as_slice()[0].try_copy()? == operator(0, 1));
-    copy.model.clear();
-    assert!(&rt; copy != node);
+    assert!(&rt; copy.stack()[0] == operator(0, 1));
+    assert!(&rt; copy.model().atoms() == [atom].as_slice());
+    let empty = Node::new(roomy, Sequence::from_vec(Vec::new(rt.alloc())));
+    assert!(&rt; copy != empty);
     Ok(())
 }

@@ -2,16 +2,16 @@ use Rattle.std.proofs.Common.{◌≡◌, ◌<◌, ◌≤◌, ◌+◌, ◌++◌, 
 use Rattle.std.proofs.lemmas.List.{take_all, length-append}
 use Rattle.std.specs.Prelude.{Contains}
 use Rattle.indexmap.specs.IndexSet.{insert_key}
-use Rattle.px_search.specs.declared.node.Move.{Move}
-use Rattle.px_search.specs.declared.node.Node.{Node}
+use Rattle.px_table.specs.declared.entry.Move.{Move}
+use Rattle.px_table.specs.declared.node.Node.{Node}
 use Rattle.px_search.specs.declared.origins.Origin.{Origin}
-use Rattle.px_search.specs.NodeOrder.{node_eq}
+use Rattle.px_table.specs.Nodes.{node_eq}
 use Rattle.px_search.specs.Nodes.{IsSolved, after}
 use Rattle.px_search.specs.Origins.{AreEarlier, Trace}
 use Rattle.px_search.specs.Ends.{IsNodeLimit, task_of}
 use Rattle.px_search.proofs.Frontier.{place-within}
 use Rattle.px_search.proofs.Loops.{said_yes, said_no}
-use Rattle.px_search.proofs.SearchLemmas.{Searching, IsAt, found_at_start, searching-start, found_entries, node_at, same_node, inserted_old, inserted_new, searching-seen, searching-new, still_at, new_earlier, search-found, search-full, searching-next, search-exhausted, limit_parts}
+use Rattle.px_search.proofs.SearchLemmas.{Searching, IsAt, found_at_start, searching-start, found_entries, node_at, same_node, inserted_old, inserted_new, searching-seen, searching-new, still_at, new_earlier, search-found, search-full, searching-next, search-exhausted, limit_parts, take_kept}
 use Rattle.px_search.proofs.Walking.{AreMovesOf}
 use Rattle.px_search.proofs.breadth_first.found_by_moves.Goals as goal
 
@@ -91,7 +91,7 @@ count_to-requires-clause-earlier c =
     let items = c.deref-last-items.result.now in
     let index = c.loop-last.last-index in
     let last = c.last-item.result in
-    let pushed : c.push.new.self.items ≡ origins ++ record { parent = next; last = last } ∷ [] = c.in_ok-push.ensures.items in
+    let pushed : c.push.new.self.items ≡ origins ++ record { parent = next; last = last } ∷ [] = c.in_ok-push.ensures.items ∙ ap (λ (m : Move). origins ++ record { parent = next; last = m } ∷ []) c.in_ok-try_copy.ensures in
     subst AreEarlier (sym (c.deref.ensures.value ∙ pushed)) (new_earlier task keys origins next items index last inv.searching inv.at c.loop-last-test.true c.last-item.is)
 
 pub returns-then-len-problem-clause-node_limit : goal.returns-then-len-problem-clause-node_limit
@@ -110,11 +110,12 @@ returns-then-len-problem-clause-node_limit c = λ nodes moves is.
     let fresh = inserted_new keys c.insert-in-loop-last.new.self.keys c.in_ok-there.there c.in_ok-insert-2.field-0 c.in_ok-insert-2.ensures.added c.if-not-branch.false c.in_ok-insert-2.ensures.keys in
     let not_seen : Contains keys (after problem inv.at.0 last) → ⊥ = λ has. fresh.0 (subst (Contains keys) (sym there_is) has) in
     let new_is : c.insert-in-loop-last.new.self.keys ≡ keys ++ after problem inv.at.0 last ∷ [] = fresh.1 ∙ ap (λ (n : Node). keys ++ n ∷ []) there_is in
-    let pushed : c.push.new.self.items ≡ origins ++ record { parent = next; last = last } ∷ [] = c.in_ok-push.ensures.items in
-    let parts = limit_parts problem.nodes c.in_ok-moves-2.moves nodes moves is in
+    let pushed : c.push.new.self.items ≡ origins ++ record { parent = next; last = last } ∷ [] = c.in_ok-push.ensures.items ∙ ap (λ (m : Move). origins ++ record { parent = next; last = m } ∷ []) c.in_ok-try_copy.ensures in
+    let parts = limit_parts c.in_ok-nodes.nodes nodes c.in_ok-moves-2.moves moves is in
     let full : problem.nodes ≤ length keys = omega (arith, c.if-len-problem.true, c.len-in-loop-last.ensures.len, ap length new_is, length-append keys (after problem inv.at.0 last ∷ [])) in
     let traced = subst (λ (l : List Origin). (found : List (List Move)) → Trace l found → (end : List Move) × (slice_get found (length l) ≡ Some end) × (c.in_ok-moves-2.moves ≡ length end)) (c.deref.ensures.value ∙ pushed) c.in_ok-moves-2.ensures in
-    subst (λ (m : ℕ). IsNodeLimit task nodes m) parts.1 (subst (λ (n : ℕ). IsNodeLimit task n c.in_ok-moves-2.moves) parts.0 (search-full task keys origins next items index last inv.searching inv.at c.loop-last-test.true c.last-item.is c.in_ok-moves-2.moves not_seen full traced))
+    let first : c.in_ok-nodes.nodes ≡ keys = c.in_ok-nodes.ensures ∙ ap (λ (l : List Node). take problem.nodes l) new_is ∙ take_kept keys (after problem inv.at.0 last) problem.nodes (omega (arith, full, inv.searching.walking.room)) in
+    subst (λ (m : ℕ). IsNodeLimit task nodes m) parts.1 (subst (λ (l : List Node). IsNodeLimit task l c.in_ok-moves-2.moves) (sym first ∙ parts.0) (search-full task keys origins next items index last inv.searching inv.at c.loop-last-test.true c.last-item.is c.in_ok-moves-2.moves not_seen full traced))
 
 pub plan_of-requires-then-solved : goal.plan_of-requires-then-solved
 plan_of-requires-then-solved c =
@@ -127,7 +128,7 @@ plan_of-requires-then-solved c =
     let items = c.deref-last-items.result.now in
     let index = c.loop-last.last-index in
     let last = c.last-item.result in
-    let pushed : c.push.new.self.items ≡ origins ++ record { parent = next; last = last } ∷ [] = c.in_ok-push.ensures.items in
+    let pushed : c.push.new.self.items ≡ origins ++ record { parent = next; last = last } ∷ [] = c.in_ok-push.ensures.items ∙ ap (λ (m : Move). origins ++ record { parent = next; last = m } ∷ []) c.in_ok-try_copy.ensures in
     subst AreEarlier (sym (c.deref-then-solved.ensures.value ∙ pushed)) (new_earlier task keys origins next items index last inv.searching inv.at c.loop-last-test.true c.last-item.is)
 
 pub returns-then-solved-clause-found : goal.returns-then-solved-clause-found
@@ -146,7 +147,7 @@ returns-then-solved-clause-found c =
     let fresh = inserted_new keys c.insert-in-loop-last.new.self.keys c.in_ok-there.there c.in_ok-insert-2.field-0 c.in_ok-insert-2.ensures.added c.if-not-branch.false c.in_ok-insert-2.ensures.keys in
     let not_seen : Contains keys (after problem inv.at.0 last) → ⊥ = λ has. fresh.0 (subst (Contains keys) (sym there_is) has) in
     let new_is : c.insert-in-loop-last.new.self.keys ≡ keys ++ after problem inv.at.0 last ∷ [] = fresh.1 ∙ ap (λ (n : Node). keys ++ n ∷ []) there_is in
-    let pushed : c.push.new.self.items ≡ origins ++ record { parent = next; last = last } ∷ [] = c.in_ok-push.ensures.items in
+    let pushed : c.push.new.self.items ≡ origins ++ record { parent = next; last = last } ∷ [] = c.in_ok-push.ensures.items ∙ ap (λ (m : Move). origins ++ record { parent = next; last = m } ∷ []) c.in_ok-try_copy.ensures in
     let room : length keys < problem.nodes = omega (arith, c.if-len-problem.false, c.len-in-loop-last.ensures.len, ap length new_is, length-append keys (after problem inv.at.0 last ∷ [])) in
     let solved = subst (IsSolved c.args.goal.now) there_is (said_yes c.is_solved-solved.result c.is_solved-solved.ensures c.if-solved.true) in
     let plan = c.in_ok-plan_of-2.field-0.moves in
@@ -169,7 +170,7 @@ loop-last-preserved c =
     let fresh = inserted_new keys c.insert-in-loop-last.new.self.keys c.in_ok-there.there c.in_ok-insert-2.field-0 c.in_ok-insert-2.ensures.added c.if-not-branch.false c.in_ok-insert-2.ensures.keys in
     let not_seen : Contains keys (after problem inv.at.0 last) → ⊥ = λ has. fresh.0 (subst (Contains keys) (sym there_is) has) in
     let new_is : c.insert-in-loop-last.new.self.keys ≡ keys ++ after problem inv.at.0 last ∷ [] = fresh.1 ∙ ap (λ (n : Node). keys ++ n ∷ []) there_is in
-    let pushed : c.push.new.self.items ≡ origins ++ record { parent = next; last = last } ∷ [] = c.in_ok-push.ensures.items in
+    let pushed : c.push.new.self.items ≡ origins ++ record { parent = next; last = last } ∷ [] = c.in_ok-push.ensures.items ∙ ap (λ (m : Move). origins ++ record { parent = next; last = m } ∷ []) c.in_ok-try_copy.ensures in
     let room : length keys < problem.nodes = omega (arith, c.if-len-problem.false, c.len-in-loop-last.ensures.len, ap length new_is, length-append keys (after problem inv.at.0 last ∷ [])) in
     let unsolved : IsSolved c.args.goal.now (after problem inv.at.0 last) → ⊥ = λ solved. said_no c.is_solved-solved.result c.is_solved-solved.ensures c.if-solved.false (subst (IsSolved c.args.goal.now) (sym there_is) solved) in
     let whole = searching-new task keys origins next items index last inv.searching inv.at c.loop-last-test.true c.last-item.is not_seen room unsolved in

@@ -1,5 +1,5 @@
 use Rattle.std.proofs.Common.{◌≡◌, ◌+◌, ◌≤◌, ◌++◌, List, length, reverse, slice_get, Some}
-use Rattle.px_search.specs.declared.node.Move.{Move}
+use Rattle.px_table.specs.declared.entry.Move.{Move}
 use Rattle.px_search.specs.Origins.{Trace}
 use Rattle.px_search.proofs.origins.moves_to.Given as goal
 

@@ -2,6 +2,7 @@ use Rattle.std.proofs.Common.{List, sym, refl, subst}
 use Rattle.std.specs.Prelude.{Contains}
 use Rattle.px_terms.specs.declared.atom.Atom.{Atom}
 use Rattle.px_terms.specs.declared.instance.OpInst.{OpInst}
+use Rattle.px_table.specs.declared.entry.Entry.TheVariants.{Op}
 use Rattle.px_search.specs.Entries.{IsOpen, obligations_of}
 use Rattle.px_search.specs.Pushes.{AddsBy, IsAmong, IsPushable}
 use Rattle.px_search.proofs.GatherLemmas.{gathers_less, on_ok}
@@ -19,6 +20,6 @@ returns c =
     (λ inst p by. (
       inst,
       subst (λ (l : List OpInst). Contains l inst) (sym c.deref.ensures.value)
-          (c.in_ok-found.ensures.complete inst p.is_entry by (subst (λ (l : List Atom). IsOpen problem (obligations_of problem l inst)) (sym c.model.ensures) p.open_entry)),
+          (c.in_ok-found.ensures.complete inst p.is_entry by (subst (λ (l : List Atom). IsOpen problem (obligations_of problem l (Op inst))) (sym c.model.ensures) p.open_entry)),
       (refl, by),
     )) (gathers gaps is_gap)) c.gather_from.ensures
