@@ -9,7 +9,6 @@ use Rattle.std.proofs.lemmas.Option.{slice_get-get_or, slice_get_within, get_or_
 use Rattle.px_base.specs.ListLaws.{Contains-none, Contains-first, Contains-later, Contains-cases}
 use borrow.Author.Tests.{ltb-true, lt-ltb}
 use Rattle.px_names.specs.declared.kind.Kind.{Kind}
-use Rattle.px_names.specs.declared.kind.NameErr.{NameErr}
 use Rattle.px_names.specs.declared.kind.NameErr.TheVariants.{BadName, Duplicate, Full}
 use Rattle.px_names.specs.Lists.{AreDistinct, IsWelcome, NameLists, has_name, limit_of, names_of, refusal}
 use Rattle.px_names.specs.Name.{is_name_text}

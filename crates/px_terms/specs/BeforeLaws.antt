@@ -1,10 +1,10 @@
 -- `cmp` of terms, atoms and operator instances is the order that is said in words.
 use Rattle.std.specs.Prelude.{◌≡◌, ◌<◌, ◌↔◌, ◌⊎◌, ℕ, Bool, true, List, [], ◌∷◌, nat_lt}
-use Rattle.std.proofs.Common.{refl, sym, ap, ◌∙◌, inl, inr, eq-eqb}
+use Rattle.std.proofs.Common.{refl, sym, ◌∙◌, inl, inr, eq-eqb}
 use borrow.Author.Tests.{lt-ltb}
 use Rattle.std.specs.Bool.{Decides}
-use Rattle.std.specs.Cmp.{IsTotalOrder, Equal-is, ranked, unsigned_ties, nat_eq_equiv}
-use Rattle.std.specs.Cmp.Lexicographic.{slice_cmp, lists_total, lists_ties}
+use Rattle.std.specs.Cmp.{IsTotalOrder, Equal-is, ranked, unsigned_ties}
+use Rattle.std.specs.Cmp.Lexicographic.{slice_cmp}
 use Rattle.std.specs.Ordering.{nat_cmp, ordering_then, ordering_reverse, eq_by_cmp}
 use Rattle.std.specs.declared.cmp.Ordering.{Ordering}
 use Rattle.std.specs.declared.cmp.Ordering.TheVariants.{Less, Equal, Greater}

@@ -1,6 +1,6 @@
 -- What the plan that drops the first of two objects is said to carry, it carries, and no more.
-use Rattle.std.specs.Prelude.{◌≡◌, ℕ, List, [], ◌∷◌, All, Contains}
-use Rattle.std.proofs.Common.{refl, inl, arith}
+use Rattle.std.specs.Prelude.{List, [], ◌∷◌, All, Contains}
+use Rattle.std.proofs.Common.{refl, inl}
 use Rattle.std.proofs.lemmas.List.Elements.{All-head}
 use Rattle.px_base.specs.ListLaws.{Contains-none, Contains-first, Contains-later}
 use Rattle.px_terms.specs.declared.atom.Atom.{Atom}
@@ -12,7 +12,7 @@ use Rattle.px_terms.specs.OperatorLaws.{result_by-members}
 use Rattle.px_terms.specs.Operators.{result_of}
 use Rattle.px_terms.specs.Plans.{IsRun, Carries, GoalHolds}
 use Rattle.px_terms.specs.Soundness.{achieves_carries}
-use Rattle.px_terms.specs.States.{Holds, HoldsUnder, AxiomsHold, element_of}
+use Rattle.px_terms.specs.States.{Holds, HoldsUnder, element_of}
 use Rattle.px_terms.specs.Validity.{IsAtomOf, IsInstanceOf}
 
 run : IsRun two_names (apart ∷ apart_after ∷ []) (drop_first ∷ [])

@@ -1,10 +1,9 @@
 -- What the worked example of two names says is so.
-use Rattle.std.specs.Prelude.{◌≡◌, ◌<◌, ◌≤◌, Bool, true, false, ℕ, List, [], ◌∷◌, All, Contains, slice_index_or}
+use Rattle.std.specs.Prelude.{◌≡◌, ◌<◌, true, ℕ, List, [], ◌∷◌, All, Contains, slice_index_or}
 use Rattle.std.proofs.Common.{refl, subst, arith, zero, suc, inl, inr, ap}
 use Rattle.std.proofs.lemmas.List.Elements.{All-cons, All-head}
 use Rattle.px_base.specs.ListLaws.{Contains-none, Contains-cases}
 use Rattle.px_terms.specs.declared.atom.Atom.{Atom}
-use Rattle.px_terms.specs.declared.problem.Schema.{Schema}
 use Rattle.px_terms.specs.declared.term.Term.{Term}
 use Rattle.px_terms.specs.declared.term.Term.TheVariants.{Obj, Var, Any as WildCard}
 use Rattle.px_terms.specs.Clauses.{IsClause}

@@ -1,6 +1,6 @@
 use crate::{
-    ArenaErr, Atom, ClauseArena, Lit, OpInst, Term, apply, apply_inst, atoms_are_ordered, drop_plan,
-    equal, instance_of, merged_names,
+    ArenaErr, Atom, ClauseArena, Lit, OpInst, Term, apply, apply_inst, atoms_are_ordered,
+    drop_plan, equal, instance_of, merged_names,
 };
 use std::rt::HostRuntime;
 
