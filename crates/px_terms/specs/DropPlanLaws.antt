@@ -35,7 +35,7 @@ steps = one (IsInstanceOf two_names) drop_first instance
 carried : Carries two_names (at (Obj 0) ∷ []) (drop_first ∷ []) 0 []
 carried =
     let needed = one (Contains (at (Obj 0) ∷ [])) (at (Obj 0)) (Contains-first (at (Obj 0)) []) in
-    achieves_carries two_names (at (Obj 0) ∷ []) (drop_first ∷ []) [] valid steps (nothing (IsAtomOf two_names 0)) (needed, nothing _)
+    achieves_carries two_names (at (Obj 0) ∷ []) (drop_first ∷ []) [] valid steps (nothing (IsAtomOf two_names 0)) (needed, nothing (Contains (result_of two_names (at (Obj 0) ∷ []) drop_first)))
 
 -- AT is true of both objects
 abbrev both : List Atom

@@ -1,6 +1,5 @@
 pub mod AtomSets
 pub mod Before
-pub mod BeforeLaws
 pub mod Clauses
 pub mod DropPlan
 pub mod DropPlanLaws

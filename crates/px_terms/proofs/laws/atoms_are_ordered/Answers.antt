@@ -1,4 +1,4 @@
-use Rattle.px_terms.specs.BeforeLaws.{atoms_are_ordered}
+use Rattle.px_terms.proofs.BeforeLaws.{atoms_are_ordered}
 use Rattle.px_terms.proofs.laws.atoms_are_ordered.Goals as goal
 
 pub returns : goal.returns
