@@ -13,8 +13,8 @@
 //!   bytes at a call, so a test can cut a text anywhere.
 //! - [`StdSource`] and [`StdSink`] stand over std's readers and writers, as `StdSource::new(rt.stdin())`. That they
 //!   hand the bytes on unchanged is trusted and tested, not proved.
-//! - Nothing is buffered: a source is read by pieces of 4,096 bytes, and a text goes to the sink as it is given.
-//! - `put`, `MemSource::new`, and each `read` and `write` take no memory.
+//! - This is how the code goes, and no clause says it: `read_all` reads by pieces of 4,096 bytes, and no byte is kept back
+//!   between two calls. `put`, `MemSource::new`, and each `read` and `write` take no memory of their own.
 #![tactic(auto)]
 
 mod causes;

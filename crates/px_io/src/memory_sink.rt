@@ -76,7 +76,7 @@ impl Sink for MemSink {
     fn write(&mut self, bytes: &[u8]) -> Result<usize, Failed>
         ensures within { WritesAtMost result bytes.now }
         ensures bytes { WriteAppends (Some self.old.written) (Some self.new.written) result bytes.now }
-        ensures some { IfOk result (λ count. 0 < length bytes.now → 0 < count) }
+        ensures progress { IfOk result (λ count. 0 < length bytes.now → 0 < count) }
         ensures cause { HasCause self.old.faults self.new.faults result }
         ensures full { OnErr result (IsFull (sure_room self.old) (Some self.old.written)) }
         ensures nature { sure_room self.new ≡ sure_room self.old }

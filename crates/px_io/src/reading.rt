@@ -32,7 +32,7 @@ impl From<AllocError> for ReadErr {
 }
 
 // How many bytes are asked for at once.
-const PIECE: usize = 4096;
+pub const PIECE: usize = 4096;
 
 /// All bytes up to the end of the source, where there are at most `limit` of them.
 /// Whatever the answer, the bytes that were read are gone from the source.
@@ -40,14 +40,15 @@ const PIECE: usize = 4096;
 /// # Errors
 /// - `Fault` where a read failed before more than `limit` bytes came; only where the source's count of faults rose.
 /// - `TooLong` where more than `limit` bytes came and no read failed before.
-/// - `NoMemory` where there is none for the bytes.
+/// - `NoMemory` where there is none for the bytes; only where no read failed and at most `limit` bytes came.
 pub fn read_all<S: Source>(alloc: Global, source: &mut S, limit: usize) -> Result<Vec<u8>, ReadErr>
     ensures all { IfOk result (λ bytes. ReadToEnd limit bytes.items (S.left source.old) (S.left source.new)
         (S.taken source.old) (S.taken source.new) (S.faults source.old) (S.faults source.new)) }
     ensures fault { IsErrOf result ReadErr.Fault → Rose (S.faults source.old) (S.faults source.new) }
     ensures fault_first { IsErrOf result ReadErr.Fault → S.taken source.new ≤ S.taken source.old + limit }
-    ensures fault_comes { IsErrOf result ReadErr.Fault → S.never_fails source.old ≡ false }
+    ensures fault_possible { IsErrOf result ReadErr.Fault → S.never_fails source.old ≡ false }
     ensures no_memory { IsErrOf result ReadErr.NoMemory → S.faults source.new ≡ S.faults source.old }
+    ensures no_memory_short { IsErrOf result ReadErr.NoMemory → S.taken source.new ≤ S.taken source.old + limit }
     ensures too_long { IsErrOf result ReadErr.TooLong → S.taken source.old + limit < S.taken source.new }
     ensures too_long_first { IsErrOf result ReadErr.TooLong → S.faults source.new ≡ S.faults source.old }
     ensures gone { (came : List ℕ) × Consumes (S.left source.old) (S.left source.new) came × (S.taken source.new ≡ S.taken source.old + length came) }

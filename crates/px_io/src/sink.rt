@@ -25,7 +25,7 @@ pub trait Sink {
     fn write(&mut self, bytes: &[u8]) -> Result<usize, Failed>
         ensures within { WritesAtMost result bytes.now }
         ensures bytes { WriteAppends (written self.old) (written self.new) result bytes.now }
-        ensures some { IfOk result (λ count. 0 < length bytes.now → 0 < count) }
+        ensures progress { IfOk result (λ count. 0 < length bytes.now → 0 < count) }
         ensures cause { HasCause (faults self.old) (faults self.new) result }
         ensures full { OnErr result (IsFull (sure self.old) (written self.old)) }
         ensures nature { sure self.new ≡ sure self.old };

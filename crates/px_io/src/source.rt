@@ -25,13 +25,13 @@ pub trait Source {
     /// The answer 0 for a piece that isn't empty is the end of the input.
     ///
     /// # Errors
-    /// `Failed` only where the count of faults rose. No byte is taken then. What the piece holds after a failure is
-    /// not said, since no reader of the system says it.
+    /// `Failed` only where the count of faults rose. No byte is taken then, and the piece is as it was.
     fn read(&mut self, into: &mut [u8]) -> Result<usize, Failed>
         ensures within { ReadsAtMost result into.new }
         ensures bytes { ReadConsumes (left self.old) (left self.new) result into.new }
         ensures taken { taken self.new ≡ taken self.old + result_unwrap_or result 0 }
         ensures cause { HasCause (faults self.old) (faults self.new) result }
         ensures fails { OnErr result (never_fails self.old ≡ false) }
-        ensures nature { never_fails self.new ≡ never_fails self.old };
+        ensures nature { never_fails self.new ≡ never_fails self.old }
+        ensures piece { OnErr result (into.new ≡ into.old) };
 }

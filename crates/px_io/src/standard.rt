@@ -1,13 +1,14 @@
 //! The standard streams. They tell nothing of content.
 ghost use Rattle.std.specs.Prelude.{None, ℕ, ◌≡◌, false};
 
+use crate::reading::PIECE;
 use crate::{Failed, Sink, Source};
 use std::io::{Read, Write};
 use std::marker::Model;
 
-/// Standard input, or another reader. That it hands on what the reader gives is trusted and tested, and so is this: a read
-/// fails where the reader fails, also where it was only interrupted, and where the number of bytes taken would pass the
-/// last value of 64 bits.
+/// Standard input, or another reader. That it hands on what the reader gives is trusted and tested. This is how the code
+/// goes, and no clause says it: a read fails where the reader fails, also where it was only interrupted, and where the
+/// number of bytes taken would pass the last value of 64 bits; and it asks the reader for at most 4,096 bytes.
 #[derive(Drop)]
 pub struct StdSource<R: Read + Drop> {
     reader: R,
@@ -45,9 +46,13 @@ impl<R: Read + Drop> Source for StdSource<R> {
 
     ghost never_fails = { λ s. false };
 
+    // A reader that fails may have written into what it was lent, so it is lent a piece of its own.
     fn read(&mut self, into: &mut [u8]) -> Result<usize, Failed> {
-        if let Ok(count) = self.reader.read(into) {
+        let mut piece = [0; PIECE];
+        let room = into.len().min(PIECE);
+        if let Ok(count) = self.reader.read(&mut piece[..room]) {
             if let Some(taken) = self.taken.checked_add(count as u64) {
+                into[..count].copy_from_slice(&piece[..count]);
                 self.taken = taken;
                 return Ok(count);
             }
@@ -57,8 +62,8 @@ impl<R: Read + Drop> Source for StdSource<R> {
     }
 }
 
-/// Standard output, or another writer. That it hands on what it is given is trusted and tested, and so is this: a write
-/// fails where the writer fails, also where it was only interrupted, and where it takes no byte of some.
+/// Standard output, or another writer. That it hands on what it is given is trusted and tested. This is how the code
+/// goes, and no clause says it: a write fails where the writer fails, also where it was only interrupted.
 #[derive(Drop)]
 pub struct StdSink<W: Write + Drop> {
     writer: W,

@@ -1,12 +1,12 @@
 -- The names of each kind, in the order of their numbers.
-use Rattle.std.specs.Prelude.{◌≡◌, ◌≢◌, ◌⊎◌, ◌≤◌, ◌<◌, Contains, ℕ, Bool, List, [], ◌∷◌, ◌++◌, length, All, AllPairs, nat_lt, if◌then◌else◌, not, Option, None, Some}
+use Rattle.std.specs.Prelude.{◌≡◌, ◌≢◌, ◌≤◌, ◌<◌, Contains, ℕ, Bool, List, [], ◌∷◌, ◌++◌, length, All, AllPairs, nat_lt, if◌then◌else◌, not, Option, None, Some}
 use Rattle.std.specs.List.{list_any}
 use Rattle.std.specs.Str.{bytes_eq}
 use Rattle.px_names.specs.Name.{is_name_text, IsName}
 use Rattle.px_names.specs.declared.kind.Kind.{Kind}
 use Rattle.px_names.specs.declared.kind.Kind.TheVariants as kind
 use Rattle.px_names.specs.declared.kind.NameErr.{NameErr}
-use Rattle.px_names.specs.declared.kind.NameErr.TheVariants.{BadName, Duplicate, Full, NoMemory}
+use Rattle.px_names.specs.declared.kind.NameErr.TheVariants.{BadName, Duplicate, Full}
 
 -- the names of each kind
 pub record NameLists : Type 0 where
@@ -50,20 +50,6 @@ pub record AreNameLists (names : NameLists) : Type 0 where
   pub operators : AreNames kind.Operator names.operators
   pub results : AreNames kind.Result names.results
 
--- whether a name is in a list
-abbrev pub has_name : List ℕ → List (List ℕ) → Bool
-has_name name names = list_any (bytes_eq name) names
-
--- the first cause to refuse a name, in the order of the causes
-abbrev pub refusal : Kind → NameLists → List ℕ → Option NameErr
-refusal kind names name = if not (is_name_text name) then Some BadName
-    else (if has_name name (names_of kind names) then Some Duplicate
-    else (if nat_lt (length (names_of kind names)) (limit_of kind) then None else Some Full))
-
--- a name is refused with this error: the first cause, or want of memory where there is no cause
-abbrev pub IsRefusal : Kind → NameLists → List ℕ → NameErr → Type 0
-IsRefusal kind names name error = (refusal kind names name ≡ Some error) ⊎ ((error ≡ NoMemory) × (refusal kind names name ≡ None))
-
 -- the text is a new name, and there is room for it
 abbrev pub IsWelcome : Kind → List (List ℕ) → List ℕ → Type 0
 IsWelcome kind names name = IsName name × (¬ Contains names name) × (length names < limit_of kind)
@@ -78,3 +64,16 @@ with_name kind.Object name names = record names { objects = names.objects ++ nam
 with_name kind.Predicate name names = record names { predicates = names.predicates ++ name ∷ [] }
 with_name kind.Operator name names = record names { operators = names.operators ++ name ∷ [] }
 with_name kind.Result name names = record names { results = names.results ++ name ∷ [] }
+
+-- For callers whose definitions compute: two tests. `NameLaws` has that the first decides membership, and that the second finds no
+-- cause exactly where a name is welcome.
+
+-- whether a name is in a list
+abbrev pub has_name : List ℕ → List (List ℕ) → Bool
+has_name name names = list_any (bytes_eq name) names
+
+-- the first cause to refuse a name, in the order of the causes; none where the name is welcome
+abbrev pub refusal : Kind → NameLists → List ℕ → Option NameErr
+refusal kind names name = if not (is_name_text name) then Some BadName
+    else (if has_name name (names_of kind names) then Some Duplicate
+    else (if nat_lt (length (names_of kind names)) (limit_of kind) then None else Some Full))

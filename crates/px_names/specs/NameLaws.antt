@@ -1,5 +1,5 @@
--- Number and name correspond in a list of distinct names.
-use Rattle.std.specs.Prelude.{◌≡◌, ◌≢◌, ◌↔◌, ◌<◌, ◌+◌, ◌||◌, ℕ, Bool, true, false, Option, Some, None, is_some, List, [], ◌∷◌, length, Contains, position, slice_get, MatchOption, nat_lt, MatchBool}
+-- Number and name correspond in a list of distinct names, and the tests for callers that compute decide what they test.
+use Rattle.std.specs.Prelude.{◌≡◌, ◌≢◌, ◌↔◌, ◌<◌, ◌+◌, ◌||◌, ℕ, Bool, true, false, Option, Some, None, is_some, List, [], ◌∷◌, length, Contains, position, slice_get, MatchOption, nat_lt, MatchBool, not, if◌then◌else◌}
 use Rattle.std.specs.List.{position_or_len}
 use Rattle.std.specs.Str.{bytes_eq}
 use Rattle.std.proofs.Common.{refl, sym, ap, ◌∙◌, subst, arith, zero, suc, inl, inr}
@@ -7,7 +7,11 @@ use Rattle.std.proofs.lemmas.Slice.Eq.{bytes_eq-Decides}
 use Rattle.std.proofs.lemmas.List.Quantifiers.{position-Some}
 use Rattle.std.proofs.lemmas.Option.{slice_get-get_or, slice_get_within, get_or_from_slice_get}
 use Rattle.px_base.specs.ListLaws.{Contains-none, Contains-first, Contains-later, Contains-cases}
-use Rattle.px_names.specs.Lists.{AreDistinct, has_name}
+use borrow.Author.Tests.{ltb-true, lt-ltb}
+use Rattle.px_names.specs.declared.kind.Kind.{Kind}
+use Rattle.px_names.specs.declared.kind.NameErr.TheVariants.{BadName, Duplicate, Full}
+use Rattle.px_names.specs.Lists.{AreDistinct, IsWelcome, NameLists, has_name, limit_of, names_of, refusal}
+use Rattle.px_names.specs.Name.{is_name_text}
 
 pub bytes_eq-itself : (name : List ℕ) → bytes_eq name name ≡ true
 bytes_eq-itself name = (bytes_eq-Decides name name).1 refl
@@ -67,3 +71,25 @@ elim_false b t f = cc
 pub has_name-tells : (name : List ℕ) (names : List (List ℕ)) (answer : Bool) → answer ≡ has_name name names → MatchBool answer (Contains names name) (¬ Contains names name)
 has_name-tells name names true same = (has_name-decides name names).0 (sym same)
 has_name-tells name names false same = λ there. elim_false (has_name name names) ((has_name-decides name names).1 there) (sym same)
+
+first_cause : (named has room : Bool) → ((if not named then Some BadName else (if has then Some Duplicate else (if room then None else Some Full))) ≡ None) ↔ ((named ≡ true) × (has ≡ false) × (room ≡ true))
+first_cause true false true = (λ _. (refl, refl, refl), λ _. refl)
+first_cause true false false = (λ e. absurd (cc), λ all. let r = all.2 in cc)
+first_cause true true room = (λ e. absurd (cc), λ all. let h = all.1 in cc)
+first_cause false has room = (λ e. absurd (cc), λ all. let n = all.0 in cc)
+
+-- there is no cause to refuse a name exactly where it is welcome
+pub refusal-none : (kind : Kind) (names : NameLists) (name : List ℕ) → (refusal kind names name ≡ None) ↔ IsWelcome kind (names_of kind names) name
+refusal-none kind names name =
+    let list = names_of kind names in
+    let causes = first_cause (is_name_text name) (has_name name list) (nat_lt (length list) (limit_of kind)) in (
+      λ free.
+          let all = causes.0 free in
+          (all.0, λ there. elim_false (has_name name list) ((has_name-decides name list).1 there) all.1, ltb-true (length list) (limit_of kind) all.2),
+      λ welcome.
+          let absent : has_name name list ≡ false = elim (has_name name list) as (λ test. has_name name list ≡ test → test ≡ false) [
+            | true ↦ λ has. absurd (welcome.1 ((has_name-decides name list).0 has))
+            | false ↦ λ _. refl
+          ] refl in
+          causes.1 (welcome.0, absent, lt-ltb (length list) (limit_of kind) welcome.2),
+    )

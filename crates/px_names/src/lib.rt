@@ -9,8 +9,9 @@
 //! - Contracts see a `Names` as four lists of texts, `NameLists` of `specs/Lists.antt`: `names_of kind names` is the
 //!   list of a kind, and a name's number is its place there. `AreNames kind (names_of kind names)`, which `find`, `text`
 //!   and `count` hand out, says that the texts are names, that no two are equal, and that there are at most
-//!   [`Kind::limit`]. So `find` and `text` are each other's inverse; `specs/NameLaws.antt` has that as a law, and that
-//!   `has_name`, which a test computes, is membership.
+//!   [`Kind::limit`]. So `find` and `text` are each other's inverse; `specs/NameLaws.antt` has that as a law.
+//! - For callers whose definitions compute, `has_name` and `refusal` of `specs/Lists.antt` are tests, and `NameLaws` has
+//!   that they decide membership and that a name is welcome.
 //! - What a name is stands in `specs/Name.antt`: an underscore or a character that may start an identifier, then
 //!   characters that may continue one, both by Unicode's classes. [`is_name`] tests a text, [`starts_name`] a character,
 //!   and [`split_first`] takes the first character off a text.

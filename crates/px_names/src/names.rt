@@ -2,7 +2,7 @@
 ghost use Rattle.std.specs.Prelude.{◌≡◌, ◌↔◌, ◌<◌, ◌≤◌, [], ◌∷◌, length, position, slice_get, None, Some, Ok, false, is_some, Contains, IfOk, OnOk, OnErr, MatchOption, MatchResult};
 ghost use Rattle.std.specs.Str.{bytes_eq};
 ghost use Rattle.px_names.specs.Name.{IsName};
-ghost use Rattle.px_names.specs.Lists.{IsOneTooMany, IsWelcome, names_of, has_name, refusal, IsRefusal, with_name, no_names, limit_of, AreNames, AreNameLists, NameLists};
+ghost use Rattle.px_names.specs.Lists.{IsOneTooMany, IsWelcome, names_of, has_name, with_name, no_names, limit_of, AreNames, AreNameLists, NameLists};
 
 use crate::list::NameList;
 use crate::{Kind, NameErr, is_name};
@@ -12,7 +12,7 @@ use std::marker::Model;
 
 /// The names of each kind, numbered from 0 in the order in which they were declared.
 ///
-/// In one kind no two names are equal, so number and name correspond. A name is found by its hash.
+/// In one kind no two names are equal, so number and name correspond.
 #[derive(Drop)]
 pub struct Names {
     objects: NameList,
@@ -62,7 +62,6 @@ impl Names {
         ensures duplicate { (result ≡ Err NameErr.Duplicate) ↔ (IsName name.now × Contains (names_of kind self.old) name.now) }
         ensures full { (result ≡ Err NameErr.Full) ↔ IsOneTooMany kind (names_of kind self.old) name.now }
         ensures no_memory { result ≡ Err NameErr.NoMemory → IsWelcome kind (names_of kind self.old) name.now }
-        ensures refused { MatchResult result (λ _. refusal kind self.old name.now ≡ None) (IsRefusal kind self.old name.now) }
     {
         if !is_name(name) {
             return Err(NameErr::BadName);
@@ -79,6 +78,9 @@ impl Names {
     }
 
     /// The number of a name, or `None` exactly where the kind hasn't the name.
+    ///
+    /// `number` is the contract. `position` and `found` say the same by tests that compute, for callers whose own
+    /// definitions compute numbers.
     pub fn find(&self, kind: Kind, name: &str) -> Option<u32>
         ensures number { MatchOption result (¬ Contains (names_of kind self.now) name.now) (λ number. slice_get (names_of kind self.now) number ≡ Some name.now) }
         ensures position { result ≡ position (bytes_eq name.now) (names_of kind self.now) }

@@ -1,3 +1,4 @@
+//! Applying operator instances to models.
 ghost use Rattle.std.specs.Prelude.{◌≡◌, ◌+◌, ◌≤◌, ◌++◌, length, All, IfOk};
 ghost use Rattle.px_terms.specs.Language.{IsObject};
 ghost use Rattle.px_terms.specs.Operators.{atoms_of, IsResult, adds as adds_of, result_of, schema_of as spec_schema_of};

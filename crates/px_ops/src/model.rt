@@ -1,3 +1,4 @@
+//! World models.
 ghost use Rattle.std.specs.Cmp.{partial_equiv_from_equiv};
 ghost use Rattle.std.specs.Prelude.{◌≡◌, ◌+◌, ◌≤◌, ◌↔◌, [], length, not, filter, All, Contains, vec_capacity, IsTrue, MatchBool, IfOk, OnOk, OnErr, IsOk};
 ghost use Rattle.px_terms.specs.Instances.{IsGround};

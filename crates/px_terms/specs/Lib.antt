@@ -1,5 +1,8 @@
 pub mod AtomSets
+pub mod Before
 pub mod Clauses
+pub mod DropPlan
+pub mod DropPlanLaws
 pub mod InstanceLaws
 pub mod Instances
 pub mod Language

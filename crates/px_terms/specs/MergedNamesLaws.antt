@@ -1,22 +1,22 @@
 -- What the worked example of two names says is so.
-use Rattle.std.specs.Prelude.{◌≡◌, ◌<◌, ◌≤◌, Bool, true, false, ℕ, List, [], ◌∷◌, All, Contains, slice_index_or}
+use Rattle.std.specs.Prelude.{◌≡◌, ◌<◌, true, ℕ, List, [], ◌∷◌, All, Contains, slice_index_or}
 use Rattle.std.proofs.Common.{refl, subst, arith, zero, suc, inl, inr, ap}
 use Rattle.std.proofs.lemmas.List.Elements.{All-cons, All-head}
 use Rattle.px_base.specs.ListLaws.{Contains-none, Contains-cases}
 use Rattle.px_terms.specs.declared.atom.Atom.{Atom}
-use Rattle.px_terms.specs.declared.problem.Schema.{Schema}
 use Rattle.px_terms.specs.declared.term.Term.{Term}
 use Rattle.px_terms.specs.declared.term.Term.TheVariants.{Obj, Var, Any as WildCard}
+use Rattle.px_terms.specs.Clauses.{IsClause}
 use Rattle.px_terms.specs.Operators.{IsDeleted, deletes, no_schema}
 use Rattle.px_terms.specs.MergedNames.{at, drop_schema, two_names, drop_first, merged, apart, apart_after, MergedNamesFact}
 use Rattle.px_terms.specs.States.{State, IsState, Holds, Described, element_of}
 use Rattle.px_terms.specs.Validity.{IsAtomOf, IsInstanceOf, IsPatternOf, IsPatternTermOf, IsSchemaOf, IsTermOf, IsValid}
 use Rattle.px_terms.specs.ValidityLaws.{atom_of-is_ground, deletes-false, deletes-true, instance-is_ground}
 
-nothing : {X : Type 0} (P : X → Type 0) → All P []
+pub nothing : {X : Type 0} (P : X → Type 0) → All P []
 nothing P k d below = absurd (omega (arith, below))
 
-one : {X : Type 0} (P : X → Type 0) (x : X) → P x → All P (x ∷ [])
+pub one : {X : Type 0} (P : X → Type 0) (x : X) → P x → All P (x ∷ [])
 one P x is = All-cons P x [] is (nothing P)
 
 -- ---- the problem is valid, and the step is its instance
@@ -41,10 +41,11 @@ each_schema : (k : ℕ) → k < 1 → IsSchemaOf two_names k (slice_index_or (dr
 each_schema zero below = drop_is_schema
 each_schema (suc k) below = absurd (omega (arith, below))
 
-valid : IsValid two_names
+pub valid : IsValid two_names
 valid = record {
   schemas = each_schema;
   axioms = nothing _;
+  arena = record { each = nothing IsClause; most = omega arith };
   short = (omega arith, omega arith);
   height = (omega arith, omega arith);
   nodes = (omega arith, omega arith);
@@ -52,7 +53,7 @@ valid = record {
   no_objects = λ none_there. absurd (omega (arith, none_there));
 }
 
-instance : IsInstanceOf two_names drop_first
+pub instance : IsInstanceOf two_names drop_first
 instance = record { op = omega arith; count = refl; objects = one (IsTermOf two_names 0) (Obj 0) (omega arith) }
 
 -- ---- the states
@@ -67,14 +68,14 @@ merged_state = record {
   tuples = one (All (All (λ e. e < 1))) ((0 ∷ []) ∷ []) (one (All (λ e. e < 1)) (0 ∷ []) (below_size 1 0 (omega arith)));
 }
 
-apart_state : IsState apart
+pub apart_state : IsState apart
 apart_state = record {
   not_empty = omega arith;
   elements = All-cons (λ e. e < 2) 0 (1 ∷ []) (omega arith) (below_size 2 1 (omega arith));
   tuples = one (All (All (λ e. e < 2))) ((0 ∷ []) ∷ []) (one (All (λ e. e < 2)) (0 ∷ []) (below_size 2 0 (omega arith)));
 }
 
-apart_after_state : IsState apart_after
+pub apart_after_state : IsState apart_after
 apart_after_state = record {
   not_empty = omega arith;
   elements = All-cons (λ e. e < 2) 0 (1 ∷ []) (omega arith) (below_size 2 1 (omega arith));
@@ -84,12 +85,12 @@ apart_after_state = record {
 met_merged : All (Holds merged) (at (Obj 0) ∷ [])
 met_merged = one (Holds merged) (at (Obj 0)) (0, omega arith, refl)
 
-met_apart : All (Holds apart) (at (Obj 0) ∷ [])
+pub met_apart : All (Holds apart) (at (Obj 0) ∷ [])
 met_apart = one (Holds apart) (at (Obj 0)) (0, omega arith, refl)
 
 -- ---- what is described
 
-second : IsAtomOf two_names 0 (at (Obj 1))
+pub second : IsAtomOf two_names 0 (at (Obj 1))
 second = ((omega arith, refl), one (IsTermOf two_names 0) (Obj 1) (omega arith))
 
 second_stays : ¬ IsDeleted drop_schema drop_first (at (Obj 1))
@@ -132,7 +133,7 @@ deleted : (atom : Atom) → IsAtomOf two_names 0 atom → Holds apart atom → I
 deleted atom of holds =
     deletes-true two_names drop_first atom valid (instance-is_ground two_names drop_first instance) (atom_of-is_ground two_names atom of) (is_first atom.pred atom.args of holds)
 
-natural : Described two_names drop_first apart apart_after
+pub natural : Described two_names drop_first apart apart_after
 natural = record { kept = λ _ atom of holds stays. absurd (stays (deleted atom of holds)); added = λ _ k d below. absurd (omega (arith, below)) }
 
 pub merged_names : MergedNamesFact

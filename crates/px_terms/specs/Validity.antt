@@ -7,6 +7,7 @@ use Rattle.px_terms.specs.declared.problem.Problem.{Problem}
 use Rattle.px_terms.specs.declared.problem.Schema.{Schema}
 use Rattle.px_terms.specs.declared.term.Term.{Term}
 use Rattle.px_terms.specs.declared.term.Term.TheVariants.{Obj, Var, Any}
+use Rattle.px_terms.specs.Clauses.{IsArena}
 use Rattle.px_terms.specs.Language.{IsObject, IsPlainBelow, IsVariableBelow}
 use Rattle.px_terms.specs.Operators.{no_schema, schema_of}
 
@@ -58,10 +59,12 @@ pub record IsAxiomOf (problem : Problem) (clause : Clause) : Type 0 where
   pub vars : clause.vars ≤ 12
   pub lits : All (λ lit. IsAtomOf problem clause.vars lit.atom) clause.lits
 
--- all numbers of the problem are in range, its limits too, and there is an object where a variable or parameter is declared
+-- All numbers of the problem are in range, its limits too, and there is an object where a variable or parameter is declared. Each
+-- of its lists is short; the axioms are at most 64 clauses of one to six literals.
 pub record IsValid (problem : Problem) : Type 0 where
   pub schemas : EachIndex problem.schemas (λ k. IsSchemaOf problem k (slice_index_or problem.schemas k no_schema))
   pub axioms : All (IsAxiomOf problem) problem.axioms
+  pub arena : IsArena problem.axioms
   pub short : IsShort problem.arities × IsShort problem.schemas
   pub height : (1 ≤ problem.height) × (problem.height ≤ 8)
   pub nodes : (1 ≤ problem.nodes) × (problem.nodes ≤ 50000)

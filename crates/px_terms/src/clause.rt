@@ -1,3 +1,4 @@
+//! Clauses, and the arena that keeps them by number.
 ghost use Rattle.std.specs.Prelude.{◌≡◌, ◌<◌, ◌≤◌, ◌↔◌, ◌++◌, [], ◌∷◌, length, slice_index_or, All, IfOk, OnErr};
 ghost use Rattle.px_terms.specs.Clauses.{ArePlainBelow, HasClauseLength, IsArena};
 

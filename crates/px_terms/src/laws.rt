@@ -1,8 +1,22 @@
+//! Laws about the definitions. The calls do nothing.
+ghost use Rattle.px_terms.specs.Before.{AtomsAreOrdered};
+ghost use Rattle.px_terms.specs.DropPlan.{DropPlanFact};
 ghost use Rattle.px_terms.specs.MergedNames.{MergedNamesFact};
 
 /// Two objects may be one thing (Lifschitz 1987). Where they are, dropping the first by an operator that deletes its atom leaves the
 /// atom of the second; where they are two, the state without either is a successor that the operator describes.
-/// This is a law about the definitions: the call does nothing.
 pub fn merged_names()
     ensures { MergedNamesFact }
+{}
+
+/// The plan that drops the first of two objects has a run, needs that object's atom, doesn't keep it, and keeps the atom of the
+/// second (Lifschitz 1987).
+pub fn drop_plan()
+    ensures { DropPlanFact }
+{}
+
+/// Terms, atoms and operator instances are ordered by number, then by arguments from the left; objects ascend by number and come
+/// before variables, and these before the wild card. `==` of each is equality.
+pub fn atoms_are_ordered()
+    ensures { AtomsAreOrdered }
 {}

@@ -12,8 +12,10 @@
 //! - A [`Schema`] is an operator, a [`Problem`] all that a search is about. Fields that are lists are [`Sequence`]s.
 //!   Calls of other crates that are lent a problem ask that it is valid: `IsValid` in `specs/Validity.antt`.
 //! - What a plan is worth stands in `specs/`: finite interpretations (`States`), the states that an operator describes,
-//!   runs, and `Carries` (`Plans`), after Lifschitz 1987. [`merged_names`] is the worked example that two objects may be
-//!   one thing.
+//!   runs, and `Carries` (`Plans`), after Lifschitz 1987.
+//! - Laws about the definitions are calls that do nothing: [`merged_names`], the worked example that two objects may be
+//!   one thing; [`drop_plan`], what a plan over them carries and what it doesn't; [`atoms_are_ordered`], the order in
+//!   words.
 #![tactic(auto)]
 
 mod atom;
@@ -29,7 +31,7 @@ mod tests;
 pub use atom::{Atom, apply, equal, instance_of};
 pub use clause::{ArenaErr, Clause, ClauseArena, Lit};
 pub use instance::{OpInst, apply_inst};
-pub use laws::merged_names;
+pub use laws::{atoms_are_ordered, drop_plan, merged_names};
 pub use problem::{Problem, Schema};
 pub use px_base::{NoMemory, Sequence};
 pub use term::Term;

@@ -1,3 +1,4 @@
+//! Operators and problems.
 use crate::atom::Atom;
 use crate::clause::ClauseArena;
 use px_base::Sequence;

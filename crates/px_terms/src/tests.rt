@@ -1,12 +1,14 @@
 use crate::{
-    ArenaErr, Atom, ClauseArena, Lit, OpInst, Term, apply, apply_inst, equal, instance_of,
-    merged_names,
+    ArenaErr, Atom, ClauseArena, Lit, OpInst, Term, apply, apply_inst, atoms_are_ordered,
+    drop_plan, equal, instance_of, merged_names,
 };
 use std::rt::HostRuntime;
 
 #[test]
-fn one_thing_may_have_two_names(_rt: HostRuntime) {
+fn the_laws_are_calls(_rt: HostRuntime) {
     merged_names();
+    drop_plan();
+    atoms_are_ordered();
 }
 
 #[test]
