@@ -30,6 +30,8 @@ mod reading;
 mod script;
 mod statement;
 mod terms;
+#[cfg(test)]
+mod tests;
 mod things;
 mod token;
 mod word;
