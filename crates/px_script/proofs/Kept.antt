@@ -415,12 +415,12 @@ valid d r closed = record {
   no_objects = λ empty. (r.no_parameters empty, rw r.no_axioms (λ k t below. absurd (omega (arith, below))));
 }
 
-pub in-range : (bytes : List ℕ) (content : ScriptValue) → IsScript bytes content → IsInRange content
-in-range bytes content is =
-    let r = lines-kept 1 nothing_declared (lines_of bytes) is.last nothing-in_range is.spells.lines in
-    let operators : length is.last.schemas ≡ length is.last.names.operators = subst (IsBlockInRange is.last) is.spells.closed r.block in
-    let ranges : IsInRange (content_of is.last) = record {
-      problem = valid is.last r is.spells.closed;
+-- what lines have declared that leave no block open is in range
+pub declared-in-range : (d : Declared) → AreInRange d → d.block ≡ None → IsInRange (content_of d)
+declared-in-range d r closed =
+    let operators : length d.schemas ≡ length d.names.operators = subst (IsBlockInRange d) closed r.block in
+    record {
+      problem = valid d r closed;
       objects = refl;
       predicates = sym r.predicates;
       operators = sym operators;
@@ -435,5 +435,9 @@ in-range bytes content is =
       commands = r.commands;
       few_commands = r.few_commands;
       results = r.results;
-    } in
-    subst IsInRange (sym is.is) ranges
+    }
+
+pub in-range : (bytes : List ℕ) (content : ScriptValue) → IsScript bytes content → IsInRange content
+in-range bytes content is =
+    let r = lines-kept 1 nothing_declared (lines_of bytes) is.last nothing-in_range is.spells.lines in
+    subst IsInRange (sym is.is) (declared-in-range is.last r is.spells.closed)

@@ -14,3 +14,4 @@ pub mod Progress
 pub mod Parsing
 pub mod Ranges
 pub mod Worked
+pub mod RangeLaws
