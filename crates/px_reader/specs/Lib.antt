@@ -1,3 +1,4 @@
+pub mod CommandViews
 pub mod Classes
 pub mod StatementViews
 pub mod Tokens

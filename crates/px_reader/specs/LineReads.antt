@@ -15,7 +15,7 @@ use Rattle.px_reader.specs.declared.script.ScriptErr.{ScriptErr}
 use Rattle.px_reader.specs.declared.script.ScriptErr.TheVariants as script
 use Rattle.px_reader.specs.declared.script.Script.{Script}
 use Rattle.px_reader.specs.FaultViews.{refusal_of}
-use Rattle.px_reader.specs.Readers.{command_view}
+use Rattle.px_reader.specs.CommandViews.{script_of}
 use denote.Ref.{Bor}
 
 -- a statement's fault is the first, unless memory ran out
@@ -51,14 +51,7 @@ HasFirstFault bytes script.NoMemory = Unit {0}
 
 -- what a script is about, as contracts see it
 abbrev pub content : Script → ScriptValue
-content s = record {
-  version = s.version;
-  names = s.names;
-  problem = s.problem;
-  facts = s.facts.atoms;
-  building = None;
-  commands = map command_view s.commands;
-}
+content s = script_of s.version s.names s.problem s.facts s.commands
 
 -- the script is about this, unless memory ran out
 abbrev pub IsRead : Result Script ScriptErr → ScriptValue → Type 0

@@ -4,14 +4,9 @@ use Rattle.std.specs.Option.{option_map}
 use Rattle.std.specs.String.{string_bytes}
 use Rattle.px_script.specs.Commands as spec
 use Rattle.px_script.specs.Declarations.{Declared, BlockKind, OpenBlock, of_operator}
-use Rattle.px_reader.specs.declared.command.Command.{Command}
-use Rattle.px_reader.specs.declared.command.Command.TheVariants as command
+pub use Rattle.px_reader.specs.CommandViews.{command_view}
 use Rattle.px_reader.specs.declared.reader.Reader.{Reader}
 use Rattle.px_reader.specs.declared.reader.OpenBlock as code
-
-abbrev pub command_view : Command → spec.Command
-command_view (command.Plan name goal vars) = spec.Plan name goal vars
-command_view command.Facts = spec.Facts
 
 -- the names of the open operator's parameters
 abbrev pub parameters_of : code.OpenBlock → List (List ℕ)

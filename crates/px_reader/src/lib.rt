@@ -4,8 +4,9 @@
 //!
 //! - [`read_script`] takes the bytes of an input, fewer than 4,294,967,295, and answers a [`Script`]: its names, its
 //!   problem, its facts and its commands. What it is about follows from the bytes alone (`IsScript` of `px_script`).
-//!   The problem is valid, the facts are ground atoms of it, and the numbers in the commands are in range
-//!   (`IsInRange`), so a caller may hand them on to the search and the printer.
+//!   The problem is valid, each of its numbers has a name, the facts are ground atoms of it, the numbers in the commands
+//!   are in range, and all is within the limits. A `Script` keeps that (`in_range`, by `IsInRange` of `px_script`), so a
+//!   caller may hand its parts on to the search and the printer.
 //! - Where the bytes are no script it answers [`ScriptErr::Refused`] with the first fault: its line from 1, its code, and
 //!   the number of the limit that is passed, or 0. That comes exactly where `FirstFault` of `px_script` holds.
 //! - [`Command`] is what a script asks for, in its order. Words of the language that aren't built yet are read and refused
@@ -30,6 +31,8 @@ mod reading;
 mod script;
 mod statement;
 mod terms;
+#[cfg(test)]
+mod tests;
 mod things;
 mod token;
 mod word;

@@ -160,6 +160,7 @@ impl Reader {
 
     /// The script, where no block is open, or the line that opened the block.
     pub fn finish(self) -> Result<Script, u32>
+        requires { AreInRange (declared_of self) }
         ensures { MatchResult result
             (λ script. ((declared_of self).block ≡ None) × (content script ≡ content_of (declared_of self)))
             (λ line. (block : Opened) × ((declared_of self).block ≡ Some block) × (line ≡ block.line)) }

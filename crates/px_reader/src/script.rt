@@ -1,5 +1,9 @@
 //! What a script is about, and why an input is none.
 
+ghost use Rattle.px_script.specs.Ranges.{IsInRange};
+ghost use Rattle.px_script.specs.RangeLaws.{IsInRange-prop};
+ghost use Rattle.px_reader.specs.CommandViews.{script_of};
+
 use crate::command::Command;
 use px_base::Sequence;
 use px_names::Names;
@@ -7,7 +11,8 @@ use px_ops::Model;
 use px_terms::Problem;
 use thiserror::Error;
 
-/// A script that was read.
+/// A script that was read. It keeps that its problem is valid, that each of its numbers has a name, that the facts and the
+/// commands are over its numbers, that all is within the limits, and that no result is given twice.
 #[derive(Drop)]
 pub struct Script {
     pub version: u32,
@@ -15,6 +20,7 @@ pub struct Script {
     pub problem: Problem,
     pub facts: Model,
     pub commands: Sequence<Command>,
+    pub ghost in_range: { IsInRange (script_of version names problem facts commands) } by { IsInRange-prop (script_of version names problem facts commands) },
 }
 
 /// The first fault of an input: its line from 1, its code, and the number of the limit that is passed, or 0.

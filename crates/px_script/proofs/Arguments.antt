@@ -1,20 +1,18 @@
 -- Atoms whose names are declared and whose arguments are of the right number and kind are the problem's.
-use Rattle.std.proofs.Common.{◌≡◌, ℕ, ◌+◌, ◌<◌, ◌≤◌, suc, zero, Bool, true, false, List, [], ◌∷◌, ◌++◌, map, length, get_or, refl, sym, ap, ◌∙◌, subst, inl, inr, arith}
+use Rattle.std.proofs.Common.{◌≡◌, ℕ, ◌<◌, Bool, true, false, List, [], ◌∷◌, map, length, refl, sym, ap, ◌∙◌, arith}
 use Rattle.std.specs.Prelude.{Option, None, Some, is_some, position, unwrap_or, ◌||◌, ◌==◌, not, All, slice_index}
 use Rattle.std.specs.List.{list_any, flat_map}
 use Rattle.std.specs.Str.{bytes_eq}
 use Rattle.std.proofs.lemmas.Bool.{eqb-true}
 use Rattle.std.proofs.lemmas.List.{length-map}
 use Rattle.std.proofs.lemmas.List.Quantifiers.{position-Some}
-use Rattle.std.proofs.lemmas.List.Elements.{All-cons, All-append}
+use Rattle.std.proofs.lemmas.List.Elements.{All-cons}
 use Rattle.std.proofs.lemmas.List.Folds.{list_any-append}
 use Rattle.px_names.specs.Lists.{has_name}
 use Rattle.px_terms.specs.declared.problem.Problem.{Problem}
-use Rattle.px_terms.specs.declared.term.Term.{Term}
 use Rattle.px_terms.specs.Validity.{IsTermOf, IsPatternTermOf, HasArity, IsAtomOf, IsPatternOf}
 use Rattle.px_script.specs.Statements.{Argument, WrittenAtom, named, open_variable, anything}
 use Rattle.px_script.specs.Declarations.{Declared, number_in, parameters_here, term_of, atom_of}
-use Rattle.px_script.specs.Content.{problem_of}
 use Rattle.px_script.specs.Faults.{is_variable, is_anything, is_known_argument}
 use Rattle.px_script.proofs.Fronts.{by_test, true_not_false}
 use Rattle.px_script.proofs.ListLemmas.{some-position}

@@ -1,11 +1,11 @@
 -- A line with no fault is faultless, and what each cause says where it isn't there.
-use Rattle.std.proofs.Common.{◌≡◌, ℕ, ◌≤◌, Bool, true, false, List, [], ◌∷◌, cond, refl, arith}
+use Rattle.std.proofs.Common.{◌≡◌, ℕ, ◌≤◌, Bool, true, false, cond, refl, arith}
 use Rattle.std.specs.Prelude.{Option, None, Some, nat_lt, ◌||◌, ◌&&◌, not}
 use Rattle.std.proofs.lemmas.Bool.Decides.{nat_tests}
 use Rattle.px_script.specs.Statements.{Statement}
 use Rattle.px_script.specs.Declarations.{Declared, OpenBlock, BlockKind, of_operator, of_building}
 use Rattle.px_script.specs.Stages.{stage_now, is_unbuilt}
-use Rattle.px_script.specs.Faults.{Refusal, fault_of, limit_fault, passed_limit, is_out_of_order, declares_after_command, stands_wrong, is_late_script, has_two_domains, varies_too_early, ends_without_robot, has_unknown_name, has_duplicate, has_wrong_arity, is_unbound, is_of_operator, is_of_building, is_end, IsFaultless}
+use Rattle.px_script.specs.Faults.{fault_of, limit_fault, passed_limit, is_out_of_order, declares_after_command, stands_wrong, is_late_script, has_two_domains, varies_too_early, ends_without_robot, has_unknown_name, has_duplicate, has_wrong_arity, is_unbound, is_of_operator, is_of_building, is_end, IsFaultless}
 use Rattle.px_script.proofs.Arguments.{or-false}
 use Rattle.px_script.proofs.Fronts.{true_not_false}
 

@@ -1,13 +1,15 @@
 -- Each line without a fault keeps what was declared in range.
-use Rattle.std.proofs.Common.{◌≡◌, ℕ, ◌+◌, ◌<◌, ◌≤◌, suc, zero, Bool, true, false, List, [], ◌∷◌, ◌++◌, map, length, get_or, refl, sym, ap, ◌∙◌, subst, inl, inr, arith, length-append}
-use Rattle.std.specs.Prelude.{Option, None, Some, IfSome, All, Contains, not, nat_lt, ◌||◌, ◌&&◌, fold, unwrap_or, slice_index, slice_index_or, EachIndex}
-use Rattle.std.specs.List.{list_any, flat_map}
+use Rattle.std.proofs.Common.{◌≡◌, ℕ, ◌+◌, ◌<◌, ◌≤◌, Bool, true, false, List, [], ◌∷◌, ◌++◌, map, length, refl, sym, ap, ◌∙◌, subst, inl, inr, arith, length-append}
+use Rattle.std.specs.Prelude.{Option, None, Some, IfSome, All, not, nat_lt, ◌||◌, ◌&&◌, fold, unwrap_or, slice_index, slice_index_or, EachIndex}
+use Rattle.std.specs.List.{list_any, flat_map, range_with_len}
 use Rattle.std.specs.List.Sorted.{IsStrictlySortedBy}
 use Rattle.std.proofs.Math.ListN.{get_or-append}
 use Rattle.std.proofs.Math.Seq.{get_or-append_seam}
 use Rattle.std.proofs.lemmas.Bool.{cases_lt}
 use Rattle.std.proofs.lemmas.Bool.Decides.{nat_tests}
-use Rattle.std.proofs.lemmas.List.{length-map}
+use Rattle.std.proofs.lemmas.List.{append-nil, length-map, map-id}
+use Rattle.std.proofs.lemmas.List.FromFn.{map-range_with_len_more}
+use Rattle.std.proofs.lemmas.Grind.{flat_map-append}
 use Rattle.std.proofs.lemmas.List.Elements.{All-append, All-cons}
 use Rattle.px_base.specs.ListLaws.{All-at, All-each}
 use Rattle.px_base.specs.SetLaws.{set_of-is_sorted, set_of-members}
@@ -16,7 +18,7 @@ use Rattle.px_terms.specs.AtomSets.{IsAtomSet, atom_set}
 use Rattle.px_terms.specs.Operators.{no_schema}
 use Rattle.px_terms.specs.Order.{atom_cmp}
 use Rattle.px_terms.specs.OrderLaws.{atom_cmp-total, atom_cmp-same}
-use Rattle.px_terms.specs.Validity.{IsTermOf, IsPatternTermOf, HasArity, IsAtomOf, IsPatternOf, IsShort, IsSchemaOf, IsValid}
+use Rattle.px_terms.specs.Validity.{IsTermOf, IsPatternTermOf, HasArity, IsAtomOf, IsPatternOf, IsSchemaOf, IsValid}
 use Rattle.px_terms.specs.declared.atom.Atom.{Atom}
 use Rattle.px_terms.specs.declared.problem.Problem.{Problem}
 use Rattle.px_terms.specs.declared.problem.Schema.{Schema}
@@ -26,12 +28,12 @@ use Rattle.px_script.specs.Lexemes.{Lexeme}
 use Rattle.px_script.specs.Lines.{lines_of}
 use Rattle.px_script.specs.Commands.{AtomEdit, RoomEdit, Command, Insert, Remove, Robot, Box, Door, Plan, Learn, Show, DisturbAtoms, DisturbRooms, Run, Facts}
 use Rattle.px_script.specs.Statements.{Argument, WrittenAtom, Statement, named, open_variable, anything, script, object, predicate, «axiom», operator, pre, delete, add, building, room, door, box, robot, end, fact, height, nodes, shapes, plan, learn, show, disturb_atoms, disturb_rooms, run, facts, is_empty}
-use Rattle.px_script.specs.Declarations.{Declared, OpenBlock, BlockKind, of_operator, of_building, nothing_declared, parameters_of, parameters_here, variables_of, with_variable, atom_of, in_open, close_open, after_line}
+use Rattle.px_script.specs.Declarations.{Declared, OpenBlock, BlockKind, of_operator, of_building, nothing_declared, parameters_of, variables_of, with_variable, atom_of, in_open, close_open, after_line}
 use Rattle.px_script.specs.Content.{ScriptValue, problem_of, content_of}
-use Rattle.px_script.specs.Faults.{fault_of, first_of_tests, grown_in, is_variable, is_anything, is_known_argument, IsFaultless, stands_wrong}
-use Rattle.px_script.specs.Ranges.{IsEditOf, IsRoomEditOf, IsCommandOf, IsInRange, IsBlockInRange, AreInRange}
+use Rattle.px_script.specs.Faults.{first_of_tests, grown_in, is_variable, is_known_argument, is_long, IsFaultless}
+use Rattle.px_script.specs.Ranges.{IsEditOf, IsRoomEditOf, IsCommandOf, IsInRange, HasShortLists, IsBlockInRange, AreInRange, result_given}
 use Rattle.px_script.specs.Scripts.{PassesLexemes, PassAll, IsScript}
-use Rattle.px_script.proofs.Arguments.{or-false, not-false, atoms-are, patterns-of}
+use Rattle.px_script.proofs.Arguments.{or-false, atoms-are, patterns-of}
 use Rattle.px_script.proofs.Faultless.{faultless, passes-test, stands-right, no-block, at-most, and-true}
 use Rattle.px_script.proofs.Fronts.{true_not_false}
 
@@ -97,6 +99,19 @@ same p = record { objects = omega arith; arities = λ k below. (below, refl) }
 one-all : {A : Type 0} (P : A → Type 0) (x : A) → P x → All P (x ∷ [])
 one-all P x h = All-cons P x [] h (λ k d below. absurd (omega (arith, below)))
 
+-- a number more
+range-more : (n : ℕ) → range_with_len 0 (n + 1) ≡ range_with_len 0 n ++ n ∷ []
+range-more n = sym (map-id (range_with_len 0 (n + 1))) ∙ map-range_with_len_more (λ k. k) 0 n n (omega arith) ∙ ap (λ t. t ++ n ∷ []) (map-id (range_with_len 0 n))
+
+-- a plan gives one more result
+one-more-given : (commands : List Command) (count : ℕ) (name : List ℕ) (names : List (List ℕ)) → length names ≡ count → (goal : List Atom) (vars : ℕ) → flat_map result_given commands ≡ range_with_len 0 (length names)
+    → flat_map result_given (commands ++ Plan count goal vars ∷ []) ≡ range_with_len 0 (length (names ++ name ∷ []))
+one-more-given commands count name names counts goal vars given =
+    flat_map-append result_given commands (Plan count goal vars ∷ [])
+    ∙ ap (λ t. t ++ count ∷ []) (given ∙ ap (range_with_len 0) counts)
+    ∙ sym (range-more count)
+    ∙ ap (range_with_len 0) (ap (λ t. t + 1) (sym counts) ∙ sym (length-append names (name ∷ [])))
+
 -- goals without variables
 pub variables-none : (arguments : List Argument) → list_any is_variable arguments ≡ false → fold with_variable [] arguments ≡ []
 variables-none [] none = refl
@@ -134,7 +149,7 @@ module _ (n : ℕ) (d : Declared) (r : AreInRange d) where
   script-kept : (version : ℕ) → IsFaultless d (script version) → AreInRange (after_line n d (script version))
   script-kept version f =
       let none = no-block d.block (script version) refl refl refl (stands-right d (script version) f.order).inside in
-      record { predicates = r.predicates; few_predicates = r.few_predicates; few_operators = r.few_operators; arities = r.arities; no_axioms = r.no_axioms; schemas = r.schemas; no_parameters = r.no_parameters; block = (let P : Option OpenBlock → Type 0 = IsBlockInRange (after_line n d (script version)) in subst P (sym none) (closed none)); fact_set = r.fact_set; few_facts = r.few_facts; facts = r.facts; no_building = r.no_building; no_height = r.no_height; nodes = r.nodes; no_shapes = r.no_shapes; few_results = r.few_results; commands = r.commands }
+      record { few_objects = r.few_objects; short_lists = r.short_lists; few_commands = r.few_commands; results = r.results; predicates = r.predicates; few_predicates = r.few_predicates; few_operators = r.few_operators; arities = r.arities; no_axioms = r.no_axioms; schemas = r.schemas; no_parameters = r.no_parameters; block = (let P : Option OpenBlock → Type 0 = IsBlockInRange (after_line n d (script version)) in subst P (sym none) (closed none)); fact_set = r.fact_set; few_facts = r.few_facts; facts = r.facts; no_building = r.no_building; no_height = r.no_height; nodes = r.nodes; no_shapes = r.no_shapes; few_results = r.few_results; commands = r.commands }
 
   nodes-kept : (limit : ℕ) → IsFaultless d (nodes limit) → AreInRange (after_line n d (nodes limit))
   nodes-kept limit f =
@@ -142,19 +157,21 @@ module _ (n : ℕ) (d : Declared) (r : AreInRange d) where
       let after = problem_of (after_line n d (nodes limit)) in
       let more : Grows (problem_of d) after = record { objects = omega arith; arities = λ k below. (below, refl) } in
       let outside = or-false (nat_lt limit 1) (nat_lt 50000 limit) (passes-test _ _ _ f.limit).0 in
-      record { predicates = r.predicates; few_predicates = r.few_predicates; few_operators = r.few_operators; arities = r.arities; no_axioms = r.no_axioms; schemas = λ k below. schema-kept (problem_of d) after more k _ (r.schemas k below); no_parameters = r.no_parameters; block = (let P : Option OpenBlock → Type 0 = IsBlockInRange (after_line n d (nodes limit)) in subst P (sym none) (closed none)); fact_set = r.fact_set; few_facts = r.few_facts; facts = atoms-kept (problem_of d) after more 0 d.facts r.facts; no_building = r.no_building; no_height = r.no_height; nodes = (not-below limit 1 outside.0, at-most 50000 limit outside.1); no_shapes = r.no_shapes; few_results = r.few_results; commands = λ k c below. command-kept (problem_of d) after more (length d.names.results) (length d.names.results) (omega arith) _ (r.commands k c below) }
+      record { few_objects = r.few_objects; short_lists = r.short_lists; few_commands = r.few_commands; results = r.results; predicates = r.predicates; few_predicates = r.few_predicates; few_operators = r.few_operators; arities = r.arities; no_axioms = r.no_axioms; schemas = λ k below. schema-kept (problem_of d) after more k _ (r.schemas k below); no_parameters = r.no_parameters; block = (let P : Option OpenBlock → Type 0 = IsBlockInRange (after_line n d (nodes limit)) in subst P (sym none) (closed none)); fact_set = r.fact_set; few_facts = r.few_facts; facts = atoms-kept (problem_of d) after more 0 d.facts r.facts; no_building = r.no_building; no_height = r.no_height; nodes = (not-below limit 1 outside.0, at-most 50000 limit outside.1); no_shapes = r.no_shapes; few_results = r.few_results; commands = λ k c below. command-kept (problem_of d) after more (length d.names.results) (length d.names.results) (omega arith) _ (r.commands k c below) }
 
   facts-kept : IsFaultless d facts → AreInRange (after_line n d facts)
   facts-kept f =
       let none = no-block d.block facts refl refl refl (stands-right d facts f.order).inside in
-      record { predicates = r.predicates; few_predicates = r.few_predicates; few_operators = r.few_operators; arities = r.arities; no_axioms = r.no_axioms; schemas = r.schemas; no_parameters = r.no_parameters; block = (let P : Option OpenBlock → Type 0 = IsBlockInRange (after_line n d facts) in subst P (sym none) (closed none)); fact_set = r.fact_set; few_facts = r.few_facts; facts = r.facts; no_building = r.no_building; no_height = r.no_height; nodes = r.nodes; no_shapes = r.no_shapes; few_results = omega (arith, r.few_results, length-append d.commands (Facts ∷ [])); commands = All-append (IsCommandOf (problem_of d) (length d.names.results)) d.commands (Facts ∷ []) r.commands (one-all (IsCommandOf (problem_of d) (length d.names.results)) Facts tt) }
+      record { few_objects = r.few_objects; short_lists = r.short_lists; few_commands = omega (arith, length-append d.commands (Facts ∷ []), at-most 512 (length d.commands + 1) (passes-test (nat_lt 512 (length d.commands + 1)) 13 None f.limit).0); results = flat_map-append result_given d.commands (Facts ∷ []) ∙ append-nil (flat_map result_given d.commands) ∙ r.results; predicates = r.predicates; few_predicates = r.few_predicates; few_operators = r.few_operators; arities = r.arities; no_axioms = r.no_axioms; schemas = r.schemas; no_parameters = r.no_parameters; block = (let P : Option OpenBlock → Type 0 = IsBlockInRange (after_line n d facts) in subst P (sym none) (closed none)); fact_set = r.fact_set; few_facts = r.few_facts; facts = r.facts; no_building = r.no_building; no_height = r.no_height; nodes = r.nodes; no_shapes = r.no_shapes; few_results = omega (arith, r.few_results, length-append d.commands (Facts ∷ [])); commands = All-append (IsCommandOf (problem_of d) (length d.names.results)) d.commands (Facts ∷ []) r.commands (one-all (IsCommandOf (problem_of d) (length d.names.results)) Facts tt) }
 
   object-kept : (ns : List (List ℕ)) → IsFaultless d (object ns) → AreInRange (after_line n d (object ns))
   object-kept ns f =
       let none = no-block d.block (object ns) refl refl refl (stands-right d (object ns) f.order).inside in
+      let long = passes-test (list_any is_long ns) 1 _ f.limit in
+      let full = passes-test (nat_lt 256 (length d.names.objects + length ns)) 2 None long.1 in
       let after = problem_of (after_line n d (object ns)) in
       let more : Grows (problem_of d) after = record { objects = omega (arith, length-append d.names.objects ns); arities = λ k below. (below, refl) } in
-      record { predicates = r.predicates; few_predicates = r.few_predicates; few_operators = r.few_operators; arities = r.arities; no_axioms = r.no_axioms; schemas = λ k below. schema-kept (problem_of d) after more k _ (r.schemas k below); no_parameters = λ empty. r.no_parameters (omega (arith, length-append d.names.objects ns, empty)); block = (let P : Option OpenBlock → Type 0 = IsBlockInRange (after_line n d (object ns)) in subst P (sym none) (closed none)); fact_set = r.fact_set; few_facts = r.few_facts; facts = atoms-kept (problem_of d) after more 0 d.facts r.facts; no_building = r.no_building; no_height = r.no_height; nodes = r.nodes; no_shapes = r.no_shapes; few_results = r.few_results; commands = λ k c below. command-kept (problem_of d) after more (length d.names.results) (length d.names.results) (omega arith) _ (r.commands k c below) }
+      record { few_objects = omega (arith, length-append d.names.objects ns, at-most 256 (length d.names.objects + length ns) full.0); short_lists = r.short_lists; few_commands = r.few_commands; results = r.results; predicates = r.predicates; few_predicates = r.few_predicates; few_operators = r.few_operators; arities = r.arities; no_axioms = r.no_axioms; schemas = λ k below. schema-kept (problem_of d) after more k _ (r.schemas k below); no_parameters = λ empty. r.no_parameters (omega (arith, length-append d.names.objects ns, empty)); block = (let P : Option OpenBlock → Type 0 = IsBlockInRange (after_line n d (object ns)) in subst P (sym none) (closed none)); fact_set = r.fact_set; few_facts = r.few_facts; facts = atoms-kept (problem_of d) after more 0 d.facts r.facts; no_building = r.no_building; no_height = r.no_height; nodes = r.nodes; no_shapes = r.no_shapes; few_results = r.few_results; commands = λ k c below. command-kept (problem_of d) after more (length d.names.results) (length d.names.results) (omega arith) _ (r.commands k c below) }
 
   predicate-kept : (name : List ℕ) (arity : ℕ) → IsFaultless d (predicate name arity) → AreInRange (after_line n d (predicate name arity))
   predicate-kept name arity f =
@@ -167,7 +184,7 @@ module _ (n : ℕ) (d : Declared) (r : AreInRange d) where
         objects = omega arith;
         arities = λ k below. (omega (arith, below, length-append d.arities (arity ∷ [])), get_or-append d.arities (arity ∷ []) 0 k below);
       } in
-      record { predicates = omega (arith, length-append d.arities (arity ∷ []), length-append d.names.predicates (name ∷ []), r.predicates); few_predicates = omega (arith, length-append d.names.predicates (name ∷ []), at-most 64 (length d.names.predicates + 1) full.0); few_operators = r.few_operators; arities = All-append (λ k. k ≤ 6) d.arities (arity ∷ []) r.arities (one-all (λ k. k ≤ 6) arity (at-most 6 arity wide.0)); no_axioms = r.no_axioms; schemas = λ k below. schema-kept (problem_of d) after more k _ (r.schemas k below); no_parameters = r.no_parameters; block = (let P : Option OpenBlock → Type 0 = IsBlockInRange (after_line n d (predicate name arity)) in subst P (sym none) (closed none)); fact_set = r.fact_set; few_facts = r.few_facts; facts = atoms-kept (problem_of d) after more 0 d.facts r.facts; no_building = r.no_building; no_height = r.no_height; nodes = r.nodes; no_shapes = r.no_shapes; few_results = r.few_results; commands = λ k c below. command-kept (problem_of d) after more (length d.names.results) (length d.names.results) (omega arith) _ (r.commands k c below) }
+      record { few_objects = r.few_objects; short_lists = r.short_lists; few_commands = r.few_commands; results = r.results; predicates = omega (arith, length-append d.arities (arity ∷ []), length-append d.names.predicates (name ∷ []), r.predicates); few_predicates = omega (arith, length-append d.names.predicates (name ∷ []), at-most 64 (length d.names.predicates + 1) full.0); few_operators = r.few_operators; arities = All-append (λ k. k ≤ 6) d.arities (arity ∷ []) r.arities (one-all (λ k. k ≤ 6) arity (at-most 6 arity wide.0)); no_axioms = r.no_axioms; schemas = λ k below. schema-kept (problem_of d) after more k _ (r.schemas k below); no_parameters = r.no_parameters; block = (let P : Option OpenBlock → Type 0 = IsBlockInRange (after_line n d (predicate name arity)) in subst P (sym none) (closed none)); fact_set = r.fact_set; few_facts = r.few_facts; facts = atoms-kept (problem_of d) after more 0 d.facts r.facts; no_building = r.no_building; no_height = r.no_height; nodes = r.nodes; no_shapes = r.no_shapes; few_results = r.few_results; commands = λ k c below. command-kept (problem_of d) after more (length d.names.results) (length d.names.results) (omega arith) _ (r.commands k c below) }
 
   operator-kept : (name : List ℕ) (ps : List (List ℕ)) → IsFaultless d (operator name ps) → AreInRange (after_line n d (operator name ps))
   operator-kept name ps f =
@@ -184,7 +201,7 @@ module _ (n : ℕ) (d : Declared) (r : AreInRange d) where
         add = λ k t below. absurd (omega (arith, below));
         short = (omega arith, omega arith, omega arith);
       } in
-      record { predicates = r.predicates; few_predicates = r.few_predicates; few_operators = omega (arith, length-append d.names.operators (name ∷ []), at-most 32 (length d.names.operators + 1) full.0); arities = r.arities; no_axioms = r.no_axioms; schemas = r.schemas; no_parameters = r.no_parameters; block = (omega (arith, length-append d.names.operators (name ∷ []), closed none), refl, opened, at_first); fact_set = r.fact_set; few_facts = r.few_facts; facts = r.facts; no_building = r.no_building; no_height = r.no_height; nodes = r.nodes; no_shapes = r.no_shapes; few_results = r.few_results; commands = r.commands }
+      record { few_objects = r.few_objects; short_lists = r.short_lists; few_commands = r.few_commands; results = r.results; predicates = r.predicates; few_predicates = r.few_predicates; few_operators = omega (arith, length-append d.names.operators (name ∷ []), at-most 32 (length d.names.operators + 1) full.0); arities = r.arities; no_axioms = r.no_axioms; schemas = r.schemas; no_parameters = r.no_parameters; block = (omega (arith, length-append d.names.operators (name ∷ []), closed none), refl, opened, at_first, (omega arith, omega arith, omega arith)); fact_set = r.fact_set; few_facts = r.few_facts; facts = r.facts; no_building = r.no_building; no_height = r.no_height; nodes = r.nodes; no_shapes = r.no_shapes; few_results = r.few_results; commands = r.commands }
 
   fact-kept : (atoms : List WrittenAtom) → IsFaultless d (fact atoms) → AreInRange (after_line n d (fact atoms))
   fact-kept atoms f =
@@ -194,7 +211,7 @@ module _ (n : ℕ) (d : Declared) (r : AreInRange d) where
       let new = atoms-are d (problem_of d) refl refl r.predicates atoms known.0 known.1 f.arity (and-true _ unbound.0) (and-true _ unbound.1) in
       let P : Option OpenBlock → Type 0 = λ o. All (IsAtomOf (problem_of d) (length (parameters_of o))) (map (atom_of d []) atoms) in
       let all = All-append (IsAtomOf (problem_of d) 0) (map (atom_of d []) atoms) d.facts (subst P none new) r.facts in
-      record { predicates = r.predicates; few_predicates = r.few_predicates; few_operators = r.few_operators; arities = r.arities; no_axioms = r.no_axioms; schemas = r.schemas; no_parameters = r.no_parameters; block = (let P : Option OpenBlock → Type 0 = IsBlockInRange (after_line n d (fact atoms)) in subst P (sym none) (closed none)); fact_set = set_of-is_sorted atom_cmp atom_cmp-total atom_cmp-same (map (atom_of d []) atoms ++ d.facts); few_facts = at-most 512 (length (atom_set (map (atom_of d []) atoms ++ d.facts))) (passes-test (nat_lt 512 (length (atom_set (map (atom_of d []) atoms ++ d.facts)))) 11 None f.limit).0; facts = All-each (IsAtomOf (problem_of d) 0) _ (λ q in_set. All-at (IsAtomOf (problem_of d) 0) _ q all ((set_of-members atom_cmp atom_cmp-total atom_cmp-same (map (atom_of d []) atoms ++ d.facts) q).0 in_set)); no_building = r.no_building; no_height = r.no_height; nodes = r.nodes; no_shapes = r.no_shapes; few_results = r.few_results; commands = r.commands }
+      record { few_objects = r.few_objects; short_lists = r.short_lists; few_commands = r.few_commands; results = r.results; predicates = r.predicates; few_predicates = r.few_predicates; few_operators = r.few_operators; arities = r.arities; no_axioms = r.no_axioms; schemas = r.schemas; no_parameters = r.no_parameters; block = (let P : Option OpenBlock → Type 0 = IsBlockInRange (after_line n d (fact atoms)) in subst P (sym none) (closed none)); fact_set = set_of-is_sorted atom_cmp atom_cmp-total atom_cmp-same (map (atom_of d []) atoms ++ d.facts); few_facts = at-most 512 (length (atom_set (map (atom_of d []) atoms ++ d.facts))) (passes-test (nat_lt 512 (length (atom_set (map (atom_of d []) atoms ++ d.facts)))) 11 None f.limit).0; facts = All-each (IsAtomOf (problem_of d) 0) _ (λ q in_set. All-at (IsAtomOf (problem_of d) 0) _ q all ((set_of-members atom_cmp atom_cmp-total atom_cmp-same (map (atom_of d []) atoms ++ d.facts) q).0 in_set)); no_building = r.no_building; no_height = r.no_height; nodes = r.nodes; no_shapes = r.no_shapes; few_results = r.few_results; commands = r.commands }
 
   plan-kept : (name : List ℕ) (atoms : List WrittenAtom) → IsFaultless d (plan name atoms) → AreInRange (after_line n d (plan name atoms))
   plan-kept name atoms f =
@@ -207,11 +224,16 @@ module _ (n : ℕ) (d : Declared) (r : AreInRange d) where
       let goal = subst P none new in
       let variables : variables_of atoms ≡ [] = variables-none (flat_map (λ atom. atom.arguments) atoms) small.0 in
       let results = length-append d.names.results (name ∷ []) in
+      let long = passes-test (is_long name) 1 _ f.limit in
+      let many = passes-test (nat_lt 12 (length (variables_of atoms))) 7 _ long.1 in
+      let large = passes-test (nat_lt 16 (length atoms)) 12 _ many.1 in
+      let full = passes-test (nat_lt 512 (length d.commands + 1)) 13 None large.1 in
+      let given : Command = Plan (length d.names.results) (map (atom_of d (variables_of atoms)) atoms) (length (variables_of atoms)) in
       let command : IsCommandOf (problem_of d) (length (d.names.results ++ name ∷ [])) (Plan (length d.names.results) (map (atom_of d (variables_of atoms)) atoms) (length (variables_of atoms))) =
       rw variables (omega (arith, results), omega arith, omega (arith, length-map atoms (atom_of d []), at-most 12 (length atoms) small.1), goal) in
       let earlier : All (IsCommandOf (problem_of d) (length (d.names.results ++ name ∷ []))) d.commands =
       λ k c below. command-kept (problem_of d) (problem_of d) (same (problem_of d)) (length d.names.results) (length (d.names.results ++ name ∷ [])) (omega (arith, results)) _ (r.commands k c below) in
-      record { predicates = r.predicates; few_predicates = r.few_predicates; few_operators = r.few_operators; arities = r.arities; no_axioms = r.no_axioms; schemas = r.schemas; no_parameters = r.no_parameters; block = (let P : Option OpenBlock → Type 0 = IsBlockInRange (after_line n d (plan name atoms)) in subst P (sym none) (closed none)); fact_set = r.fact_set; few_facts = r.few_facts; facts = r.facts; no_building = r.no_building; no_height = r.no_height; nodes = r.nodes; no_shapes = r.no_shapes; few_results = omega (arith, results, r.few_results, length-append d.commands (Plan (length d.names.results) (map (atom_of d (variables_of atoms)) atoms) (length (variables_of atoms)) ∷ [])); commands = All-append (IsCommandOf (problem_of d) (length (d.names.results ++ name ∷ []))) d.commands _ earlier (one-all (IsCommandOf (problem_of d) (length (d.names.results ++ name ∷ []))) _ command) }
+      record { few_objects = r.few_objects; short_lists = r.short_lists; few_commands = omega (arith, length-append d.commands (given ∷ []), at-most 512 (length d.commands + 1) full.0); results = one-more-given d.commands (length d.names.results) name d.names.results refl (map (atom_of d (variables_of atoms)) atoms) (length (variables_of atoms)) r.results; predicates = r.predicates; few_predicates = r.few_predicates; few_operators = r.few_operators; arities = r.arities; no_axioms = r.no_axioms; schemas = r.schemas; no_parameters = r.no_parameters; block = (let P : Option OpenBlock → Type 0 = IsBlockInRange (after_line n d (plan name atoms)) in subst P (sym none) (closed none)); fact_set = r.fact_set; few_facts = r.few_facts; facts = r.facts; no_building = r.no_building; no_height = r.no_height; nodes = r.nodes; no_shapes = r.no_shapes; few_results = omega (arith, results, r.few_results, length-append d.commands (Plan (length d.names.results) (map (atom_of d (variables_of atoms)) atoms) (length (variables_of atoms)) ∷ [])); commands = All-append (IsCommandOf (problem_of d) (length (d.names.results ++ name ∷ []))) d.commands _ earlier (one-all (IsCommandOf (problem_of d) (length (d.names.results ++ name ∷ []))) _ command) }
 
   pre-in : (atoms : List WrittenAtom) → IsFaultless d (pre atoms) → (line : ℕ) (kind : BlockKind) → d.block ≡ Some (record { line = line; kind = kind })
       → AreInRange (record (in_open (λ schema. record schema { pre = schema.pre ++ map (atom_of d []) atoms }) d (Some (record { line = line; kind = kind }))) { begun = true })
@@ -233,7 +255,7 @@ module _ (n : ℕ) (d : Declared) (r : AreInRange d) where
       let longer : length (schema.pre ++ map (atom_of d []) atoms) ≤ 16 = omega (arith, length-append schema.pre (map (atom_of d []) atoms), length-map atoms (atom_of d []), few) in
       let grown : IsSchemaOf (problem_of d) (length d.schemas) (record schema { pre = schema.pre ++ map (atom_of d []) atoms }) =
       record { number = is.number; params = is.params; pre = All-append (IsAtomOf (problem_of d) schema.params) schema.pre (map (atom_of d []) atoms) is.pre (subst Q (sym params) new); del = is.del; add = is.add; short = (omega (arith, longer), is.short.1, is.short.2) } in
-      record { predicates = r.predicates; few_predicates = r.few_predicates; few_operators = r.few_operators; arities = r.arities; no_axioms = r.no_axioms; schemas = r.schemas; no_parameters = r.no_parameters; block = (open_block.0, open_block.1, grown, open_block.3); fact_set = r.fact_set; few_facts = r.few_facts; facts = r.facts; no_building = r.no_building; no_height = r.no_height; nodes = r.nodes; no_shapes = r.no_shapes; few_results = r.few_results; commands = r.commands }
+      record { few_objects = r.few_objects; short_lists = r.short_lists; few_commands = r.few_commands; results = r.results; predicates = r.predicates; few_predicates = r.few_predicates; few_operators = r.few_operators; arities = r.arities; no_axioms = r.no_axioms; schemas = r.schemas; no_parameters = r.no_parameters; block = (open_block.0, open_block.1, grown, open_block.3, (longer, open_block.4.1, open_block.4.2)); fact_set = r.fact_set; few_facts = r.few_facts; facts = r.facts; no_building = r.no_building; no_height = r.no_height; nodes = r.nodes; no_shapes = r.no_shapes; few_results = r.few_results; commands = r.commands }
 
   pre-at : (atoms : List WrittenAtom) → IsFaultless d (pre atoms) → (o : Option OpenBlock) → d.block ≡ o → AreInRange (record (in_open (λ schema. record schema { pre = schema.pre ++ map (atom_of d []) atoms }) d o) { begun = true })
   pre-at atoms f None e = let inside = rw e at (stands-right d (pre atoms) f.order).inside in true_not_false true refl inside
@@ -259,7 +281,7 @@ module _ (n : ℕ) (d : Declared) (r : AreInRange d) where
       let longer : length (schema.del ++ map (atom_of d []) atoms) ≤ 16 = omega (arith, length-append schema.del (map (atom_of d []) atoms), length-map atoms (atom_of d []), few) in
       let grown : IsSchemaOf (problem_of d) (length d.schemas) (record schema { del = schema.del ++ map (atom_of d []) atoms }) =
       record { number = is.number; params = is.params; pre = is.pre; del = All-append (IsPatternOf (problem_of d) schema.params) schema.del (map (atom_of d []) atoms) is.del (subst Q (sym params) new); add = is.add; short = (is.short.0, omega (arith, longer), is.short.2) } in
-      record { predicates = r.predicates; few_predicates = r.few_predicates; few_operators = r.few_operators; arities = r.arities; no_axioms = r.no_axioms; schemas = r.schemas; no_parameters = r.no_parameters; block = (open_block.0, open_block.1, grown, open_block.3); fact_set = r.fact_set; few_facts = r.few_facts; facts = r.facts; no_building = r.no_building; no_height = r.no_height; nodes = r.nodes; no_shapes = r.no_shapes; few_results = r.few_results; commands = r.commands }
+      record { few_objects = r.few_objects; short_lists = r.short_lists; few_commands = r.few_commands; results = r.results; predicates = r.predicates; few_predicates = r.few_predicates; few_operators = r.few_operators; arities = r.arities; no_axioms = r.no_axioms; schemas = r.schemas; no_parameters = r.no_parameters; block = (open_block.0, open_block.1, grown, open_block.3, (open_block.4.0, longer, open_block.4.2)); fact_set = r.fact_set; few_facts = r.few_facts; facts = r.facts; no_building = r.no_building; no_height = r.no_height; nodes = r.nodes; no_shapes = r.no_shapes; few_results = r.few_results; commands = r.commands }
 
   delete-at : (atoms : List WrittenAtom) → IsFaultless d (delete atoms) → (o : Option OpenBlock) → d.block ≡ o → AreInRange (record (in_open (λ schema. record schema { del = schema.del ++ map (atom_of d []) atoms }) d o) { begun = true })
   delete-at atoms f None e = let inside = rw e at (stands-right d (delete atoms) f.order).inside in true_not_false true refl inside
@@ -285,7 +307,7 @@ module _ (n : ℕ) (d : Declared) (r : AreInRange d) where
       let longer : length (schema.add ++ map (atom_of d []) atoms) ≤ 16 = omega (arith, length-append schema.add (map (atom_of d []) atoms), length-map atoms (atom_of d []), few) in
       let grown : IsSchemaOf (problem_of d) (length d.schemas) (record schema { add = schema.add ++ map (atom_of d []) atoms }) =
       record { number = is.number; params = is.params; pre = is.pre; del = is.del; add = All-append (IsAtomOf (problem_of d) schema.params) schema.add (map (atom_of d []) atoms) is.add (subst Q (sym params) new); short = (is.short.0, is.short.1, omega (arith, longer)) } in
-      record { predicates = r.predicates; few_predicates = r.few_predicates; few_operators = r.few_operators; arities = r.arities; no_axioms = r.no_axioms; schemas = r.schemas; no_parameters = r.no_parameters; block = (open_block.0, open_block.1, grown, open_block.3); fact_set = r.fact_set; few_facts = r.few_facts; facts = r.facts; no_building = r.no_building; no_height = r.no_height; nodes = r.nodes; no_shapes = r.no_shapes; few_results = r.few_results; commands = r.commands }
+      record { few_objects = r.few_objects; short_lists = r.short_lists; few_commands = r.few_commands; results = r.results; predicates = r.predicates; few_predicates = r.few_predicates; few_operators = r.few_operators; arities = r.arities; no_axioms = r.no_axioms; schemas = r.schemas; no_parameters = r.no_parameters; block = (open_block.0, open_block.1, grown, open_block.3, (open_block.4.0, open_block.4.1, longer)); fact_set = r.fact_set; few_facts = r.few_facts; facts = r.facts; no_building = r.no_building; no_height = r.no_height; nodes = r.nodes; no_shapes = r.no_shapes; few_results = r.few_results; commands = r.commands }
 
   add-at : (atoms : List WrittenAtom) → IsFaultless d (add atoms) → (o : Option OpenBlock) → d.block ≡ o → AreInRange (record (in_open (λ schema. record schema { add = schema.add ++ map (atom_of d []) atoms }) d o) { begun = true })
   add-at atoms f None e = let inside = rw e at (stands-right d (add atoms) f.order).inside in true_not_false true refl inside
@@ -307,7 +329,7 @@ module _ (n : ℕ) (d : Declared) (r : AreInRange d) where
             let S : Schema → Type 0 = IsSchemaOf (problem_of after) (length d.schemas) in
             subst T last (subst S (sym (get_or-append_seam d.schemas schema [] no_schema)) (schema-kept (problem_of d) (problem_of after) more (length d.schemas) schema open_block.2)))
       ] in
-      record { predicates = r.predicates; few_predicates = r.few_predicates; few_operators = r.few_operators; arities = r.arities; no_axioms = r.no_axioms; schemas = each; no_parameters = λ empty. All-append (λ s. s.params ≡ 0) d.schemas (schema ∷ []) (r.no_parameters empty) (one-all (λ s. s.params ≡ 0) schema (open_block.3 empty)); block = omega (arith, count, open_block.0); fact_set = r.fact_set; few_facts = r.few_facts; facts = atoms-kept (problem_of d) (problem_of after) more 0 d.facts r.facts; no_building = r.no_building; no_height = r.no_height; nodes = r.nodes; no_shapes = r.no_shapes; few_results = r.few_results; commands = λ k c below. command-kept (problem_of d) (problem_of after) more (length d.names.results) (length d.names.results) (omega arith) _ (r.commands k c below) }
+      record { few_objects = r.few_objects; short_lists = All-append HasShortLists d.schemas (schema ∷ []) r.short_lists (one-all HasShortLists schema open_block.4); few_commands = r.few_commands; results = r.results; predicates = r.predicates; few_predicates = r.few_predicates; few_operators = r.few_operators; arities = r.arities; no_axioms = r.no_axioms; schemas = each; no_parameters = λ empty. All-append (λ s. s.params ≡ 0) d.schemas (schema ∷ []) (r.no_parameters empty) (one-all (λ s. s.params ≡ 0) schema (open_block.3 empty)); block = omega (arith, count, open_block.0); fact_set = r.fact_set; few_facts = r.few_facts; facts = atoms-kept (problem_of d) (problem_of after) more 0 d.facts r.facts; no_building = r.no_building; no_height = r.no_height; nodes = r.nodes; no_shapes = r.no_shapes; few_results = r.few_results; commands = λ k c below. command-kept (problem_of d) (problem_of after) more (length d.names.results) (length d.names.results) (omega arith) _ (r.commands k c below) }
 
   end-at : IsFaultless d end → (o : Option OpenBlock) → d.block ≡ o → AreInRange (record (close_open d o) { begun = true })
   end-at f None e = let inside = rw e at (stands-right d end f.order).inside in true_not_false true refl inside
@@ -355,6 +377,10 @@ no-facts = tt
 
 pub nothing-in_range : AreInRange nothing_declared
 nothing-in_range = record {
+  few_objects = omega arith;
+  short_lists = λ k t below. absurd (omega (arith, below));
+  few_commands = omega arith;
+  results = refl;
   predicates = refl;
   few_predicates = omega arith;
   few_operators = omega arith;
@@ -381,6 +407,7 @@ nodes-in (Some n) h = h
 valid : (d : Declared) → AreInRange d → d.block ≡ None → IsValid (problem_of d)
 valid d r closed = record {
   schemas = r.schemas;
+  arena = rw r.no_axioms (record { each = λ k t below. absurd (omega (arith, below)); most = omega arith });
   axioms = rw r.no_axioms (λ k t below. absurd (omega (arith, below)));
   short = (omega (arith, r.predicates, r.few_predicates), omega (arith, r.few_operators, (let P : Option OpenBlock → Type 0 = IsBlockInRange d in subst P closed r.block)));
   height = rw r.no_height (omega arith, omega arith);
@@ -389,13 +416,29 @@ valid d r closed = record {
   no_objects = λ empty. (r.no_parameters empty, rw r.no_axioms (λ k t below. absurd (omega (arith, below))));
 }
 
+-- what lines have declared that leave no block open is in range
+pub declared-in-range : (d : Declared) → AreInRange d → d.block ≡ None → IsInRange (content_of d)
+declared-in-range d r closed =
+    let operators : length d.schemas ≡ length d.names.operators = subst (IsBlockInRange d) closed r.block in
+    record {
+      problem = valid d r closed;
+      objects = refl;
+      predicates = sym r.predicates;
+      operators = sym operators;
+      few_objects = r.few_objects;
+      few_predicates = rw r.predicates r.few_predicates;
+      arities = r.arities;
+      few_operators = rw operators r.few_operators;
+      short_lists = r.short_lists;
+      fact_set = rw r.no_building r.fact_set;
+      facts = rw r.no_building r.facts;
+      few_facts = λ none. rw r.no_building r.few_facts;
+      commands = r.commands;
+      few_commands = r.few_commands;
+      results = r.results;
+    }
+
 pub in-range : (bytes : List ℕ) (content : ScriptValue) → IsScript bytes content → IsInRange content
 in-range bytes content is =
     let r = lines-kept 1 nothing_declared (lines_of bytes) is.last nothing-in_range is.spells.lines in
-    let ranges : IsInRange (content_of is.last) = record {
-      problem = valid is.last r is.spells.closed;
-      fact_set = rw r.no_building r.fact_set;
-      facts = rw r.no_building r.facts;
-      commands = r.commands;
-    } in
-    subst IsInRange (sym is.is) ranges
+    subst IsInRange (sym is.is) (declared-in-range is.last r is.spells.closed)

@@ -18,3 +18,7 @@ pub mod Faultless
 pub mod FactSets
 pub mod Right
 pub mod Named
+pub mod Plain
+pub mod PlainReading
+pub mod NoText
+pub mod Worked

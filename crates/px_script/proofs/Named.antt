@@ -1,13 +1,13 @@
 -- The names in the lexemes of a line are names, and so are those that a statement declares.
-use Rattle.std.proofs.Common.{◌≡◌, ℕ, Bool, true, false, List, [], ◌∷◌, ◌++◌, map, length, refl, sym, ap, ◌∙◌, subst, arith}
-use Rattle.std.specs.Prelude.{All, ◌&&◌, encode_utf8_all}
-use Rattle.std.specs.List.{AllByRecursion, flat_map}
+use Rattle.std.proofs.Common.{◌≡◌, ℕ, Bool, true, List, [], ◌∷◌, ◌++◌, map, refl, sym, ap, ◌∙◌, subst, arith}
+use Rattle.std.specs.Prelude.{All}
+use Rattle.std.specs.List.{AllByRecursion}
 use Rattle.std.specs.Str.{chars, all_scalars}
 use Rattle.std.proofs.lemmas.List.Elements.{All-cons}
 use Rattle.std.proofs.lemmas.Str.{chars-encodes}
 use Rattle.px_names.specs.Name.{is_name, is_name_text}
 use Rattle.px_script.specs.Lexemes.{Lexeme, IsLexeme, name, variable, number, sign, Begins, Lexes}
-use Rattle.px_script.specs.Statements.{Statement, Forms, spelling, in_parentheses, spell_atom, script, object, predicate, «axiom», operator, pre, delete, add, building, room, door, box, robot, end, fact, height, nodes, shapes, plan, learn, show, disturb_atoms, disturb_rooms, run, facts, open_word}
+use Rattle.px_script.specs.Statements.{Statement, Forms, spelling, object, predicate, operator, room, door, box, plan, learn}
 use Rattle.px_script.specs.Faults.{declared_names}
 use Rattle.px_script.proofs.Firsts.{and_both}
 

@@ -1,7 +1,7 @@
 -- What is known of a line that has no fault but for limits.
-use Rattle.std.proofs.Common.{◌≡◌, ℕ, ◌≤◌, ◌<◌, Bool, true, false, List, [], ◌∷◌, map, length, get_or, refl, sym, ap, ◌∙◌, subst, inl, inr, arith}
-use Rattle.std.specs.Prelude.{◌+◌, nat_lt, Option, None, Some, All, not, ◌==◌, slice_index}
-use Rattle.std.specs.List.{list_any, flat_map}
+use Rattle.std.proofs.Common.{◌≡◌, ℕ, ◌≤◌, ◌<◌, true, false, List, [], map, length, refl, subst, inl, inr, arith}
+use Rattle.std.specs.Prelude.{◌+◌, nat_lt, Option, None, Some, All, slice_index}
+use Rattle.std.specs.List.{flat_map}
 use Rattle.std.proofs.lemmas.Bool.{eqb-true, cases_lt}
 use Rattle.std.proofs.lemmas.List.{get_or_past}
 use Rattle.std.proofs.lemmas.Bool.Decides.{nat_tests}
@@ -22,7 +22,6 @@ use Rattle.px_script.specs.Ranges.{IsBlockInRange, AreInRange}
 use Rattle.px_script.proofs.Arguments.{or-false, not-false, atoms-are, each-fails}
 use Rattle.px_script.proofs.Faultless.{stands-right, no-block, and-true, passes-test, at-most}
 use Rattle.px_script.proofs.Kept.{variables-none, atoms-known}
-use Rattle.px_script.proofs.Fronts.{by_test}
 
 few-in : (d : Declared) (o : Option OpenBlock) → IsBlockInRange d o → length (parameters_of o) ≤ 8
 few-in d None h = omega arith

@@ -12,5 +12,6 @@ pub mod Scripts
 pub mod Scanning
 pub mod Progress
 pub mod Parsing
-pub mod Plain
 pub mod Ranges
+pub mod Worked
+pub mod RangeLaws

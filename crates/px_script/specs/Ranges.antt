@@ -1,10 +1,11 @@
 -- The numbers of a script are in range.
-use Rattle.std.specs.Prelude.{◌≡◌, ◌<◌, ◌≤◌, ℕ, ◌+◌, List, [], length, Option, None, Some, All, IfSome, slice_index_or, EachIndex}
+use Rattle.std.specs.Prelude.{◌≡◌, ◌<◌, ◌≤◌, ℕ, ◌+◌, List, [], ◌∷◌, length, Option, None, Some, All, IfSome, slice_index_or, EachIndex}
+use Rattle.std.specs.List.{flat_map, range_with_len}
 use Rattle.px_terms.specs.AtomSets.{IsAtomSet}
 use Rattle.px_terms.specs.Operators.{no_schema}
 use Rattle.px_terms.specs.Validity.{IsValid, IsAtomOf, IsSchemaOf}
-use Rattle.px_terms.specs.declared.atom.Atom.{Atom}
 use Rattle.px_terms.specs.declared.problem.Problem.{Problem}
+use Rattle.px_terms.specs.declared.problem.Schema.{Schema}
 use Rattle.px_script.specs.Commands.{AtomEdit, RoomEdit, Command, Insert, Remove, Robot, Box, Door, Plan, Learn, Show, DisturbAtoms, DisturbRooms, Run, Facts}
 use Rattle.px_script.specs.Declarations.{Declared, OpenBlock, of_operator, of_building}
 use Rattle.px_script.specs.Content.{ScriptValue, problem_of}
@@ -28,30 +29,55 @@ IsCommandOf problem results (DisturbRooms turn between edits) = All (IsRoomEditO
 IsCommandOf problem results (Run name bindings) = (name < results) × All (λ b. b.1 < problem.objects) bindings
 IsCommandOf problem results Facts = Unit {0}
 
--- The problem is valid, and the facts and the commands are over its numbers.
+-- each list of the operator has at most 16 atoms
+abbrev pub HasShortLists : Schema → Type 0
+HasShortLists schema = (length schema.pre ≤ 16) × (length schema.del ≤ 16) × (length schema.add ≤ 16)
+
+-- the result that a command gives, by its number
+abbrev pub result_given : Command → List ℕ
+result_given (Plan name goal vars) = name ∷ []
+result_given (Learn name source) = name ∷ []
+result_given _ = []
+
+-- The problem is valid, each of its numbers has a name, the facts and the commands are over its numbers, all is within the limits,
+-- and each result is given once, in the order of the commands.
 pub record IsInRange (script : ScriptValue) : Type 0 where
   pub problem : IsValid script.problem
+  pub objects : length script.names.objects ≡ script.problem.objects
+  pub predicates : length script.names.predicates ≡ length script.problem.arities
+  pub operators : length script.names.operators ≡ length script.problem.schemas
+  pub few_objects : script.problem.objects ≤ 256
+  pub few_predicates : length script.problem.arities ≤ 64
+  pub arities : All (λ n. n ≤ 6) script.problem.arities
+  pub few_operators : length script.problem.schemas ≤ 32
+  pub short_lists : All HasShortLists script.problem.schemas
   pub fact_set : IsAtomSet script.facts
   pub facts : All (IsAtomOf script.problem 0) script.facts
+  pub few_facts : script.building ≡ None → length script.facts ≤ 512
   pub commands : All (IsCommandOf script.problem (length script.names.results)) script.commands
+  pub few_commands : length script.commands ≤ 512
+  pub results : flat_map result_given script.commands ≡ range_with_len 0 (length script.names.results)
 
 -- The operator of the block is in range, if one is open, and has the number that its schema will have.
 abbrev pub IsBlockInRange : Declared → Option OpenBlock → Type 0
 IsBlockInRange d None = length d.schemas ≡ length d.names.operators
 IsBlockInRange d (Some block) = elim block.kind [
   | of_operator parameters schema ↦
-      (length d.schemas + 1 ≡ length d.names.operators) × (schema.params ≡ length parameters) × IsSchemaOf (problem_of d) (length d.schemas) schema × (length d.names.objects ≡ 0 → schema.params ≡ 0)
+      (length d.schemas + 1 ≡ length d.names.operators) × (schema.params ≡ length parameters) × IsSchemaOf (problem_of d) (length d.schemas) schema
+      × (length d.names.objects ≡ 0 → schema.params ≡ 0) × HasShortLists schema
   | of_building ↦ ⊥
 ]
 
 -- What the lines so far have declared is in range, as far as the language is built.
 pub record AreInRange (d : Declared) : Type 0 where
   pub predicates : length d.arities ≡ length d.names.predicates
+  pub few_objects : length d.names.objects ≤ 256
   pub few_predicates : length d.names.predicates ≤ 64
   pub few_operators : length d.names.operators ≤ 32
   pub arities : All (λ n. n ≤ 6) d.arities
   pub no_axioms : d.axioms ≡ []
   pub schemas : EachIndex d.schemas (λ k. IsSchemaOf (problem_of d) k (slice_index_or d.schemas k no_schema))
+  pub short_lists : All HasShortLists d.schemas
   pub no_parameters : length d.names.objects ≡ 0 → All (λ schema. schema.params ≡ 0) d.schemas
   pub block : IsBlockInRange d d.block
   pub fact_set : IsAtomSet d.facts
@@ -63,3 +89,5 @@ pub record AreInRange (d : Declared) : Type 0 where
   pub no_shapes : d.shape_limit ≡ None
   pub few_results : length d.names.results ≤ length d.commands
   pub commands : All (IsCommandOf (problem_of d) (length d.names.results)) d.commands
+  pub few_commands : length d.commands ≤ 512
+  pub results : flat_map result_given d.commands ≡ range_with_len 0 (length d.names.results)

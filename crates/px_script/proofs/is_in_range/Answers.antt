@@ -1,6 +1,4 @@
 use Rattle.px_script.proofs.Kept.{in-range}
-use Rattle.px_script.proofs.Right.{facts-are}
-use Rattle.px_script.proofs.Named.{declared-named}
 use Rattle.px_script.proofs.is_in_range.Goals as goal
 
 pub returns : goal.returns

@@ -2,6 +2,7 @@ use Rattle.std.proofs.Common.{◌≡◌, refl, sym, ap, ◌∙◌, subst, inr, l
 use Rattle.px_script.specs.Declarations.{nothing_declared}
 use Rattle.px_script.specs.Lines.{lines_of}
 use Rattle.px_script.specs.Scripts.{PassAll, FailsIn}
+use Rattle.px_script.proofs.Kept.{lines-kept, nothing-in_range}
 use Rattle.px_reader.specs.LineReads.{characters_of, HasFirstFault, LinesFail, content}
 use Rattle.px_reader.specs.Readers.{declared_of}
 use Rattle.px_reader.proofs.Outcomes.{parts-lines, few-parts, left-open, text-fails, err-carried}
@@ -12,6 +13,9 @@ read_each-requires-clause-few c =
     let few = few-parts c.in-Ok.lines.items c.args.text.now (rw c.without_mark.ensures at c.in-Ok.ensures) in
     let same = ap length c.deref.ensures.value in
     omega (arith, few, same, c.requires)
+
+pub finish-requires : goal.finish-requires
+finish-requires c = lines-kept 1 nothing_declared _ _ nothing-in_range c.in_ok-read_each.ensures.passes
 
 pub returns-in_err-read_each-clause-refused : goal.returns-in_err-read_each-clause-refused
 returns-in_err-read_each-clause-refused c =

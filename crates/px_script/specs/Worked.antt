@@ -1,0 +1,83 @@
+-- Small texts, and what the definitions say of them.
+use Rattle.std.specs.Prelude.{ℕ, List, [], ◌∷◌, codes, None}
+use Rattle.px_terms.specs.declared.atom.Atom.{Atom}
+use Rattle.px_terms.specs.declared.term.Term.{Term}
+use Rattle.px_terms.specs.declared.term.Term.TheVariants.{Obj, Var}
+use Rattle.px_script.specs.Commands.{Plan, Facts}
+use Rattle.px_script.specs.Content.{ScriptValue}
+use Rattle.px_script.specs.Scripts.{IsScript, FirstFault}
+
+-- the first fault of the bytes: its line, its code and its limit
+abbrev pub IsRefused : List ℕ → ℕ → ℕ → ℕ → Type 0
+IsRefused bytes line code limit = FirstFault bytes line (record { code = code; limit = limit })
+
+-- The predicate of this number, with one argument.
+abbrev pub of_one : ℕ → Term → Atom
+of_one p x = record { pred = p; args = x ∷ [] }
+
+-- two objects, two operators, the second of which needs what the first may delete, two facts, and two commands
+abbrev pub danger_text : List ℕ
+danger_text = codes "object a b\npredicate P 1\npredicate Q 1\npredicate R 1\npredicate G 1\noperator A(x)\npre P(x)\ndelete Q(x)\nadd R(x)\nend\noperator B(x,y)\npre R(x) Q(y)\nadd G(x)\nend\nfact P(a) Q(b)\nplan N G(a)\nfacts\n"
+
+abbrev pub danger : ScriptValue
+danger = record {
+  version = 1;
+  names = record {
+    objects = codes "a" ∷ codes "b" ∷ [];
+    predicates = codes "P" ∷ codes "Q" ∷ codes "R" ∷ codes "G" ∷ [];
+    operators = codes "A" ∷ codes "B" ∷ [];
+    results = codes "N" ∷ [];
+  };
+  problem = record {
+    objects = 2;
+    arities = 1 ∷ 1 ∷ 1 ∷ 1 ∷ [];
+    axioms = [];
+    schemas =
+        record { op = 0; params = 1; pre = of_one 0 (Var 0) ∷ []; del = of_one 1 (Var 0) ∷ []; add = of_one 2 (Var 0) ∷ [] }
+        ∷ record { op = 1; params = 2; pre = of_one 2 (Var 0) ∷ of_one 1 (Var 1) ∷ []; del = []; add = of_one 3 (Var 0) ∷ [] }
+        ∷ [];
+    height = 4;
+    nodes = 10000;
+    shapes = 10000;
+  };
+  facts = of_one 0 (Obj 0) ∷ of_one 1 (Obj 1) ∷ [];
+  building = None;
+  commands = Plan 0 (of_one 3 (Obj 0) ∷ []) 0 ∷ Facts ∷ [];
+}
+
+-- Carriage returns, an empty line, comments, tabs, zeros in front of a number, a fact that is told twice, and no line feed at the end.
+abbrev pub blanks_text : List ℕ
+blanks_text = codes "script 1\r\n\r\n# object c\nobject\ta b#c\npredicate P 01\nfact P(b)P( a )\nfact P (a)\nnodes 007\r"
+
+abbrev pub blanks : ScriptValue
+blanks = record {
+  version = 1;
+  names = record { objects = codes "a" ∷ codes "b" ∷ []; predicates = codes "P" ∷ []; operators = []; results = [] };
+  problem = record { objects = 2; arities = 1 ∷ []; axioms = []; schemas = []; height = 4; nodes = 7; shapes = 10000 };
+  facts = of_one 0 (Obj 0) ∷ of_one 0 (Obj 1) ∷ [];
+  building = None;
+  commands = [];
+}
+
+-- texts that are scripts, with what they are about
+pub record WorkedScripts : Type 0 where
+  pub danger : IsScript danger_text danger
+  pub blanks : IsScript blanks_text blanks
+
+-- texts that are no scripts, with the line, the code and the limit of their first fault
+pub record WorkedRefusals : Type 0 where
+  pub no_character : IsRefused (0xFF ∷ []) 1 1 0
+  pub no_name : IsRefused (codes "object 9") 1 2 0
+  pub unknown_word : IsRefused (codes "fly R1") 1 3 0
+  pub cut_word : IsRefused (codes "obj") 1 3 0
+  pub unknown_predicate : IsRefused (codes "fact P(a)") 1 4 0
+  pub object_twice : IsRefused (codes "object a a") 1 5 0
+  pub parameter_twice : IsRefused (codes "object a\noperator A(x,x)") 2 5 0
+  pub one_too_many : IsRefused (codes "object a\npredicate P 1\nfact P(a,a)") 3 6 0
+  pub variable_in_fact : IsRefused (codes "object a\npredicate P 1\nfact P(?x)") 3 7 0
+  pub wide_predicate : IsRefused (codes "predicate P 7") 1 8 4
+  pub other_version : IsRefused (codes "script 2") 1 8 16
+  pub late_object : IsRefused (codes "facts\nobject a") 2 9 0
+  pub cut_line : IsRefused (codes "object a\n\noperator A(x)\ndelete\n") 4 2 0
+  pub cut_block : IsRefused (codes "object a\n\noperator A(x)\n") 3 10 0
+  pub not_built : IsRefused (codes "object ROBOT R1 R2 R3 D1 D2 B1\npredicate INROOM 2\npredicate CONNECTS 3\npredicate BOX 1\naxiom ~CONNECTS(?d,?x,?y) CONNECTS(?d,?y,?x)\noperator GOTHRU(d,r1,r2)\npre INROOM(ROBOT,r1) CONNECTS(d,r1,r2)\ndelete INROOM(ROBOT,$)\n") 5 11 0
