@@ -1,0 +1,7 @@
+pub mod Lifting
+pub mod Pushing
+pub mod Attempts
+pub mod Trees
+pub mod Lists
+pub mod Ordering
+pub mod Visits

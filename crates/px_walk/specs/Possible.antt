@@ -1,11 +1,17 @@
 -- Which lists of ticks are unfinished or finished lists of proofs.
-use Rattle.std.specs.Prelude.{◌≡◌, ℕ, ◌<◌, Bool, Option, Some, None, List, ◌++◌, length, replicate}
+use Rattle.std.specs.Prelude.{◌≡◌, ℕ, ◌<◌, Bool, true, false, Option, Some, None, List, ◌++◌, length, replicate}
 use Rattle.std.specs.List.{AllByRecursion}
 use Rattle.px_terms.specs.declared.atom.Atom.{Atom}
 use Rattle.px_proof.specs.declared.shape.Tick.{Tick}
 use Rattle.px_proof.specs.declared.shape.Tick.TheVariants.{Fact, Anc, Step, Gap, Open}
-use Rattle.px_question.specs.Settings.{Setting}
+use Rattle.px_proof.specs.Proves.{Rules}
+use Rattle.px_question.specs.Settings.{Setting, proofs_in, loose_gaps_in}
 use Rattle.px_walk.specs.Pending.{Pending, open_after, goals_of, IsFeasible}
+
+-- finished proofs; or finished loose gap proofs, where gaps are allowed
+abbrev pub rules_for : Bool → Setting → Rules
+rules_for false s = proofs_in s
+rules_for true s = loose_gaps_in s
 
 -- the tick closes a place
 abbrev pub IsClosing : Tick → Type 0
