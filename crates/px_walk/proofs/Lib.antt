@@ -1,3 +1,4 @@
+pub mod Every
 pub mod Lifting
 pub mod Pushing
 pub mod Attempts
@@ -5,3 +6,6 @@ pub mod Trees
 pub mod Lists
 pub mod Ordering
 pub mod Visits
+pub mod Objects
+pub mod Scoping
+pub mod Partial

@@ -1,4 +1,5 @@
 -- What a walk in order has seen.
+use Rattle.px_walk.proofs.Every.{all-push, all-weaker}
 use Rattle.std.proofs.Common.{◌≡◌, ◌⊎◌, ℕ, zero, suc, ◌+◌, ◌<◌, ◌≤◌, List, [], ◌∷◌, ◌++◌, length, map, refl, ap, sym, subst, ◌∙◌, arith, inl, inr, length-append}
 use Rattle.std.specs.Prelude.{Contains}
 use Rattle.std.specs.List.{AllByRecursion}
@@ -9,14 +10,6 @@ use Rattle.px_walk.specs.Order.{IsNext, NoneAfter}
 use Rattle.px_question.specs.Limits.{IsAscending}
 use Rattle.px_walk.specs.Search.{AreSeen, ComesFirst, NoneComes, LimitComes}
 use Rattle.px_walk.proofs.Ordering.{shape_trichotomy, ShapeBefore-irrefl, ShapeBefore-trans}
-
-all-push : {X : Type 0} (P : X → Type 0) (xs : List X) (x : X) → AllByRecursion P xs → P x → AllByRecursion P (xs ++ x ∷ [])
-all-push P [] x all here = (here, tt)
-all-push P (y ∷ xs) x all here = (all.0, all-push P xs x all.1 here)
-
-all-weaker : {X : Type 0} (P Q : X → Type 0) (xs : List X) → ((x : X) → P x → Q x) → AllByRecursion P xs → AllByRecursion Q xs
-all-weaker P Q [] f all = tt
-all-weaker P Q (x ∷ xs) f all = (f x all.0, all-weaker P Q xs f all.1)
 
 ascending-push : (seen : List (List Tick)) (here : List Tick) → IsAscending seen → AllByRecursion (λ ticks. ShapeBefore ticks here) seen → IsAscending (seen ++ here ∷ [])
 ascending-push [] here up before = (tt, tt)
