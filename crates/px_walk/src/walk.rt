@@ -49,6 +49,7 @@ pub trait Walk<Q> {
         requires stands { stands question.now self.old }
         ensures last { IfSome result (λ tick. ticks self.old ≡ ticks self.new ++ tick ∷ []) }
         ensures none { IfNone result (ticks self.old ≡ []) }
+        ensures same { IfNone result (ticks self.new ≡ ticks self.old) }
         ensures still { stands question.now self.new };
 
     /// Is no place open?
