@@ -14,3 +14,4 @@ pub mod Least
 pub mod Padding
 pub mod Bridge
 pub mod Outcomes
+pub mod Questions
