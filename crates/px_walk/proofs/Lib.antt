@@ -15,3 +15,5 @@ pub mod Padding
 pub mod Bridge
 pub mod Outcomes
 pub mod Questions
+pub mod Starts
+pub mod GapOutcomes

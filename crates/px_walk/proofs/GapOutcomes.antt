@@ -1,0 +1,58 @@
+-- What the visits of a walk over unfinished loose lists say of the limit of gaps.
+use Rattle.std.proofs.Common.{◌≡◌, ◌⊎◌, ◌∙◌, ℕ, zero, suc, ◌+◌, ◌<◌, ◌≤◌, Bool, true, List, [], ◌∷◌, ◌++◌, length, map, refl, ap, sym, subst, arith, inl, inr}
+use Rattle.std.specs.Prelude.{Contains}
+use Rattle.std.specs.List.{AllByRecursion}
+use Rattle.std.proofs.lemmas.List.{length-map}
+use Rattle.px_base.specs.ListLaws.{All-at}
+use Rattle.px_terms.specs.declared.atom.Atom.{Atom}
+use Rattle.px_proof.specs.declared.shape.Tick.{Tick}
+use Rattle.px_proof.specs.declared.shape.Tick.TheVariants.{Fact, Anc, Step, Gap, Open}
+use Rattle.px_proof.specs.Shapes.{ShapeBefore, IsUnfinished}
+use Rattle.px_question.specs.Limits.{IsGapLimited, IsPartialShape}
+use Rattle.px_question.specs.Settings.{Setting}
+use Rattle.px_walk.specs.Possible.{IsClosing, IsPossible, IsFinished, IsGoingOn, open_count, shape_of, rules_for}
+use Rattle.px_walk.specs.Scope.{IsSetting, IsAtomIn}
+use Rattle.px_walk.specs.Search.{NoneComes, LimitComes}
+use Rattle.px_walk.proofs.Every.{all-weaker}
+use Rattle.px_walk.proofs.Outcomes.{first_shapes, too_many}
+use Rattle.px_walk.proofs.Padding.{finished-shape}
+
+-- a list of closings has no open place
+closed-finished : (ticks : List Tick) → AllByRecursion IsClosing ticks → IsUnfinished ticks → ⊥
+closed-finished [] closing unfinished = unfinished
+closed-finished (Open ∷ ticks) closing unfinished = closing.0
+closed-finished (Fact i ∷ ticks) closing unfinished = closed-finished ticks closing.1 unfinished
+closed-finished (Anc i ∷ ticks) closing unfinished = closed-finished ticks closing.1 unfinished
+closed-finished (Step number place ∷ ticks) closing unfinished = closed-finished ticks closing.1 unfinished
+closed-finished (Gap ∷ ticks) closing unfinished = closed-finished ticks closing.1 unfinished
+
+pub above-zero : (k : ℕ) → (k ≡ 0 → ⊥) → 0 < k
+above-zero zero other = absurd (other refl)
+above-zero (suc k) other = omega arith
+
+module _ (s : Setting) (valid : IsSetting s) (formula : List Atom) (vars : ℕ) (scoped : AllByRecursion (IsAtomIn s.objects vars) formula) where
+  abbrev Goes : List Tick → Type 0
+  Goes = IsGoingOn true s formula vars
+
+  -- a possible list whose shape is an unfinished one goes on
+  shape-goes : (x : List Tick) → IsPossible true s formula vars x → IsUnfinished (shape_of true s formula vars x) → Goes x
+  shape-goes x possible unfinished = (
+    possible,
+    above-zero (open_count true s formula vars x) (λ finished. closed-finished x possible.0 (subst IsUnfinished (finished-shape true s formula vars x finished) unfinished)),
+  )
+
+  -- as many visits as the limit: their shapes are the first ones
+  pub gap-limit-is : (seen : List (List Tick)) → LimitComes Goes (λ ticks. ⊥) s.limit seen → IsGapLimited s formula vars (map (shape_of true s formula vars) seen)
+  gap-limit-is seen limit = record {
+    count = length-map seen (shape_of true s formula vars) ∙ limit.count;
+    kept = first_shapes true s valid formula vars scoped seen limit.ascending
+        (all-weaker Goes (IsPossible true s formula vars) seen (λ x h. h.0) limit.possible)
+        (all-weaker Goes (λ x. IsFinished true s formula vars x → ⊥) seen (λ x h finished. let zero_left : open_count true s formula vars x ≡ 0 = finished in omega (arith, zero_left, h.1)) limit.possible)
+        (λ other possible unfinished. limit.first other (possible, above-zero (open_count true s formula vars other) unfinished));
+  }
+
+  -- fewer visits than the limit: it is not met
+  pub gap-none-unlimited : NoneComes Goes (λ ticks. ⊥) s.limit → (shapes : List (List Tick)) → IsGapLimited s formula vars shapes → ⊥
+  gap-none-unlimited ends shapes limited =
+      too_many true s valid formula vars scoped s.limit ends.few.0 shapes ends.few.1 ends.few.2 limited.count limited.kept
+      (λ x possible is_in. ends.few.4 x (shape-goes x possible (All-at (IsPartialShape (rules_for true s) s formula vars) shapes (shape_of true s formula vars x) limited.kept.each is_in).0))
