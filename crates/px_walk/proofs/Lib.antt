@@ -17,3 +17,4 @@ pub mod Outcomes
 pub mod Questions
 pub mod Starts
 pub mod GapOutcomes
+pub mod Gaps

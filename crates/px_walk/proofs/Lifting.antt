@@ -153,12 +153,12 @@ pub open_after-step : (loose : Bool) (s : Setting) (n : ℕ) (goal : Goal) (goal
     open_after loose s n (goal ∷ goals) (tick ∷ ticks) ≡ open_after loose s (n + fresh_of s tick) (closing.parts ++ goals) ticks
 open_after-step loose s n goal goals tick ticks closing is = rw is refl
 
-take_drop : {X : Type 0} (k : ℕ) (xs : List X) → xs ≡ take k xs ++ drop k xs
+pub take_drop : {X : Type 0} (k : ℕ) (xs : List X) → xs ≡ take k xs ++ drop k xs
 take_drop zero xs = refl
 take_drop (suc k) [] = refl
 take_drop (suc k) (x ∷ xs) = ap (λ ys. x ∷ ys) (take_drop k xs)
 
-length-take_within : {X : Type 0} (k : ℕ) (xs : List X) → k ≤ length xs → length (take k xs) ≡ k
+pub length-take_within : {X : Type 0} (k : ℕ) (xs : List X) → k ≤ length xs → length (take k xs) ≡ k
 length-take_within zero xs within = refl
 length-take_within (suc k) [] within = absurd (omega (arith, within))
 length-take_within (suc k) (x ∷ xs) within = ap suc (length-take_within k xs (omega (arith, within)))
@@ -180,14 +180,14 @@ module _ (loose : Bool) (s : Setting) (old chosen : List ℕ) (tick : Tick) (goa
   ends_from closing is = sym (open_after-step loose s (length old) goal goals tick ticks closing is) ∙ ends
 
   -- each new variable has an object
-  enough : Solves loose s (object_terms (old ++ chosen)) (length old) (goal ∷ goals) (tick ∷ ticks) → fresh_of s tick ≤ length chosen
+  pub enough : Solves loose s (object_terms (old ++ chosen)) (length old) (goal ∷ goals) (tick ∷ ticks) → fresh_of s tick ≤ length chosen
   enough solves = go (closing_at loose s (length old) goal tick) refl _ solves
     where
       go : (o : Option Closing) → closing_at loose s (length old) goal tick ≡ o → (P : Closing → Type 0) → IsSomeAnd o P → fresh_of s tick ≤ length chosen
       go None is P closes = absurd closes
       go (Some closing) is P closes = omega (arith, variables_grow loose s ticks (length old + fresh_of s tick) (closing.parts ++ goals) _ (ends_from closing is))
 
-  later_ends : (closing : Closing) → closing_at loose s (length old) goal tick ≡ Some closing → (theta rest : List ℕ) → chosen ≡ theta ++ rest → length theta ≡ fresh_of s tick →
+  pub later_ends : (closing : Closing) → closing_at loose s (length old) goal tick ≡ Some closing → (theta rest : List ℕ) → chosen ≡ theta ++ rest → length theta ≡ fresh_of s tick →
       open_after loose s (length (old ++ theta)) (closing.parts ++ goals) ticks ≡ Some (record { variables = length (old ++ theta) + length rest; goals = [] })
   later_ends closing is theta rest splits long =
       let longer : length (old ++ theta) ≡ length old + fresh_of s tick = length-append old theta ∙ ap (λ k. length old + k) long in

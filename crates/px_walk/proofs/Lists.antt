@@ -52,11 +52,11 @@ prover_allows : (loose : Bool) (s : Setting) → Allows (rules_of loose s) (or_o
 prover_allows false s = record { choices = λ t h. h; gaps = λ atom h. absurd (let never = h.0 in cc); opens = λ h. h }
 prover_allows true s = record { choices = λ t h. h; gaps = λ atom h. Contains-from_any nats_same atom.pred s.added h.1; opens = λ h. h }
 
-walk_each : (loose : Bool) (s : Setting) (lits : List Lit) (ds : Derivations) → ProvesEach (or_open (rules_for loose s)) s.axioms [] lits ds → ProvesEach (rules_of loose s) s.axioms [] lits ds
+pub walk_each : (loose : Bool) (s : Setting) (lits : List Lit) (ds : Derivations) → ProvesEach (or_open (rules_for loose s)) s.axioms [] lits ds → ProvesEach (rules_of loose s) s.axioms [] lits ds
 walk_each false s lits ds = each_by s.axioms (or_open (rules_for false s)) (rules_of false s) (walk_allows false s) [] lits ds (λ leaf has h. h)
 walk_each true s lits ds = each_by s.axioms (or_open (rules_for true s)) (rules_of true s) (walk_allows true s) [] lits ds (λ leaf has h. h)
 
-prover_each : (loose : Bool) (s : Setting) (lits : List Lit) (ds : Derivations) → ProvesEach (rules_of loose s) s.axioms [] lits ds → ProvesEach (or_open (rules_for loose s)) s.axioms [] lits ds
+pub prover_each : (loose : Bool) (s : Setting) (lits : List Lit) (ds : Derivations) → ProvesEach (rules_of loose s) s.axioms [] lits ds → ProvesEach (or_open (rules_for loose s)) s.axioms [] lits ds
 prover_each false s lits ds = each_by s.axioms (rules_of false s) (or_open (rules_for false s)) (prover_allows false s) [] lits ds (λ leaf has h. h)
 prover_each true s lits ds = each_by s.axioms (rules_of true s) (or_open (rules_for true s)) (prover_allows true s) [] lits ds (λ leaf has h. h)
 
@@ -80,7 +80,7 @@ module _ (s : Setting) where
   abbrev pub ground_goals : List Lit → List Goal
   ground_goals lits = map (λ l. record { lit = l; path = []; budget = s.height }) lits
 
-  goals_ground : (formula : List Atom) (vars : ℕ) (objects chosen : List ℕ) → length objects ≡ vars → AllByRecursion (IsAtomIn s.objects vars) formula →
+  pub goals_ground : (formula : List Atom) (vars : ℕ) (objects chosen : List ℕ) → length objects ≡ vars → AllByRecursion (IsAtomIn s.objects vars) formula →
       map (goal_under (object_terms (objects ++ chosen))) (goals_of s formula) ≡ ground_goals (literals_of formula objects)
   goals_ground [] vars objects chosen count scoped = refl
   goals_ground (a ∷ formula) vars objects chosen count scoped =
@@ -88,7 +88,7 @@ module _ (s : Setting) where
       let same : map (substitute (object_terms (objects ++ chosen))) a.args ≡ map (substitute (object_terms objects)) a.args = rw (objects-append objects chosen) (args_longer s.objects (object_terms objects) (object_terms chosen) a.args within) in
       rw (same, goals_ground formula vars objects chosen count scoped.1) refl
 
-  each-are : (rules : Rules) (lits : List Lit) (ps : Derivations) → ProvesEach rules s.axioms [] lits ps → greatest_height ps ≤ s.height → AreProved rules s.axioms (ground_goals lits) ps
+  pub each-are : (rules : Rules) (lits : List Lit) (ps : Derivations) → ProvesEach rules s.axioms [] lits ps → greatest_height ps ≤ s.height → AreProved rules s.axioms (ground_goals lits) ps
   each-are rules [] none each low = tt
   each-are rules (l ∷ lits) (also p ps) each low = (each.0, omega (arith, low), each-are rules lits ps each.1 (omega (arith, low)))
   each-are rules [] (also p ps) each low = absurd each

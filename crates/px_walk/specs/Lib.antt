@@ -4,3 +4,4 @@ pub mod Possible
 pub mod Order
 pub mod Search
 pub mod Ends
+pub mod GapAtoms
