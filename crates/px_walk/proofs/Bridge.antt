@@ -161,6 +161,18 @@ module _ (loose : Bool) (s : Setting) (valid : IsSetting s) (formula : List Atom
       ((ticks : List Tick) × (shape ≡ shape_of loose s formula vars ticks) × IsPossible loose s formula vars ticks × (IsFinished loose s formula vars ticks → ⊥))
   partial-possible shape = (partial-from shape, λ h. partial-to shape h.0 h.1 h.2 h.3)
 
+  -- where no place is open, the proofs are finished ones
+  pub closed-list : (objects : List ℕ) (ds : Derivations) → AllByRecursion IsClosing (ticks_of ds) → IsList (or_open (rules_for loose s)) s formula vars objects ds → IsList (rules_for loose s) s formula vars objects ds
+  closed-list objects ds closing is = record {
+    count = is.count;
+    below = is.below;
+    proved = closed-proves-each (rules_for loose s) s.axioms [] (literals_of formula objects) ds closing is.proved;
+    low = is.low;
+  }
+
+  pub choices-of-list : (objects : List ℕ) (ds : Derivations) → IsList (rules_for loose s) s formula vars objects ds → All (λ o. o < s.objects) (all_choices_of ds)
+  choices-of-list objects ds is = choices-below-each (rules_for loose s) s.axioms s.objects (choices_in loose s) [] (literals_of formula objects) ds is.proved
+
   -- a possible list that is finished is a list of finished proofs
   pub possible-finished : (ticks : List Tick) → IsPossible loose s formula vars ticks → IsFinished loose s formula vars ticks →
       (objects : List ℕ) × (ps : Derivations) × IsList (rules_for loose s) s formula vars objects ps × (ticks_of ps ≡ ticks)
@@ -170,16 +182,11 @@ module _ (loose : Bool) (s : Setting) (valid : IsSetting s) (formula : List Atom
       let same : ticks_of made.1 ≡ ticks = made.3 ∙ ap (λ k. ticks ++ replicate k Open) left ∙ append-nil ticks in (
         made.0,
         made.1,
-        record {
-          count = made.2.count;
-          below = made.2.below;
-          proved = closed-proves-each (rules_for loose s) s.axioms [] (literals_of formula made.0) made.1 (rw same possible.0) made.2.proved;
-          low = made.2.low;
-        },
+        closed-list made.0 made.1 (rw same possible.0) made.2,
         same,
       )
 
-  finished-opened : (objects : List ℕ) (ps : Derivations) → IsList (rules_for loose s) s formula vars objects ps → IsList (or_open (rules_for loose s)) s formula vars objects ps
+  pub finished-opened : (objects : List ℕ) (ps : Derivations) → IsList (rules_for loose s) s formula vars objects ps → IsList (or_open (rules_for loose s)) s formula vars objects ps
   finished-opened objects ps is = record {
     count = is.count;
     below = is.below;
