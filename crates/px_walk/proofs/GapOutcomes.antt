@@ -12,7 +12,7 @@ use Rattle.px_question.specs.Limits.{IsGapLimited, IsPartialShape}
 use Rattle.px_question.specs.Settings.{Setting}
 use Rattle.px_walk.specs.Possible.{IsClosing, IsPossible, IsFinished, IsGoingOn, open_count, shape_of, rules_for}
 use Rattle.px_walk.specs.Scope.{IsSetting, IsAtomIn}
-use Rattle.px_walk.specs.Search.{NoneComes, LimitComes}
+use Rattle.px_walk.specs.Search.{AreAll, LimitComes}
 use Rattle.px_walk.proofs.Every.{all-weaker}
 use Rattle.px_walk.proofs.Outcomes.{first_shapes, too_many}
 use Rattle.px_walk.proofs.Padding.{finished-shape}
@@ -51,8 +51,8 @@ module _ (s : Setting) (valid : IsSetting s) (formula : List Atom) (vars : ℕ) 
         (λ other possible unfinished. limit.first other (possible, above-zero (open_count true s formula vars other) unfinished));
   }
 
-  -- fewer visits than the limit: it is not met
-  pub gap-none-unlimited : NoneComes Goes (λ ticks. ⊥) s.limit → (shapes : List (List Tick)) → IsGapLimited s formula vars shapes → ⊥
-  gap-none-unlimited ends shapes limited =
-      too_many true s valid formula vars scoped s.limit ends.few.0 shapes ends.few.1 ends.few.2 limited.count limited.kept
-      (λ x possible is_in. ends.few.4 x (shape-goes x possible (All-at (IsPartialShape (rules_for true s) s formula vars) shapes (shape_of true s formula vars x) limited.kept.each is_in).0))
+  -- all visits, and fewer than the limit: it is not met
+  pub gap-all-unlimited : (seen : List (List Tick)) → AreAll Goes s.limit seen → (shapes : List (List Tick)) → IsGapLimited s formula vars shapes → ⊥
+  gap-all-unlimited seen all shapes limited =
+      too_many true s valid formula vars scoped s.limit seen shapes all.few all.ascending limited.count limited.kept
+      (λ x possible is_in. all.covers x (shape-goes x possible (All-at (IsPartialShape (rules_for true s) s formula vars) shapes (shape_of true s formula vars x) limited.kept.each is_in).0))

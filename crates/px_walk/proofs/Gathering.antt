@@ -6,7 +6,10 @@ use Rattle.std.proofs.lemmas.List.Elements.{All-take, All-drop, All-append}
 use Rattle.px_terms.specs.declared.atom.Atom.{Atom}
 use Rattle.px_terms.specs.Substitution.{substitute_atom}
 use Rattle.px_proof.specs.declared.shape.Tick.{Tick}
-use Rattle.px_base.specs.ListLaws.{Contains-none}
+use Rattle.std.proofs.lemmas.List.Elements.{Contains-append_left, Contains-append_cases, Contains-push}
+use Rattle.px_base.specs.ListLaws.{Contains-none, Contains-one}
+use Rattle.px_terms.specs.AtomSets.{IsAtomSet}
+use Rattle.px_question.specs.declared.gap_list.GapList.{GapList}
 use Rattle.px_proof.specs.Derivation.{Derivations, none, also}
 use Rattle.px_proof.specs.Proves.{ProvesEach, or_open}
 use Rattle.px_proof.specs.PlaceLaws.{some_same}
@@ -14,11 +17,11 @@ use Rattle.px_proof.specs.Shapes.{ticks_of}
 use Rattle.px_question.specs.Answers.{IsList, object_terms, all_choices_of, literals_of}
 use Rattle.px_question.specs.Gaps.{IsGapList, all_gaps_of}
 use Rattle.px_question.specs.Settings.{Setting, loose_gaps_in}
-use Rattle.px_walk.specs.GapAtoms.{gap_atoms, variables_in, GivesUnder, Gives}
+use Rattle.px_walk.specs.GapAtoms.{gap_atoms, variables_in, GivesUnder, Gives, GivesAfter, AreGathered}
 use Rattle.px_walk.specs.Pending.{Goal, Pending, Solves, goals_of, open_after}
 use Rattle.px_walk.specs.Possible.{IsClosing, IsPossible, IsFinished, IsGoingOn, open_count, left_of, rules_for}
 use Rattle.px_walk.specs.Scope.{IsAtomIn, IsSetting}
-use Rattle.px_walk.specs.Search.{NoneComes}
+use Rattle.px_walk.specs.Search.{AreAll}
 use Rattle.px_walk.proofs.Bridge.{closed-list, finished-ends, finished-opened, finished-possible, choices-of-list}
 use Rattle.px_walk.proofs.Gaps.{gaps-are}
 use Rattle.px_walk.proofs.Lifting.{take_drop, length-take_within, variables_grow}
@@ -139,3 +142,30 @@ module _ (s : Setting) (valid : IsSetting s) (formula : List Atom) (vars : ℕ) 
           nothing none each atom has = Contains-none atom has
           nothing (also d ds) each atom has = each
       no_atoms (a ∷ atoms) empty objects gaps = absurd (omega (arith, empty))
+
+  -- ---- what is gathered at each visit, and at the end
+
+  pub gathered-none : AreGathered s formula vars [] []
+  gathered-none list = (λ has. absurd (Contains-none list has), λ h. absurd (Contains-none h.0 h.1))
+
+  -- one more visit gives what is directly after it
+  pub gathered-more : (seen : List (List Tick)) (here : List Tick) (old new : List GapList) → AreGathered s formula vars seen old →
+      ((list : GapList) → Contains new list ↔ (Contains old list ⊎ GivesAfter s formula vars here list)) → AreGathered s formula vars (seen ++ here ∷ []) new
+  gathered-more seen here old new are grows list = (
+    λ has. elim ((grows list).0 has) [
+      | inl before ↦ let from = (are list).0 before in (from.0, Contains-append_left seen (here ∷ []) from.0 from.1, from.2)
+      | inr gives ↦ (here, Contains-push seen here, gives)
+    ],
+    λ h. (grows list).1 (elim (Contains-append_cases seen (here ∷ []) h.0 h.1) [
+      | inl before ↦ inl ((are list).1 (h.0, before, h.2))
+      | inr last ↦ inr (subst (λ (front : List Tick). GivesAfter s formula vars front list) (sym (Contains-one here h.0 last)) h.2)
+    ]),
+  )
+
+  -- after all visits they are all gap lists whose atoms are sets
+  pub gathered-all : (0 < vars → 0 < s.objects) → 0 < length formula → (limit : ℕ) (seen : List (List Tick)) (lists : List GapList) → AreAll (IsGoingOn true s formula vars) limit seen → AreGathered s formula vars seen lists →
+      (list : GapList) → Contains lists list ↔ (IsGapList s formula vars list.objects list.gaps × IsAtomSet list.gaps)
+  gathered-all some has_atom limit seen lists all are list = (
+    λ has. let from = (are list).0 has in (gives-list (from.0 ++ from.2.1.0 ∷ []) list.objects list.gaps from.2.1.1, from.2.0),
+    λ h. let found = all-gathered some has_atom seen all.covers list.objects list.gaps h.0 in (are list).1 (found.0, found.2, (h.1, (found.1, found.3))),
+  )
