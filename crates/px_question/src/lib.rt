@@ -2,5 +2,7 @@
 #![tactic(auto)]
 
 mod gap_list;
+mod laws;
 
 pub use gap_list::GapList;
+pub use laws::{first_is_one, gap_lists_are_one, gap_lists_are_ordered, limits_are_one};
