@@ -1,6 +1,6 @@
 -- First answers, limits and gap lists are determined.
-use Rattle.std.proofs.Common.{◌≡◌, ◌⊎◌, ◌↔◌, ◌∙◌, ℕ, zero, suc, ◌<◌, List, [], ◌∷◌, ◌++◌, length, refl, ap, sym, subst, arith, inl, inr}
-use Rattle.std.specs.Prelude.{All, Contains}
+use Rattle.std.proofs.Common.{◌≡◌, ◌⊎◌, ◌↔◌, ◌∙◌, ℕ, zero, suc, ◌<◌, ◌≤◌, Some, List, [], ◌∷◌, ◌++◌, length, refl, ap, sym, subst, arith, inl, inr}
+use Rattle.std.specs.Prelude.{All, Contains, remove, slice_get}
 use Rattle.std.specs.List.{AllByRecursion}
 use Rattle.std.proofs.lemmas.List.Elements.{All-from_recursion}
 use Rattle.px_base.specs.ListLaws.{All-at, AllByRecursion-at, Contains-first, Contains-later, Contains-cases}
@@ -8,10 +8,12 @@ use Rattle.px_base.specs.SetLaws.{same_set}
 use Rattle.px_proof.specs.declared.shape.Tick.{Tick}
 use Rattle.px_proof.specs.Shapes.{ShapeBefore, ticks_of}
 use Rattle.px_question.specs.Answers.{AtMost, IsFirst, all_choices_of}
-use Rattle.px_question.specs.Determined.{FirstIsOne, GapListsAreOne, LimitsAreOne}
+use Rattle.px_question.specs.Determined.{FewOrLimited, FirstIsOne, GapListsAreOne, LimitsAreOne}
 use Rattle.px_question.specs.GapOrderLaws.{gap_list_cmp-same, gap_list_cmp-total}
 use Rattle.px_question.specs.Gaps.{gap_list_cmp}
-use Rattle.px_question.specs.Limits.{AreFirstShapes, IsAscending}
+use Rattle.px_proof.specs.PlaceLaws.{length-remove, other_part, slice_get-read, slice_get-within, some_same}
+use Rattle.px_question.specs.Limits.{AreFewerThan, AreFirstShapes, IsAscending, IsPartialShape}
+use Rattle.px_question.specs.Settings.{loose_gaps_in, proofs_in}
 use Rattle.px_question.specs.ShapeOrder.{ShapeBefore-irrefl, ShapeBefore-trans, shape_trichotomy}
 
 -- ---- first answers
@@ -94,6 +96,44 @@ pub limits-are_one : LimitsAreOne
 limits-are_one = record {
   proofs = λ s formula vars shapes others limited also_limited. same_firsts _ shapes others (limited.count ∙ sym also_limited.count) limited.kept also_limited.kept;
   gap_proofs = λ s formula vars shapes others limited also_limited. same_firsts _ shapes others (limited.count ∙ sym also_limited.count) limited.kept also_limited.kept;
+}
+
+-- an element of a list stands at a place, and what stands at a place is one
+contains-at : {X : Type 0} (xs : List X) (x : X) → Contains xs x → (k : ℕ) × (slice_get xs k ≡ Some x)
+contains-at xs x (k, below, is) = (k, slice_get-read xs k x below ∙ ap (λ y. Some y) is)
+
+at-contains : {X : Type 0} (xs : List X) (k : ℕ) (x : X) → slice_get xs k ≡ Some x → Contains xs x
+at-contains xs k x at = let below = slice_get-within xs k x at in (k, below, some_same _ x (sym (slice_get-read xs k x below) ∙ at))
+
+-- different shapes that are all in a list are no more than it has
+no_more : (xs seen : List (List Tick)) → IsAscending xs → ((x : List Tick) → Contains xs x → Contains seen x) → length xs ≤ length seen
+no_more [] seen up within = omega arith
+no_more (x ∷ xs) seen up within =
+    let place = contains-at seen x (within x (Contains-first x xs)) in
+    let rest = no_more xs (remove seen place.0) up.1 (λ y has. kept place.0 place.1 y has (contains-at seen y (within y (Contains-later x xs y has)))) in
+    omega (arith, rest, length-remove seen place.0 (slice_get-within seen place.0 x place.1))
+  where
+    kept : (place : ℕ) → slice_get seen place ≡ Some x → (y : List Tick) → Contains xs y → (k : ℕ) × (slice_get seen k ≡ Some y) → Contains (remove seen place) y
+    kept place at y has (k, there) = elim (other_part seen place k y there) [
+      | inl same ↦ absurd (ShapeBefore-irrefl y (subst (λ (z : List Tick). ShapeBefore z y) (some_same x y (sym at ∙ ap (slice_get seen) (sym same) ∙ there)) (AllByRecursion-at (ShapeBefore x) xs y up.0 has)))
+      | inr other ↦ at-contains (remove seen place) other.0 y other.1
+    ]
+
+-- shapes of the kind that are fewer than the number don't have so many different ones among them
+too_few : (P : List Tick → Type 0) (count : ℕ) (shapes : List (List Tick)) → AreFewerThan P count → length shapes ≡ count → IsAscending shapes → ((shape : List Tick) → Contains shapes shape → P shape) → ⊥
+too_few P count shapes few long up each = omega (arith, few.fewer, long, no_more shapes few.seen up (λ shape has. few.all shape (each shape has)))
+
+-- the same where the shapes are the first ones of the kind
+few_firsts : (P : List Tick → Type 0) (count : ℕ) (shapes : List (List Tick)) → AreFewerThan P count → length shapes ≡ count → AreFirstShapes P shapes → ⊥
+few_firsts P count shapes few long firsts = too_few P count shapes few long firsts.ascending (λ shape has. All-at P shapes shape firsts.each has)
+
+pub few_or_limited : FewOrLimited
+few_or_limited = record {
+  proofs = λ s formula vars shapes few limited. few_firsts (IsPartialShape (proofs_in s) s formula vars) s.limit shapes few limited.count limited.kept;
+  before = λ s formula vars shapes objects ds is few limited.
+      too_few (λ shape. IsPartialShape (proofs_in s) s formula vars shape × ShapeBefore shape (ticks_of ds)) s.limit shapes few limited.count limited.kept.ascending
+      (λ shape has. (All-at (IsPartialShape (proofs_in s) s formula vars) shapes shape limited.kept.each has, All-at (λ kept. ShapeBefore kept (ticks_of ds)) shapes shape (limited.before objects ds is) has));
+  gap_proofs = λ s formula vars shapes few limited. few_firsts (IsPartialShape (loose_gaps_in s) s formula vars) s.limit shapes few limited.count limited.kept;
 }
 
 -- ---- gap lists

@@ -1,5 +1,5 @@
 ghost use Rattle.px_question.specs.GapOrder.{GapListsAreOrdered};
-ghost use Rattle.px_question.specs.Determined.{FirstIsOne, GapListsAreOne, LimitsAreOne};
+ghost use Rattle.px_question.specs.Determined.{FewOrLimited, FirstIsOne, GapListsAreOne, LimitsAreOne};
 
 /// The first answer of a formula is determined: its shape, the objects for the variables, and those that its steps
 /// choose. This is a law about the definitions: the call does nothing.
@@ -10,6 +10,12 @@ pub fn first_is_one()
 /// The shapes at a limit are determined, of proofs and of gap proofs. This is a law about the definitions.
 pub fn limits_are_one()
     ensures { LimitsAreOne }
+{}
+
+/// A limit isn't met where the shapes are fewer: those that exist, or those before a finished proof. This is a law about
+/// the definitions.
+pub fn few_or_limited()
+    ensures { FewOrLimited }
 {}
 
 /// A formula has one list of gap lists. This is a law about the definitions.

@@ -8,12 +8,14 @@ use Rattle.px_terms.specs.declared.atom.Atom.{Atom}
 use Rattle.px_proof.specs.declared.shape.Tick.{Tick}
 use Rattle.px_proof.specs.declared.shape.Tick.TheVariants.{Fact, Anc, Step, Gap, Open}
 use Rattle.px_proof.specs.Shapes.{ShapeBefore, IsUnfinished}
-use Rattle.px_question.specs.Limits.{IsGapLimited, IsPartialShape}
+use Rattle.px_question.specs.Limits.{AreFewGapShapes, IsGapLimited, IsPartialShape}
 use Rattle.px_question.specs.Settings.{Setting}
 use Rattle.px_walk.specs.Possible.{IsClosing, IsPossible, IsFinished, IsGoingOn, open_count, shape_of, rules_for}
 use Rattle.px_walk.specs.Scope.{IsSetting, IsAtomIn}
 use Rattle.px_walk.specs.Search.{AreAll, LimitComes}
 use Rattle.px_walk.proofs.Every.{all-weaker}
+use Rattle.px_proof.specs.PlaceLaws.{Contains-mapped}
+use Rattle.px_walk.proofs.Bridge.{partial-from}
 use Rattle.px_walk.proofs.Outcomes.{first_shapes, too_many}
 use Rattle.px_walk.proofs.Padding.{finished-shape}
 
@@ -56,3 +58,14 @@ module _ (s : Setting) (valid : IsSetting s) (formula : List Atom) (vars : ℕ) 
   gap-all-unlimited seen all shapes limited =
       too_many true s valid formula vars scoped s.limit seen shapes all.few all.ascending limited.count limited.kept
       (λ x possible is_in. all.covers x (shape-goes x possible (All-at (IsPartialShape (rules_for true s) s formula vars) shapes (shape_of true s formula vars x) limited.kept.each is_in).0))
+
+  -- the shapes that exist are fewer
+  pub gap-all-few : (seen : List (List Tick)) → AreAll Goes s.limit seen → AreFewGapShapes s formula vars
+  gap-all-few seen all = record {
+    seen = map (shape_of true s formula vars) seen;
+    fewer = rw (length-map seen (shape_of true s formula vars)) all.few;
+    all = λ shape partial.
+        let from = partial-from true s valid formula vars scoped shape partial in
+        subst (Contains (map (shape_of true s formula vars) seen)) (sym from.1)
+        (Contains-mapped (shape_of true s formula vars) seen from.0 (all.covers from.0 (from.2, above-zero (open_count true s formula vars from.0) from.3)));
+  }

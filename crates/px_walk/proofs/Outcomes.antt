@@ -11,7 +11,7 @@ use Rattle.px_proof.specs.Derivation.{Derivations}
 use Rattle.px_proof.specs.PlaceLaws.{some_same, Contains-mapped}
 use Rattle.px_proof.specs.Shapes.{ticks_of, ShapeBefore}
 use Rattle.px_question.specs.Answers.{IsList, IsAnswer, IsFirst, object_terms, all_choices_of, AtMost}
-use Rattle.px_question.specs.Limits.{AreFirstShapes, IsLimited, IsPartialShape, IsAscending}
+use Rattle.px_question.specs.Limits.{AreFewBefore, AreFewShapes, AreFirstShapes, IsLimited, IsPartialShape, IsAscending}
 use Rattle.px_question.specs.Settings.{Setting, proofs_in}
 use Rattle.px_walk.specs.Pending.{Pending, Solves, open_after, goals_of}
 use Rattle.px_walk.specs.Possible.{IsPossible, IsFinished, shape_of, rules_for}
@@ -148,4 +148,27 @@ module _ (s : Setting) (valid : IsSetting s) (formula : List Atom) (vars : ℕ) 
           | inr before ↦ All-from_recursion (λ shape. ShapeBefore shape (ticks_of ps)) (map (shape_of false s formula vars) seen)
               (subst (λ (ts : List Tick). AllByRecursion (λ kept. ShapeBefore kept ts) (map (shape_of false s formula vars) seen)) (finished-shape false s formula vars (ticks_of ps) possible.1) (shapes-before false s valid formula vars scoped seen (ticks_of ps) possible.0 before))
         ];
+  }
+
+  -- so the shapes before it are fewer than the limit
+  pub first-few : (ticks : List Tick) (ds : Derivations) → ComesFirst (IsPossible false s formula vars) (IsFinished false s formula vars) s.limit ticks → ticks_of ds ≡ ticks → AreFewBefore s formula vars ds
+  first-few ticks ds first ticks_are = record {
+    seen = map (shape_of false s formula vars) first.few.0;
+    fewer = rw (length-map first.few.0 (shape_of false s formula vars)) first.few.1;
+    all = λ shape partial.
+        let from = partial-from false s valid formula vars scoped shape partial.0 in
+        let before : ShapeBefore (shape_of false s formula vars from.0) (shape_of false s formula vars ticks) =
+        subst (λ (ts : List Tick). ShapeBefore (shape_of false s formula vars from.0) ts) (ticks_are ∙ sym (finished-shape false s formula vars ticks first.finished)) (subst (λ (ts : List Tick). ShapeBefore ts (ticks_of ds)) from.1 partial.1) in
+        subst (Contains (map (shape_of false s formula vars) first.few.0)) (sym from.1)
+        (Contains-mapped (shape_of false s formula vars) first.few.0 from.0 (first.few.2.covers from.0 from.2 (unshape false s formula vars from.0 ticks from.2 first.possible before)));
+  }
+
+  -- and all shapes are, where none is finished
+  pub none-few : NoneComes (IsPossible false s formula vars) (IsFinished false s formula vars) s.limit → AreFewShapes s formula vars
+  none-few ends = record {
+    seen = map (shape_of false s formula vars) ends.few.0;
+    fewer = rw (length-map ends.few.0 (shape_of false s formula vars)) ends.few.1;
+    all = λ shape partial.
+        let from = partial-from false s valid formula vars scoped shape partial in
+        subst (Contains (map (shape_of false s formula vars) ends.few.0)) (sym from.1) (Contains-mapped (shape_of false s formula vars) ends.few.0 from.0 (ends.few.4 from.0 from.2));
   }
