@@ -2,7 +2,7 @@
 use Rattle.std.proofs.Common.{◌≡◌, ◌↔◌, ℕ, zero, suc, ◌+◌, ◌<◌, ◌≤◌, Bool, true, false, Some, List, [], ◌∷◌, ◌++◌, length, map, replicate, take, drop, refl, ap, sym, subst, ◌∙◌, arith, length-append}
 use Rattle.std.specs.Prelude.{All}
 use Rattle.std.specs.List.{AllByRecursion}
-use Rattle.std.proofs.lemmas.List.{append-nil, take-append-drop}
+use Rattle.std.proofs.lemmas.List.{append-nil}
 use Rattle.std.proofs.lemmas.List.Elements.{All-take, All-drop, All-append, All-nil, All-weaker}
 use Rattle.px_terms.specs.declared.atom.Atom.{Atom}
 use Rattle.px_terms.specs.declared.clause.Clause.{Clause}
@@ -13,12 +13,11 @@ use Rattle.px_proof.specs.declared.shape.Tick.TheVariants.{Open}
 use Rattle.px_proof.specs.Derivation.{Derivation, Derivations, fact, ancestor, step, gap, open_place, none, also}
 use Rattle.px_proof.specs.Proves.{Rules, Proves, ProvesEach, parts_of, or_open}
 use Rattle.px_proof.specs.ProvesLaws.{each_by}
-use Rattle.px_proof.specs.PlaceLaws.{some_same}
 use Rattle.px_proof.specs.Shapes.{ticks, ticks_of}
 use Rattle.px_question.specs.Answers.{IsList, object_terms, object_of, choices_of, all_choices_of, literals_of}
 use Rattle.px_question.specs.Limits.{IsPartialShape}
 use Rattle.px_question.specs.Settings.{Setting, IsObjectBelow}
-use Rattle.px_walk.specs.Pending.{Pending, Solves, open_after, goals_of, IsFeasible}
+use Rattle.px_walk.specs.Pending.{Solves, open_after, goals_of, IsFeasible}
 use Rattle.px_walk.specs.Possible.{IsClosing, IsPossible, IsFinished, open_count, shape_of, left_of, rules_for}
 use Rattle.px_walk.specs.Scope.{IsSetting, IsAtomIn}
 use Rattle.px_walk.proofs.Every.{all-both}

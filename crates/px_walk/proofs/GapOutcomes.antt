@@ -1,32 +1,19 @@
 -- What the visits of a walk over unfinished loose lists say of the limit of gaps.
-use Rattle.std.proofs.Common.{◌≡◌, ◌⊎◌, ◌∙◌, ℕ, zero, suc, ◌+◌, ◌<◌, ◌≤◌, Bool, true, List, [], ◌∷◌, ◌++◌, length, map, refl, ap, sym, subst, arith, inl, inr}
+use Rattle.std.proofs.Common.{◌≡◌, ◌∙◌, ℕ, zero, suc, ◌<◌, true, List, map, refl, sym, subst, arith}
 use Rattle.std.specs.Prelude.{Contains}
 use Rattle.std.specs.List.{AllByRecursion}
 use Rattle.std.proofs.lemmas.List.{length-map}
-use Rattle.px_base.specs.ListLaws.{All-at}
 use Rattle.px_terms.specs.declared.atom.Atom.{Atom}
 use Rattle.px_proof.specs.declared.shape.Tick.{Tick}
-use Rattle.px_proof.specs.declared.shape.Tick.TheVariants.{Fact, Anc, Step, Gap, Open}
-use Rattle.px_proof.specs.Shapes.{ShapeBefore, IsUnfinished}
-use Rattle.px_question.specs.Limits.{AreFewGapShapes, IsGapLimited, IsPartialShape}
+use Rattle.px_question.specs.Limits.{AreFewGapShapes, IsGapLimited}
 use Rattle.px_question.specs.Settings.{Setting}
-use Rattle.px_walk.specs.Possible.{IsClosing, IsPossible, IsFinished, IsGoingOn, open_count, shape_of, rules_for}
+use Rattle.px_walk.specs.Possible.{IsPossible, IsFinished, IsGoingOn, open_count, shape_of}
 use Rattle.px_walk.specs.Scope.{IsSetting, IsAtomIn}
 use Rattle.px_walk.specs.Search.{AreAll, LimitComes}
 use Rattle.px_walk.proofs.Every.{all-weaker}
 use Rattle.px_proof.specs.PlaceLaws.{Contains-mapped}
 use Rattle.px_walk.proofs.Bridge.{partial-from}
-use Rattle.px_walk.proofs.Outcomes.{first_shapes, too_many}
-use Rattle.px_walk.proofs.Padding.{finished-shape}
-
--- a list of closings has no open place
-closed-finished : (ticks : List Tick) → AllByRecursion IsClosing ticks → IsUnfinished ticks → ⊥
-closed-finished [] closing unfinished = unfinished
-closed-finished (Open ∷ ticks) closing unfinished = closing.0
-closed-finished (Fact i ∷ ticks) closing unfinished = closed-finished ticks closing.1 unfinished
-closed-finished (Anc i ∷ ticks) closing unfinished = closed-finished ticks closing.1 unfinished
-closed-finished (Step number place ∷ ticks) closing unfinished = closed-finished ticks closing.1 unfinished
-closed-finished (Gap ∷ ticks) closing unfinished = closed-finished ticks closing.1 unfinished
+use Rattle.px_walk.proofs.Outcomes.{first_shapes}
 
 pub above-zero : (k : ℕ) → (k ≡ 0 → ⊥) → 0 < k
 above-zero zero other = absurd (other refl)
@@ -35,13 +22,6 @@ above-zero (suc k) other = omega arith
 module _ (s : Setting) (valid : IsSetting s) (formula : List Atom) (vars : ℕ) (scoped : AllByRecursion (IsAtomIn s.objects vars) formula) where
   abbrev Goes : List Tick → Type 0
   Goes = IsGoingOn true s formula vars
-
-  -- a possible list whose shape is an unfinished one goes on
-  shape-goes : (x : List Tick) → IsPossible true s formula vars x → IsUnfinished (shape_of true s formula vars x) → Goes x
-  shape-goes x possible unfinished = (
-    possible,
-    above-zero (open_count true s formula vars x) (λ finished. closed-finished x possible.0 (subst IsUnfinished (finished-shape true s formula vars x finished) unfinished)),
-  )
 
   -- as many visits as the limit: their shapes are the first ones
   pub gap-limit-is : (seen : List (List Tick)) → LimitComes Goes (λ ticks. ⊥) s.limit seen → IsGapLimited s formula vars (map (shape_of true s formula vars) seen)
@@ -53,13 +33,7 @@ module _ (s : Setting) (valid : IsSetting s) (formula : List Atom) (vars : ℕ) 
         (λ other possible unfinished. limit.first other (possible, above-zero (open_count true s formula vars other) unfinished));
   }
 
-  -- all visits, and fewer than the limit: it is not met
-  pub gap-all-unlimited : (seen : List (List Tick)) → AreAll Goes s.limit seen → (shapes : List (List Tick)) → IsGapLimited s formula vars shapes → ⊥
-  gap-all-unlimited seen all shapes limited =
-      too_many true s valid formula vars scoped s.limit seen shapes all.few all.ascending limited.count limited.kept
-      (λ x possible is_in. all.covers x (shape-goes x possible (All-at (IsPartialShape (rules_for true s) s formula vars) shapes (shape_of true s formula vars x) limited.kept.each is_in).0))
-
-  -- the shapes that exist are fewer
+  -- all visits, and fewer than the limit: the shapes that exist are fewer
   pub gap-all-few : (seen : List (List Tick)) → AreAll Goes s.limit seen → AreFewGapShapes s formula vars
   gap-all-few seen all = record {
     seen = map (shape_of true s formula vars) seen;

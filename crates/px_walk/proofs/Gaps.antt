@@ -1,6 +1,6 @@
 -- The gaps of derivations are the atoms that the ticks close by gaps, under the objects.
-use Rattle.std.proofs.Common.{◌≡◌, ◌∙◌, ℕ, zero, suc, ◌+◌, ◌-◌, ◌<◌, ◌≤◌, Bool, true, ◌&&◌, Option, Some, None, List, [], ◌∷◌, ◌++◌, length, map, take, drop, slice_get, refl, ap, sym, subst, arith, append_assoc, length-append}
-use Rattle.std.specs.Prelude.{IsSomeAnd, All, nat_eq}
+use Rattle.std.proofs.Common.{◌≡◌, ◌∙◌, ℕ, zero, suc, ◌+◌, ◌≤◌, Bool, true, Option, Some, None, List, [], ◌∷◌, ◌++◌, length, map, take, drop, slice_get, refl, ap, sym, subst, arith, append_assoc, length-append}
+use Rattle.std.specs.Prelude.{IsSomeAnd, nat_eq}
 use Rattle.std.specs.List.{AllByRecursion, list_any}
 use Rattle.std.proofs.lemmas.List.{length-map, map-append}
 use Rattle.px_terms.specs.declared.atom.Atom.{Atom}
@@ -9,12 +9,12 @@ use Rattle.px_terms.specs.declared.term.Term.{Term}
 use Rattle.px_terms.specs.Substitution.{substitute_atom}
 use Rattle.px_proof.specs.declared.shape.Tick.{Tick}
 use Rattle.px_proof.specs.declared.shape.Tick.TheVariants.{Fact, Anc, Step, Gap, Open}
-use Rattle.px_proof.specs.Derivation.{Derivation, Derivations, fact, ancestor, step, gap, open_place, none, also}
+use Rattle.px_proof.specs.Derivation.{Derivations, fact, ancestor, step, gap, open_place, none, also}
 use Rattle.px_proof.specs.Literals.{substitute_literal}
 use Rattle.px_proof.specs.PlaceLaws.{some_same}
 use Rattle.px_proof.specs.Proves.{or_open, parts_of}
 use Rattle.px_proof.specs.Shapes.{ticks, ticks_of}
-use Rattle.px_question.specs.Answers.{IsList, object_terms, object_of, choices_of, all_choices_of, literals_of}
+use Rattle.px_question.specs.Answers.{IsList, object_terms, object_of, all_choices_of, literals_of}
 use Rattle.px_question.specs.Gaps.{gaps_of, all_gaps_of}
 use Rattle.px_question.specs.Settings.{Setting}
 use Rattle.px_walk.specs.GapAtoms.{gap_at, after_closing, gap_atoms}
@@ -23,7 +23,6 @@ use Rattle.px_walk.specs.Possible.{rules_for}
 use Rattle.px_walk.specs.Scope.{IsAtomIn, IsSetting}
 use Rattle.px_walk.proofs.Lifting.{goal_under, closing_under, same_closing, regrouped, longer, enough, later_ends, take_drop, length-take_within}
 use Rattle.px_walk.proofs.Lists.{solves-list, walk_each, goals_ground, each-are, ground_goals}
-use Rattle.px_walk.proofs.Pushing.{open_after-push}
 use Rattle.px_walk.proofs.Trees.{AreProved, rules_of, joined, ticks_of-joined, choices-joined, terms-objects, ticks-pos, has_room-true, parts-proved, step_room, step_closing}
 
 -- the gaps of a run without variables

@@ -1,5 +1,5 @@
 -- Gap lists are what finished lists of ticks give, and each such list comes directly after one that goes on.
-use Rattle.std.proofs.Common.{◌≡◌, ◌↔◌, ◌⊎◌, ◌∙◌, ℕ, zero, suc, ◌+◌, ◌<◌, ◌≤◌, Bool, true, Some, List, [], ◌∷◌, ◌++◌, length, map, take, drop, refl, ap, sym, subst, arith, inl, inr, length-append}
+use Rattle.std.proofs.Common.{◌≡◌, ◌↔◌, ◌⊎◌, ◌∙◌, ℕ, zero, suc, ◌+◌, ◌<◌, ◌≤◌, true, Some, List, [], ◌∷◌, ◌++◌, length, map, take, drop, refl, ap, sym, subst, arith, inl, inr, length-append}
 use Rattle.std.specs.Prelude.{All, Contains}
 use Rattle.std.specs.List.{AllByRecursion}
 use Rattle.std.proofs.lemmas.List.Elements.{All-take, All-drop, All-append}
@@ -11,15 +11,14 @@ use Rattle.px_base.specs.ListLaws.{Contains-none, Contains-one}
 use Rattle.px_terms.specs.AtomSets.{IsAtomSet}
 use Rattle.px_question.specs.declared.gap_list.GapList.{GapList}
 use Rattle.px_proof.specs.Derivation.{Derivations, none, also}
-use Rattle.px_proof.specs.Proves.{ProvesEach, or_open}
-use Rattle.px_proof.specs.PlaceLaws.{some_same}
+use Rattle.px_proof.specs.Proves.{ProvesEach}
 use Rattle.px_proof.specs.Shapes.{ticks_of}
-use Rattle.px_question.specs.Answers.{IsList, object_terms, all_choices_of, literals_of}
+use Rattle.px_question.specs.Answers.{IsList, object_terms, all_choices_of}
 use Rattle.px_question.specs.Gaps.{IsGapList, all_gaps_of}
 use Rattle.px_question.specs.Settings.{Setting, loose_gaps_in}
-use Rattle.px_walk.specs.GapAtoms.{gap_atoms, variables_in, GivesUnder, Gives, GivesAfter, AreGathered}
+use Rattle.px_walk.specs.GapAtoms.{gap_atoms, variables_in, Gives, GivesAfter, AreGathered}
 use Rattle.px_walk.specs.Pending.{Goal, Pending, Solves, goals_of, open_after}
-use Rattle.px_walk.specs.Possible.{IsClosing, IsPossible, IsFinished, IsGoingOn, open_count, left_of, rules_for}
+use Rattle.px_walk.specs.Possible.{IsClosing, IsPossible, IsFinished, IsGoingOn, left_of}
 use Rattle.px_walk.specs.Scope.{IsAtomIn, IsSetting}
 use Rattle.px_walk.specs.Search.{AreAll}
 use Rattle.px_walk.proofs.Bridge.{closed-list, finished-ends, finished-opened, finished-possible, choices-of-list}

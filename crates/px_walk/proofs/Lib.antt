@@ -9,7 +9,6 @@ pub mod Visits
 pub mod Objects
 pub mod Scoping
 pub mod Partial
-pub mod Ascending
 pub mod Least
 pub mod Padding
 pub mod Bridge

@@ -1,12 +1,11 @@
 -- Closings over variables, under a substitution, are closings on the ground.
-use Rattle.std.proofs.Common.{◌≡◌, ◌↔◌, ◌⊎◌, ℕ, zero, suc, ◌+◌, ◌-◌, ◌<◌, ◌≤◌, Bool, true, false, ◌&&◌, ◌||◌, cond, Option, Some, None, List, [], ◌∷◌, ◌++◌, length, map, take, drop, slice_get, slice_index_or, refl, ap, sym, subst, ◌∙◌, arith, inl, inr, add-suc, zero-add, add-zero, length-append, append_assoc}
-use Rattle.std.specs.Prelude.{remove, All, IsSomeAnd, nat_eq}
+use Rattle.std.proofs.Common.{◌≡◌, ℕ, zero, suc, ◌+◌, ◌-◌, ◌<◌, ◌≤◌, Bool, true, false, ◌&&◌, cond, Option, Some, None, List, [], ◌∷◌, ◌++◌, length, map, take, drop, slice_get, slice_index_or, refl, ap, sym, ◌∙◌, arith, length-append, append_assoc}
+use Rattle.std.specs.Prelude.{All, IsSomeAnd, nat_eq}
 use Rattle.std.specs.List.{AllByRecursion, list_any}
 use Rattle.std.proofs.lemmas.List.{map-append}
 use Rattle.std.proofs.lemmas.List.Elements.{All-take, All-drop}
 use Rattle.px_terms.specs.Language.{substitute, IsObject}
-use Rattle.px_terms.specs.Substitution.{substitute_atom}
-use Rattle.px_proof.specs.Literals.{substitute_literal, complement_of, positive_of}
+use Rattle.px_proof.specs.Literals.{substitute_literal}
 use Rattle.px_proof.specs.PlaceLaws.{some_same}
 use Rattle.px_proof.specs.SubstitutionLaws.{instance_twice, parts_under}
 use Rattle.px_terms.specs.declared.term.Term.{Term}
@@ -16,11 +15,11 @@ use Rattle.px_terms.specs.declared.clause.Lit.{Lit}
 use Rattle.px_terms.specs.declared.clause.Clause.{Clause}
 use Rattle.px_proof.specs.declared.shape.Tick.{Tick}
 use Rattle.px_proof.specs.declared.shape.Tick.TheVariants.{Fact, Anc, Step, Gap, Open}
-use Rattle.px_proof.specs.Proves.{instance_of, parts_of, IsName}
+use Rattle.px_proof.specs.Proves.{instance_of, parts_of}
 use Rattle.px_question.specs.Settings.{Setting}
 use Rattle.px_question.specs.Answers.{object_terms}
 use Rattle.px_walk.specs.Pending.{Goal, Closing, Solves, Runs, Pending, open_after, fresh_of, vars_of, closing_of, closing_at, by_fact, by_ancestor, by_literal, by_step, has_room, goals_below, variables_from}
-use Rattle.px_walk.specs.Scope.{IsAtomIn, IsLitIn, IsGoalIn, IsSetting}
+use Rattle.px_walk.specs.Scope.{IsSetting}
 
 abbrev pub goal_under : List Term → Goal → Goal
 goal_under tau goal = record { lit = substitute_literal tau goal.lit; path = map (substitute_literal tau) goal.path; budget = goal.budget }

@@ -1,5 +1,5 @@
 -- Lists of derivations of a formula, as closings of its goals.
-use Rattle.std.proofs.Common.{◌≡◌, ◌↔◌, ◌⊎◌, ℕ, zero, suc, ◌+◌, ◌<◌, ◌≤◌, max, Bool, true, false, ◌||◌, Option, Some, None, List, [], ◌∷◌, ◌++◌, length, map, slice_index_or, refl, ap, sym, ◌∙◌, arith, inl, inr, length-append, append_assoc}
+use Rattle.std.proofs.Common.{◌≡◌, ℕ, zero, suc, ◌+◌, ◌<◌, ◌≤◌, Bool, true, false, ◌||◌, Option, Some, None, List, [], ◌∷◌, ◌++◌, length, map, slice_index_or, refl, ap, ◌∙◌, arith, inl, inr, length-append}
 use Rattle.std.specs.Prelude.{IsSomeAnd, All, Contains, nat_eq}
 use Rattle.std.specs.List.{AllByRecursion, list_any}
 use Rattle.std.proofs.lemmas.Bool.Decides.{nat_tests}
@@ -8,22 +8,19 @@ use Rattle.std.proofs.lemmas.Map.Views.{Contains-from_any}
 use Rattle.px_base.specs.ListLaws.{Contains-none, Contains-cases}
 use Rattle.px_proof.specs.ProvesLaws.{Allows, each_by}
 use Rattle.px_terms.specs.Language.{substitute}
-use Rattle.px_terms.specs.Substitution.{substitute_atom}
-use Rattle.px_proof.specs.Literals.{substitute_literal, positive_of}
+use Rattle.px_proof.specs.Literals.{substitute_literal}
 use Rattle.px_terms.specs.declared.term.Term.{Term}
 use Rattle.px_terms.specs.declared.term.Term.TheVariants.{Obj, Var, Any}
 use Rattle.px_terms.specs.declared.atom.Atom.{Atom}
 use Rattle.px_terms.specs.declared.clause.Lit.{Lit}
-use Rattle.px_terms.specs.declared.clause.Clause.{Clause}
-use Rattle.px_proof.specs.declared.proof.Leaf.{Leaf}
 use Rattle.px_proof.specs.declared.shape.Tick.{Tick}
-use Rattle.px_proof.specs.Derivation.{Derivation, Derivations, fact, ancestor, step, gap, open_place, none, also, height, greatest_height}
-use Rattle.px_proof.specs.Proves.{Rules, Proves, ProvesEach, UsesClause, parts_of, or_open, IsName}
+use Rattle.px_proof.specs.Derivation.{Derivations, none, also, greatest_height}
+use Rattle.px_proof.specs.Proves.{Rules, ProvesEach, or_open, IsName}
 use Rattle.px_proof.specs.Shapes.{ticks_of}
-use Rattle.px_question.specs.Settings.{Setting, proofs_in, IsObjectBelow}
+use Rattle.px_question.specs.Settings.{Setting}
 use Rattle.px_question.specs.Answers.{IsList, literals_of, object_terms, all_choices_of}
 use Rattle.px_walk.specs.Possible.{rules_for}
-use Rattle.px_walk.specs.Pending.{Goal, Closing, Pending, Runs, Solves, open_after, closing_at, fresh_of, goals_of}
+use Rattle.px_walk.specs.Pending.{Goal, Closing, Runs, Solves, open_after, closing_at, fresh_of, goals_of}
 use Rattle.px_walk.specs.Scope.{IsSetting, IsAtomIn}
 use Rattle.px_walk.proofs.Lifting.{goal_under, closing_under, solves_from_runs, runs_from_solves, same_closing, regrouped, longer, open_after-step, length-objects, objects-append}
 use Rattle.px_walk.proofs.Trees.{rules_of, AreProved, runs_from_trees, trees_from_runs}

@@ -1,8 +1,7 @@
 -- The order of ticks and of lists of ticks.
-use Rattle.std.proofs.Common.{◌≡◌, ◌⊎◌, ◌↔◌, ℕ, zero, suc, ◌+◌, ◌<◌, ◌≤◌, Bool, true, false, Option, Some, None, List, [], ◌∷◌, ◌++◌, length, refl, ap, sym, subst, ◌∙◌, arith, inl, inr, append_assoc}
+use Rattle.std.proofs.Common.{◌≡◌, ◌⊎◌, Bool, true, false, Option, Some, None, List, [], ◌∷◌, ◌++◌, refl, ap, sym, ◌∙◌, inl, inr, append_assoc}
 use Rattle.px_proof.specs.declared.shape.Tick.{Tick}
-use Rattle.px_proof.specs.declared.shape.Tick.TheVariants.{Fact, Anc, Step, Gap, Open}
-use Rattle.px_proof.specs.Shapes.{TickBefore, ShapeBefore, tick_kind, tick_number, tick_place}
+use Rattle.px_proof.specs.Shapes.{TickBefore, ShapeBefore}
 pub use Rattle.px_question.specs.ShapeOrder.{TickBefore-irrefl, TickBefore-trans, tick_trichotomy, shape_trichotomy, ShapeBefore-irrefl, ShapeBefore-trans}
 use Rattle.px_walk.specs.Order.{IsAfter, Remains, IsNext, NoneAfter, IsPrefixClosed, IsAt, IsOnTheWay, TriesAfter}
 

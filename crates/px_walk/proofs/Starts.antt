@@ -1,15 +1,13 @@
 -- Where the walk starts, and that what it visits is closed under fronts.
-use Rattle.std.proofs.Common.{◌≡◌, ◌∙◌, ℕ, zero, suc, ◌<◌, ◌≤◌, Bool, List, [], ◌∷◌, ◌++◌, length, replicate, refl, ap, sym, subst, arith, append_assoc}
-use Rattle.std.specs.Prelude.{All}
+use Rattle.std.proofs.Common.{◌≡◌, ◌∙◌, ℕ, zero, suc, ◌<◌, Bool, List, [], ◌∷◌, ◌++◌, length, replicate, refl, ap, sym, subst, arith, append_assoc}
 use Rattle.std.specs.List.{AllByRecursion}
-use Rattle.std.proofs.lemmas.List.{append-nil}
 use Rattle.std.proofs.lemmas.List.Elements.{All-from_recursion}
 use Rattle.px_terms.specs.declared.atom.Atom.{Atom}
 use Rattle.px_proof.specs.declared.shape.Tick.{Tick}
 use Rattle.px_question.specs.Settings.{Setting}
 use Rattle.px_walk.specs.Order.{IsPrefixClosed}
 use Rattle.px_walk.specs.Pending.{goals_of}
-use Rattle.px_walk.specs.Possible.{IsClosing, IsPossible, IsGoingOn, open_count}
+use Rattle.px_walk.specs.Possible.{IsClosing, IsPossible, IsGoingOn}
 use Rattle.px_walk.proofs.Every.{all-front}
 use Rattle.px_walk.proofs.Padding.{goes_on}
 use Rattle.px_walk.proofs.Pushing.{feasible-shorter}

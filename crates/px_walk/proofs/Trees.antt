@@ -1,6 +1,6 @@
 -- Derivations of the goals are closings in preorder.
-use Rattle.std.proofs.Common.{◌≡◌, ◌↔◌, ◌⊎◌, ℕ, zero, suc, ◌+◌, ◌-◌, ◌<◌, ◌≤◌, max, Bool, true, false, ◌&&◌, ◌||◌, cond, Option, Some, None, List, [], ◌∷◌, ◌++◌, length, map, slice_get, refl, ap, sym, subst, ◌∙◌, arith, inl, inr, append_assoc, length-append}
-use Rattle.std.specs.Prelude.{IsSomeAnd, All, Contains, nat_le, nat_eq, not}
+use Rattle.std.proofs.Common.{◌≡◌, ◌⊎◌, ℕ, zero, suc, ◌+◌, ◌-◌, ◌<◌, ◌≤◌, Bool, true, false, ◌&&◌, ◌||◌, cond, Option, Some, None, List, [], ◌∷◌, ◌++◌, length, map, slice_get, refl, ap, sym, ◌∙◌, arith, inl, inr, append_assoc, length-append}
+use Rattle.std.specs.Prelude.{IsSomeAnd, All, nat_le, nat_eq, not}
 use Rattle.std.specs.List.{list_any, AllByRecursion}
 use Rattle.std.proofs.lemmas.List.{length-map}
 use Rattle.std.proofs.lemmas.List.Elements.{All-head, All-tail, All-nil, All-map, All-weaker}
@@ -13,7 +13,6 @@ use Rattle.px_terms.specs.declared.term.Term.TheVariants.{Obj, Var, Any}
 use Rattle.px_terms.specs.declared.atom.Atom.{Atom}
 use Rattle.px_terms.specs.declared.clause.Lit.{Lit}
 use Rattle.px_terms.specs.declared.clause.Clause.{Clause}
-use Rattle.px_proof.specs.declared.proof.Leaf.{Leaf}
 use Rattle.px_proof.specs.declared.shape.Tick.{Tick}
 use Rattle.px_proof.specs.declared.shape.Tick.TheVariants.{Fact, Anc, Step, Gap, Open}
 use Rattle.px_proof.specs.Derivation.{Derivation, Derivations, fact, ancestor, step, gap, open_place, none, also, height, greatest_height}
@@ -21,7 +20,7 @@ use Rattle.px_proof.specs.Proves.{Rules, Proves, ProvesEach, UsesClause, instanc
 use Rattle.px_proof.specs.Shapes.{ticks, ticks_of}
 use Rattle.px_question.specs.Settings.{Setting, IsObjectBelow, proofs_in}
 use Rattle.px_question.specs.Answers.{object_terms, object_of, choices_of, all_choices_of}
-use Rattle.px_walk.specs.Pending.{Goal, Closing, Runs, fresh_of, vars_of, closing_of, by_fact, by_ancestor, by_step, by_literal, has_room, goals_below}
+use Rattle.px_walk.specs.Pending.{Goal, Closing, Runs, vars_of, closing_of, by_fact, by_ancestor, by_step, by_literal, has_room, goals_below}
 
 -- which closings the walk makes
 abbrev pub rules_of : Bool → Setting → Rules

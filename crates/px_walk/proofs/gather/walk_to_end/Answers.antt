@@ -1,4 +1,4 @@
-use Rattle.std.proofs.Common.{◌≡◌, List, [], ◌∷◌, ◌++◌, ◌∙◌, ◌+◌, ◌<◌, ◌≤◌, refl, map, length, arith, ap, sym, subst}
+use Rattle.std.proofs.Common.{List, [], ◌∷◌, ◌++◌, ◌+◌, ◌<◌, refl, length, arith, ap, subst}
 use Rattle.px_proof.specs.declared.shape.Tick.{Tick}
 use Rattle.px_walk.specs.Order.{IsNext, NoneAfter}
 use Rattle.px_walk.proofs.Visits.{seen-start, seen-next, all-come, limit-comes, length-seen, shapes-push}
