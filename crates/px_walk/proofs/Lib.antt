@@ -18,3 +18,4 @@ pub mod Starts
 pub mod GapOutcomes
 pub mod Gaps
 pub mod Gathering
+pub mod Values

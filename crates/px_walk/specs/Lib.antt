@@ -5,3 +5,4 @@ pub mod Order
 pub mod Search
 pub mod Ends
 pub mod GapAtoms
+pub mod Values
