@@ -36,20 +36,20 @@ gaps-joined : (ps qs : Derivations) → all_gaps_of (joined ps qs) ≡ all_gaps_
 gaps-joined none qs = refl
 gaps-joined (also p ps) qs = ap (λ atoms. gaps_of p ++ atoms) (gaps-joined ps qs) ∙ sym (append_assoc (gaps_of p) (all_gaps_of ps) (all_gaps_of qs))
 
-taken : (theta rest : List ℕ) (k : ℕ) → length theta ≡ k → take k (theta ++ rest) ≡ theta
+pub taken : (theta rest : List ℕ) (k : ℕ) → length theta ≡ k → take k (theta ++ rest) ≡ theta
 taken [] rest zero long = refl
 taken [] rest (suc k) long = absurd (omega (arith, long))
 taken (x ∷ theta) rest zero long = absurd (omega (arith, long))
 taken (x ∷ theta) rest (suc k) long = ap (λ xs. x ∷ xs) (taken theta rest k (omega (arith, long)))
 
-dropped : (theta rest : List ℕ) (k : ℕ) → length theta ≡ k → drop k (theta ++ rest) ≡ rest
+pub dropped : (theta rest : List ℕ) (k : ℕ) → length theta ≡ k → drop k (theta ++ rest) ≡ rest
 dropped [] rest zero long = refl
 dropped [] rest (suc k) long = absurd (omega (arith, long))
 dropped (x ∷ theta) rest zero long = absurd (omega (arith, long))
 dropped (x ∷ theta) rest (suc k) long = dropped theta rest k (omega (arith, long))
 
 module _ (loose : Bool) (s : Setting) where
-  closed_gap : (theta : List Term) (goal : Goal) (atom : Atom) → goal.lit.positive ≡ true → goal.lit.atom.pred ≡ atom.pred → loose ≡ true → list_any (nat_eq atom.pred) s.added ≡ true →
+  pub closed_gap : (theta : List Term) (goal : Goal) (atom : Atom) → goal.lit.positive ≡ true → goal.lit.atom.pred ≡ atom.pred → loose ≡ true → list_any (nat_eq atom.pred) s.added ≡ true →
       closing_of loose s theta goal Gap ≡ Some (record { equal_to = goal.lit; parts = [] })
   closed_gap theta goal atom positive pred is_loose added = rw (is_loose, positive, pred, added) refl
 

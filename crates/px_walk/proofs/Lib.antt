@@ -19,3 +19,4 @@ pub mod GapOutcomes
 pub mod Gaps
 pub mod Gathering
 pub mod Values
+pub mod Building

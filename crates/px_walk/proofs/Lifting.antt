@@ -119,11 +119,14 @@ module _ (loose : Bool) (s : Setting) (valid : IsSetting s) (old theta rest chos
   pub longer : length (old ++ theta) ≡ length old + fresh_of s tick
   longer = length-append old theta ∙ ap (λ k. length old + k) long
 
+  -- the new variables have the objects that are chosen next
+  pub new_theta : map (substitute (object_terms (old ++ chosen))) (variables_from (length old) (fresh_of s tick)) ≡ object_terms theta
+  new_theta = rw (splits, ← long) (new_objects old theta rest)
+
   -- the closing on the ground is the one over variables, under the objects
   pub same_closing : closing_of loose s (object_terms theta) (goal_under (object_terms (old ++ chosen)) goal) tick ≡ closing_under (object_terms (old ++ chosen)) (closing_at loose s (length old) goal tick)
   same_closing =
-      let objects : map (substitute (object_terms (old ++ chosen))) (variables_from (length old) (fresh_of s tick)) ≡ object_terms theta = rw (splits, ← long) (new_objects old theta rest) in
-      rw (← objects) (closing-under loose s valid (object_terms (old ++ chosen)) (variables_from (length old) (fresh_of s tick)) goal tick (length-variables (length old) (fresh_of s tick)))
+      rw (← new_theta) (closing-under loose s valid (object_terms (old ++ chosen)) (variables_from (length old) (fresh_of s tick)) goal tick (length-variables (length old) (fresh_of s tick)))
 
   module _ (goals : List Goal) (ticks : List Tick) where
     abbrev pub RunsLater : List Goal → Type 0
