@@ -28,7 +28,7 @@ use Rattle.px_walk.proofs.Lists.{list-solved}
 use Rattle.px_walk.proofs.Padding.{goes_on}
 use Rattle.px_walk.proofs.Starts.{possible-front}
 
-no_goals : (p : Pending) → length p.goals ≡ 0 → p ≡ record { variables = p.variables; goals = [] }
+pub no_goals : (p : Pending) → length p.goals ≡ 0 → p ≡ record { variables = p.variables; goals = [] }
 no_goals p empty = go p.goals refl empty
   where
     go : (goals : List Goal) → p.goals ≡ goals → length p.goals ≡ 0 → p ≡ record { variables = p.variables; goals = [] }

@@ -20,3 +20,4 @@ pub mod Gaps
 pub mod Gathering
 pub mod Values
 pub mod Building
+pub mod Answering

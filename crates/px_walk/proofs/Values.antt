@@ -49,7 +49,7 @@ all_numbers P (x ∷ xs) each = (each 0 (omega arith), all_numbers P xs (λ v wi
 number_of : {m n : ℕ} → Obj m ≡ Obj n → m ≡ n
 number_of e = cc
 
-zero_at : (n v : ℕ) → slice_index (replicate n 0) v ≡ 0
+pub zero_at : (n v : ℕ) → slice_index (replicate n 0) v ≡ 0
 zero_at zero v = refl
 zero_at (suc n) zero = refl
 zero_at (suc n) (suc v) = zero_at n v
