@@ -1,6 +1,6 @@
 -- What the bindings at the end of the walk answer.
 use Rattle.std.proofs.Common.{◌≡◌, ◌∙◌, ℕ, zero, suc, ◌+◌, ◌<◌, ◌≤◌, Bool, true, false, Some, List, [], ◌∷◌, ◌++◌, length, map, take, drop, replicate, refl, ap, sym, subst, arith, length-append}
-use Rattle.std.specs.Prelude.{All, slice_index}
+use Rattle.std.specs.Prelude.{◌↔◌, All, Contains, slice_index}
 use Rattle.std.specs.List.{AllByRecursion}
 use Rattle.std.proofs.lemmas.List.{length-replicate}
 use Rattle.std.proofs.lemmas.List.Elements.{All-take, All-drop}
@@ -14,7 +14,8 @@ use Rattle.px_unify.specs.Changes.{Fits, HasSolutions, variables_of}
 use Rattle.px_question.specs.Answers.{AtMost, IsFirst, IsList, all_choices_of, object_terms}
 use Rattle.px_question.specs.Settings.{Setting, proofs_in}
 use Rattle.px_walk.specs.Building.{built, placed}
-use Rattle.px_walk.specs.GapAtoms.{variables_in}
+use Rattle.px_walk.specs.GapAtoms.{gap_atoms, variables_in, Gives, GivesUnder}
+use Rattle.px_terms.specs.Substitution.{substitute_atom}
 use Rattle.px_walk.specs.Pending.{Pending, Solves, goals_of, open_after}
 use Rattle.px_walk.specs.Possible.{IsClosing, IsFinished, IsPossible, left_of, rules_for}
 use Rattle.px_walk.specs.Scope.{IsAtomIn, IsSetting}
@@ -26,7 +27,7 @@ use Rattle.px_walk.proofs.Building.{built-list}
 use Rattle.px_walk.proofs.Gathering.{no_goals}
 use Rattle.px_walk.proofs.Lifting.{length-take_within, take_drop, variables_grow}
 use Rattle.px_walk.proofs.Outcomes.{first-is}
-use Rattle.px_walk.proofs.Values.{values-below, values-fit, values-least, zero_at}
+use Rattle.px_walk.proofs.Values.{values-below, values-fit, values-least, values-same, zero_at}
 
 module _ (loose : Bool) (s : Setting) (formula : List Atom) (vars : ℕ) (ticks : List Tick) (possible : IsPossible loose s formula vars ticks) where
   -- how many variables there are after the ticks
@@ -87,4 +88,31 @@ module _ (s : Setting) (valid : IsSetting s) (formula : List Atom) (vars : ℕ) 
             (λ others solves same. subst (λ (os : List ℕ). AtMost os others) (sym all_values)
             (values-least changes (variables_of changes) values others are (same ∙ ap length all_values) ((matched (object_terms others)).1 solves))),
         ticks_are,
+      )
+
+module _ (s : Setting) (formula : List Atom) (vars : ℕ) (ticks : List Tick) (possible : IsPossible true s formula vars ticks) (finished : IsFinished true s formula vars ticks) (changes : List Change)
+    (matched : AreMatched true s formula vars ticks changes) (solvable : HasSolutions changes) (count : variables_of changes ≡ variables_in (open_after true s vars (goals_of s formula) ticks)) where
+  -- the atoms that the ticks close by gaps, under the values
+  abbrev pub missing_under : List ℕ → List Atom
+  missing_under values = map (substitute_atom (object_terms values)) (gap_atoms true s vars (goals_of s formula) ticks)
+
+  -- whatever objects of the problem are chosen, the finished list gives the gap list of the values
+  pub values-give : (chosen values : List ℕ) (gaps : List Atom) → length chosen ≡ variables_of changes → ((v : ℕ) → v < variables_of changes → slice_index chosen v < s.objects) → AreValues changes chosen values →
+      ((atom : Atom) → Contains gaps atom ↔ Contains (missing_under values) atom) → Gives s formula vars ticks (take vars values) gaps
+  values-give chosen values gaps long below are same =
+      let solved = values-solve true s formula vars ticks possible changes matched solvable count chosen values long below are in
+      (possible, finished, (values, record { count = solved.2; below = solved.0; solves = solved.1; chosen = refl; same = same }))
+
+  -- and it gives no other: the values are those that the bindings give where they are chosen themselves
+  pub given-values : (objects : List ℕ) (gaps : List Atom) → Gives s formula vars ticks objects gaps →
+      (values : List ℕ) × (length values ≡ variables_of changes) × All (λ n. n < s.objects) values × (objects ≡ take vars values) × ((atom : Atom) → Contains gaps atom ↔ Contains (missing_under values) atom)
+      × ((others : List ℕ) → AreValues changes values others → others ≡ values)
+  given-values objects gaps (was_possible, was_finished, (values, gives)) =
+      let long : length values ≡ variables_of changes = gives.count ∙ sym count in (
+        values,
+        long,
+        gives.below,
+        gives.chosen,
+        gives.same,
+        λ others are. values-same changes values others are long ((matched (object_terms values)).1 gives.solves),
       )

@@ -117,3 +117,15 @@ values-least changes n values others are long fits =
     at v (Obj k) root is other = omega (arith, is, other)
     at v (Var w) root is other = omega (arith, is, zero_at n w)
     at v Any root is other = absurd root
+
+-- what is chosen counts only where a variable is not bound
+pub values-agree : (changes : List Change) (chosen others values : List ℕ) → ((v : ℕ) → IsUnbound changes v → slice_index chosen v ≡ slice_index others v) → AreValues changes chosen values → AreValues changes others values
+values-agree changes chosen others values agree are = record {
+  count = are.count;
+  each = λ v within. let one = are.each v within in (one.0, one.1, one.2, one.3 ∙ same one.0 one.2);
+}
+  where
+    same : (root : Term) → IsRoot changes root → value_of chosen root ≡ value_of others root
+    same (Obj n) root = refl
+    same (Var w) root = agree w root
+    same Any root = absurd root
