@@ -122,7 +122,7 @@ module _ (loose : Bool) (s : Setting) where
       go None is closes theta_is later = absurd closes
       go (Some closing) is closes theta_is later =
           let rest : run_placed loose s (map (goal_under (object_terms (old ++ chosen))) closing.parts ++ map (goal_under (object_terms (old ++ chosen))) goals) ticks (drop (fresh_of s tick) chosen)
-              ≡ placed loose s (object_terms (old ++ chosen)) (length old + fresh_of s tick) (closing.parts ++ goals) ticks =
+          ≡ placed loose s (object_terms (old ++ chosen)) (length old + fresh_of s tick) (closing.parts ++ goals) ticks =
           ap (λ gs. run_placed loose s gs ticks (drop (fresh_of s tick) chosen)) (sym (map-append (goal_under (object_terms (old ++ chosen))) closing.parts goals)) ∙ later closing is closes.1 in
           let count : length (map (goal_under (object_terms (old ++ chosen))) closing.parts) ≡ length closing.parts = length-map closing.parts (goal_under (object_terms (old ++ chosen))) in
           λ i. record { tick = tick; theta = (sym theta_is) i; atom = (goal_under (object_terms (old ++ chosen)) goal).lit.atom; parts = count i } ∷ rest i
