@@ -1,0 +1,9 @@
+pub mod Settings
+pub mod Answers
+pub mod Limits
+pub mod Gaps
+pub mod GapOrder
+pub mod GapOrderLaws
+pub mod Determined
+pub mod ShapeOrder
+pub mod DeterminedLaws

@@ -1,0 +1,10 @@
+pub mod Pending
+pub mod Scope
+pub mod Possible
+pub mod Order
+pub mod Search
+pub mod Ends
+pub mod GapAtoms
+pub mod Values
+pub mod Building
+pub mod OneList
