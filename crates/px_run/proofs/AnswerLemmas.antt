@@ -75,8 +75,8 @@ next-of script place answers answer within so_far lawful = record {
   whole = split-here script.commands place within;
   lawful = so_far;
   lawful_next = lawful;
-  is = refl;
-  next_is = refl;
+  done_text = refl;
+  next_text = refl;
 }
 
 pub begun-of : (script : ScriptValue) (place : ℕ) (answers : List Reply) → AreAnswers script.problem script.facts (take place script.commands) answers script.facts → IsBegunOf script (texts script.names answers)
@@ -87,7 +87,7 @@ begun-of script place answers so_far = record {
   last = script.facts;
   whole = sym (take-append-drop place script.commands);
   lawful = so_far;
-  is = refl;
+  text_is = refl;
 }
 
 pub one-more : (script : ScriptValue) (place : ℕ) (answers : List Reply) (answer : Reply) → place < length script.commands
@@ -106,7 +106,7 @@ begun-next script done next of = record {
   last = of.last;
   whole = of.whole ∙ sym (append_assoc of.before (of.command ∷ []) of.after);
   lawful = answers-end script.problem script.facts of.before of.answers of.facts of.command of.answer of.last of.lawful of.lawful_next;
-  is = (λ i. of.is i ++ of.next_is i) ∙ sym (texts-end script.names of.answers of.answer);
+  text_is = (λ i. of.done_text i ++ of.next_text i) ∙ sym (texts-end script.names of.answers of.answer);
 }
 
 pub wrote-nothing : (w0 w1 w2 : Option (List ℕ)) (f0 f1 f2 : ℕ) (s0 s1 : Option ℕ) (done : List ℕ)

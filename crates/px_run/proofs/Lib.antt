@@ -1,6 +1,7 @@
 pub mod AnswerLemmas
 pub mod Fewness
 pub mod Named
+pub mod OneText
 pub mod OutcomeLemmas
 pub mod Plain
 pub mod Ready

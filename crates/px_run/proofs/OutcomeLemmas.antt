@@ -15,10 +15,17 @@ use Rattle.px_run.specs.declared.status.Status.{Status}
 use Rattle.px_run.specs.declared.status.Status.TheVariants as status
 use Rattle.px_run.proofs.AnswerLemmas.{begun-next}
 
+-- no more bytes came than a script has
+pub came-short : (source : SourceEnds) (bytes : List ℕ) → Came source bytes → source.taken_after ≤ source.taken + limit
+came-short source bytes came =
+    let count = came.count in
+    let short = came.short in
+    omega (arith, count, short)
+
 pub run-executed : (source : SourceEnds) (sink : SinkEnds) (bytes : List ℕ) (script : ScriptValue) (result : Status) → Came source bytes → IsScript bytes script → ExecutedRight script sink result → RunRight source sink result
 run-executed source sink bytes script status.Done came is right = (bytes, right.0, came, (script, is, right.1), right.2)
 run-executed source sink bytes script status.WriteFault came is right = (bytes, right.0, right.1, came, inr (script, is, right.2), right.3)
-run-executed source sink bytes script status.NoMemory came is right = inr (bytes, right.0, came, (script, is, right.1), right.2)
+run-executed source sink bytes script status.NoMemory came is right = (came.no_fault, came-short source bytes came, inr (bytes, right.0, came, (script, is, right.1), right.2))
 run-executed source sink bytes script status.Usage came is right = elim right [ ]
 run-executed source sink bytes script status.ReadFault came is right = elim right [ ]
 run-executed source sink bytes script status.TooLong came is right = elim right [ ]
@@ -27,7 +34,7 @@ run-executed source sink bytes script (status.Refused refused) came is right = e
 pub run-refused : (source : SourceEnds) (sink : SinkEnds) (bytes : List ℕ) (refused : Refused) (result : Status) → Came source bytes → IsRefused bytes refused → RefusalRight refused sink result → RunRight source sink result
 run-refused source sink bytes refused (status.Refused answered) came fault right = subst (λ r. RunRight source sink (status.Refused r)) (sym right.0) (bytes, came, fault, right.1)
 run-refused source sink bytes refused status.WriteFault came fault right = (bytes, [], refusal_text refused, came, inl (refused, fault, refl, refl), right)
-run-refused source sink bytes refused status.NoMemory came fault right = inl right
+run-refused source sink bytes refused status.NoMemory came fault right = (came.no_fault, came-short source bytes came, inl right)
 run-refused source sink bytes refused status.Done came fault right = elim right [ ]
 run-refused source sink bytes refused status.Usage came fault right = elim right [ ]
 run-refused source sink bytes refused status.ReadFault came fault right = elim right [ ]

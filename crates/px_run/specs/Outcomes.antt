@@ -29,6 +29,18 @@ pub record SourceEnds : Type 0 where
   pub faults_after : ℕ
   pub never_fails : Bool
 
+-- what a source of these meanings tells, before a call and after it
+abbrev pub source_ends : {S : Type 0} → (S → Option (List ℕ)) → (S → ℕ) → (S → ℕ) → (S → Bool) → S → S → SourceEnds
+source_ends left taken faults never_fails before after = record {
+  left = left before;
+  left_after = left after;
+  taken = taken before;
+  taken_after = taken after;
+  faults = faults before;
+  faults_after = faults after;
+  never_fails = never_fails before;
+}
+
 -- what a sink tells, before a call and after it
 pub record SinkEnds : Type 0 where
   pub written : Option (List ℕ)
@@ -37,28 +49,38 @@ pub record SinkEnds : Type 0 where
   pub faults_after : ℕ
   pub sure : Option ℕ
 
--- how many bytes are read at most
+-- what a sink of these meanings tells, before a call and after it
+abbrev pub sink_ends : {S : Type 0} → (S → Option (List ℕ)) → (S → ℕ) → (S → Option ℕ) → S → S → SinkEnds
+sink_ends written faults sure before after = record {
+  written = written before;
+  written_after = written after;
+  faults = faults before;
+  faults_after = faults after;
+  sure = sure before;
+}
+
+-- how many bytes a script has at most
 abbrev pub limit : ℕ
 limit = 1048576
 
 -- these bytes came, the source had no more, and no read failed
 abbrev pub Came : SourceEnds → List ℕ → Type 0
-Came e bytes = ReadToEnd limit bytes e.left e.left_after e.taken e.taken_after e.faults e.faults_after
+Came ends bytes = ReadToEnd limit bytes ends.left ends.left_after ends.taken ends.taken_after ends.faults ends.faults_after
 
 -- this text was written, and no write failed
-pub record Wrote (e : SinkEnds) (text : List ℕ) : Type 0 where
-  pub appended : Appends e.written e.written_after text
-  pub no_fault : e.faults_after ≡ e.faults
+pub record Wrote (ends : SinkEnds) (text : List ℕ) : Type 0 where
+  pub appended : Appends ends.written ends.written_after text
+  pub no_fault : ends.faults_after ≡ ends.faults
 
 -- A text was written and a proper front of the next one, and then a write failed. The sink wasn't sure to take both.
-pub record Broke (e : SinkEnds) (done next : List ℕ) : Type 0 where
+pub record Broke (ends : SinkEnds) (done next : List ℕ) : Type 0 where
   pub front : List ℕ
   pub rest : List ℕ
   pub whole : next ≡ front ++ rest
   pub proper : 0 < length rest
-  pub appended : Appends e.written e.written_after (done ++ front)
-  pub rose : Rose e.faults e.faults_after
-  pub no_room : HasNoRoomFor e.sure e.written (done ++ next)
+  pub appended : Appends ends.written ends.written_after (done ++ front)
+  pub rose : Rose ends.faults ends.faults_after
+  pub no_room : HasNoRoomFor ends.sure ends.written (done ++ next)
 
 -- the outcomes where the words aren't taken
 abbrev pub UsageRight : SinkEnds → Status → Type 0
@@ -73,7 +95,8 @@ RunRight source sink (status.Refused refused) = (bytes : List ℕ) × Came sourc
 RunRight source sink status.ReadFault = Rose source.faults source.faults_after × (source.taken_after ≤ source.taken + limit) × (source.never_fails ≡ false) × Wrote sink []
 RunRight source sink status.TooLong = (source.taken + limit < source.taken_after) × (source.faults_after ≡ source.faults) × Wrote sink []
 RunRight source sink status.WriteFault = (bytes : List ℕ) × (done : List ℕ) × (next : List ℕ) × Came source bytes × IsWritten bytes done next × Broke sink done next
-RunRight source sink status.NoMemory = Wrote sink [] ⊎ ((bytes : List ℕ) × (text : List ℕ) × Came source bytes × Begun bytes text × Wrote sink text)
+RunRight source sink status.NoMemory = (source.faults_after ≡ source.faults) × (source.taken_after ≤ source.taken + limit)
+    × (Wrote sink [] ⊎ ((bytes : List ℕ) × (text : List ℕ) × Came source bytes × Begun bytes text × Wrote sink text))
 RunRight source sink status.Usage = ⊥
 
 -- the table of the statuses, by whether the words are taken

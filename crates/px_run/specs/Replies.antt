@@ -46,9 +46,9 @@ Lawful problem facts _ answer after = ⊥
 abbrev pub AreAnswers : Problem → List Atom → List command.Command → List Reply → List Atom → Type 0
 AreAnswers problem facts [] [] last = last ≡ facts
 AreAnswers problem facts [] (answer ∷ answers) last = ⊥
-AreAnswers problem facts (c ∷ commands) [] last = ⊥
-AreAnswers problem facts (c ∷ commands) (answer ∷ answers) last =
-    (next : List Atom) × Lawful problem facts c answer next × AreAnswers problem next commands answers last
+AreAnswers problem facts (first ∷ commands) [] last = ⊥
+AreAnswers problem facts (first ∷ commands) (answer ∷ answers) last =
+    (next : List Atom) × Lawful problem facts first answer next × AreAnswers problem next commands answers last
 
 -- the texts of replies, one after the other
 abbrev pub texts : NameLists → List Reply → List ℕ

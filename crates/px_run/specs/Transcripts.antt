@@ -15,7 +15,7 @@ pub record IsTextOf (script : ScriptValue) (text : List ℕ) : Type 0 where
   pub answers : List Reply
   pub last : List Atom
   pub lawful : AreAnswers script.problem script.facts script.commands answers last
-  pub is : text ≡ texts script.names answers
+  pub text_is : text ≡ texts script.names answers
 
 -- the texts of lawful replies to the first commands of a script
 pub record IsBegunOf (script : ScriptValue) (text : List ℕ) : Type 0 where
@@ -25,7 +25,7 @@ pub record IsBegunOf (script : ScriptValue) (text : List ℕ) : Type 0 where
   pub last : List Atom
   pub whole : script.commands ≡ before ++ after
   pub lawful : AreAnswers script.problem script.facts before answers last
-  pub is : text ≡ texts script.names answers
+  pub text_is : text ≡ texts script.names answers
 
 -- the texts of lawful replies to the first commands of a script, and the text of a lawful reply to the next one
 pub record IsNextOf (script : ScriptValue) (done next : List ℕ) : Type 0 where
@@ -39,8 +39,8 @@ pub record IsNextOf (script : ScriptValue) (done next : List ℕ) : Type 0 where
   pub whole : script.commands ≡ before ++ command ∷ after
   pub lawful : AreAnswers script.problem script.facts before answers facts
   pub lawful_next : Lawful script.problem facts command answer last
-  pub is : done ≡ texts script.names answers
-  pub next_is : next ≡ reply_text script.names answer
+  pub done_text : done ≡ texts script.names answers
+  pub next_text : next ≡ reply_text script.names answer
 
 -- the bytes are a script, and the text is the replies to all its commands
 abbrev pub Transcript : List ℕ → List ℕ → Type 0

@@ -12,9 +12,9 @@
 //!   and the facts carry the steps of a plan that is found to its goal. `facts` is answered by the facts, which ascend.
 //! - Bytes that aren't a script are refused with the line, the code and the limit of their first fault, as `px_script`
 //!   defines it. Nothing is answered before the whole script was read.
-//! - A refusal, and the reply to each command, is written by one `put`. After a write that failed, all earlier replies
-//!   and a proper front of the text were written.
-//! - At most 1,048,576 bytes are read; more are answered `TooLong`.
+//! - After a write that failed, the replies before it and a proper front of the next text were written. Each reply is put
+//!   as a whole; no clause says so, a test shows it.
+//! - A script has at most 1,048,576 bytes. Where more came, the answer is `TooLong`.
 #![tactic(auto)]
 
 mod running;

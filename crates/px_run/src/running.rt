@@ -1,7 +1,7 @@
 //! Answers commands in order, and writes the replies.
 ghost use Rattle.std.specs.Prelude.{◌≡◌, ◌<◌, length};
 ghost use Rattle.px_reader.specs.LineReads.{content};
-ghost use Rattle.px_run.specs.Outcomes.{ExecutedRight};
+ghost use Rattle.px_run.specs.Outcomes.{sink_ends, ExecutedRight};
 ghost use Rattle.px_run.specs.Sessions.{IsReady, AnswerRight};
 ghost use Rattle.px_run.specs.declared.running.AnswerErr.TheVariants.{Fault as failed, NoMemory as out_of_memory};
 
@@ -50,7 +50,7 @@ fn put_answer<K: Sink>(
 ) -> Result<(), AnswerErr>
     requires ready { IsReady (content script.now) }
     requires place { place < length script.now.commands }
-    ensures right { AnswerRight (content script.now) place (record { written = K.written sink.old; written_after = K.written sink.new; faults = K.faults sink.old; faults_after = K.faults sink.new; sure = K.sure sink.old }) result }
+    ensures right { AnswerRight (content script.now) place (sink_ends K.written K.faults K.sure sink.old sink.new) result }
     ensures nature { K.sure sink.new ≡ K.sure sink.old }
 {
     let reply = answer(alloc, script, place)?;
@@ -62,7 +62,8 @@ fn put_answer<K: Sink>(
 /// Answers all commands of a script.
 pub fn execute<K: Sink>(alloc: Global, script: &Script, sink: &mut K) -> Status
     requires ready { IsReady (content script.now) }
-    ensures { ExecutedRight (content script.now) (record { written = K.written sink.old; written_after = K.written sink.new; faults = K.faults sink.old; faults_after = K.faults sink.new; sure = K.sure sink.old }) result }
+    ensures right { ExecutedRight (content script.now) (sink_ends K.written K.faults K.sure sink.old sink.new) result }
+    ensures nature { K.sure sink.new ≡ K.sure sink.old }
 {
     for place in 0..script.commands.len() {
         match put_answer(alloc, script, place, sink) {

@@ -19,8 +19,9 @@ pub enum Status {
     ReadFault,
     /// A write failed.
     WriteFault,
+    /// There was no memory for the script, a reply or its text. No read failed, and no more bytes came than a script has.
     NoMemory,
-    /// More bytes came than are read.
+    /// More bytes came than a script has.
     TooLong,
 }
 

@@ -38,6 +38,15 @@ fn failing(alloc: Global, first: bool) -> Result<Vec<u32>, NoMemory>
     Ok(list)
 }
 
+/// The list of one call that fails: call 1.
+fn second_fails(alloc: Global) -> Result<Vec<u32>, NoMemory>
+    ensures { IfOk result (λ list. Contains list.items (2 ^ 32 - 1) → ⊥) }
+{
+    let mut list = Vec::new(alloc);
+    list.extend_from_slice(&[1])?;
+    Ok(list)
+}
+
 /// The status of `run` over memory, and what was written.
 fn ran(
     alloc: Global,
@@ -156,6 +165,21 @@ fn failing_ends_are_told_apart(rt: HostRuntime) -> Result<(), NoMemory> {
     assert!(&rt; status == Status::ReadFault && written.is_empty());
     let (status, written) = ran(alloc, THIN.to_vec(alloc)?, 4096, false, true)?;
     assert!(&rt; status == Status::WriteFault && written.is_empty());
+    Ok(())
+}
+
+#[test]
+fn a_reply_is_put_as_a_whole(rt: HostRuntime) -> Result<(), NoMemory> {
+    let alloc = rt.alloc();
+    let mut script = String::new(alloc);
+    script.push_str(DANGER)?;
+    script.push_str("facts\nplan N G(a)\n")?;
+    let bytes = script.as_bytes().to_vec(alloc)?;
+    let mut source = MemSource::new(bytes, 4096, failing(alloc, false)?);
+    let mut sink = MemSink::new(alloc, 200, second_fails(alloc)?)?;
+    let status = planex_main(alloc, &["run"], &mut source, &mut sink);
+    let facts = b"facts 2\n  P(a)\n  Q(b)\n".as_slice();
+    assert!(&rt; status == Status::WriteFault && sink.bytes() == facts);
     Ok(())
 }
 

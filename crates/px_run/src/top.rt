@@ -1,7 +1,7 @@
 //! The top call.
 ghost use Rattle.std.specs.Prelude.{◌≡◌, ◌+◌, Bool, List, ℕ, map, false, true, length};
 ghost use Rattle.std.specs.Io.KnownBytes.{Consumes};
-ghost use Rattle.px_run.specs.Outcomes.{takes, UsageRight, RefusalRight, RunRight, StatusRight, Completes, CompletesSurely, Refuses};
+ghost use Rattle.px_run.specs.Outcomes.{source_ends, sink_ends, takes, UsageRight, RefusalRight, RunRight, StatusRight, Completes, CompletesSurely, Refuses};
 
 use crate::running::execute;
 use crate::status::Status;
@@ -10,7 +10,7 @@ use px_printer::{refused_text, usage_text};
 use px_reader::{Refused, ScriptErr, read_script};
 use std::alloc::Global;
 
-/// How many bytes are read at most.
+/// How many bytes a script has at most.
 const LIMIT: usize = 1_048_576;
 
 /// Are the words taken?
@@ -31,23 +31,25 @@ pub fn planex_main<S: Source, K: Sink>(
     sink: &mut K,
 ) -> Status
     ensures right { StatusRight (takes (map (λ word. word.now) words.now))
-        (record { left = S.left source.old; left_after = S.left source.new; taken = S.taken source.old; taken_after = S.taken source.new; faults = S.faults source.old; faults_after = S.faults source.new; never_fails = S.never_fails source.old })
-        (record { written = K.written sink.old; written_after = K.written sink.new; faults = K.faults sink.old; faults_after = K.faults sink.new; sure = K.sure sink.old })
+        (source_ends S.left S.taken S.faults S.never_fails source.old source.new)
+        (sink_ends K.written K.faults K.sure sink.old sink.new)
         result }
     ensures completes { takes (map (λ word. word.now) words.now) ≡ true → Completes
-        (record { left = S.left source.old; left_after = S.left source.new; taken = S.taken source.old; taken_after = S.taken source.new; faults = S.faults source.old; faults_after = S.faults source.new; never_fails = S.never_fails source.old })
-        (record { written = K.written sink.old; written_after = K.written sink.new; faults = K.faults sink.old; faults_after = K.faults sink.new; sure = K.sure sink.old })
+        (source_ends S.left S.taken S.faults S.never_fails source.old source.new)
+        (sink_ends K.written K.faults K.sure sink.old sink.new)
         result }
     ensures completes_surely { takes (map (λ word. word.now) words.now) ≡ true → CompletesSurely
-        (record { left = S.left source.old; left_after = S.left source.new; taken = S.taken source.old; taken_after = S.taken source.new; faults = S.faults source.old; faults_after = S.faults source.new; never_fails = S.never_fails source.old })
-        (record { written = K.written sink.old; written_after = K.written sink.new; faults = K.faults sink.old; faults_after = K.faults sink.new; sure = K.sure sink.old })
+        (source_ends S.left S.taken S.faults S.never_fails source.old source.new)
+        (sink_ends K.written K.faults K.sure sink.old sink.new)
         result }
     ensures refuses { takes (map (λ word. word.now) words.now) ≡ true → Refuses
-        (record { left = S.left source.old; left_after = S.left source.new; taken = S.taken source.old; taken_after = S.taken source.new; faults = S.faults source.old; faults_after = S.faults source.new; never_fails = S.never_fails source.old })
-        (record { written = K.written sink.old; written_after = K.written sink.new; faults = K.faults sink.old; faults_after = K.faults sink.new; sure = K.sure sink.old })
+        (source_ends S.left S.taken S.faults S.never_fails source.old source.new)
+        (sink_ends K.written K.faults K.sure sink.old sink.new)
         result }
     ensures gone { (came : List ℕ) × Consumes (S.left source.old) (S.left source.new) came × (S.taken source.new ≡ S.taken source.old + length came) }
     ensures untaken { takes (map (λ word. word.now) words.now) ≡ false → source.new ≡ source.old }
+    ensures source_nature { S.never_fails source.new ≡ S.never_fails source.old }
+    ensures sink_nature { K.sure sink.new ≡ K.sure sink.old }
 {
     if !takes(words) {
         return usage(sink);
@@ -57,7 +59,8 @@ pub fn planex_main<S: Source, K: Sink>(
 
 /// Writes how the program is called.
 fn usage<K: Sink>(sink: &mut K) -> Status
-    ensures { UsageRight (record { written = K.written sink.old; written_after = K.written sink.new; faults = K.faults sink.old; faults_after = K.faults sink.new; sure = K.sure sink.old }) result }
+    ensures right { UsageRight (sink_ends K.written K.faults K.sure sink.old sink.new) result }
+    ensures nature { K.sure sink.new ≡ K.sure sink.old }
 {
     match put(sink, usage_text().as_bytes()) {
         Ok(()) => Status::Usage,
@@ -68,10 +71,12 @@ fn usage<K: Sink>(sink: &mut K) -> Status
 /// Reads a script, and answers its commands.
 fn run<S: Source, K: Sink>(alloc: Global, source: &mut S, sink: &mut K) -> Status
     ensures right { RunRight
-        (record { left = S.left source.old; left_after = S.left source.new; taken = S.taken source.old; taken_after = S.taken source.new; faults = S.faults source.old; faults_after = S.faults source.new; never_fails = S.never_fails source.old })
-        (record { written = K.written sink.old; written_after = K.written sink.new; faults = K.faults sink.old; faults_after = K.faults sink.new; sure = K.sure sink.old })
+        (source_ends S.left S.taken S.faults S.never_fails source.old source.new)
+        (sink_ends K.written K.faults K.sure sink.old sink.new)
         result }
     ensures gone { (came : List ℕ) × Consumes (S.left source.old) (S.left source.new) came × (S.taken source.new ≡ S.taken source.old + length came) }
+    ensures source_nature { S.never_fails source.new ≡ S.never_fails source.old }
+    ensures sink_nature { K.sure sink.new ≡ K.sure sink.old }
 {
     let bytes = match read_all(alloc, source, LIMIT) {
         Ok(bytes) => bytes,
@@ -88,7 +93,8 @@ fn run<S: Source, K: Sink>(alloc: Global, source: &mut S, sink: &mut K) -> Statu
 
 /// Writes where and why a script is refused.
 fn refuse<K: Sink>(alloc: Global, refused: Refused, sink: &mut K) -> Status
-    ensures { RefusalRight refused (record { written = K.written sink.old; written_after = K.written sink.new; faults = K.faults sink.old; faults_after = K.faults sink.new; sure = K.sure sink.old }) result }
+    ensures right { RefusalRight refused (sink_ends K.written K.faults K.sure sink.old sink.new) result }
+    ensures nature { K.sure sink.new ≡ K.sure sink.old }
 {
     let Refused { line, code, limit } = refused;
     let Ok(text) = refused_text(alloc, line, code, limit) else {

@@ -6,8 +6,8 @@ use Rattle.px_run.specs.Replies.{texts}
 use Rattle.px_run.proofs.AnswerLemmas.{begun-of, broke-after, next-of, one-more, texts-end, wrote-both, wrote-nothing}
 use Rattle.px_run.proofs.running.execute.Goals as goal
 
-pub returns-in-Err-Fault : goal.returns-in-Err-Fault
-returns-in-Err-Fault g c =
+pub returns-in-Err-Fault-clause-right : goal.returns-in-Err-Fault-clause-right
+returns-in-Err-Fault-clause-right g c =
     let so_far = c.loop-place.invariant in
     let right = rw c.in-Err-Fault.field-0-is at c.in-Err-Fault.ensures.right in
     let within : c.loop-place.place < length (content c.args.script.now).commands = grind (arith, common_steps) in (
@@ -17,8 +17,8 @@ returns-in-Err-Fault g c =
       broke-after _ _ _ _ _ _ _ _ _ _ so_far.3 so_far.2 right.2,
     )
 
-pub returns-in-Err-NoMemory : goal.returns-in-Err-NoMemory
-returns-in-Err-NoMemory g c =
+pub returns-in-Err-NoMemory-clause-right : goal.returns-in-Err-NoMemory-clause-right
+returns-in-Err-NoMemory-clause-right g c =
     let so_far = c.loop-place.invariant in
     let right = rw c.in-Err-NoMemory.field-0-is at c.in-Err-NoMemory.ensures.right in (
       texts c.args.script.now.names so_far.0,

@@ -9,10 +9,10 @@ execute-requires g c = record { ready = script-ready c.deref.result.now (content
 pub returns-in-Ok-read_script-clause-right : goal.returns-in-Ok-read_script-clause-right
 returns-in-Ok-read_script-clause-right g c =
     let is = rw c.deref.ensures.value at c.in-Ok-read_script.ensures.script in
-    run-executed _ _ c.in-Ok.bytes.items (content c.in-Ok-read_script.script) c.execute.result c.in-Ok.ensures.all is c.execute.ensures
+    run-executed _ _ c.in-Ok.bytes.items (content c.in-Ok-read_script.script) c.execute.result c.in-Ok.ensures.all is c.execute.ensures.right
 
 pub returns-in-Err-Refused-clause-right : goal.returns-in-Err-Refused-clause-right
 returns-in-Err-Refused-clause-right g c =
     let first = rw c.in-Err-Refused.field-0-is at c.in-Err-Refused.ensures.refused in
     let fault = rw c.deref.ensures.value at first in
-    run-refused _ _ c.in-Ok.bytes.items c.in-Err-Refused.refused c.refuse.result c.in-Ok.ensures.all fault c.refuse.ensures
+    run-refused _ _ c.in-Ok.bytes.items c.in-Err-Refused.refused c.refuse.result c.in-Ok.ensures.all fault c.refuse.ensures.right
