@@ -38,13 +38,15 @@ apart = record { size = 2; elements = 0 ∷ 1 ∷ []; tuples = ((0 ∷ []) ∷ [
 abbrev pub apart_after : State
 apart_after = record { size = 2; elements = 0 ∷ 1 ∷ []; tuples = [] ∷ [] }
 
--- With one element for both, nothing need change when the first is dropped, and no state in which AT is true of nothing is
--- described. With an element for each, the state without AT is.
+-- With one element for both, nothing need change when the first is dropped: each state that is described afterwards still has
+-- the atom of the second, so no state in which AT is true of nothing is described. With an element for each, the state without
+-- AT is.
 pub record MergedNamesFact : Type 0 where
   pub valid : IsValid two_names
   pub instance : IsInstanceOf two_names drop_first
   pub states : IsState merged × IsState apart × IsState apart_after
   pub met : All (Holds merged) (precondition two_names drop_first) × All (Holds apart) (precondition two_names drop_first)
   pub stays : Described two_names drop_first merged merged
+  pub kept : (after : State) → Described two_names drop_first merged after → Holds after (at (Obj 1))
   pub emptied : (after : State) → slice_index_or after.tuples 0 [] ≡ [] → ¬ Described two_names drop_first merged after
   pub natural : Described two_names drop_first apart apart_after

@@ -95,9 +95,12 @@ second = ((omega arith, refl), one (IsTermOf two_names 0) (Obj 1) (omega arith))
 second_stays : ¬ IsDeleted drop_schema drop_first (at (Obj 1))
 second_stays = deletes-false two_names drop_first (at (Obj 1)) valid (instance-is_ground two_names drop_first instance) (atom_of-is_ground two_names (at (Obj 1)) second) refl
 
+kept : (after : State) → Described two_names drop_first merged after → Holds after (at (Obj 1))
+kept after described = described.kept met_merged (at (Obj 1)) second (0, omega arith, refl) second_stays
+
 emptied : (after : State) → slice_index_or after.tuples 0 [] ≡ [] → ¬ Described two_names drop_first merged after
 emptied after is_empty described =
-    let holds = described.kept met_merged (at (Obj 1)) second (0, omega arith, refl) second_stays in
+    let holds = kept after described in
     let tuple : List ℕ = element_of after [] (Obj 1) ∷ [] in
     Contains-none tuple (subst (λ tuples. Contains tuples tuple) is_empty holds)
 
@@ -139,6 +142,7 @@ merged_names = record {
   states = (merged_state, apart_state, apart_after_state);
   met = (met_merged, met_apart);
   stays = stays;
+  kept = kept;
   emptied = emptied;
   natural = natural;
 }

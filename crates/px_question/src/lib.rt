@@ -1,0 +1,6 @@
+//! What a question to the prover is, and what answers it.
+#![tactic(auto)]
+
+mod gap_list;
+
+pub use gap_list::GapList;

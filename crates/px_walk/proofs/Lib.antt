@@ -1,0 +1,11 @@
+pub mod Every
+pub mod Lifting
+pub mod Pushing
+pub mod Attempts
+pub mod Trees
+pub mod Lists
+pub mod Ordering
+pub mod Visits
+pub mod Objects
+pub mod Scoping
+pub mod Partial

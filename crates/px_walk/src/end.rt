@@ -1,0 +1,12 @@
+use px_proof::Shape;
+
+/// How a walk ends.
+#[derive(Drop)]
+pub enum End {
+    /// At the first finished proof.
+    Found,
+    /// There is no finished proof.
+    NoMore,
+    /// So many unfinished proofs come first; these are their shapes.
+    Limit(Vec<Shape>),
+}
