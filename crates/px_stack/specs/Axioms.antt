@@ -1,6 +1,6 @@
 -- Attempts at the axioms, each from a place on.
 use Rattle.std.specs.Prelude.{◌≡◌, ◌≢◌, ◌⊎◌, ℕ, ◌+◌, ◌<◌, ◌≤◌, Bool, true, Some, List, length, slice_get}
-use Rattle.px_terms.specs.Clauses.{IsClause}
+use Rattle.px_terms.specs.Clauses.{ArePlainBelow}
 use Rattle.px_terms.specs.declared.clause.Clause.{Clause}
 use Rattle.px_terms.specs.declared.clause.Lit.{Lit}
 use Rattle.px_stack.specs.declared.open.OpenGoal.{OpenGoal}
@@ -12,7 +12,7 @@ use Rattle.px_stack.specs.States.{StackValue}
 pub record IsFit (variables : ℕ) (clause : Clause) : Type 0 where
   pub few : clause.vars ≤ 12
   pub small : variables + clause.vars ≤ 1000000
-  pub is_clause : IsClause clause
+  pub plain : ArePlainBelow clause.vars clause.lits
 
 -- the parts of a step with these literals have a height
 abbrev pub HasRoom : OpenGoal → List Lit → Type 0

@@ -32,6 +32,7 @@ fn try_clause(
     from: usize,
 ) -> Result<bool, NoMemory>
     requires fit { IsFit (variables_of stack.old.changes) (record { vars = vars; lits = lits.now }) }
+    requires short { length lits.now ≤ 6 }
     requires goal_below { IsLitBelow (variables_of stack.old.changes) goal.now.lit }
     requires next_older { goal.now.next ≤ length stack.old.goals }
     requires first_older { stack.old.first ≤ length stack.old.goals }

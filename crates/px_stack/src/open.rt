@@ -93,6 +93,11 @@ impl Stack {
         &self.bind
     }
 
+    /// The allocator of the state.
+    pub fn allocator(&self) -> &Global {
+        self.choices.allocator()
+    }
+
     /// How the places were closed, from the first on.
     pub fn choices(&self) -> &[Choice]
         ensures { reverse result.now ≡ self.now.choices }
@@ -192,7 +197,7 @@ impl Stack {
     }
 
     /// Opens the place again that was closed last.
-    pub fn retract(&mut self) -> Option<Tick>
+    pub fn retract_last(&mut self) -> Option<Tick>
         requires { CanRetract self.old }
         ensures last { IfSome result (λ tick. (choice : Choice) × (rest : List Choice) × (self.old.choices ≡ choice ∷ rest) × (choice.tick ≡ tick) × (self.new ≡ retracted self.old choice rest)) }
         ensures none { IfNone result ((self.old.choices ≡ []) × (self.new ≡ self.old)) }

@@ -1,6 +1,7 @@
 -- What is true of every item of a list.
-use Rattle.std.proofs.Common.{◌≡◌, ℕ, zero, suc, Some, List, [], ◌∷◌, ◌++◌, map, slice_get, refl}
-use Rattle.std.specs.Prelude.{remove}
+use Rattle.std.proofs.Common.{◌≡◌, ℕ, zero, suc, ◌<◌, arith, Some, List, [], ◌∷◌, ◌++◌, map, slice_get, refl}
+use Rattle.std.specs.Prelude.{remove, All, Contains}
+use Rattle.px_base.specs.ListLaws.{Contains-first, Contains-later}
 use Rattle.std.specs.List.{AllByRecursion}
 
 pub all-weaker : {X : Type 0} (P Q : X → Type 0) (xs : List X) → ((x : X) → P x → Q x) → AllByRecursion P xs → AllByRecursion Q xs
@@ -36,3 +37,11 @@ all-front P (x ∷ xs) ys all = (all.0, all-front P xs ys all.1)
 pub all-rest : {X : Type 0} (P : X → Type 0) (xs ys : List X) → AllByRecursion P (xs ++ ys) → AllByRecursion P ys
 all-rest P [] ys all = all
 all-rest P (x ∷ xs) ys all = all-rest P xs ys all.1
+
+pub all-by_contains : {X : Type 0} (P : X → Type 0) (xs : List X) → ((x : X) → Contains xs x → P x) → AllByRecursion P xs
+all-by_contains P [] holds = tt
+all-by_contains P (x ∷ xs) holds = (holds x (Contains-first x xs), all-by_contains P xs (λ y is_in. holds y (Contains-later x xs y is_in)))
+
+pub all-recursion : {X : Type 0} (P : X → Type 0) (xs : List X) → All P xs → AllByRecursion P xs
+all-recursion P [] all = tt
+all-recursion P (x ∷ xs) all = (all 0 x (omega arith), all-recursion P xs (λ k d within. all (suc k) d (omega (arith, within))))

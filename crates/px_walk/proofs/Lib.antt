@@ -9,3 +9,9 @@ pub mod Visits
 pub mod Objects
 pub mod Scoping
 pub mod Partial
+pub mod Ascending
+pub mod Least
+pub mod Padding
+pub mod Bridge
+pub mod Outcomes
+pub mod Questions

@@ -1,5 +1,7 @@
 use Rattle.std.proofs.Common.{◌≡◌, ◌+◌, ◌<◌, ◌≤◌, ℕ, Some, [], length, get_or, slice_get, arith, ap, sym, ◌∙◌, refl}
 use Rattle.px_terms.specs.declared.clause.Clause.{Clause}
+use Rattle.px_proof.specs.PlaceLaws.{All-got}
+use Rattle.px_terms.specs.Clauses.{IsClause}
 use Rattle.px_unify.specs.Changes.{variables_of}
 use Rattle.px_stack.specs.Axioms.{IsFit, NeverAxiom, ComesAxiom}
 use Rattle.px_stack.proofs.Trying.{range-none}
@@ -34,3 +36,9 @@ try_clause-requires-clause-fit c =
     let within : c.loop-number.number < length c.args.axioms.now = omega (arith, c.loop-number-test.true, c.count-number-end.ensures.count) in
     rw c.loop-number.invariant.same
     (fit-at (variables_of c.args.stack.now.changes) c.args.axioms.now c.loop-number.number clause (axiom-at c.args.axioms.now c.loop-number.number clause within c.vars.ensures.value c.lits.ensures.value) c.requires.fit)
+
+pub try_clause-requires-clause-short : goal.try_clause-requires-clause-short
+try_clause-requires-clause-short c =
+    let clause : Clause = record { vars = c.vars.result; lits = c.lits.result.now } in
+    let within : c.loop-number.number < length c.args.axioms.now = omega (arith, c.loop-number-test.true, c.count-number-end.ensures.count) in
+    (All-got IsClause c.args.axioms.now c.loop-number.number clause c.lits.ensures.arena.each (axiom-at c.args.axioms.now c.loop-number.number clause within c.vars.ensures.value c.lits.ensures.value)).size.1
