@@ -1,1 +1,13 @@
-pub mod Shorter
+pub mod Attempted
+pub mod AttemptedSteps
+pub mod Built
+pub mod Chosen
+pub mod Growing
+pub mod Joins
+pub mod Later
+pub mod Moves
+pub mod Ready
+pub mod Scopes
+pub mod Since
+pub mod StepTurns
+pub mod Turns

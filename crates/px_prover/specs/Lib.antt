@@ -1,2 +1,5 @@
 pub mod Asking
+pub mod Building
+pub mod Shorter
 pub mod Standing
+pub mod Tries

@@ -27,6 +27,7 @@
 mod attempts;
 mod building;
 mod first;
+mod keep;
 mod outcome;
 mod question;
 #[cfg(test)]

@@ -1,4 +1,8 @@
+ghost use Rattle.std.specs.Prelude.{◌≡◌, ◌≤◌, ◌++◌, ◌∷◌, [], IfOk, length, replicate};
+ghost use Rattle.px_stack.specs.Arena.{goals_at, AreOlder};
+
 use crate::attempts::try_later;
+use crate::keep::keep;
 use crate::question::Question;
 use px_base::NoMemory;
 use px_proof::{Shape, Tick};
@@ -6,10 +10,14 @@ use px_stack::Stack;
 use px_walk::Walk;
 
 /// Appends a tick for each open place.
-fn push_open(stack: &Stack, ticks: &mut Vec<Tick>) -> Result<(), NoMemory> {
+fn push_open(stack: &Stack, ticks: &mut Vec<Tick>) -> Result<(), NoMemory>
+    requires arena { AreOlder stack.now.goals }
+    requires within { stack.now.first ≤ length stack.now.goals }
+    ensures { IfOk result (λ _. ticks.new.items ≡ ticks.old.items ++ replicate (length (goals_at stack.now.goals stack.now.first)) Tick.Open) }
+{
     let mut at = stack.first();
     while at > 0 {
-        ticks.push(Tick::Open)?;
+        keep(ticks, Tick::Open)?;
         at = stack.goal_at(at).next;
     }
     Ok(())
@@ -18,7 +26,7 @@ fn push_open(stack: &Stack, ticks: &mut Vec<Tick>) -> Result<(), NoMemory> {
 impl<'a> Walk<Question<'a>> for Stack {
     ghost use Rattle.px_prover.specs.Asking.{setting_in, IsPossibleIn, IsFinishedIn, shape_in};
     ghost use Rattle.px_prover.specs.Standing.{ticks_in, IsStanding};
-    ghost use Rattle.px_prover.proofs.Shorter.{possible-shorter};
+    ghost use Rattle.px_prover.specs.Shorter.{possible-shorter};
 
     ghost ticks = { λ v. ticks_in v.choices };
 
@@ -58,7 +66,7 @@ impl<'a> Walk<Question<'a>> for Stack {
     fn shape(&self, _question: &Question<'a>) -> Result<Shape, NoMemory> {
         let mut ticks = Vec::new(*self.allocator());
         for choice in self.choices() {
-            ticks.push(choice.tick)?;
+            keep(&mut ticks, choice.tick)?;
         }
         push_open(self, &mut ticks)?;
         Ok(Shape::from_ticks(ticks))

@@ -119,3 +119,21 @@ path_at-index arena i g is older = go (parts arena i is)
 
     go : (front : List OpenGoal) × (more : List OpenGoal) × (arena ≡ front ++ g ∷ more) × (length front ≡ i) → path_at arena (suc i) ≡ g.lit ∷ path_at arena g.above
     go (front, more, whole, long) = rw (whole, ← long) (path_at-goal front g more (rw long older))
+
+-- what is open at the place of a goal
+pub goals_at-index : (arena : List OpenGoal) (i : ℕ) (g : OpenGoal) → slice_get arena i ≡ Some g → g.next ≤ i → g.above ≤ i →
+    goals_at arena (suc i) ≡ record { lit = g.lit; path = path_at arena g.above; budget = g.budget } ∷ goals_at arena g.next
+goals_at-index arena i g is next_older above_older = go (parts arena i is)
+  where
+    parts : (arena : List OpenGoal) (i : ℕ) → slice_get arena i ≡ Some g → (front : List OpenGoal) × (more : List OpenGoal) × (arena ≡ front ++ g ∷ more) × (length front ≡ i)
+    parts [] i at = absurd (cc)
+    parts (x ∷ xs) zero at = let same : x ≡ g = cc in ([], xs, ap (λ y. y ∷ xs) same, refl)
+    parts (x ∷ xs) (suc i) at = let rest = parts xs i at in (x ∷ rest.0, rest.1, ap (λ ys. x ∷ ys) rest.2, ap suc rest.3)
+
+    go : (front : List OpenGoal) × (more : List OpenGoal) × (arena ≡ front ++ g ∷ more) × (length front ≡ i) →
+        goals_at arena (suc i) ≡ record { lit = g.lit; path = path_at arena g.above; budget = g.budget } ∷ goals_at arena g.next
+    go (front, more, whole, long) = rw (whole, ← long) (goals_at-goal front g more (rw long next_older) (rw long above_older))
+
+-- nothing is open at place 0
+pub goals_at-nothing : (arena : List OpenGoal) → goals_at arena 0 ≡ []
+goals_at-nothing arena = ap (λ (h : Hanging). h.goals) (table-front arena (nothing ∷ []) 0 (omega arith))

@@ -24,6 +24,7 @@ pub record StackValue : Type 0 where
 -- nothing is closed; a place for each atom of the formula is open, with no literal above it, and no variable is bound
 pub record IsOpening (formula : List Atom) (vars height : ℕ) (v : StackValue) : Type 0 where
   pub variables : v.changes ≡ replicate vars Fresh
+  pub solvable : HasSolutions v.changes
   pub opened : goals_at v.goals v.first ≡ goals_under [] height (map positive_of formula)
   pub arena : AreOlder v.goals
   pub within : v.first ≤ length v.goals
