@@ -1,8 +1,8 @@
 -- How the state of a question goes on, and how it goes back.
-use Rattle.std.proofs.Common.{◌≡◌, ◌↔◌, ◌⊎◌, ℕ, zero, suc, ◌+◌, ◌*◌, ◌-◌, ◌<◌, ◌≤◌, Bool, true, false, Option, Some, None, List, [], ◌∷◌, ◌++◌, length, take, map, replicate, slice_get, refl, ap, sym, subst, ◌∙◌, arith, inl, inr}
+use Rattle.std.proofs.Common.{◌≡◌, ◌↔◌, ◌⊎◌, ℕ, zero, suc, ◌+◌, ◌*◌, ◌-◌, ◌<◌, ◌≤◌, Bool, true, false, Option, Some, None, List, [], ◌∷◌, ◌++◌, length, take, map, replicate, slice_get, refl, ap, sym, subst, ◌∙◌, arith, inl, inr, append_assoc}
 use Rattle.std.specs.Prelude.{All, reverse}
 use Rattle.std.specs.List.{AllByRecursion}
-use Rattle.std.proofs.lemmas.List.{reverse-append, length-replicate}
+use Rattle.std.proofs.lemmas.List.{append-nil, reverse-append, length-replicate}
 use Rattle.std.proofs.lemmas.List.Elements.{All-replicate}
 use Rattle.px_prover.specs.Asking.{setting_in, IsPossibleIn, IsFinishedIn}
 use Rattle.px_prover.specs.Standing.{ticks_in, IsAsked, IsSound, WasSound, IsStanding}
@@ -11,6 +11,7 @@ use Rattle.px_prover.proofs.Scopes.{object-there}
 use Rattle.px_proof.specs.Literals.{positive_of}
 use Rattle.px_proof.specs.PlaceLaws.{some_same}
 use Rattle.px_proof.specs.declared.shape.Tick.{Tick}
+use Rattle.px_proof.specs.declared.shape.Tick.TheVariants.{Open}
 use Rattle.px_question.specs.Settings.{Setting}
 use Rattle.px_stack.specs.Arena.{goals_at, AreOlder}
 use Rattle.px_stack.specs.Matches.{choice_by}
@@ -27,7 +28,7 @@ use Rattle.px_unify.specs.declared.change.Change.TheVariants.{Fresh}
 use Rattle.px_unify.specs.Changes.{Fits, Meets, variables_of}
 use Rattle.px_walk.specs.Order.{IsAfter, TriesAfter}
 use Rattle.px_walk.specs.Pending.{Goal, Pending, Solves, open_after, goals_of, IsFeasible}
-use Rattle.px_walk.specs.Possible.{IsClosing, IsPossible, IsFinished, open_count, left_of}
+use Rattle.px_walk.specs.Possible.{IsClosing, IsPossible, IsFinished, open_count, left_of, shape_of}
 use Rattle.px_walk.proofs.Objects.{FactIsIn, feasible-from_bindings}
 use Rattle.px_walk.proofs.Pushing.{open_after-prefix}
 
@@ -205,3 +206,29 @@ pub ticks-map : (choices : List Choice) → ticks_in (reverse choices) ≡ map (
 ticks-map [] = refl
 ticks-map (c ∷ choices) =
     ap ticks_in (reverse-append (c ∷ []) choices) ∙ ticks-push (reverse choices) c ∙ ap (λ ts. c.tick ∷ ts) (ticks-map choices)
+
+-- one place after another
+pub open-next : (arena : List OpenGoal) (at : ℕ) (g : OpenGoal) → AreOlder arena → 0 < at → slice_get arena (at - 1) ≡ Some g → (length (goals_at arena at) ≡ suc (length (goals_at arena g.next))) × (g.next ≤ at - 1)
+open-next arena at g older some is =
+    let place : at ≡ suc (at - 1) = omega (arith, some) in
+    let both = older (at - 1) g is in
+    (ap length (ap (goals_at arena) place ∙ goals_at-index arena (at - 1) g is both.1 both.0), both.1)
+
+pub open-moved : (items total new : List Tick) (m n : ℕ) → new ≡ items ++ Open ∷ [] → m ≡ suc n → items ++ replicate m Open ≡ total → new ++ replicate n Open ≡ total
+open-moved items total new m n is more all = rw is (append_assoc items (Open ∷ []) (replicate n Open) ∙ sym (ap (λ k. items ++ replicate k Open) more) ∙ all)
+
+pub open-ended : (arena : List OpenGoal) (at : ℕ) (items total : List Tick) → at ≡ 0 → items ++ replicate (length (goals_at arena at)) Open ≡ total → items ≡ total
+open-ended arena at items total none all = sym (append-nil items) ∙ ap (λ gs. items ++ replicate (length gs) Open) (sym (ap (goals_at arena) none ∙ goals_at-nothing arena)) ∙ all
+
+take-whole : {X : Type 0} (n : ℕ) (xs : List X) → length xs ≤ n → take n xs ≡ xs
+take-whole zero [] past = refl
+take-whole (suc n) [] past = refl
+take-whole zero (x ∷ xs) past = absurd (omega (arith, past))
+take-whole (suc n) (x ∷ xs) past = ap (λ ys. x ∷ ys) (take-whole n xs (omega (arith, past)))
+
+-- the shape has the ticks of the choices, then a tick for each open place
+pub shape-made : (loose : Bool) (s : Setting) (formula : List Atom) (vars : ℕ) (v : StackValue) → IsStanding loose s formula vars v → (choices : List Choice) → reverse choices ≡ v.choices → (front whole : List Tick) (n : ℕ) →
+    length choices ≤ n → front ≡ map (λ (c : Choice). c.tick) (take n choices) → whole ≡ front ++ replicate (length (goals_at v.goals v.first)) Open → whole ≡ shape_of loose s formula vars (ticks_in v.choices)
+shape-made loose s formula vars v standing choices are front whole n past front_is whole_is =
+    let ticks_are : front ≡ ticks_in v.choices = front_is ∙ ap (map (λ (c : Choice). c.tick)) (take-whole n choices past) ∙ sym (ticks-map choices) ∙ ap ticks_in are in
+    whole_is ∙ ap (λ ts. ts ++ replicate (length (goals_at v.goals v.first)) Open) ticks_are ∙ ap (λ k. ticks_in v.choices ++ replicate k Open) (sym (count-open loose s formula vars v standing))

@@ -27,6 +27,8 @@
 mod attempts;
 mod building;
 mod first;
+#[cfg(test)]
+mod fits;
 mod keep;
 mod outcome;
 mod question;

@@ -2,7 +2,7 @@
 
 use px_base::NoMemory;
 use px_proof::{Tick, complement, same_literal};
-use px_terms::{Atom, Lit, Problem, Term, apply};
+use px_terms::{Atom, Lit, Problem, Term};
 use std::alloc::Global;
 
 /// A tick as numbers that compare as ticks do: kind, number, place.
@@ -55,17 +55,24 @@ pub fn all_objects(
     Ok(lists)
 }
 
-fn terms(alloc: Global, objects: &[u32]) -> Result<Vec<Term>, NoMemory> {
-    let mut terms = Vec::new(alloc);
-    for object in objects {
-        terms.push(Term::Obj(*object))?;
+/// The object for a term.
+fn under(objects: &[u32], term: Term) -> Term {
+    match term {
+        Term::Var(number) => match objects.get(number as usize) {
+            Some(object) => Term::Obj(*object),
+            None => term,
+        },
+        Term::Obj(_) | Term::Any => term,
     }
-    Ok(terms)
 }
 
 /// The atom under the objects.
 pub fn ground_atom(alloc: Global, objects: &[u32], atom: &Atom) -> Result<Atom, NoMemory> {
-    Ok(apply(&terms(alloc, objects)?, atom))
+    let mut terms = Vec::new(alloc);
+    for term in atom.args() {
+        terms.push(under(objects, *term))?;
+    }
+    Ok(Atom::new(atom.pred(), &terms).unwrap_or(*atom))
 }
 
 fn leaf(alloc: Global, mark: Mark) -> Result<Tree, NoMemory> {
@@ -98,6 +105,31 @@ fn leaves(alloc: Global, facts: &[Atom], path: &[Lit], lit: &Lit) -> Result<Vec<
     Ok(found)
 }
 
+/// The complements of the literals of a clause other than the one at the place.
+fn parts_of(alloc: Global, lits: &[Lit], place: u32) -> Result<Vec<Lit>, NoMemory> {
+    let mut parts = Vec::new(alloc);
+    let mut k = 0u32;
+    for other in lits {
+        if k != place {
+            parts.push(complement(other))?;
+        }
+        k = k.saturating_add(1);
+    }
+    Ok(parts)
+}
+
+/// The literals under the objects.
+fn ground_lits(alloc: Global, lits: &[Lit], theta: &[u32]) -> Result<Vec<Lit>, NoMemory> {
+    let mut made = Vec::new(alloc);
+    for literal in lits {
+        made.push(Lit {
+            positive: literal.positive,
+            atom: ground_atom(alloc, theta, &literal.atom)?,
+        })?;
+    }
+    Ok(made)
+}
+
 /// The uses of an axiom for the literal.
 fn steps_of(
     alloc: Global,
@@ -105,30 +137,22 @@ fn steps_of(
     clause: u32,
     lit: &Lit,
 ) -> Result<Vec<Step>, NoMemory> {
-    let lits = problem.axioms.lits(clause);
     let mut steps = Vec::new(alloc);
+    if clause >= problem.axioms.count() {
+        return Ok(steps);
+    }
     for theta in all_objects(alloc, problem.objects, problem.axioms.vars(clause))? {
-        let mut ground = Vec::new(alloc);
-        for literal in lits {
-            ground.push(Lit {
-                positive: literal.positive,
-                atom: ground_atom(alloc, &theta, &literal.atom)?,
-            })?;
-        }
-        for (place, literal) in ground.iter().enumerate() {
+        let lits = ground_lits(alloc, problem.axioms.lits(clause), &theta)?;
+        let mut place = 0u32;
+        for literal in &lits {
             if same_literal(literal, lit) {
-                let mut parts = Vec::new(alloc);
-                for (k, other) in ground.iter().enumerate() {
-                    if k != place {
-                        parts.push(complement(other))?;
-                    }
-                }
                 steps.push(Step {
-                    tick: (3, clause, place as u32),
+                    tick: (3, clause, place),
                     theta: theta.clone()?,
-                    parts,
+                    parts: parts_of(alloc, &lits, place)?,
                 })?;
             }
+            place = place.saturating_add(1);
         }
     }
     Ok(steps)

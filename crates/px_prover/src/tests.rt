@@ -1,3 +1,4 @@
+use crate::fits::{all_objects, atoms_fit, is_valid};
 use crate::reference::{Mark, first_finished, lists, mark_of, partial_shapes};
 use crate::{Answer, ProveErr, prove};
 use px_base::{NoMemory, Sequence};
@@ -57,12 +58,29 @@ fn problem_of(
     })
 }
 
+/// The model of the atoms that have no variable.
 fn model_of(alloc: Global, atoms: &[Atom]) -> Result<Model, NoMemory> {
     let mut model = Model::new(alloc);
     for atom in atoms {
-        model.insert(*atom)?;
+        if all_objects(atom.args()) {
+            model.insert(*atom)?;
+        }
     }
     Ok(model)
+}
+
+/// Asks the prover, once it is seen that the problem and the formula are valid.
+fn ask(
+    alloc: Global,
+    rt: &impl Abort,
+    problem: &Problem,
+    formula: &[Atom],
+    vars: u32,
+    model: &Model,
+) -> Result<Answer, ProveErr> {
+    assert!(rt; is_valid(problem));
+    assert!(rt; atoms_fit(problem, vars, formula) && vars <= 12);
+    prove(alloc, problem, formula, vars, model)
 }
 
 /// The marks of a proof and the objects that it chooses, in preorder.
@@ -128,6 +146,7 @@ fn are_shapes(alloc: Global, shapes: &[Shape], wanted: &[Vec<Mark>]) -> Result<b
 /// Does `prove` answer what the definition says, by the reference?
 fn agrees(
     alloc: Global,
+    rt: &impl Abort,
     problem: &Problem,
     formula: &[Atom],
     vars: u32,
@@ -141,13 +160,13 @@ fn agrees(
         Some(list) => shapes.iter().filter(|shape| **shape < list.ticks).count(),
         None => shapes.len(),
     };
-    match (prove(alloc, problem, formula, vars, model), first) {
+    match (ask(alloc, rt, problem, formula, vars, model), first) {
         (Ok(answer), Some(list)) => {
             Ok(before < limit && is_answer(alloc, &answer, &list.ticks, &list.chosen)?)
         }
         (Err(ProveErr::Unprovable), None) => Ok(before < limit),
         (Err(ProveErr::ShapeLimit(found)), _) => {
-            Ok(before >= limit && are_shapes(alloc, &found, &shapes[..limit])?)
+            Ok(before >= limit && are_shapes(alloc, &found, shapes.get(..limit).unwrap_or(&shapes))?)
         }
         _ => Ok(false),
     }
@@ -158,15 +177,16 @@ fn agrees(
 fn a_chain_of_eleven_atoms(rt: HostRuntime) -> Result<(), Fail> {
     let alloc = rt.alloc();
     let problem = problem_of(alloc, 256, &[2], ClauseArena::new(alloc), 4, 10000)?;
-    let mut model = Model::new(alloc);
+    let mut facts = Vec::new(alloc);
     for i in 0..255 {
-        model.insert(atom(&rt, 0, &[o(i), o(i + 1)]))?;
+        facts.push(atom(&rt, 0, &[o(i), o(i + 1)]))?;
     }
+    let model = model_of(alloc, &facts)?;
     let mut formula = Vec::new(alloc);
     for i in 0..11 {
         formula.push(atom(&rt, 0, &[v(i), v(i + 1)]))?;
     }
-    match prove(alloc, &problem, &formula, 12, &model) {
+    match ask(alloc, &rt, &problem, &formula, 12, &model) {
         Ok(answer) => {
             assert!(&rt; answer.objects.as_slice() == [0, 1, 2, 3, 4, 5, 6, 7, 8, 9, 10, 11].as_slice());
             let mut places = answer.proofs.as_slice().iter().enumerate();
@@ -184,6 +204,7 @@ fn a_chain_of_eleven_atoms(rt: HostRuntime) -> Result<(), Fail> {
 /// Asks at each limit up to one more than there are shapes.
 fn agrees_at_each_limit(
     alloc: Global,
+    rt: &impl Abort,
     problem: &mut Problem,
     formula: &[Atom],
     vars: u32,
@@ -193,7 +214,7 @@ fn agrees_at_each_limit(
     let count = partial_shapes(alloc, &all)?.len();
     for limit in 2..count.min(1000) as u32 + 3 {
         problem.shapes = limit;
-        if !agrees(alloc, problem, formula, vars, model)? {
+        if !agrees(alloc, rt, problem, formula, vars, model)? {
             return Ok(false);
         }
     }
@@ -215,8 +236,8 @@ fn an_ancestor_closes_the_proof(rt: HostRuntime) -> Result<(), Fail> {
     let alloc = rt.alloc();
     let formula = [atom(&rt, 0, &[])];
     let model = Model::new(alloc);
-    let mut high = problem_of(alloc, 0, &[0, 0], two_clauses(alloc, &rt)?, 3, 10000)?;
-    let proved = match prove(alloc, &high, &formula, 0, &model) {
+    let mut high = problem_of(alloc, 1, &[0, 0], two_clauses(alloc, &rt)?, 3, 10000)?;
+    let proved = match ask(alloc, &rt, &high, &formula, 0, &model) {
         Ok(answer) => match answer.proofs.as_slice() {
             [proof] => check(&high.axioms, &[], &yes(formula[0]), proof),
             _ => false,
@@ -224,11 +245,11 @@ fn an_ancestor_closes_the_proof(rt: HostRuntime) -> Result<(), Fail> {
         Err(_) => false,
     };
     assert!(&rt; proved);
-    assert!(&rt; agrees_at_each_limit(alloc, &mut high, &formula, 0, &model)?);
-    let mut low = problem_of(alloc, 0, &[0, 0], two_clauses(alloc, &rt)?, 2, 10000)?;
-    let found = prove(alloc, &low, &formula, 0, &model);
+    assert!(&rt; agrees_at_each_limit(alloc, &rt, &mut high, &formula, 0, &model)?);
+    let mut low = problem_of(alloc, 1, &[0, 0], two_clauses(alloc, &rt)?, 2, 10000)?;
+    let found = ask(alloc, &rt, &low, &formula, 0, &model);
     assert!(&rt; matches!(found, Err(ProveErr::Unprovable)));
-    assert!(&rt; agrees_at_each_limit(alloc, &mut low, &formula, 0, &model)?);
+    assert!(&rt; agrees_at_each_limit(alloc, &rt, &mut low, &formula, 0, &model)?);
     Ok(())
 }
 
@@ -250,7 +271,7 @@ fn the_box_is_in_another_room(rt: HostRuntime) -> Result<(), Fail> {
     let model = model_of(alloc, &facts)?;
     let formula = [atom(&rt, 2, &[v(0)]), atom(&rt, 0, &[v(0), o(1)])];
     let mut problem = problem_of(alloc, 7, &[2, 3, 1], axioms, 4, 2)?;
-    let limited = match prove(alloc, &problem, &formula, 1, &model) {
+    let limited = match ask(alloc, &rt, &problem, &formula, 1, &model) {
         Err(ProveErr::ShapeLimit(shapes)) => match shapes.as_slice() {
             [first, second] => {
                 first.ticks() == [Tick::Open, Tick::Open].as_slice()
@@ -262,7 +283,7 @@ fn the_box_is_in_another_room(rt: HostRuntime) -> Result<(), Fail> {
     };
     assert!(&rt; limited);
     problem.shapes = 3;
-    let found = prove(alloc, &problem, &formula, 1, &model);
+    let found = ask(alloc, &rt, &problem, &formula, 1, &model);
     assert!(&rt; matches!(found, Err(ProveErr::Unprovable)));
     Ok(())
 }
@@ -281,14 +302,14 @@ fn facts_repeated_and_free_variables(rt: HostRuntime) -> Result<(), Fail> {
     let model = model_of(alloc, &facts)?;
     let mut problem = problem_of(alloc, 2, &[2, 1], ClauseArena::new(alloc), 1, 2)?;
     let twice = [atom(&rt, 0, &[v(1), v(1)])];
-    assert!(&rt; agrees_at_each_limit(alloc, &mut problem, &twice, 2, &model)?);
+    assert!(&rt; agrees_at_each_limit(alloc, &rt, &mut problem, &twice, 2, &model)?);
     let other = [atom(&rt, 0, &[v(0), v(1)]), atom(&rt, 1, &[v(1)])];
-    assert!(&rt; agrees_at_each_limit(alloc, &mut problem, &other, 2, &model)?);
+    assert!(&rt; agrees_at_each_limit(alloc, &rt, &mut problem, &other, 2, &model)?);
     let none = [atom(&rt, 1, &[v(0)]), atom(&rt, 0, &[v(0), v(1)])];
-    assert!(&rt; agrees_at_each_limit(alloc, &mut problem, &none, 2, &model)?);
-    assert!(&rt; agrees_at_each_limit(alloc, &mut problem, &[], 2, &model)?);
+    assert!(&rt; agrees_at_each_limit(alloc, &rt, &mut problem, &none, 2, &model)?);
+    assert!(&rt; agrees_at_each_limit(alloc, &rt, &mut problem, &[], 2, &model)?);
     problem.shapes = 10;
-    match prove(alloc, &problem, &twice, 2, &model) {
+    match ask(alloc, &rt, &problem, &twice, 2, &model) {
         Ok(answer) => assert!(&rt; answer.objects.as_slice() == [0, 1].as_slice()),
         Err(_) => assert!(&rt; false),
     }
@@ -315,7 +336,7 @@ fn axioms_over_variables(rt: HostRuntime) -> Result<(), Fail> {
     for height in 1..4 {
         problem.height = height;
         for formula in &formulas {
-            assert!(&rt; agrees_at_each_limit(alloc, &mut problem, formula, 2, &model)?);
+            assert!(&rt; agrees_at_each_limit(alloc, &rt, &mut problem, formula, 2, &model)?);
         }
     }
     Ok(())
@@ -331,14 +352,14 @@ fn contrapositive_places_and_ancestors(rt: HostRuntime) -> Result<(), Fail> {
     axioms.push(0, &[no(q), yes(r)])?;
     axioms.push(0, &[no(r), yes(p), yes(p)])?;
     axioms.push(0, &[no(p), yes(q)])?;
-    let mut problem = problem_of(alloc, 0, &[0, 0, 0], axioms, 1, 2)?;
+    let mut problem = problem_of(alloc, 1, &[0, 0, 0], axioms, 1, 2)?;
     let empty = Model::new(alloc);
     let with_r = model_of(alloc, &[r])?;
     for height in 1..4 {
         problem.height = height;
         for goal in [p, q, r] {
-            assert!(&rt; agrees_at_each_limit(alloc, &mut problem, &[goal], 0, &empty)?);
-            assert!(&rt; agrees_at_each_limit(alloc, &mut problem, &[goal], 0, &with_r)?);
+            assert!(&rt; agrees_at_each_limit(alloc, &rt, &mut problem, &[goal], 0, &empty)?);
+            assert!(&rt; agrees_at_each_limit(alloc, &rt, &mut problem, &[goal], 0, &with_r)?);
         }
     }
     Ok(())
@@ -348,19 +369,20 @@ fn contrapositive_places_and_ancestors(rt: HostRuntime) -> Result<(), Fail> {
 #[test]
 fn seventy_thousand_shapes(rt: HostRuntime) -> Result<(), Fail> {
     let alloc = rt.alloc();
-    let mut model = Model::new(alloc);
+    let mut facts = Vec::new(alloc);
     for i in 0..50 {
         for j in 0..50 {
-            model.insert(atom(&rt, 0, &[o(i), o(j)]))?;
+            facts.push(atom(&rt, 0, &[o(i), o(j)]))?;
         }
     }
+    let model = model_of(alloc, &facts)?;
     let mut formula = Vec::new(alloc);
     for i in 0..11 {
         formula.push(atom(&rt, 0, &[v(i), v(i + 1)]))?;
     }
     formula.push(atom(&rt, 1, &[]))?;
     let problem = problem_of(alloc, 50, &[2, 0], ClauseArena::new(alloc), 8, 70_000)?;
-    match prove(alloc, &problem, &formula, 12, &model) {
+    match ask(alloc, &rt, &problem, &formula, 12, &model) {
         Err(ProveErr::ShapeLimit(shapes)) => assert!(&rt; shapes.len() == 70_000),
         _ => assert!(&rt; false),
     }

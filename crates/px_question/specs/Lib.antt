@@ -2,3 +2,8 @@ pub mod Settings
 pub mod Answers
 pub mod Limits
 pub mod Gaps
+pub mod GapOrder
+pub mod GapOrderLaws
+pub mod Determined
+pub mod ShapeOrder
+pub mod DeterminedLaws

@@ -1,5 +1,5 @@
 -- Shapes of unfinished lists, and where they are too many.
-use Rattle.std.specs.Prelude.{◌≡◌, ◌⊎◌, ℕ, List, [], ◌∷◌, length, All, Contains}
+use Rattle.std.specs.Prelude.{◌≡◌, ◌⊎◌, ℕ, ◌<◌, List, [], ◌∷◌, length, All, Contains}
 use Rattle.std.specs.List.{AllByRecursion}
 use Rattle.px_terms.specs.declared.atom.Atom.{Atom}
 use Rattle.px_proof.specs.declared.shape.Tick.{Tick}
@@ -37,3 +37,21 @@ pub record IsLimited (s : Setting) (formula : List Atom) (vars : ℕ) (shapes : 
 pub record IsGapLimited (s : Setting) (formula : List Atom) (vars : ℕ) (shapes : List (List Tick)) : Type 0 where
   pub count : length shapes ≡ s.limit
   pub kept : AreFirstShapes (IsPartialShape (loose_gaps_in s) s formula vars) shapes
+
+-- fewer shapes of the kind exist than the number: a shorter list has them all
+pub record AreFewerThan (IsShape : List Tick → Type 0) (count : ℕ) : Type 0 where
+  pub seen : List (List Tick)
+  pub fewer : length seen < count
+  pub all : (shape : List Tick) → IsShape shape → Contains seen shape
+
+-- fewer shapes of unfinished lists exist than the limit
+abbrev pub AreFewShapes : Setting → List Atom → ℕ → Type 0
+AreFewShapes s formula vars = AreFewerThan (IsPartialShape (proofs_in s) s formula vars) s.limit
+
+-- fewer of them than the limit stand before the shape of the list
+abbrev pub AreFewBefore : Setting → List Atom → ℕ → Derivations → Type 0
+AreFewBefore s formula vars ds = AreFewerThan (λ shape. IsPartialShape (proofs_in s) s formula vars shape × ShapeBefore shape (ticks_of ds)) s.limit
+
+-- fewer shapes of unfinished lists of loose gap proofs exist than the limit
+abbrev pub AreFewGapShapes : Setting → List Atom → ℕ → Type 0
+AreFewGapShapes s formula vars = AreFewerThan (IsPartialShape (loose_gaps_in s) s formula vars) s.limit

@@ -1,8 +1,8 @@
 use px_terms::{Atom, Sequence};
 
 /// Objects for the variables of a formula, and the atoms that a list of gap proofs of it then closes by gaps (Fikes
-/// and Nilsson 1971: a difference).
-#[derive(Drop)]
+/// and Nilsson 1971: a difference). Ordered by objects, then by atoms.
+#[derive(PartialEq, Eq, PartialOrd, Ord, Drop)]
 pub struct GapList {
     /// The objects, one for each variable.
     pub objects: Sequence<u32>,

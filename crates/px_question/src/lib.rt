@@ -1,6 +1,35 @@
 //! What a question to the prover is, and what answers it.
+//!
+//! The definitions are over lists and trees alone: no variable is bound in them, no stack stands there, and nothing says how a
+//! proof is found. A formula is a list of atoms over variables that stand for one object each in the whole list.
+//!
+//! # Calling it
+//!
+//! - `specs/Settings` says what is read of a problem and a model (`setting_of`), and by which rules finished proofs and
+//!   loose gap proofs are made: steps choose objects of the problem, and a leaf names the place of its fact.
+//! - `specs/Answers`: `IsList` is one proof for each atom of the formula, under objects for its variables and within
+//!   the height; `IsAnswer` and `IsProvable` say that there is one; `IsFirst` is the one of the least shape, and among those the one
+//!   of the least objects.
+//! - `specs/Limits`: the shapes of unfinished lists; `IsLimited` and `IsGapLimited` are the first of them, as many as
+//!   the limit. `AreFewShapes`, `AreFewBefore` and `AreFewGapShapes` say that there are fewer.
+//! - `specs/Gaps`: `IsGapOf` is an atom that a list of gap proofs lacks where the formula has no answer, `AreGapLists`
+//!   all gap lists of loose gap proofs, `MeetsGapLimit` where finding gaps meets the limit (after the differences of
+//!   Fikes and Nilsson 1971).
+//! - [`GapList`] is one of these lists; it is compared by objects, then by atoms ([`gap_lists_are_ordered`]).
+//! - [`first_is_one`], [`limits_are_one`] and [`gap_lists_are_one`] say that a formula determines what answers it, and
+//!   [`few_or_limited`] that fewer shapes and the limit exclude each other. They are laws about the definitions: the
+//!   calls do nothing.
+//!
+//! A call that asks the prover has a valid problem, atoms of the problem over its variables, and an object where there is
+//! a variable (`IsValid` and `IsAtomOf` in `px_terms`).
 #![tactic(auto)]
 
 mod gap_list;
+mod laws;
+#[cfg(test)]
+mod tests;
 
 pub use gap_list::GapList;
+pub use laws::{
+    few_or_limited, first_is_one, gap_lists_are_one, gap_lists_are_ordered, limits_are_one,
+};

@@ -9,7 +9,7 @@ use Rattle.px_unify.specs.declared.change.Change.{Change}
 use Rattle.px_unify.specs.Changes.{Fits}
 use Rattle.px_question.specs.Settings.{Setting}
 use Rattle.px_question.specs.Answers.{object_terms}
-use Rattle.px_walk.specs.Pending.{Goal, Closing, Pending, Solves, open_after, closing_at, fresh_of, goals_of, IsFeasible}
+use Rattle.px_walk.specs.Pending.{Goal, Closing, Solves, open_after, closing_at, fresh_of, goals_of, IsFeasible}
 use Rattle.px_walk.proofs.Pushing.{solves-push, open_after-push}
 
 -- the substitutions that fit the bindings are those under which the ticks close their places rightly

@@ -2,7 +2,7 @@
 use Rattle.std.proofs.Common.{◌≡◌, ◌↔◌, ℕ, zero, suc, ◌+◌, ◌<◌, ◌≤◌, Bool, true, false, Some, List, [], ◌∷◌, ◌++◌, length, map, replicate, take, drop, refl, ap, sym, subst, ◌∙◌, arith, length-append}
 use Rattle.std.specs.Prelude.{All}
 use Rattle.std.specs.List.{AllByRecursion}
-use Rattle.std.proofs.lemmas.List.{append-nil, take-append-drop}
+use Rattle.std.proofs.lemmas.List.{append-nil}
 use Rattle.std.proofs.lemmas.List.Elements.{All-take, All-drop, All-append, All-nil, All-weaker}
 use Rattle.px_terms.specs.declared.atom.Atom.{Atom}
 use Rattle.px_terms.specs.declared.clause.Clause.{Clause}
@@ -13,12 +13,11 @@ use Rattle.px_proof.specs.declared.shape.Tick.TheVariants.{Open}
 use Rattle.px_proof.specs.Derivation.{Derivation, Derivations, fact, ancestor, step, gap, open_place, none, also}
 use Rattle.px_proof.specs.Proves.{Rules, Proves, ProvesEach, parts_of, or_open}
 use Rattle.px_proof.specs.ProvesLaws.{each_by}
-use Rattle.px_proof.specs.PlaceLaws.{some_same}
 use Rattle.px_proof.specs.Shapes.{ticks, ticks_of}
 use Rattle.px_question.specs.Answers.{IsList, object_terms, object_of, choices_of, all_choices_of, literals_of}
 use Rattle.px_question.specs.Limits.{IsPartialShape}
 use Rattle.px_question.specs.Settings.{Setting, IsObjectBelow}
-use Rattle.px_walk.specs.Pending.{Pending, Solves, open_after, goals_of, IsFeasible}
+use Rattle.px_walk.specs.Pending.{Solves, open_after, goals_of, IsFeasible}
 use Rattle.px_walk.specs.Possible.{IsClosing, IsPossible, IsFinished, open_count, shape_of, left_of, rules_for}
 use Rattle.px_walk.specs.Scope.{IsSetting, IsAtomIn}
 use Rattle.px_walk.proofs.Every.{all-both}
@@ -161,6 +160,18 @@ module _ (loose : Bool) (s : Setting) (valid : IsSetting s) (formula : List Atom
       ((ticks : List Tick) × (shape ≡ shape_of loose s formula vars ticks) × IsPossible loose s formula vars ticks × (IsFinished loose s formula vars ticks → ⊥))
   partial-possible shape = (partial-from shape, λ h. partial-to shape h.0 h.1 h.2 h.3)
 
+  -- where no place is open, the proofs are finished ones
+  pub closed-list : (objects : List ℕ) (ds : Derivations) → AllByRecursion IsClosing (ticks_of ds) → IsList (or_open (rules_for loose s)) s formula vars objects ds → IsList (rules_for loose s) s formula vars objects ds
+  closed-list objects ds closing is = record {
+    count = is.count;
+    below = is.below;
+    proved = closed-proves-each (rules_for loose s) s.axioms [] (literals_of formula objects) ds closing is.proved;
+    low = is.low;
+  }
+
+  pub choices-of-list : (objects : List ℕ) (ds : Derivations) → IsList (rules_for loose s) s formula vars objects ds → All (λ o. o < s.objects) (all_choices_of ds)
+  choices-of-list objects ds is = choices-below-each (rules_for loose s) s.axioms s.objects (choices_in loose s) [] (literals_of formula objects) ds is.proved
+
   -- a possible list that is finished is a list of finished proofs
   pub possible-finished : (ticks : List Tick) → IsPossible loose s formula vars ticks → IsFinished loose s formula vars ticks →
       (objects : List ℕ) × (ps : Derivations) × IsList (rules_for loose s) s formula vars objects ps × (ticks_of ps ≡ ticks)
@@ -170,16 +181,11 @@ module _ (loose : Bool) (s : Setting) (valid : IsSetting s) (formula : List Atom
       let same : ticks_of made.1 ≡ ticks = made.3 ∙ ap (λ k. ticks ++ replicate k Open) left ∙ append-nil ticks in (
         made.0,
         made.1,
-        record {
-          count = made.2.count;
-          below = made.2.below;
-          proved = closed-proves-each (rules_for loose s) s.axioms [] (literals_of formula made.0) made.1 (rw same possible.0) made.2.proved;
-          low = made.2.low;
-        },
+        closed-list made.0 made.1 (rw same possible.0) made.2,
         same,
       )
 
-  finished-opened : (objects : List ℕ) (ps : Derivations) → IsList (rules_for loose s) s formula vars objects ps → IsList (or_open (rules_for loose s)) s formula vars objects ps
+  pub finished-opened : (objects : List ℕ) (ps : Derivations) → IsList (rules_for loose s) s formula vars objects ps → IsList (or_open (rules_for loose s)) s formula vars objects ps
   finished-opened objects ps is = record {
     count = is.count;
     below = is.below;

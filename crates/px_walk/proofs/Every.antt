@@ -1,5 +1,5 @@
 -- What is true of every item of a list.
-use Rattle.std.proofs.Common.{◌≡◌, ℕ, zero, suc, ◌<◌, arith, Some, List, [], ◌∷◌, ◌++◌, map, slice_get, refl}
+use Rattle.std.proofs.Common.{◌≡◌, ℕ, zero, suc, arith, Some, List, [], ◌∷◌, ◌++◌, map, slice_get}
 use Rattle.std.specs.Prelude.{remove, All, Contains}
 use Rattle.px_base.specs.ListLaws.{Contains-first, Contains-later}
 use Rattle.std.specs.List.{AllByRecursion}

@@ -9,9 +9,15 @@ pub mod Visits
 pub mod Objects
 pub mod Scoping
 pub mod Partial
-pub mod Ascending
 pub mod Least
 pub mod Padding
 pub mod Bridge
 pub mod Outcomes
 pub mod Questions
+pub mod Starts
+pub mod GapOutcomes
+pub mod Gaps
+pub mod Gathering
+pub mod Values
+pub mod Building
+pub mod Answering

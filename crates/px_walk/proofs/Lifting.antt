@@ -1,12 +1,11 @@
 -- Closings over variables, under a substitution, are closings on the ground.
-use Rattle.std.proofs.Common.{◌≡◌, ◌↔◌, ◌⊎◌, ℕ, zero, suc, ◌+◌, ◌-◌, ◌<◌, ◌≤◌, Bool, true, false, ◌&&◌, ◌||◌, cond, Option, Some, None, List, [], ◌∷◌, ◌++◌, length, map, take, drop, slice_get, slice_index_or, refl, ap, sym, subst, ◌∙◌, arith, inl, inr, add-suc, zero-add, add-zero, length-append, append_assoc}
-use Rattle.std.specs.Prelude.{remove, All, IsSomeAnd, nat_eq}
+use Rattle.std.proofs.Common.{◌≡◌, ℕ, zero, suc, ◌+◌, ◌-◌, ◌<◌, ◌≤◌, Bool, true, false, ◌&&◌, cond, Option, Some, None, List, [], ◌∷◌, ◌++◌, length, map, take, drop, slice_get, slice_index_or, refl, ap, sym, ◌∙◌, arith, length-append, append_assoc}
+use Rattle.std.specs.Prelude.{All, IsSomeAnd, nat_eq}
 use Rattle.std.specs.List.{AllByRecursion, list_any}
 use Rattle.std.proofs.lemmas.List.{map-append}
 use Rattle.std.proofs.lemmas.List.Elements.{All-take, All-drop}
 use Rattle.px_terms.specs.Language.{substitute, IsObject}
-use Rattle.px_terms.specs.Substitution.{substitute_atom}
-use Rattle.px_proof.specs.Literals.{substitute_literal, complement_of, positive_of}
+use Rattle.px_proof.specs.Literals.{substitute_literal}
 use Rattle.px_proof.specs.PlaceLaws.{some_same}
 use Rattle.px_proof.specs.SubstitutionLaws.{instance_twice, parts_under}
 use Rattle.px_terms.specs.declared.term.Term.{Term}
@@ -16,11 +15,11 @@ use Rattle.px_terms.specs.declared.clause.Lit.{Lit}
 use Rattle.px_terms.specs.declared.clause.Clause.{Clause}
 use Rattle.px_proof.specs.declared.shape.Tick.{Tick}
 use Rattle.px_proof.specs.declared.shape.Tick.TheVariants.{Fact, Anc, Step, Gap, Open}
-use Rattle.px_proof.specs.Proves.{instance_of, parts_of, IsName}
+use Rattle.px_proof.specs.Proves.{instance_of, parts_of}
 use Rattle.px_question.specs.Settings.{Setting}
 use Rattle.px_question.specs.Answers.{object_terms}
 use Rattle.px_walk.specs.Pending.{Goal, Closing, Solves, Runs, Pending, open_after, fresh_of, vars_of, closing_of, closing_at, by_fact, by_ancestor, by_literal, by_step, has_room, goals_below, variables_from}
-use Rattle.px_walk.specs.Scope.{IsAtomIn, IsLitIn, IsGoalIn, IsSetting}
+use Rattle.px_walk.specs.Scope.{IsSetting}
 
 abbrev pub goal_under : List Term → Goal → Goal
 goal_under tau goal = record { lit = substitute_literal tau goal.lit; path = map (substitute_literal tau) goal.path; budget = goal.budget }
@@ -120,11 +119,14 @@ module _ (loose : Bool) (s : Setting) (valid : IsSetting s) (old theta rest chos
   pub longer : length (old ++ theta) ≡ length old + fresh_of s tick
   longer = length-append old theta ∙ ap (λ k. length old + k) long
 
+  -- the new variables have the objects that are chosen next
+  pub new_theta : map (substitute (object_terms (old ++ chosen))) (variables_from (length old) (fresh_of s tick)) ≡ object_terms theta
+  new_theta = rw (splits, ← long) (new_objects old theta rest)
+
   -- the closing on the ground is the one over variables, under the objects
   pub same_closing : closing_of loose s (object_terms theta) (goal_under (object_terms (old ++ chosen)) goal) tick ≡ closing_under (object_terms (old ++ chosen)) (closing_at loose s (length old) goal tick)
   same_closing =
-      let objects : map (substitute (object_terms (old ++ chosen))) (variables_from (length old) (fresh_of s tick)) ≡ object_terms theta = rw (splits, ← long) (new_objects old theta rest) in
-      rw (← objects) (closing-under loose s valid (object_terms (old ++ chosen)) (variables_from (length old) (fresh_of s tick)) goal tick (length-variables (length old) (fresh_of s tick)))
+      rw (← new_theta) (closing-under loose s valid (object_terms (old ++ chosen)) (variables_from (length old) (fresh_of s tick)) goal tick (length-variables (length old) (fresh_of s tick)))
 
   module _ (goals : List Goal) (ticks : List Tick) where
     abbrev pub RunsLater : List Goal → Type 0
@@ -153,12 +155,12 @@ pub open_after-step : (loose : Bool) (s : Setting) (n : ℕ) (goal : Goal) (goal
     open_after loose s n (goal ∷ goals) (tick ∷ ticks) ≡ open_after loose s (n + fresh_of s tick) (closing.parts ++ goals) ticks
 open_after-step loose s n goal goals tick ticks closing is = rw is refl
 
-take_drop : {X : Type 0} (k : ℕ) (xs : List X) → xs ≡ take k xs ++ drop k xs
+pub take_drop : {X : Type 0} (k : ℕ) (xs : List X) → xs ≡ take k xs ++ drop k xs
 take_drop zero xs = refl
 take_drop (suc k) [] = refl
 take_drop (suc k) (x ∷ xs) = ap (λ ys. x ∷ ys) (take_drop k xs)
 
-length-take_within : {X : Type 0} (k : ℕ) (xs : List X) → k ≤ length xs → length (take k xs) ≡ k
+pub length-take_within : {X : Type 0} (k : ℕ) (xs : List X) → k ≤ length xs → length (take k xs) ≡ k
 length-take_within zero xs within = refl
 length-take_within (suc k) [] within = absurd (omega (arith, within))
 length-take_within (suc k) (x ∷ xs) within = ap suc (length-take_within k xs (omega (arith, within)))
@@ -180,14 +182,14 @@ module _ (loose : Bool) (s : Setting) (old chosen : List ℕ) (tick : Tick) (goa
   ends_from closing is = sym (open_after-step loose s (length old) goal goals tick ticks closing is) ∙ ends
 
   -- each new variable has an object
-  enough : Solves loose s (object_terms (old ++ chosen)) (length old) (goal ∷ goals) (tick ∷ ticks) → fresh_of s tick ≤ length chosen
+  pub enough : Solves loose s (object_terms (old ++ chosen)) (length old) (goal ∷ goals) (tick ∷ ticks) → fresh_of s tick ≤ length chosen
   enough solves = go (closing_at loose s (length old) goal tick) refl _ solves
     where
       go : (o : Option Closing) → closing_at loose s (length old) goal tick ≡ o → (P : Closing → Type 0) → IsSomeAnd o P → fresh_of s tick ≤ length chosen
       go None is P closes = absurd closes
       go (Some closing) is P closes = omega (arith, variables_grow loose s ticks (length old + fresh_of s tick) (closing.parts ++ goals) _ (ends_from closing is))
 
-  later_ends : (closing : Closing) → closing_at loose s (length old) goal tick ≡ Some closing → (theta rest : List ℕ) → chosen ≡ theta ++ rest → length theta ≡ fresh_of s tick →
+  pub later_ends : (closing : Closing) → closing_at loose s (length old) goal tick ≡ Some closing → (theta rest : List ℕ) → chosen ≡ theta ++ rest → length theta ≡ fresh_of s tick →
       open_after loose s (length (old ++ theta)) (closing.parts ++ goals) ticks ≡ Some (record { variables = length (old ++ theta) + length rest; goals = [] })
   later_ends closing is theta rest splits long =
       let longer : length (old ++ theta) ≡ length old + fresh_of s tick = length-append old theta ∙ ap (λ k. length old + k) long in

@@ -1,5 +1,5 @@
 -- Lists of derivations of a formula, as closings of its goals.
-use Rattle.std.proofs.Common.{◌≡◌, ◌↔◌, ◌⊎◌, ℕ, zero, suc, ◌+◌, ◌<◌, ◌≤◌, max, Bool, true, false, ◌||◌, Option, Some, None, List, [], ◌∷◌, ◌++◌, length, map, slice_index_or, refl, ap, sym, ◌∙◌, arith, inl, inr, length-append, append_assoc}
+use Rattle.std.proofs.Common.{◌≡◌, ℕ, zero, suc, ◌+◌, ◌<◌, ◌≤◌, Bool, true, false, ◌||◌, Option, Some, None, List, [], ◌∷◌, ◌++◌, length, map, slice_index_or, refl, ap, ◌∙◌, arith, inl, inr, length-append}
 use Rattle.std.specs.Prelude.{IsSomeAnd, All, Contains, nat_eq}
 use Rattle.std.specs.List.{AllByRecursion, list_any}
 use Rattle.std.proofs.lemmas.Bool.Decides.{nat_tests}
@@ -8,22 +8,19 @@ use Rattle.std.proofs.lemmas.Map.Views.{Contains-from_any}
 use Rattle.px_base.specs.ListLaws.{Contains-none, Contains-cases}
 use Rattle.px_proof.specs.ProvesLaws.{Allows, each_by}
 use Rattle.px_terms.specs.Language.{substitute}
-use Rattle.px_terms.specs.Substitution.{substitute_atom}
-use Rattle.px_proof.specs.Literals.{substitute_literal, positive_of}
+use Rattle.px_proof.specs.Literals.{substitute_literal}
 use Rattle.px_terms.specs.declared.term.Term.{Term}
 use Rattle.px_terms.specs.declared.term.Term.TheVariants.{Obj, Var, Any}
 use Rattle.px_terms.specs.declared.atom.Atom.{Atom}
 use Rattle.px_terms.specs.declared.clause.Lit.{Lit}
-use Rattle.px_terms.specs.declared.clause.Clause.{Clause}
-use Rattle.px_proof.specs.declared.proof.Leaf.{Leaf}
 use Rattle.px_proof.specs.declared.shape.Tick.{Tick}
-use Rattle.px_proof.specs.Derivation.{Derivation, Derivations, fact, ancestor, step, gap, open_place, none, also, height, greatest_height}
-use Rattle.px_proof.specs.Proves.{Rules, Proves, ProvesEach, UsesClause, parts_of, or_open, IsName}
+use Rattle.px_proof.specs.Derivation.{Derivations, none, also, greatest_height}
+use Rattle.px_proof.specs.Proves.{Rules, ProvesEach, or_open, IsName}
 use Rattle.px_proof.specs.Shapes.{ticks_of}
-use Rattle.px_question.specs.Settings.{Setting, proofs_in, IsObjectBelow}
+use Rattle.px_question.specs.Settings.{Setting}
 use Rattle.px_question.specs.Answers.{IsList, literals_of, object_terms, all_choices_of}
 use Rattle.px_walk.specs.Possible.{rules_for}
-use Rattle.px_walk.specs.Pending.{Goal, Closing, Pending, Runs, Solves, open_after, closing_at, fresh_of, goals_of}
+use Rattle.px_walk.specs.Pending.{Goal, Closing, Runs, Solves, open_after, closing_at, fresh_of, goals_of}
 use Rattle.px_walk.specs.Scope.{IsSetting, IsAtomIn}
 use Rattle.px_walk.proofs.Lifting.{goal_under, closing_under, solves_from_runs, runs_from_solves, same_closing, regrouped, longer, open_after-step, length-objects, objects-append}
 use Rattle.px_walk.proofs.Trees.{rules_of, AreProved, runs_from_trees, trees_from_runs}
@@ -52,11 +49,11 @@ prover_allows : (loose : Bool) (s : Setting) → Allows (rules_of loose s) (or_o
 prover_allows false s = record { choices = λ t h. h; gaps = λ atom h. absurd (let never = h.0 in cc); opens = λ h. h }
 prover_allows true s = record { choices = λ t h. h; gaps = λ atom h. Contains-from_any nats_same atom.pred s.added h.1; opens = λ h. h }
 
-walk_each : (loose : Bool) (s : Setting) (lits : List Lit) (ds : Derivations) → ProvesEach (or_open (rules_for loose s)) s.axioms [] lits ds → ProvesEach (rules_of loose s) s.axioms [] lits ds
+pub walk_each : (loose : Bool) (s : Setting) (lits : List Lit) (ds : Derivations) → ProvesEach (or_open (rules_for loose s)) s.axioms [] lits ds → ProvesEach (rules_of loose s) s.axioms [] lits ds
 walk_each false s lits ds = each_by s.axioms (or_open (rules_for false s)) (rules_of false s) (walk_allows false s) [] lits ds (λ leaf has h. h)
 walk_each true s lits ds = each_by s.axioms (or_open (rules_for true s)) (rules_of true s) (walk_allows true s) [] lits ds (λ leaf has h. h)
 
-prover_each : (loose : Bool) (s : Setting) (lits : List Lit) (ds : Derivations) → ProvesEach (rules_of loose s) s.axioms [] lits ds → ProvesEach (or_open (rules_for loose s)) s.axioms [] lits ds
+pub prover_each : (loose : Bool) (s : Setting) (lits : List Lit) (ds : Derivations) → ProvesEach (rules_of loose s) s.axioms [] lits ds → ProvesEach (or_open (rules_for loose s)) s.axioms [] lits ds
 prover_each false s lits ds = each_by s.axioms (rules_of false s) (or_open (rules_for false s)) (prover_allows false s) [] lits ds (λ leaf has h. h)
 prover_each true s lits ds = each_by s.axioms (rules_of true s) (or_open (rules_for true s)) (prover_allows true s) [] lits ds (λ leaf has h. h)
 
@@ -80,7 +77,7 @@ module _ (s : Setting) where
   abbrev pub ground_goals : List Lit → List Goal
   ground_goals lits = map (λ l. record { lit = l; path = []; budget = s.height }) lits
 
-  goals_ground : (formula : List Atom) (vars : ℕ) (objects chosen : List ℕ) → length objects ≡ vars → AllByRecursion (IsAtomIn s.objects vars) formula →
+  pub goals_ground : (formula : List Atom) (vars : ℕ) (objects chosen : List ℕ) → length objects ≡ vars → AllByRecursion (IsAtomIn s.objects vars) formula →
       map (goal_under (object_terms (objects ++ chosen))) (goals_of s formula) ≡ ground_goals (literals_of formula objects)
   goals_ground [] vars objects chosen count scoped = refl
   goals_ground (a ∷ formula) vars objects chosen count scoped =
@@ -88,7 +85,7 @@ module _ (s : Setting) where
       let same : map (substitute (object_terms (objects ++ chosen))) a.args ≡ map (substitute (object_terms objects)) a.args = rw (objects-append objects chosen) (args_longer s.objects (object_terms objects) (object_terms chosen) a.args within) in
       rw (same, goals_ground formula vars objects chosen count scoped.1) refl
 
-  each-are : (rules : Rules) (lits : List Lit) (ps : Derivations) → ProvesEach rules s.axioms [] lits ps → greatest_height ps ≤ s.height → AreProved rules s.axioms (ground_goals lits) ps
+  pub each-are : (rules : Rules) (lits : List Lit) (ps : Derivations) → ProvesEach rules s.axioms [] lits ps → greatest_height ps ≤ s.height → AreProved rules s.axioms (ground_goals lits) ps
   each-are rules [] none each low = tt
   each-are rules (l ∷ lits) (also p ps) each low = (each.0, omega (arith, low), each-are rules lits ps each.1 (omega (arith, low)))
   each-are rules [] (also p ps) each low = absurd each

@@ -1,11 +1,10 @@
 -- Goals speak only of objects of the problem, so each solution gives one by objects of the problem.
 use Rattle.px_proof.specs.PlaceLaws.{some_same}
 use Rattle.px_walk.proofs.Every.{all-at, all-both, all-mapped, all-removed, all-weaker}
-use Rattle.std.proofs.Common.{◌≡◌, ◌↔◌, ℕ, zero, suc, ◌+◌, ◌-◌, ◌<◌, ◌≤◌, Bool, true, false, ◌&&◌, cond, Option, Some, None, List, [], ◌∷◌, ◌++◌, length, map, replicate, slice_get, slice_index_or, refl, ap, sym, ◌∙◌, arith}
+use Rattle.std.proofs.Common.{◌≡◌, ℕ, zero, suc, ◌+◌, ◌-◌, ◌<◌, ◌≤◌, Bool, true, false, ◌&&◌, cond, Option, Some, None, List, [], ◌∷◌, ◌++◌, length, map, replicate, slice_get, slice_index_or, refl, ap, sym, ◌∙◌, arith}
 use Rattle.std.specs.Prelude.{IsSomeAnd, remove, nat_eq, nat_lt}
 use Rattle.std.specs.List.{AllByRecursion, list_any}
 use Rattle.px_terms.specs.Language.{substitute}
-use Rattle.px_terms.specs.Substitution.{substitute_atom}
 use Rattle.px_proof.specs.Literals.{substitute_literal, complement_of, positive_of}
 use Rattle.px_terms.specs.declared.term.Term.{Term}
 use Rattle.px_terms.specs.declared.term.Term.TheVariants.{Obj, Var, Any}

@@ -1,26 +1,23 @@
 -- What the ends of the walk say of the formula: the first finished list, that there is none, the limit.
-use Rattle.std.proofs.Common.{◌≡◌, ◌⊎◌, ℕ, suc, ◌<◌, ◌≤◌, Bool, false, Some, List, [], ◌∷◌, ◌++◌, length, map, refl, ap, sym, subst, ◌∙◌, arith, inl, inr}
-use Rattle.std.specs.Prelude.{All, Contains}
+use Rattle.std.proofs.Common.{◌≡◌, ◌⊎◌, ℕ, Bool, false, Some, List, [], ◌∷◌, ◌++◌, length, map, refl, ap, sym, subst, ◌∙◌, inl, inr}
+use Rattle.std.specs.Prelude.{Contains}
 use Rattle.std.specs.List.{AllByRecursion}
 use Rattle.std.proofs.lemmas.List.{length-map}
 use Rattle.std.proofs.lemmas.List.Elements.{All-contains, All-from_recursion}
-use Rattle.px_base.specs.ListLaws.{Contains-none, Contains-first, Contains-later, Contains-cases}
 use Rattle.px_terms.specs.declared.atom.Atom.{Atom}
 use Rattle.px_proof.specs.declared.shape.Tick.{Tick}
 use Rattle.px_proof.specs.Derivation.{Derivations}
 use Rattle.px_proof.specs.PlaceLaws.{some_same, Contains-mapped}
 use Rattle.px_proof.specs.Shapes.{ticks_of, ShapeBefore}
 use Rattle.px_question.specs.Answers.{IsList, IsAnswer, IsFirst, object_terms, all_choices_of, AtMost}
-use Rattle.px_question.specs.Limits.{AreFirstShapes, IsLimited, IsPartialShape, IsAscending}
+use Rattle.px_question.specs.Limits.{AreFewBefore, AreFewShapes, AreFirstShapes, IsLimited, IsPartialShape, IsAscending}
 use Rattle.px_question.specs.Settings.{Setting, proofs_in}
 use Rattle.px_walk.specs.Pending.{Pending, Solves, open_after, goals_of}
 use Rattle.px_walk.specs.Possible.{IsPossible, IsFinished, shape_of, rules_for}
 use Rattle.px_walk.specs.Scope.{IsSetting, IsAtomIn}
 use Rattle.px_walk.specs.Search.{ComesFirst, NoneComes, LimitComes}
-use Rattle.px_walk.proofs.Ascending.{no_longer}
-use Rattle.px_walk.proofs.Bridge.{partial-from, partial-to, possible-finished, finished-ends, finished-possible}
-use Rattle.px_walk.proofs.Every.{all-recursion, all-by_contains}
-use Rattle.px_walk.proofs.Ordering.{ShapeBefore-irrefl, ShapeBefore-trans, shape_trichotomy}
+use Rattle.px_walk.proofs.Bridge.{partial-from, partial-to, finished-ends, finished-possible}
+use Rattle.px_walk.proofs.Ordering.{shape_trichotomy}
 use Rattle.px_walk.proofs.Padding.{shape-before, unshape, finished-shape}
 
 -- a list among unfinished ones is not finished
@@ -28,36 +25,6 @@ pub not_seen : {X : Type 0} (F : X → Type 0) (x : X) (seen : List X) → Conta
 not_seen F x seen is_in unfinished = All-contains (λ y. F y → ⊥) seen x (All-from_recursion (λ y. F y → ⊥) seen unfinished) is_in
 
 module _ (loose : Bool) (s : Setting) (valid : IsSetting s) (formula : List Atom) (vars : ℕ) (scoped : AllByRecursion (IsAtomIn s.objects vars) formula) where
-  -- the possible lists of different partial shapes
-  pub fronts-of : (shapes : List (List Tick)) → AllByRecursion (IsPartialShape (rules_for loose s) s formula vars) shapes → IsAscending shapes →
-      (fronts : List (List Tick)) × (length fronts ≡ length shapes) × IsAscending fronts × ((x : List Tick) → Contains fronts x → IsPossible loose s formula vars x × Contains shapes (shape_of loose s formula vars x))
-  fronts-of [] all up = ([], refl, tt, λ x is_in. absurd (Contains-none x is_in))
-  fronts-of (shape ∷ shapes) all up =
-      let first = partial-from loose s valid formula vars scoped shape all.0 in
-      let rest = fronts-of shapes all.1 up.1 in (
-        first.0 ∷ rest.0,
-        ap suc rest.1,
-        (
-          all-by_contains (ShapeBefore first.0) rest.0
-              (λ x is_in. let kept = rest.3 x is_in in
-              let before : ShapeBefore shape (shape_of loose s formula vars x) = All-contains (ShapeBefore shape) shapes (shape_of loose s formula vars x) (All-from_recursion (ShapeBefore shape) shapes up.0) kept.1 in
-              unshape loose s formula vars first.0 x first.2 kept.0 (rw first.1 at before)),
-          rest.2,
-        ),
-        λ x is_in. elim (Contains-cases first.0 rest.0 x is_in) [
-          | inl e ↦ rw (← e) (first.2, rw (← first.1) (Contains-first shape shapes))
-          | inr h ↦ let kept = rest.3 x h in (kept.0, Contains-later shape shapes (shape_of loose s formula vars x) kept.1)
-        ],
-      )
-
-  -- fewer lists than shapes don't have all their fronts
-  pub too_many : (limit : ℕ) (seen shapes : List (List Tick)) → length seen < limit → IsAscending seen → length shapes ≡ limit → AreFirstShapes (IsPartialShape (rules_for loose s) s formula vars) shapes →
-      ((x : List Tick) → IsPossible loose s formula vars x → Contains shapes (shape_of loose s formula vars x) → Contains seen x) → ⊥
-  too_many limit seen shapes few up count kept covers =
-      let fronts = fronts-of shapes (all-recursion (IsPartialShape (rules_for loose s) s formula vars) shapes kept.each) kept.ascending in
-      let bound : length fronts.0 ≤ length seen = no_longer seen fronts.0 fronts.2 up (λ x is_in. let one = fronts.3 x is_in in covers x one.0 one.1) in
-      omega (arith, bound, few, fronts.1, count)
-
   -- the shapes of the lists that were seen
   pub shapes-before : (seen : List (List Tick)) (other : List Tick) → IsPossible loose s formula vars other → AllByRecursion (λ ticks. ShapeBefore ticks other) seen →
       AllByRecursion (λ kept. ShapeBefore kept (shape_of loose s formula vars other)) (map (shape_of loose s formula vars) seen)
@@ -119,23 +86,10 @@ module _ (s : Setting) (valid : IsSetting s) (formula : List Atom) (vars : ℕ) 
       go others qs other (inr (inl e)) possible = inr (ticks_are ∙ e, least (others ++ all_choices_of qs) (rw e possible.2) (same_count others qs other e))
       go others qs other (inr (inr h)) possible = absurd (not_seen (IsFinished false s formula vars) (ticks_of qs) first.few.0 (first.few.2.covers (ticks_of qs) possible.0 h) first.few.2.unfinished possible.1)
 
-  pub first-unlimited : (ticks : List Tick) → ComesFirst (IsPossible false s formula vars) (IsFinished false s formula vars) s.limit ticks → (shapes : List (List Tick)) → IsLimited s formula vars shapes → ⊥
-  first-unlimited ticks first shapes limited =
-      let made = possible-finished false s valid formula vars scoped ticks first.possible first.finished in
-      too_many false s valid formula vars scoped s.limit first.few.0 shapes first.few.1 first.few.2.ascending limited.count limited.kept
-      (λ x possible is_in.
-      let before : ShapeBefore (shape_of false s formula vars x) (ticks_of made.1) =
-      All-contains (λ shape. ShapeBefore shape (ticks_of made.1)) shapes (shape_of false s formula vars x) (limited.before made.0 made.1 made.2) is_in in
-      first.few.2.covers x possible
-      (unshape false s formula vars x ticks possible first.possible (subst (λ (ts : List Tick). ShapeBefore (shape_of false s formula vars x) ts) (made.3 ∙ sym (finished-shape false s formula vars ticks first.finished)) before)))
-
   pub none-unprovable : NoneComes (IsPossible false s formula vars) (IsFinished false s formula vars) s.limit → IsAnswer s formula vars → ⊥
   none-unprovable ends (objects, ps, is) =
       let possible = finished-possible false s valid formula vars scoped objects ps is in
       not_seen (IsFinished false s formula vars) (ticks_of ps) ends.few.0 (ends.few.4 (ticks_of ps) possible.0) ends.few.3 possible.1
-
-  pub none-unlimited : NoneComes (IsPossible false s formula vars) (IsFinished false s formula vars) s.limit → (shapes : List (List Tick)) → IsLimited s formula vars shapes → ⊥
-  none-unlimited ends shapes limited = too_many false s valid formula vars scoped s.limit ends.few.0 shapes ends.few.1 ends.few.2 limited.count limited.kept (λ x possible is_in. ends.few.4 x possible)
 
   pub limit-is : (seen : List (List Tick)) → LimitComes (IsPossible false s formula vars) (IsFinished false s formula vars) s.limit seen → IsLimited s formula vars (map (shape_of false s formula vars) seen)
   limit-is seen limit = record {
@@ -148,4 +102,27 @@ module _ (s : Setting) (valid : IsSetting s) (formula : List Atom) (vars : ℕ) 
           | inr before ↦ All-from_recursion (λ shape. ShapeBefore shape (ticks_of ps)) (map (shape_of false s formula vars) seen)
               (subst (λ (ts : List Tick). AllByRecursion (λ kept. ShapeBefore kept ts) (map (shape_of false s formula vars) seen)) (finished-shape false s formula vars (ticks_of ps) possible.1) (shapes-before false s valid formula vars scoped seen (ticks_of ps) possible.0 before))
         ];
+  }
+
+  -- so the shapes before it are fewer than the limit
+  pub first-few : (ticks : List Tick) (ds : Derivations) → ComesFirst (IsPossible false s formula vars) (IsFinished false s formula vars) s.limit ticks → ticks_of ds ≡ ticks → AreFewBefore s formula vars ds
+  first-few ticks ds first ticks_are = record {
+    seen = map (shape_of false s formula vars) first.few.0;
+    fewer = rw (length-map first.few.0 (shape_of false s formula vars)) first.few.1;
+    all = λ shape partial.
+        let from = partial-from false s valid formula vars scoped shape partial.0 in
+        let before : ShapeBefore (shape_of false s formula vars from.0) (shape_of false s formula vars ticks) =
+        subst (λ (ts : List Tick). ShapeBefore (shape_of false s formula vars from.0) ts) (ticks_are ∙ sym (finished-shape false s formula vars ticks first.finished)) (subst (λ (ts : List Tick). ShapeBefore ts (ticks_of ds)) from.1 partial.1) in
+        subst (Contains (map (shape_of false s formula vars) first.few.0)) (sym from.1)
+        (Contains-mapped (shape_of false s formula vars) first.few.0 from.0 (first.few.2.covers from.0 from.2 (unshape false s formula vars from.0 ticks from.2 first.possible before)));
+  }
+
+  -- and all shapes are, where none is finished
+  pub none-few : NoneComes (IsPossible false s formula vars) (IsFinished false s formula vars) s.limit → AreFewShapes s formula vars
+  none-few ends = record {
+    seen = map (shape_of false s formula vars) ends.few.0;
+    fewer = rw (length-map ends.few.0 (shape_of false s formula vars)) ends.few.1;
+    all = λ shape partial.
+        let from = partial-from false s valid formula vars scoped shape partial in
+        subst (Contains (map (shape_of false s formula vars) ends.few.0)) (sym from.1) (Contains-mapped (shape_of false s formula vars) ends.few.0 from.0 (ends.few.4 from.0 from.2));
   }

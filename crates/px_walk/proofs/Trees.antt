@@ -1,6 +1,6 @@
 -- Derivations of the goals are closings in preorder.
-use Rattle.std.proofs.Common.{◌≡◌, ◌↔◌, ◌⊎◌, ℕ, zero, suc, ◌+◌, ◌-◌, ◌<◌, ◌≤◌, max, Bool, true, false, ◌&&◌, ◌||◌, cond, Option, Some, None, List, [], ◌∷◌, ◌++◌, length, map, slice_get, refl, ap, sym, subst, ◌∙◌, arith, inl, inr, append_assoc, length-append}
-use Rattle.std.specs.Prelude.{IsSomeAnd, All, Contains, nat_le, nat_eq, not}
+use Rattle.std.proofs.Common.{◌≡◌, ◌⊎◌, ℕ, zero, suc, ◌+◌, ◌-◌, ◌<◌, ◌≤◌, Bool, true, false, ◌&&◌, ◌||◌, cond, Option, Some, None, List, [], ◌∷◌, ◌++◌, length, map, slice_get, refl, ap, sym, ◌∙◌, arith, inl, inr, append_assoc, length-append}
+use Rattle.std.specs.Prelude.{IsSomeAnd, All, nat_le, nat_eq, not}
 use Rattle.std.specs.List.{list_any, AllByRecursion}
 use Rattle.std.proofs.lemmas.List.{length-map}
 use Rattle.std.proofs.lemmas.List.Elements.{All-head, All-tail, All-nil, All-map, All-weaker}
@@ -13,7 +13,6 @@ use Rattle.px_terms.specs.declared.term.Term.TheVariants.{Obj, Var, Any}
 use Rattle.px_terms.specs.declared.atom.Atom.{Atom}
 use Rattle.px_terms.specs.declared.clause.Lit.{Lit}
 use Rattle.px_terms.specs.declared.clause.Clause.{Clause}
-use Rattle.px_proof.specs.declared.proof.Leaf.{Leaf}
 use Rattle.px_proof.specs.declared.shape.Tick.{Tick}
 use Rattle.px_proof.specs.declared.shape.Tick.TheVariants.{Fact, Anc, Step, Gap, Open}
 use Rattle.px_proof.specs.Derivation.{Derivation, Derivations, fact, ancestor, step, gap, open_place, none, also, height, greatest_height}
@@ -21,7 +20,7 @@ use Rattle.px_proof.specs.Proves.{Rules, Proves, ProvesEach, UsesClause, instanc
 use Rattle.px_proof.specs.Shapes.{ticks, ticks_of}
 use Rattle.px_question.specs.Settings.{Setting, IsObjectBelow, proofs_in}
 use Rattle.px_question.specs.Answers.{object_terms, object_of, choices_of, all_choices_of}
-use Rattle.px_walk.specs.Pending.{Goal, Closing, Runs, fresh_of, vars_of, closing_of, by_fact, by_ancestor, by_step, by_literal, has_room, goals_below}
+use Rattle.px_walk.specs.Pending.{Goal, Closing, Runs, vars_of, closing_of, by_fact, by_ancestor, by_step, by_literal, has_room, goals_below}
 
 -- which closings the walk makes
 abbrev pub rules_of : Bool → Setting → Rules
@@ -38,11 +37,11 @@ abbrev pub joined : Derivations → Derivations → Derivations
 joined none qs = qs
 joined (also p ps) qs = also p (joined ps qs)
 
-ticks_of-joined : (ps qs : Derivations) → ticks_of (joined ps qs) ≡ ticks_of ps ++ ticks_of qs
+pub ticks_of-joined : (ps qs : Derivations) → ticks_of (joined ps qs) ≡ ticks_of ps ++ ticks_of qs
 ticks_of-joined none qs = refl
 ticks_of-joined (also p ps) qs = ap (λ ts. ticks p ++ ts) (ticks_of-joined ps qs) ∙ sym (append_assoc (ticks p) (ticks_of ps) (ticks_of qs))
 
-choices-joined : (ps qs : Derivations) → all_choices_of (joined ps qs) ≡ all_choices_of ps ++ all_choices_of qs
+pub choices-joined : (ps qs : Derivations) → all_choices_of (joined ps qs) ≡ all_choices_of ps ++ all_choices_of qs
 choices-joined none qs = refl
 choices-joined (also p ps) qs = ap (λ ts. choices_of p ++ ts) (choices-joined ps qs) ∙ sym (append_assoc (choices_of p) (all_choices_of ps) (all_choices_of qs))
 
@@ -55,7 +54,7 @@ height-pos open_place = omega arith
 
 module _ (rules : Rules) (axioms : List Clause) where
   -- the parts of a step, as goals of their own
-  parts-proved : (above : Goal) (lits : List Lit) (parts rest : Derivations) (goals : List Goal) → ProvesEach rules axioms (above.lit ∷ above.path) lits parts → greatest_height parts ≤ above.budget - 1 →
+  pub parts-proved : (above : Goal) (lits : List Lit) (parts rest : Derivations) (goals : List Goal) → ProvesEach rules axioms (above.lit ∷ above.path) lits parts → greatest_height parts ≤ above.budget - 1 →
       AreProved rules axioms goals rest → AreProved rules axioms (goals_below above lits ++ goals) (joined parts rest)
   parts-proved above [] none rest goals each low others = others
   parts-proved above [] (also p ps) rest goals each low others = absurd each
@@ -92,7 +91,7 @@ term-object n (Obj o) is = refl
 term-object n (Var v) is = absurd is
 term-object n Any is = absurd is
 
-terms-objects : (n : ℕ) (theta : List Term) → All (IsObjectBelow n) theta → object_terms (map object_of theta) ≡ theta
+pub terms-objects : (n : ℕ) (theta : List Term) → All (IsObjectBelow n) theta → object_terms (map object_of theta) ≡ theta
 terms-objects n [] are = refl
 terms-objects n (t ∷ theta) are = rw (term-object n t (All-head (IsObjectBelow n) t theta are), terms-objects n theta (All-tail (IsObjectBelow n) t theta are)) refl
 
@@ -117,7 +116,7 @@ complement-twice l = ap (λ b. record_lit b) (go l.positive)
 nat_le-true : (m n : ℕ) → m ≤ n → nat_le m n ≡ true
 nat_le-true m n le = grind (arith, nat_tests)
 
-ticks-pos : (p : Derivation) → 0 < length (ticks p)
+pub ticks-pos : (p : Derivation) → 0 < length (ticks p)
 ticks-pos (fact leaf) = omega arith
 ticks-pos (ancestor i) = omega arith
 ticks-pos (step number theta place parts) = omega arith
@@ -125,7 +124,7 @@ ticks-pos (gap a) = omega arith
 ticks-pos open_place = omega arith
 
 -- a step whose parts fit below it has room
-has_room-true : (goal : Goal) (clause : Clause) → (length clause.lits ≤ 1) ⊎ (2 ≤ goal.budget) → has_room goal clause ≡ true
+pub has_room-true : (goal : Goal) (clause : Clause) → (length clause.lits ≤ 1) ⊎ (2 ≤ goal.budget) → has_room goal clause ≡ true
 has_room-true goal clause (inl h) = rw (nat_le-true (length clause.lits) 1 h) refl
 has_room-true goal clause (inr h) = rw (nat_le-true 2 goal.budget h) (or_true (nat_le (length clause.lits) 1))
   where
@@ -134,7 +133,7 @@ has_room-true goal clause (inr h) = rw (nat_le-true 2 goal.budget h) (or_true (n
     or_true false = refl
 
 module _ (rules : Rules) (axioms : List Clause) where
-  step_room : (goal : Goal) (number : ℕ) (theta : List Term) (place : ℕ) (parts : Derivations) (clause : Clause) → UsesClause rules.IsChoice axioms goal.lit number theta place clause →
+  pub step_room : (goal : Goal) (number : ℕ) (theta : List Term) (place : ℕ) (parts : Derivations) (clause : Clause) → UsesClause rules.IsChoice axioms goal.lit number theta place clause →
       ProvesEach rules axioms (goal.lit ∷ goal.path) (parts_of clause.lits theta place) parts → 1 + greatest_height parts ≤ goal.budget → (length clause.lits ≤ 1) ⊎ (2 ≤ goal.budget)
   step_room goal number theta place none clause uses each low = inl (omega (arith, long, no_parts (parts_of clause.lits theta place) each))
     where
@@ -150,7 +149,7 @@ module _ (rules : Rules) (axioms : List Clause) where
   step_room goal number theta place (also p ps) clause uses each low = inr (omega (arith, low, height-pos p))
 
 module _ (loose : Bool) (s : Setting) where
-  step_closing : (goal : Goal) (number : ℕ) (theta : List Term) (place : ℕ) (clause : Clause) → UsesClause (IsObjectBelow s.objects) s.axioms goal.lit number theta place clause → has_room goal clause ≡ true →
+  pub step_closing : (goal : Goal) (number : ℕ) (theta : List Term) (place : ℕ) (clause : Clause) → UsesClause (IsObjectBelow s.objects) s.axioms goal.lit number theta place clause → has_room goal clause ≡ true →
       closing_of loose s theta goal (Step number place) ≡ Some (record { equal_to = goal.lit; parts = goals_below goal (parts_of clause.lits theta place) })
   step_closing goal number theta place clause uses room = rw (uses.axiom_at, room, uses.literal_at) refl
 

@@ -1,6 +1,6 @@
 -- What a walk in order has seen.
 use Rattle.px_walk.proofs.Every.{all-push, all-weaker}
-use Rattle.std.proofs.Common.{◌≡◌, ◌⊎◌, ℕ, zero, suc, ◌+◌, ◌<◌, ◌≤◌, List, [], ◌∷◌, ◌++◌, length, map, refl, ap, sym, subst, ◌∙◌, arith, inl, inr, length-append}
+use Rattle.std.proofs.Common.{◌≡◌, ◌⊎◌, ℕ, ◌+◌, ◌<◌, List, [], ◌∷◌, ◌++◌, length, map, refl, ap, sym, ◌∙◌, arith, inl, inr, length-append}
 use Rattle.std.specs.Prelude.{Contains}
 use Rattle.std.specs.List.{AllByRecursion}
 use Rattle.std.proofs.lemmas.List.Elements.{Contains-append_left, Contains-push}
@@ -8,7 +8,7 @@ use Rattle.px_proof.specs.declared.shape.Tick.{Tick}
 use Rattle.px_proof.specs.Shapes.{ShapeBefore}
 use Rattle.px_walk.specs.Order.{IsNext, NoneAfter}
 use Rattle.px_question.specs.Limits.{IsAscending}
-use Rattle.px_walk.specs.Search.{AreSeen, ComesFirst, NoneComes, LimitComes}
+use Rattle.px_walk.specs.Search.{AreAll, AreSeen, NoneComes, LimitComes}
 use Rattle.px_walk.proofs.Ordering.{shape_trichotomy, ShapeBefore-irrefl, ShapeBefore-trans}
 
 ascending-push : (seen : List (List Tick)) (here : List Tick) → IsAscending seen → AllByRecursion (λ ticks. ShapeBefore ticks here) seen → IsAscending (seen ++ here ∷ [])
@@ -66,6 +66,18 @@ module _ (P F : List Tick → Type 0) where
     pub none-comes : (limit : ℕ) → length seen + 1 < limit → NoneAfter P here → NoneComes P F limit
     none-comes limit few none = record {
       few = (seen ++ here ∷ [], omega (arith, few, length-append seen (here ∷ [])), up, all_open, λ other holds. go other holds (seen_or_after other holds));
+    }
+      where
+        go : (other : List Tick) → P other → Contains (seen ++ here ∷ []) other ⊎ ShapeBefore here other → Contains (seen ++ here ∷ []) other
+        go other holds (inl h) = h
+        go other holds (inr h) = absurd (none other holds h)
+
+    pub all-come : (limit : ℕ) → length seen + 1 < limit → NoneAfter P here → AreAll P limit (seen ++ here ∷ [])
+    all-come limit few none = record {
+      few = omega (arith, few, length-append seen (here ∷ []));
+      ascending = up;
+      possible = all_possible;
+      covers = λ other holds. go other holds (seen_or_after other holds);
     }
       where
         go : (other : List Tick) → P other → Contains (seen ++ here ∷ []) other ⊎ ShapeBefore here other → Contains (seen ++ here ∷ []) other

@@ -4,3 +4,6 @@ pub mod Possible
 pub mod Order
 pub mod Search
 pub mod Ends
+pub mod GapAtoms
+pub mod Values
+pub mod Building

@@ -30,3 +30,10 @@ pub record LimitComes (P F : List Tick → Type 0) (limit : ℕ) (seen : List (L
   pub possible : AllByRecursion P seen
   pub unfinished : AllByRecursion (λ ticks. F ticks → ⊥) seen
   pub first : (other : List Tick) → P other → Contains seen other ⊎ AllByRecursion (λ ticks. ShapeBefore ticks other) seen
+
+-- all lists have been seen, in order, and they are fewer than the limit
+pub record AreAll (P : List Tick → Type 0) (limit : ℕ) (seen : List (List Tick)) : Type 0 where
+  pub few : length seen < limit
+  pub ascending : IsAscending seen
+  pub possible : AllByRecursion P seen
+  pub covers : (other : List Tick) → P other → Contains seen other

@@ -33,7 +33,7 @@ pub fn advance<Q, W: Walk<Q>>(question: &Q, walk: &mut W) -> Result<bool, NoMemo
 }
 
 /// Puts a shape last.
-fn keep(shapes: &mut Vec<Shape>, shape: Shape) -> Result<(), NoMemory>
+pub fn keep(shapes: &mut Vec<Shape>, shape: Shape) -> Result<(), NoMemory>
     ensures { IfOk result (λ _. shapes.new.items ≡ shapes.old.items ++ shape ∷ []) }
 {
     match shapes.push(shape) {

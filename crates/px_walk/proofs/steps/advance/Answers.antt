@@ -1,4 +1,4 @@
-use Rattle.std.proofs.Common.{◌≡◌, ◌∙◌, ◌+◌, ◌≤◌, ◌++◌, ◌∷◌, [], length, ap, arith, length-append}
+use Rattle.std.proofs.Common.{◌∷◌, [], length, ap, arith, length-append}
 use Rattle.px_walk.proofs.Ordering.{onward-start, turn-next, turn-none, turn-retract}
 use Rattle.px_walk.proofs.steps.advance.Goals as goal
 

@@ -1,4 +1,4 @@
-use Rattle.std.proofs.Common.{◌≡◌, List, [], ◌∷◌, ◌++◌, ◌∙◌, ◌+◌, ◌<◌, ◌≤◌, refl, map, length, arith, ap, sym}
+use Rattle.std.proofs.Common.{[], ◌∷◌, ◌++◌, ◌+◌, ◌<◌, refl, length, arith}
 use Rattle.px_walk.proofs.Visits.{seen-start, seen-next, none-comes, limit-comes, length-seen, shapes-push}
 use Rattle.px_walk.proofs.steps.walk_to_finished.Goals as goal
 

@@ -1,0 +1,36 @@
+use crate::{
+    GapList, few_or_limited, first_is_one, gap_lists_are_one, gap_lists_are_ordered, limits_are_one,
+};
+use px_terms::{Atom, NoMemory, Sequence, Term};
+use std::alloc::Global;
+use std::rt::HostRuntime;
+
+#[test]
+fn laws_are_calls(_rt: HostRuntime) {
+    first_is_one();
+    limits_are_one();
+    few_or_limited();
+    gap_lists_are_one();
+    gap_lists_are_ordered();
+}
+
+/// The gap list of one object and one atom.
+fn gap_list(alloc: Global, object: u32, gap: Atom) -> Result<GapList, NoMemory> {
+    let objects = Sequence::from_vec(Vec::from_array(alloc, [object])?);
+    let gaps = Sequence::from_vec(Vec::from_array(alloc, [gap])?);
+    Ok(GapList { objects, gaps })
+}
+
+#[test]
+fn gap_lists_ascend_by_objects_and_then_by_atoms(rt: HostRuntime) -> Result<(), NoMemory> {
+    let alloc = rt.alloc();
+    let low = Atom::new(0, &[Term::Obj(5)]).expect(&rt, "one argument");
+    let high = Atom::new(1, &[Term::Obj(3)]).expect(&rt, "one argument");
+    let first = gap_list(alloc, 3, high)?;
+    let second = gap_list(alloc, 5, low)?;
+    let third = gap_list(alloc, 5, high)?;
+    assert!(&rt; first < second);
+    assert!(&rt; second < third);
+    assert!(&rt; third == gap_list(alloc, 5, high)?);
+    Ok(())
+}
