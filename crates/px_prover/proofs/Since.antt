@@ -305,10 +305,10 @@ module _ (loose : Bool) (s : Setting) (formula : List Atom) (vars : ℕ) (ticks 
       go k start p begins earlier before u (inl (c, q, e, at)) leads = rw e (elim (less_same_more k c) [
         | inl h ↦ inr (inr (inl (refl, h)))
         | inr (inl same) ↦ elim (less_same_more p q) [
-            | inl h ↦ inr (inr (inr (refl, same, h)))
-            | inr (inl is) ↦ inl (λ i. Step (same i) (is i))
-            | inr (inr h) ↦ absurd (before q (start-before from place k c start q begins same at) h (subst-leads k c q same (rw e at leads)).1)
-          ]
+          | inl h ↦ inr (inr (inr (refl, same, h)))
+          | inr (inl is) ↦ inl (λ i. Step (same i) (is i))
+          | inr (inr h) ↦ absurd (before q (start-before from place k c start q begins same at) h (subst-leads k c q same (rw e at leads)).1)
+        ]
         | inr (inr h) ↦ absurd (earlier c q at h (rw e at leads))
       ])
         where

@@ -34,11 +34,7 @@ struct Step {
 }
 
 /// All lists of so many objects.
-pub fn all_objects(
-    alloc: Global,
-    objects: u32,
-    count: u32,
-) -> Result<Vec<Vec<u32>>, NoMemory> {
+pub fn all_objects(alloc: Global, objects: u32, count: u32) -> Result<Vec<Vec<u32>>, NoMemory> {
     let mut lists = Vec::new(alloc);
     lists.push(Vec::new(alloc))?;
     for _place in 0..count {
@@ -159,11 +155,7 @@ fn steps_of(
 }
 
 /// Each of the lists followed by each of the trees.
-pub fn product(
-    alloc: Global,
-    lists: &[Tree],
-    trees: &[Tree],
-) -> Result<Vec<Tree>, NoMemory> {
+pub fn product(alloc: Global, lists: &[Tree], trees: &[Tree]) -> Result<Vec<Tree>, NoMemory> {
     let mut longer = Vec::new(alloc);
     for list in lists {
         for tree in trees {

@@ -166,7 +166,10 @@ fn agrees(
         }
         (Err(ProveErr::Unprovable), None) => Ok(before < limit),
         (Err(ProveErr::ShapeLimit(found)), _) => {
-            Ok(before >= limit && are_shapes(alloc, &found, shapes.get(..limit).unwrap_or(&shapes))?)
+            Ok(
+                before >= limit
+                    && are_shapes(alloc, &found, shapes.get(..limit).unwrap_or(&shapes))?,
+            )
         }
         _ => Ok(false),
     }
@@ -188,7 +191,9 @@ fn a_chain_of_eleven_atoms(rt: HostRuntime) -> Result<(), Fail> {
     }
     match ask(alloc, &rt, &problem, &formula, 12, &model) {
         Ok(answer) => {
-            assert!(&rt; answer.objects.as_slice() == [0, 1, 2, 3, 4, 5, 6, 7, 8, 9, 10, 11].as_slice());
+            assert!(&rt;
+                answer.objects.as_slice() == [0, 1, 2, 3, 4, 5, 6, 7, 8, 9, 10, 11].as_slice()
+            );
             let mut places = answer.proofs.as_slice().iter().enumerate();
             let in_turn = places.all(|(i, proof)| match proof {
                 Proof::Fact(leaf) => leaf.column == 0 && leaf.index as usize == i,
@@ -323,7 +328,13 @@ fn axioms_over_variables(rt: HostRuntime) -> Result<(), Fail> {
     let mut axioms = ClauseArena::new(alloc);
     // Q holds of each thing that P holds of, and something about pairs either way round.
     axioms.push(1, &[no(atom(&rt, 0, &[v(0)])), yes(atom(&rt, 1, &[v(0)]))])?;
-    axioms.push(2, &[no(atom(&rt, 2, &[v(0), v(1)])), yes(atom(&rt, 2, &[v(1), v(0)]))])?;
+    axioms.push(
+        2,
+        &[
+            no(atom(&rt, 2, &[v(0), v(1)])),
+            yes(atom(&rt, 2, &[v(1), v(0)])),
+        ],
+    )?;
     axioms.push(1, &[yes(atom(&rt, 3, &[v(0)]))])?;
     let model = model_of(alloc, &[atom(&rt, 0, &[o(1)]), atom(&rt, 2, &[o(0), o(1)])])?;
     let formulas = [

@@ -42,11 +42,7 @@ impl<'a> Walk<Question<'a>> for Stack {
 
     ghost most = { λ q. q.problem.now.shapes };
 
-    fn try_after(
-        &mut self,
-        question: &Question<'a>,
-        last: Option<Tick>,
-    ) -> Result<bool, NoMemory> {
+    fn try_after(&mut self, question: &Question<'a>, last: Option<Tick>) -> Result<bool, NoMemory> {
         let place = self.first();
         if place == 0 {
             return Ok(false);

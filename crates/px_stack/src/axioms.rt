@@ -61,7 +61,14 @@ pub fn try_axioms(
     for number in from..axioms.count() as usize {
         let start = start_place(number, from, place);
         let clause = number as u32;
-        match try_clause(stack, clause, axioms.vars(clause), axioms.lits(clause), goal, start) {
+        match try_clause(
+            stack,
+            clause,
+            axioms.vars(clause),
+            axioms.lits(clause),
+            goal,
+            start,
+        ) {
             Ok(true) => return Ok(true),
             Ok(false) => {}
             Err(NoMemory) => return Err(NoMemory),

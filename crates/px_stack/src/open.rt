@@ -61,12 +61,7 @@ impl Stack {
     ///
     /// # Errors
     /// `NoMemory` where there is none for the places and variables.
-    pub fn new(
-        alloc: Global,
-        formula: &[Atom],
-        vars: u32,
-        height: u32,
-    ) -> Result<Stack, NoMemory>
+    pub fn new(alloc: Global, formula: &[Atom], vars: u32, height: u32) -> Result<Stack, NoMemory>
         requires { vars ≤ 1000000 }
         ensures { IfOk result (λ stack. IsOpening formula.now vars height stack) }
     {
