@@ -59,7 +59,7 @@ pub fn prove(
     requires problem { IsValid problem.now }
     requires formula { All (IsAtomOf problem.now vars) formula.now }
     requires few_variables { vars ≤ 12 }
-    requires some_object { 0 < vars → 0 < problem.now.objects }
+    requires objects { 0 < vars → 0 < problem.now.objects }
     ensures first { IfOk result (λ answer. IsFirst (setting_of problem.now model.now.atoms) formula.now vars answer.objects (derivations (map_list derivation_of answer.proofs))) }
     ensures few { IfOk result (λ answer. (shapes : List (List Tick)) → ¬ IsLimited (setting_of problem.now model.now.atoms) formula.now vars shapes) }
     ensures few_before { IfOk result (λ answer. AreFewBefore (setting_of problem.now model.now.atoms) formula.now vars (derivations (map_list derivation_of answer.proofs))) }

@@ -276,7 +276,8 @@ fn the_box_is_in_another_room(rt: HostRuntime) -> Result<(), Fail> {
     let model = model_of(alloc, &facts)?;
     let formula = [atom(&rt, 2, &[v(0)]), atom(&rt, 0, &[v(0), o(1)])];
     let mut problem = problem_of(alloc, 7, &[2, 3, 1], axioms, 4, 2)?;
-    let limited = match ask(alloc, &rt, &problem, &formula, 1, &model) {
+    let found = ask(alloc, &rt, &problem, &formula, 1, &model);
+    let limited = match &found {
         Err(ProveErr::ShapeLimit(shapes)) => match shapes.as_slice() {
             [first, second] => {
                 first.ticks() == [Tick::Open, Tick::Open].as_slice()
@@ -393,7 +394,8 @@ fn seventy_thousand_shapes(rt: HostRuntime) -> Result<(), Fail> {
     }
     formula.push(atom(&rt, 1, &[]))?;
     let problem = problem_of(alloc, 50, &[2, 0], ClauseArena::new(alloc), 8, 70_000)?;
-    match ask(alloc, &rt, &problem, &formula, 12, &model) {
+    let found = ask(alloc, &rt, &problem, &formula, 12, &model);
+    match &found {
         Err(ProveErr::ShapeLimit(shapes)) => assert!(&rt; shapes.len() == 70_000),
         _ => assert!(&rt; false),
     }
