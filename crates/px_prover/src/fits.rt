@@ -1,7 +1,8 @@
 //! Tests that a problem without operators is valid, for the tests that ask the prover.
 
 ghost use Rattle.std.specs.Prelude.{◌≡◌, All, IsTrue};
-ghost use Rattle.px_terms.specs.Language.{IsObject};
+ghost use Rattle.px_terms.specs.Clauses.{ArePlainBelow};
+ghost use Rattle.px_terms.specs.Language.{IsObject, IsPlainBelow};
 ghost use Rattle.px_terms.specs.Validity.{IsAtomOf, IsAxiomOf, IsTermOf, IsValid};
 ghost use Rattle.px_terms.specs.declared.clause.Lit.{Lit as LitValue};
 
@@ -81,6 +82,39 @@ fn lits_fit(problem: &Problem, vars: u32, lits: &[Lit]) -> bool
 {
     for lit in lits {
         if !atom_fits(problem, vars, &lit.atom) {
+            return false;
+        }
+    }
+    true
+}
+
+fn is_plain(vars: u32, term: Term) -> bool
+    ensures { IsTrue result → IsPlainBelow vars term }
+{
+    match term {
+        Term::Obj(_) => true,
+        Term::Var(number) => number < vars,
+        Term::Any => false,
+    }
+}
+
+fn are_plain(vars: u32, terms: &[Term]) -> bool
+    ensures { IsTrue result → All (IsPlainBelow vars) terms.now }
+{
+    for term in terms {
+        if !is_plain(vars, *term) {
+            return false;
+        }
+    }
+    true
+}
+
+/// Do the literals make a clause over so many variables?
+pub fn are_lits(vars: u32, lits: &[Lit]) -> bool
+    ensures { IsTrue result → ArePlainBelow vars lits.now }
+{
+    for lit in lits {
+        if !are_plain(vars, lit.atom.args()) {
             return false;
         }
     }

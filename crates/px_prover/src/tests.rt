@@ -1,4 +1,4 @@
-use crate::fits::{all_objects, atoms_fit, is_valid};
+use crate::fits::{all_objects, are_lits, atoms_fit, is_valid};
 use crate::reference::{Mark, first_finished, lists, mark_of, partial_shapes};
 use crate::{Answer, ProveErr, prove};
 use px_base::{NoMemory, Sequence};
@@ -226,12 +226,24 @@ fn agrees_at_each_limit(
     Ok(true)
 }
 
+/// Adds an axiom.
+fn add_axiom(
+    rt: &impl Abort,
+    axioms: &mut ClauseArena,
+    vars: u32,
+    lits: &[Lit],
+) -> Result<(), Fail> {
+    assert!(rt; are_lits(vars, lits));
+    axioms.push(vars, lits)?;
+    Ok(())
+}
+
 /// The axioms `P Q` and `~Q P`.
 fn two_clauses(alloc: Global, rt: &impl Abort) -> Result<ClauseArena, Fail> {
     let (p, q) = (atom(rt, 0, &[]), atom(rt, 1, &[]));
     let mut axioms = ClauseArena::new(alloc);
-    axioms.push(0, &[yes(p), yes(q)])?;
-    axioms.push(0, &[no(q), yes(p)])?;
+    add_axiom(rt, &mut axioms, 0, &[yes(p), yes(q)])?;
+    add_axiom(rt, &mut axioms, 0, &[no(q), yes(p)])?;
     Ok(axioms)
 }
 
@@ -265,7 +277,7 @@ fn the_box_is_in_another_room(rt: HostRuntime) -> Result<(), Fail> {
     let mut axioms = ClauseArena::new(alloc);
     let one_way = atom(&rt, 1, &[v(0), v(1), v(2)]);
     let other_way = atom(&rt, 1, &[v(0), v(2), v(1)]);
-    axioms.push(3, &[no(one_way), yes(other_way)])?;
+    add_axiom(&rt, &mut axioms, 3, &[no(one_way), yes(other_way)])?;
     let facts = [
         atom(&rt, 0, &[o(0), o(1)]),
         atom(&rt, 0, &[o(6), o(2)]),
@@ -328,15 +340,22 @@ fn axioms_over_variables(rt: HostRuntime) -> Result<(), Fail> {
     let alloc = rt.alloc();
     let mut axioms = ClauseArena::new(alloc);
     // Q holds of each thing that P holds of, and something about pairs either way round.
-    axioms.push(1, &[no(atom(&rt, 0, &[v(0)])), yes(atom(&rt, 1, &[v(0)]))])?;
-    axioms.push(
+    add_axiom(
+        &rt,
+        &mut axioms,
+        1,
+        &[no(atom(&rt, 0, &[v(0)])), yes(atom(&rt, 1, &[v(0)]))],
+    )?;
+    add_axiom(
+        &rt,
+        &mut axioms,
         2,
         &[
             no(atom(&rt, 2, &[v(0), v(1)])),
             yes(atom(&rt, 2, &[v(1), v(0)])),
         ],
     )?;
-    axioms.push(1, &[yes(atom(&rt, 3, &[v(0)]))])?;
+    add_axiom(&rt, &mut axioms, 1, &[yes(atom(&rt, 3, &[v(0)]))])?;
     let model = model_of(alloc, &[atom(&rt, 0, &[o(1)]), atom(&rt, 2, &[o(0), o(1)])])?;
     let formulas = [
         [atom(&rt, 1, &[v(0)]), atom(&rt, 2, &[v(0), v(1)])],
@@ -360,10 +379,10 @@ fn contrapositive_places_and_ancestors(rt: HostRuntime) -> Result<(), Fail> {
     let alloc = rt.alloc();
     let (p, q, r) = (atom(&rt, 0, &[]), atom(&rt, 1, &[]), atom(&rt, 2, &[]));
     let mut axioms = ClauseArena::new(alloc);
-    axioms.push(0, &[yes(p), yes(q)])?;
-    axioms.push(0, &[no(q), yes(r)])?;
-    axioms.push(0, &[no(r), yes(p), yes(p)])?;
-    axioms.push(0, &[no(p), yes(q)])?;
+    add_axiom(&rt, &mut axioms, 0, &[yes(p), yes(q)])?;
+    add_axiom(&rt, &mut axioms, 0, &[no(q), yes(r)])?;
+    add_axiom(&rt, &mut axioms, 0, &[no(r), yes(p), yes(p)])?;
+    add_axiom(&rt, &mut axioms, 0, &[no(p), yes(q)])?;
     let mut problem = problem_of(alloc, 1, &[0, 0, 0], axioms, 1, 2)?;
     let empty = Model::new(alloc);
     let with_r = model_of(alloc, &[r])?;
