@@ -1,13 +1,12 @@
 -- First answers, limits and gap lists are determined.
-use Rattle.std.proofs.Common.{◌≡◌, ◌⊎◌, ◌↔◌, ◌∙◌, ℕ, zero, suc, ◌<◌, ◌≤◌, Some, List, [], ◌∷◌, ◌++◌, length, refl, ap, sym, subst, arith, inl, inr}
-use Rattle.std.specs.Prelude.{All, Contains, remove, slice_get}
-use Rattle.std.specs.List.{AllByRecursion}
+use Rattle.std.proofs.Common.{◌≡◌, ◌⊎◌, ◌∙◌, ℕ, suc, ◌≤◌, Some, List, [], ◌∷◌, ◌++◌, length, refl, ap, sym, subst, arith, inl, inr}
+use Rattle.std.specs.Prelude.{Contains, remove, slice_get}
 use Rattle.std.proofs.lemmas.List.Elements.{All-from_recursion}
 use Rattle.px_base.specs.ListLaws.{All-at, AllByRecursion-at, Contains-first, Contains-later, Contains-cases}
 use Rattle.px_base.specs.SetLaws.{same_set}
 use Rattle.px_proof.specs.declared.shape.Tick.{Tick}
 use Rattle.px_proof.specs.Shapes.{ShapeBefore, ticks_of}
-use Rattle.px_question.specs.Answers.{AtMost, IsFirst, all_choices_of}
+use Rattle.px_question.specs.Answers.{AtMost, all_choices_of}
 use Rattle.px_question.specs.Determined.{FewOrLimited, FirstIsOne, GapListsAreOne, LimitsAreOne}
 use Rattle.px_question.specs.GapOrderLaws.{gap_list_cmp-same, gap_list_cmp-total}
 use Rattle.px_question.specs.Gaps.{gap_list_cmp}

@@ -1,7 +1,6 @@
 -- Attempts at the literals above a goal, from the nearest up.
 use Rattle.std.proofs.Common.{◌≡◌, ℕ, zero, suc, ◌+◌, ◌-◌, ◌<◌, ◌≤◌, Bool, true, false, Some, List, [], ◌∷◌, length, drop, slice_get, refl, ap, sym, ◌∙◌, arith}
 use Rattle.std.specs.Prelude.{All}
-use Rattle.px_proof.specs.Literals.{complement_of}
 use Rattle.px_proof.specs.PlaceLaws.{All-got, slice_get-within}
 use Rattle.px_terms.specs.declared.clause.Lit.{Lit}
 use Rattle.px_stack.specs.declared.open.OpenGoal.{OpenGoal}

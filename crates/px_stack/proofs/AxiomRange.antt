@@ -1,12 +1,12 @@
 -- Attempts at the axioms, one after the other.
-use Rattle.std.proofs.Common.{◌≡◌, ◌≢◌, ◌⊎◌, ◌↔◌, ℕ, zero, suc, ◌<◌, ◌≤◌, Bool, true, false, IsTrue, Some, List, [], ◌∷◌, length, get_or, slice_get, refl, ap, sym, ◌∙◌, arith, inl, inr}
+use Rattle.std.proofs.Common.{◌≡◌, ◌⊎◌, ℕ, zero, suc, ◌<◌, ◌≤◌, Bool, true, false, Some, List, length, get_or, slice_get, refl, ap, sym, ◌∙◌, arith, inl, inr}
 use Rattle.std.specs.Prelude.{All}
 use Rattle.px_terms.specs.declared.clause.Clause.{Clause}
 use Rattle.px_stack.specs.declared.open.OpenGoal.{OpenGoal}
 use Rattle.px_stack.specs.States.{StackValue}
 use Rattle.px_stack.specs.Ranges.{TriesRange}
 use Rattle.px_stack.specs.Places.{NeverStep, ComesStep}
-use Rattle.px_stack.specs.Axioms.{HasRoom, IsFit, IsFrom, NeverClause, ComesClause, TriesClause, NeverAxiom, ComesAxiom}
+use Rattle.px_stack.specs.Axioms.{HasRoom, IsFit, IsFrom, NeverClause, TriesClause, NeverAxiom, ComesAxiom}
 use Rattle.px_proof.specs.PlaceLaws.{All-got, slice_get-read}
 use Rattle.px_stack.proofs.Trying.{never-next, range-found}
 

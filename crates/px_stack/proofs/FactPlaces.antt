@@ -7,7 +7,6 @@ use Rattle.std.specs.Ordering.{nat_cmp, ordering_then}
 use Rattle.std.specs.declared.cmp.Ordering.{Ordering}
 use Rattle.std.specs.declared.cmp.Ordering.TheVariants.{Less, Equal, Greater}
 use Rattle.std.specs.Cmp.{ranked}
-use Rattle.std.proofs.lemmas.List.Sorted.{IsNonDecreasingBy-from_default}
 use Rattle.std.specs.Cmp.Lexicographic.{slice_cmp}
 use Rattle.px_terms.specs.AtomSets.{IsAtomSet}
 use Rattle.px_terms.specs.Order.{atom_cmp, term_cmp}
@@ -17,7 +16,7 @@ use Rattle.px_proof.specs.Literals.{positive_of}
 use Rattle.px_question.specs.Settings.{IsObjectBelow}
 use Rattle.px_stack.specs.declared.open.OpenGoal.{OpenGoal}
 use Rattle.px_stack.specs.Matches.{ClosesBy}
-use Rattle.px_stack.specs.Ranges.{HasItsFacts, TriesRange, TriesFact, NeverFact, ComesFact, NeverEqual}
+use Rattle.px_stack.specs.Ranges.{HasItsFacts, TriesRange, TriesFact, NeverFact, ComesFact}
 use Rattle.px_stack.specs.Ancestors.{TriesAncestor}
 use Rattle.px_stack.specs.States.{StackValue}
 use Rattle.px_stack.proofs.Trying.{range-none}

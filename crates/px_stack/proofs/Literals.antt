@@ -1,5 +1,5 @@
 -- Literals of one sign are equal where their atoms are.
-use Rattle.std.proofs.Common.{◌≡◌, ◌↔◌, Bool, true, false, List, refl, ap, sym, ◌∙◌}
+use Rattle.std.proofs.Common.{◌≡◌, Bool, true, false, List, refl, ap, sym}
 use Rattle.px_terms.specs.Substitution.{substitute_atom}
 use Rattle.px_terms.specs.declared.term.Term.{Term}
 use Rattle.px_terms.specs.declared.clause.Lit.{Lit}

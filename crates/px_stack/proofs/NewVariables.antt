@@ -10,7 +10,7 @@ use Rattle.px_proof.specs.Literals.{substitute_literal}
 use Rattle.px_unify.specs.declared.change.Change.{Change}
 use Rattle.px_unify.specs.declared.change.Change.TheVariants.{Fresh}
 use Rattle.px_unify.specs.ChangeLaws.{Fits-fresh, variables-fresh}
-use Rattle.px_unify.specs.Changes.{Fits, variables_of}
+use Rattle.px_unify.specs.Changes.{Fits}
 use Rattle.px_walk.specs.Pending.{variables_from}
 use Rattle.px_stack.specs.Matches.{IsMatch}
 use Rattle.px_stack.specs.Parts.{IsLitBelow}

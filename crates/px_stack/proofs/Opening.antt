@@ -1,5 +1,5 @@
 -- The parts of a step, pushed from the last to the first.
-use Rattle.std.proofs.Common.{◌≡◌, ℕ, zero, suc, ◌+◌, ◌-◌, ◌<◌, ◌≤◌, Bool, true, false, cond, ◌⊎◌, inl, inr, List, [], ◌∷◌, ◌++◌, length, map, drop, get_or, slice_get, Some, refl, ap, sym, ◌∙◌, arith, length-append, append_assoc, drop-cons}
+use Rattle.std.proofs.Common.{◌≡◌, ℕ, zero, suc, ◌+◌, ◌<◌, ◌≤◌, true, false, cond, ◌⊎◌, inl, inr, List, [], ◌∷◌, ◌++◌, length, map, drop, get_or, slice_get, Some, refl, ap, sym, ◌∙◌, arith, length-append, append_assoc, drop-cons}
 use Rattle.std.specs.Prelude.{nat_eq, remove}
 use Rattle.px_proof.specs.Literals.{substitute_literal, complement_of, positive_of}
 use Rattle.px_terms.specs.declared.atom.Atom.{Atom}

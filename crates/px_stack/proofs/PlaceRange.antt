@@ -1,5 +1,5 @@
 -- Attempts at the literals of a clause, one after the other.
-use Rattle.std.proofs.Common.{◌≡◌, ℕ, suc, ◌<◌, ◌≤◌, Bool, true, false, length, refl, sym, ◌∙◌}
+use Rattle.std.proofs.Common.{◌≡◌, ℕ, suc, ◌<◌, ◌≤◌, Bool, true, false, length, sym, ◌∙◌}
 use Rattle.px_terms.specs.declared.clause.Clause.{Clause}
 use Rattle.px_proof.specs.declared.shape.Tick.TheVariants.{Step}
 use Rattle.px_stack.specs.declared.open.OpenGoal.{OpenGoal}

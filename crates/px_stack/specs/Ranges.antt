@@ -1,5 +1,5 @@
 -- Attempts one after the other, over a range of numbers.
-use Rattle.std.specs.Prelude.{◌≡◌, ◌≢◌, ◌⊎◌, ℕ, ◌<◌, ◌≤◌, Bool, true, false, Some, List, length, slice_get, All}
+use Rattle.std.specs.Prelude.{◌≡◌, ◌≢◌, ℕ, ◌<◌, ◌≤◌, Bool, true, false, Some, List, length, slice_get, All}
 use Rattle.px_proof.specs.Literals.{positive_of}
 use Rattle.px_proof.specs.declared.shape.Tick.TheVariants.{Fact}
 use Rattle.px_terms.specs.declared.atom.Atom.{Atom}

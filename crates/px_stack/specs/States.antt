@@ -8,7 +8,7 @@ use Rattle.px_unify.specs.declared.change.Change.{Change}
 use Rattle.px_unify.specs.declared.change.Change.TheVariants.{Fresh}
 use Rattle.px_unify.specs.Changes.{Fits, HasSolutions, variables_of}
 use Rattle.px_question.specs.Settings.{Setting}
-use Rattle.px_walk.specs.Pending.{Pending, open_after, Solves, goals_of}
+use Rattle.px_walk.specs.Pending.{open_after, Solves, goals_of}
 use Rattle.px_stack.specs.Arena.{goals_at, AreOlder}
 use Rattle.px_stack.specs.Parts.{goals_under}
 use Rattle.px_stack.specs.declared.open.OpenGoal.{OpenGoal}

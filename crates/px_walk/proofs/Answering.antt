@@ -1,5 +1,5 @@
 -- What the bindings at the end of the walk answer.
-use Rattle.std.proofs.Common.{◌≡◌, ◌∙◌, ℕ, zero, suc, ◌+◌, ◌<◌, ◌≤◌, Bool, true, false, Some, List, [], ◌∷◌, ◌++◌, length, map, take, drop, replicate, refl, ap, sym, subst, arith, length-append}
+use Rattle.std.proofs.Common.{◌≡◌, ◌∙◌, ℕ, ◌+◌, ◌<◌, ◌≤◌, Bool, true, false, Some, List, [], ◌++◌, length, map, take, drop, replicate, refl, ap, sym, subst, arith, length-append}
 use Rattle.std.specs.Prelude.{◌↔◌, All, Contains, slice_index}
 use Rattle.std.specs.List.{AllByRecursion}
 use Rattle.std.proofs.lemmas.List.{length-replicate}
@@ -10,13 +10,13 @@ use Rattle.px_proof.specs.Derivation.{Derivations}
 use Rattle.px_proof.specs.Proves.{or_open}
 use Rattle.px_proof.specs.Shapes.{ticks_of}
 use Rattle.px_unify.specs.declared.change.Change.{Change}
-use Rattle.px_unify.specs.Changes.{Fits, HasSolutions, variables_of}
+use Rattle.px_unify.specs.Changes.{HasSolutions, variables_of}
 use Rattle.px_question.specs.Answers.{AtMost, IsFirst, IsList, all_choices_of, object_terms}
 use Rattle.px_question.specs.Settings.{Setting, proofs_in}
 use Rattle.px_walk.specs.Building.{built, placed}
-use Rattle.px_walk.specs.GapAtoms.{gap_atoms, variables_in, Gives, GivesUnder}
+use Rattle.px_walk.specs.GapAtoms.{gap_atoms, variables_in, Gives}
 use Rattle.px_terms.specs.Substitution.{substitute_atom}
-use Rattle.px_walk.specs.Pending.{Pending, Solves, goals_of, open_after}
+use Rattle.px_walk.specs.Pending.{Solves, goals_of, open_after}
 use Rattle.px_walk.specs.Possible.{IsClosing, IsFinished, IsPossible, left_of, rules_for}
 use Rattle.px_walk.specs.Scope.{IsAtomIn, IsSetting}
 use Rattle.px_walk.specs.Search.{ComesFirst}

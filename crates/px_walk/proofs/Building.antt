@@ -9,15 +9,14 @@ use Rattle.px_terms.specs.declared.clause.Lit.{Lit}
 use Rattle.px_terms.specs.declared.term.Term.{Term}
 use Rattle.px_proof.specs.declared.proof.Leaf.{Leaf}
 use Rattle.px_proof.specs.declared.shape.Tick.{Tick}
-use Rattle.px_proof.specs.declared.shape.Tick.TheVariants.{Fact, Anc, Step, Gap, Open}
-use Rattle.px_proof.specs.Derivation.{Derivation, Derivations, fact, ancestor, step, gap, open_place, none, also}
+use Rattle.px_proof.specs.Derivation.{Derivations, fact, ancestor, step, gap, open_place, none, also}
 use Rattle.px_proof.specs.Literals.{substitute_literal}
 use Rattle.px_proof.specs.PlaceLaws.{some_same}
 use Rattle.px_proof.specs.Proves.{Rules, ProvesEach, or_open, parts_of}
 use Rattle.px_proof.specs.Shapes.{ticks, ticks_of}
-use Rattle.px_question.specs.Answers.{IsList, object_terms, object_of, choices_of, all_choices_of, literals_of}
+use Rattle.px_question.specs.Answers.{IsList, object_terms, object_of, all_choices_of, literals_of}
 use Rattle.px_question.specs.Settings.{Setting}
-use Rattle.px_walk.specs.Building.{Placed, built, built_by, first_of, rest_of, placed, placed_at, place_and}
+use Rattle.px_walk.specs.Building.{Placed, built, first_of, rest_of, placed, placed_at, place_and}
 use Rattle.px_terms.specs.Language.{substitute}
 use Rattle.px_walk.specs.Pending.{variables_from, Goal, Closing, Pending, Solves, closing_at, closing_of, fresh_of, vars_of, goals_below, goals_of, open_after}
 use Rattle.px_walk.specs.Possible.{rules_for}

@@ -1,5 +1,5 @@
 -- Gap lists are what finished lists of ticks give, and each such list comes directly after one that goes on.
-use Rattle.std.proofs.Common.{◌≡◌, ◌↔◌, ◌⊎◌, ◌∙◌, ℕ, zero, suc, ◌+◌, ◌<◌, ◌≤◌, true, Some, List, [], ◌∷◌, ◌++◌, length, map, take, drop, refl, ap, sym, subst, arith, inl, inr, length-append}
+use Rattle.std.proofs.Common.{◌≡◌, ◌↔◌, ◌⊎◌, ◌∙◌, ℕ, ◌+◌, ◌<◌, ◌≤◌, true, Some, List, [], ◌∷◌, ◌++◌, length, map, take, drop, refl, ap, sym, subst, arith, inl, inr, length-append}
 use Rattle.std.specs.Prelude.{All, Contains}
 use Rattle.std.specs.List.{AllByRecursion}
 use Rattle.std.proofs.lemmas.List.Elements.{All-take, All-drop, All-append}
@@ -22,7 +22,7 @@ use Rattle.px_walk.specs.Possible.{IsClosing, IsPossible, IsFinished, IsGoingOn,
 use Rattle.px_walk.specs.Scope.{IsAtomIn, IsSetting}
 use Rattle.px_walk.specs.Search.{AreAll}
 use Rattle.px_walk.proofs.Bridge.{closed-list, finished-ends, finished-opened, finished-possible, choices-of-list}
-use Rattle.px_walk.proofs.Gaps.{gaps-are}
+use Rattle.px_walk.proofs.Gaps.{gaps-are, taken}
 use Rattle.px_walk.proofs.Lifting.{take_drop, length-take_within, variables_grow}
 use Rattle.px_walk.proofs.Lists.{list-solved}
 use Rattle.px_walk.proofs.Padding.{goes_on}
@@ -34,12 +34,6 @@ no_goals p empty = go p.goals refl empty
     go : (goals : List Goal) → p.goals ≡ goals → length p.goals ≡ 0 → p ≡ record { variables = p.variables; goals = [] }
     go [] is empty = ap (λ gs. record { variables = p.variables; goals = gs }) is
     go (g ∷ goals) is empty = absurd (omega (arith, empty, ap length is))
-
-taken : (objects rest : List ℕ) (vars : ℕ) → length objects ≡ vars → take vars (objects ++ rest) ≡ objects
-taken [] rest zero long = refl
-taken [] rest (suc vars) long = absurd (omega (arith, long))
-taken (x ∷ objects) rest zero long = absurd (omega (arith, long))
-taken (x ∷ objects) rest (suc vars) long = ap (λ xs. x ∷ xs) (taken objects rest vars (omega (arith, long)))
 
 module _ (s : Setting) (valid : IsSetting s) (formula : List Atom) (vars : ℕ) (scoped : AllByRecursion (IsAtomIn s.objects vars) formula) where
   -- what a finished list gives is a gap list

@@ -21,3 +21,4 @@ pub mod Gathering
 pub mod Values
 pub mod Building
 pub mod Answering
+pub mod Closings

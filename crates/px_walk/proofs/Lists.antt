@@ -1,5 +1,5 @@
 -- Lists of derivations of a formula, as closings of its goals.
-use Rattle.std.proofs.Common.{◌≡◌, ℕ, zero, suc, ◌+◌, ◌<◌, ◌≤◌, Bool, true, false, ◌||◌, Option, Some, None, List, [], ◌∷◌, ◌++◌, length, map, slice_index_or, refl, ap, ◌∙◌, arith, inl, inr, length-append}
+use Rattle.std.proofs.Common.{◌≡◌, ℕ, ◌+◌, ◌<◌, ◌≤◌, Bool, true, false, ◌||◌, Option, Some, None, List, [], ◌∷◌, ◌++◌, length, map, refl, ap, ◌∙◌, arith, inl, inr, length-append}
 use Rattle.std.specs.Prelude.{IsSomeAnd, All, Contains, nat_eq}
 use Rattle.std.specs.List.{AllByRecursion, list_any}
 use Rattle.std.proofs.lemmas.Bool.Decides.{nat_tests}
@@ -10,7 +10,6 @@ use Rattle.px_proof.specs.ProvesLaws.{Allows, each_by}
 use Rattle.px_terms.specs.Language.{substitute}
 use Rattle.px_proof.specs.Literals.{substitute_literal}
 use Rattle.px_terms.specs.declared.term.Term.{Term}
-use Rattle.px_terms.specs.declared.term.Term.TheVariants.{Obj, Var, Any}
 use Rattle.px_terms.specs.declared.atom.Atom.{Atom}
 use Rattle.px_terms.specs.declared.clause.Lit.{Lit}
 use Rattle.px_proof.specs.declared.shape.Tick.{Tick}
@@ -22,6 +21,9 @@ use Rattle.px_question.specs.Answers.{IsList, literals_of, object_terms, all_cho
 use Rattle.px_walk.specs.Possible.{rules_for}
 use Rattle.px_walk.specs.Pending.{Goal, Closing, Runs, Solves, open_after, closing_at, fresh_of, goals_of}
 use Rattle.px_walk.specs.Scope.{IsSetting, IsAtomIn}
+use Rattle.px_terms.specs.Language.{IsPlainBelow}
+use Rattle.px_walk.proofs.Every.{all-weaker}
+use Rattle.px_walk.proofs.Scoping.{args-front, scoped-below}
 use Rattle.px_walk.proofs.Lifting.{goal_under, closing_under, solves_from_runs, runs_from_solves, same_closing, regrouped, longer, open_after-step, length-objects, objects-append}
 use Rattle.px_walk.proofs.Trees.{rules_of, AreProved, runs_from_trees, trees_from_runs}
 
@@ -57,21 +59,6 @@ pub prover_each : (loose : Bool) (s : Setting) (lits : List Lit) (ds : Derivatio
 prover_each false s lits ds = each_by s.axioms (rules_of false s) (or_open (rules_for false s)) (prover_allows false s) [] lits ds (λ leaf has h. h)
 prover_each true s lits ds = each_by s.axioms (rules_of true s) (or_open (rules_for true s)) (prover_allows true s) [] lits ds (λ leaf has h. h)
 
--- a term over the first variables does not read the later ones
-term_longer : (objects : ℕ) (xs ys : List Term) (t : Term) → IsName objects (length xs) t → substitute (xs ++ ys) t ≡ substitute xs t
-term_longer objects xs ys (Obj o) within = refl
-term_longer objects xs ys Any within = refl
-term_longer objects xs ys (Var v) within = go xs v within
-  where
-    go : (xs : List Term) (v : ℕ) → v < length xs → slice_index_or (xs ++ ys) v Any ≡ slice_index_or xs v Any
-    go [] v within = absurd (omega (arith, within))
-    go (x ∷ xs) zero within = refl
-    go (x ∷ xs) (suc v) within = go xs v (omega (arith, within))
-
-args_longer : (objects : ℕ) (xs ys : List Term) (ts : List Term) → AllByRecursion (IsName objects (length xs)) ts → map (substitute (xs ++ ys)) ts ≡ map (substitute xs) ts
-args_longer objects xs ys [] within = refl
-args_longer objects xs ys (t ∷ ts) within = rw (term_longer objects xs ys t within.0, args_longer objects xs ys ts within.1) refl
-
 module _ (s : Setting) where
   -- the goals of the formula under its objects
   abbrev pub ground_goals : List Lit → List Goal
@@ -82,7 +69,8 @@ module _ (s : Setting) where
   goals_ground [] vars objects chosen count scoped = refl
   goals_ground (a ∷ formula) vars objects chosen count scoped =
       let within : AllByRecursion (IsName s.objects (length (object_terms objects))) a.args = rw (length-objects objects, count) scoped.0 in
-      let same : map (substitute (object_terms (objects ++ chosen))) a.args ≡ map (substitute (object_terms objects)) a.args = rw (objects-append objects chosen) (args_longer s.objects (object_terms objects) (object_terms chosen) a.args within) in
+      let same : map (substitute (object_terms (objects ++ chosen))) a.args ≡ map (substitute (object_terms objects)) a.args = rw (objects-append objects chosen) (args-front (object_terms objects) (object_terms chosen) (length (object_terms objects)) (omega arith) a.args
+      (all-weaker (IsName s.objects (length (object_terms objects))) (IsPlainBelow (length (object_terms objects))) a.args (scoped-below s.objects (length (object_terms objects))) within)) in
       rw (same, goals_ground formula vars objects chosen count scoped.1) refl
 
   pub each-are : (rules : Rules) (lits : List Lit) (ps : Derivations) → ProvesEach rules s.axioms [] lits ps → greatest_height ps ≤ s.height → AreProved rules s.axioms (ground_goals lits) ps

@@ -1,6 +1,7 @@
 -- Where the walk starts, and that what it visits is closed under fronts.
 use Rattle.std.proofs.Common.{◌≡◌, ◌∙◌, ℕ, zero, suc, ◌<◌, Bool, List, [], ◌∷◌, ◌++◌, length, replicate, refl, ap, sym, subst, arith, append_assoc}
 use Rattle.std.specs.List.{AllByRecursion}
+use Rattle.std.proofs.lemmas.List.{length-replicate}
 use Rattle.std.proofs.lemmas.List.Elements.{All-from_recursion}
 use Rattle.px_terms.specs.declared.atom.Atom.{Atom}
 use Rattle.px_proof.specs.declared.shape.Tick.{Tick}
@@ -19,10 +20,6 @@ zeros-below : (objects n : ℕ) → (0 < n → 0 < objects) → AllByRecursion (
 zeros-below objects zero some = tt
 zeros-below objects (suc n) some = (some (omega arith), zeros-below objects n (λ h. some (omega arith)))
 
-length-zeros : (n : ℕ) → length {A = ℕ} (replicate n 0) ≡ n
-length-zeros zero = refl
-length-zeros (suc n) = ap suc (length-zeros n)
-
 module _ (loose : Bool) (s : Setting) (formula : List Atom) (vars : ℕ) where
   -- before any tick there is nothing to solve
   pub start-possible : (0 < vars → 0 < s.objects) → IsPossible loose s formula vars []
@@ -31,7 +28,7 @@ module _ (loose : Bool) (s : Setting) (formula : List Atom) (vars : ℕ) where
     (
       record { variables = vars; goals = goals_of s formula },
       refl,
-      (replicate vars 0, omega (arith, length-zeros vars), All-from_recursion (λ o. o < s.objects) (replicate vars 0) (zeros-below s.objects vars some), tt),
+      (replicate vars 0, let count : length {A = ℕ} (replicate vars 0) ≡ vars = length-replicate {A = ℕ} vars 0 in omega (arith, count), All-from_recursion (λ o. o < s.objects) (replicate vars 0) (zeros-below s.objects vars some), tt),
     ),
   )
 

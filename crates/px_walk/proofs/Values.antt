@@ -1,16 +1,15 @@
 -- The objects that bindings give to all variables solve, and those with object 0 where there is a choice are the least.
-use Rattle.std.proofs.Common.{◌≡◌, ◌∙◌, ℕ, zero, suc, ◌<◌, ◌≤◌, Some, None, List, [], ◌∷◌, length, map, replicate, slice_get, slice_index_or, refl, ap, sym, subst, arith}
+use Rattle.std.proofs.Common.{◌≡◌, ◌∙◌, ℕ, zero, suc, ◌<◌, ◌≤◌, Some, None, List, [], ◌∷◌, length, replicate, slice_get, slice_index_or, refl, ap, sym, subst, arith}
 use Rattle.std.specs.Prelude.{All, slice_index}
 use Rattle.std.specs.List.{AllByRecursion}
 use Rattle.std.proofs.lemmas.List.Elements.{All-from_recursion}
 use Rattle.std.proofs.lemmas.Option.{get_or_from_slice_get, slice_get_within}
 use Rattle.px_terms.specs.declared.term.Term.{Term}
 use Rattle.px_terms.specs.declared.term.Term.TheVariants.{Obj, Var, Any}
-use Rattle.px_terms.specs.Language.{substitute}
 use Rattle.px_unify.specs.declared.change.Change.{Change}
 use Rattle.px_unify.specs.Changes.{AreOneUnder, Fits, HasSolutions, IsRoot, IsUnbound, slots_of, variables_of}
 use Rattle.px_question.specs.Answers.{AtMost, object_terms}
-use Rattle.px_walk.specs.Values.{AreValues, IsValue, value_of}
+use Rattle.px_walk.specs.Values.{AreValues, value_of}
 use Rattle.px_walk.proofs.Least.{at_most-places}
 use Rattle.px_walk.proofs.Lifting.{length-objects}
 

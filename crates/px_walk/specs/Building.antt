@@ -6,7 +6,7 @@ use Rattle.px_terms.specs.Language.{substitute}
 use Rattle.px_terms.specs.Substitution.{substitute_atom}
 use Rattle.px_proof.specs.declared.shape.Tick.{Tick}
 use Rattle.px_proof.specs.declared.shape.Tick.TheVariants.{Fact, Anc, Step, Gap, Open}
-use Rattle.px_proof.specs.Derivation.{Derivation, Derivations, fact, ancestor, step, gap, open_place, none, also}
+use Rattle.px_proof.specs.Derivation.{Derivations, fact, ancestor, step, gap, open_place, none, also}
 use Rattle.px_question.specs.Settings.{Setting}
 use Rattle.px_walk.specs.Pending.{Goal, Closing, closing_at, fresh_of, variables_from}
 

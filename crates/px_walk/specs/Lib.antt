@@ -7,3 +7,4 @@ pub mod Ends
 pub mod GapAtoms
 pub mod Values
 pub mod Building
+pub mod OneList

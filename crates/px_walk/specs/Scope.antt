@@ -2,24 +2,37 @@
 use Rattle.std.specs.Prelude.{◌≡◌, ℕ, ◌<◌, Some, slice_get}
 use Rattle.std.specs.List.{AllByRecursion}
 use Rattle.px_terms.specs.declared.atom.Atom.{Atom}
-use Rattle.px_terms.specs.declared.clause.Lit.{Lit}
 use Rattle.px_terms.specs.declared.clause.Clause.{Clause}
+use Rattle.px_terms.specs.declared.clause.Lit.{Lit}
+use Rattle.px_terms.specs.declared.term.Term.{Term}
 use Rattle.px_terms.specs.Language.{IsObject}
 use Rattle.px_proof.specs.Proves.{IsName}
 use Rattle.px_question.specs.Settings.{Setting}
-use Rattle.px_walk.specs.Pending.{Goal}
+use Rattle.px_walk.specs.Pending.{Closing, Goal}
+
+-- the arguments of the literal are such terms
+abbrev pub IsLitOf : (Term → Type 0) → Lit → Type 0
+IsLitOf IsTerm lit = AllByRecursion IsTerm lit.atom.args
+
+-- the same of the literal of a goal and of those above it
+pub record IsGoalOf (IsTerm : Term → Type 0) (goal : Goal) : Type 0 where
+  pub lit : IsLitOf IsTerm goal.lit
+  pub path : AllByRecursion (IsLitOf IsTerm) goal.path
+
+-- the same of what closes a goal
+pub record IsClosingOf (IsTerm : Term → Type 0) (closing : Closing) : Type 0 where
+  pub equal_to : IsLitOf IsTerm closing.equal_to
+  pub parts : AllByRecursion (IsGoalOf IsTerm) closing.parts
 
 -- the arguments are objects below the first number, or variables below the second
 abbrev pub IsAtomIn : ℕ → ℕ → Atom → Type 0
 IsAtomIn objects vars atom = AllByRecursion (IsName objects vars) atom.args
 
 abbrev pub IsLitIn : ℕ → ℕ → Lit → Type 0
-IsLitIn objects vars lit = IsAtomIn objects vars lit.atom
+IsLitIn objects vars = IsLitOf (IsName objects vars)
 
--- the same of the literal of a goal and of those above it
-pub record IsGoalIn (objects vars : ℕ) (goal : Goal) : Type 0 where
-  pub lit : IsLitIn objects vars goal.lit
-  pub path : AllByRecursion (IsLitIn objects vars) goal.path
+abbrev pub IsGoalIn : ℕ → ℕ → Goal → Type 0
+IsGoalIn objects vars = IsGoalOf (IsName objects vars)
 
 -- axioms have the problem's objects and their own variables, facts any objects and no variable; a proof may have some height, and
 -- there is an object where an axiom has a variable

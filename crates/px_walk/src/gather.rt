@@ -49,6 +49,7 @@ pub fn walk_to_end<Q, W: Walk<Q>, G: Gather<Q, W>>(
     requires room { limit ≤ W.most question.now }
     ensures all { IfOk result (λ met. IfNone met ((seen : List (List Tick)) × AreAll (W.possible question.now) limit seen × G.gathered question.now gather.new seen)) }
     ensures limited { IfOk result (λ met. IfSome met (λ shapes. (seen : List (List Tick)) × (shapes.items ≡ map (W.shape_of question.now) seen) × LimitComes (W.possible question.now) (λ ticks. ⊥) limit seen)) }
+    ensures still { OnOk result (W.stands question.now walk.new) }
 {
     let mut shapes = Vec::new(alloc);
     for count in 0..limit {

@@ -1,6 +1,6 @@
 ghost use Rattle.std.specs.Prelude.{◌≡◌, ◌∷◌, [], length, true};
-ghost use Rattle.std.proofs.Common.{arith, length-append};
 ghost use Rattle.px_proof.specs.declared.shape.Tick.TheVariants.{Open};
+ghost use Rattle.px_walk.specs.OneList.{IsStart, start-shorter};
 
 use crate::{End, Gather, Walk, advance, walk_to_end, walk_to_finished};
 use px_base::NoMemory;
@@ -19,9 +19,9 @@ impl Walk<bool> for OneList {
 
     ghost stands = { λ _ _. Unit {0} };
 
-    ghost possible = { λ _ ticks. length ticks ≡ 0 };
+    ghost possible = { λ _. IsStart };
 
-    ghost shorter = { λ _ ticks tick more empty. Prim.absurd (Prim.omega (arith, empty, length-append ticks (tick ∷ more))) };
+    ghost shorter = { λ _. start-shorter };
 
     ghost finished = { λ finished _. finished ≡ true };
 

@@ -1,4 +1,3 @@
-use Rattle.std.proofs.Common.{◌≡◌, Bool, IfOk, Result, Ok, Err}
 use Rattle.px_proof.specs.Literals.{complement_of}
 use Rattle.px_proof.specs.declared.shape.Tick.TheVariants.{Anc}
 use Rattle.px_stack.specs.Matches.{ClosesBy}

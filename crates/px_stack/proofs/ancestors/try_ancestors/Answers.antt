@@ -1,4 +1,4 @@
-use Rattle.std.proofs.Common.{◌≡◌, ◌+◌, ◌-◌, ◌<◌, ◌≤◌, Some, slice_get, arith}
+use Rattle.std.proofs.Common.{◌+◌, ◌-◌, ◌<◌, arith}
 use Rattle.px_stack.proofs.AncestorRange.{way-found, way-next, way-end, way-in, way-within}
 use Rattle.px_unify.specs.Changes.{variables_of}
 use Rattle.px_stack.specs.Parts.{IsLitBelow}

@@ -1,9 +1,9 @@
-use Rattle.std.proofs.Common.{◌≡◌, ◌+◌, ◌<◌, ◌≤◌, ℕ, Some, [], length, get_or, slice_get, arith, ap, sym, ◌∙◌, refl}
+use Rattle.std.proofs.Common.{◌+◌, ◌<◌, length, arith}
 use Rattle.px_terms.specs.declared.clause.Clause.{Clause}
 use Rattle.px_proof.specs.PlaceLaws.{All-got}
 use Rattle.px_terms.specs.Clauses.{IsClause}
 use Rattle.px_unify.specs.Changes.{variables_of}
-use Rattle.px_stack.specs.Axioms.{IsFit, NeverAxiom, ComesAxiom}
+use Rattle.px_stack.specs.Axioms.{NeverAxiom, ComesAxiom}
 use Rattle.px_stack.proofs.Trying.{range-none}
 use Rattle.px_stack.proofs.AxiomRange.{axiom-at, axiom-comes, axiom-never, fit-at}
 use Rattle.px_stack.proofs.axioms.try_axioms.Goals as goal

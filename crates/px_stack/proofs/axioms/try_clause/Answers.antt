@@ -1,4 +1,4 @@
-use Rattle.std.proofs.Common.{◌≡◌, Bool, length}
+use Rattle.std.proofs.Common.{length}
 use Rattle.px_terms.specs.declared.clause.Clause.{Clause}
 use Rattle.px_stack.specs.Ranges.{TriesRange}
 use Rattle.px_stack.specs.Places.{NeverStep, ComesStep}

@@ -1,4 +1,3 @@
-use Rattle.std.proofs.Common.{◌≡◌, Bool, IfOk, Result, Ok, Err}
 use Rattle.px_proof.specs.Literals.{positive_of}
 use Rattle.px_proof.specs.declared.shape.Tick.TheVariants.{Fact}
 use Rattle.px_stack.specs.Matches.{ClosesBy}

@@ -1,6 +1,4 @@
-use Rattle.std.proofs.Common.{◌≡◌, ◌+◌, ◌<◌, ◌≤◌, ℕ, length, get_or, arith, ap, sym, ◌∙◌, refl}
-use Rattle.px_terms.specs.declared.atom.Atom.{Atom}
-use Rattle.px_stack.specs.Ranges.{TriesFact}
+use Rattle.std.proofs.Common.{◌+◌, arith, refl}
 use Rattle.px_stack.proofs.FactPlaces.{never-before, never-after}
 use Rattle.px_stack.proofs.Trying.{fact-comes, fact-never}
 use Rattle.px_stack.proofs.facts.try_facts.Goals as goal

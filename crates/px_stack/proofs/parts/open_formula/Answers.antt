@@ -1,6 +1,5 @@
-use Rattle.std.proofs.Common.{◌≡◌, ◌+◌, ◌-◌, ◌≤◌, ◌<◌, suc, ℕ, length, drop, ◌++◌, ◌∷◌, [], ◌∙◌, arith, sym, ap, refl}
+use Rattle.std.proofs.Common.{◌≡◌, ◌-◌, ℕ, length, ◌++◌, ◌∷◌, [], ◌∙◌, arith, ap}
 use Rattle.px_proof.specs.Literals.{positive_of}
-use Rattle.px_stack.specs.Arena.{goals_at}
 use Rattle.px_stack.proofs.Opening.{asked-start, asked-next}
 use Rattle.px_stack.proofs.parts.open_formula.Goals as goal
 

@@ -1,7 +1,5 @@
-use Rattle.std.proofs.Common.{◌≡◌, false, ◌+◌, ◌-◌, ◌≤◌, ◌<◌, ◌++◌, ◌∷◌, [], ◌∙◌, List, length, get_or, suc, ℕ, arith, sym, ap, refl}
+use Rattle.std.proofs.Common.{◌≡◌, ◌+◌, ◌-◌, ◌<◌, ◌++◌, ◌∷◌, [], ◌∙◌, length, suc, ℕ, arith, ap}
 use Rattle.px_proof.specs.Literals.{substitute_literal, complement_of}
-use Rattle.px_stack.specs.Arena.{goals_at, path_at}
-use Rattle.px_stack.specs.Parts.{goals_under}
 use Rattle.px_stack.specs.Steps.{no_literal}
 use Rattle.px_stack.proofs.Opening.{opened-start, opened-pass, opened-take, parts-all}
 use Rattle.px_stack.proofs.parts.push_parts.Goals.{then-k-place+in-Ok, else-k-place}

@@ -1,4 +1,4 @@
-use Rattle.std.proofs.Common.{◌≡◌, ◌+◌, ◌<◌, ◌≤◌, ℕ, length, arith, ap, sym, ◌∙◌, refl}
+use Rattle.std.proofs.Common.{◌+◌, length, arith}
 use Rattle.px_terms.specs.declared.clause.Clause.{Clause}
 use Rattle.px_stack.specs.Places.{NeverStep, ComesStep}
 use Rattle.px_stack.proofs.Trying.{range-none}

@@ -1,7 +1,6 @@
-use Rattle.std.proofs.Common.{◌≡◌, ◌+◌, ◌≤◌, ◌++◌, replicate, arith, ap, sym, ◌∙◌, refl}
+use Rattle.std.proofs.Common.{◌≡◌, ◌+◌, arith, ap, ◌∙◌}
 use Rattle.px_unify.specs.ChangeLaws.{variables-fresh}
 use Rattle.px_unify.specs.Changes.{variables_of}
-use Rattle.px_stack.specs.Matches.{IsMatch}
 use Rattle.px_stack.proofs.NewVariables.{lit_more, found-fresh, none-fresh}
 use Rattle.px_stack.proofs.stepping.matches_fresh.Goals as goal
 

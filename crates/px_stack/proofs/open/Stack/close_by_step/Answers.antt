@@ -1,6 +1,5 @@
 use Rattle.std.proofs.Common.{rules, ◌≡◌, ◌+◌, ◌-◌, ◌≤◌, ◌∷◌, [], false, true, ℕ, List, ◌++◌, length, take, get_or, reverse, arith, ap, sym, ◌∙◌, refl}
 use Rattle.px_proof.specs.Literals.{substitute_literal}
-use Rattle.px_proof.specs.Proves.{parts_of}
 use Rattle.px_proof.specs.declared.shape.Tick.{Tick}
 use Rattle.px_terms.specs.declared.clause.Clause.{Clause}
 use Rattle.px_terms.specs.declared.clause.Lit.{Lit}
@@ -8,11 +7,9 @@ use Rattle.px_terms.specs.declared.term.Term.{Term}
 use Rattle.px_unify.specs.Changes.{variables_of}
 use Rattle.px_walk.specs.Pending.{variables_from}
 use Rattle.std.proofs.lemmas.List.{get_or_default, reverse-append}
-use Rattle.px_stack.specs.Arena.{goals_at, path_at}
-use Rattle.px_stack.specs.Parts.{goals_under}
 use Rattle.px_stack.specs.declared.open.Choice.{Choice}
 use Rattle.px_stack.specs.Steps.{new_literal, no_literal, MatchesFresh}
-use Rattle.px_stack.proofs.NewVariables.{length-variables, lit_variables, lits_variables, shifted-lit, match-as}
+use Rattle.px_stack.proofs.NewVariables.{shifted-lit, match-as}
 use Rattle.px_stack.proofs.open.Stack.close_by_step.Goals as goal
 
 -- the last choice comes first
