@@ -1,5 +1,3 @@
-use Rattle.std.proofs.Common.{ℕ}
-use Rattle.std.proofs.Common.{◌×◌}
 use Rattle.px_prover.proofs.reference.+trees.Given as goal
 
 abbrev pub decreases-trees : goal.decreases-trees
