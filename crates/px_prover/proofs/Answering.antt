@@ -1,0 +1,198 @@
+-- The state in which nothing is open gives the first answer.
+use Rattle.std.proofs.Common.{◌≡◌, ◌↔◌, ◌⊎◌, ℕ, zero, suc, ◌+◌, ◌-◌, ◌<◌, ◌≤◌, Bool, true, false, ◌&&◌, cond, Option, Some, None, List, [], ◌∷◌, ◌++◌, length, take, drop, map, slice_get, refl, ap, sym, subst, ◌∙◌, arith, length-append}
+use Rattle.std.specs.Prelude.{All, nat_eq, reverse}
+use Rattle.std.specs.List.{AllByRecursion, list_any}
+use Rattle.std.proofs.lemmas.List.Elements.{All-take, All-drop}
+use Rattle.px_ops.specs.Models.{IsModel}
+use Rattle.px_prover.specs.Building.{AreLeast, IsThere, built, fresh_sum}
+use Rattle.px_prover.specs.Standing.{ticks_in, IsAsked, IsSound, IsStanding}
+use Rattle.px_prover.proofs.Moves.{standing-sound, ticks-map}
+use Rattle.px_stack.specs.declared.open.Choice.{Choice}
+use Rattle.px_unify.specs.declared.change.Change.{Change}
+use Rattle.px_prover.proofs.Built.{built-is}
+use Rattle.px_prover.proofs.Chosen.{least-all, least-below, least-fits}
+use Rattle.px_proof.specs.Derivation.{Derivation, Derivations, derivations}
+use Rattle.px_proof.specs.PlaceLaws.{some_same, slice_get-within}
+use Rattle.px_proof.specs.Shapes.{ticks_of}
+use Rattle.px_proof.specs.declared.shape.Tick.{Tick}
+use Rattle.px_proof.specs.declared.shape.Tick.TheVariants.{Fact, Anc, Step, Gap, Open}
+use Rattle.px_question.specs.Answers.{AtMost, IsFirst, IsList, all_choices_of, literals_of, object_terms}
+use Rattle.px_question.specs.Settings.{Setting, proofs_in, setting_of}
+use Rattle.px_stack.specs.Arena.{goals_at}
+use Rattle.px_stack.specs.States.{StackValue}
+use Rattle.px_terms.specs.Validity.{IsValid, IsAtomOf, IsAxiomOf}
+use Rattle.px_terms.specs.declared.atom.Atom.{Atom}
+use Rattle.px_terms.specs.declared.clause.Clause.{Clause}
+use Rattle.px_terms.specs.declared.problem.Problem.{Problem}
+use Rattle.px_terms.specs.declared.term.Term.{Term}
+use Rattle.px_unify.specs.Changes.{Fits, variables_of}
+use Rattle.px_walk.specs.Pending.{Goal, Closing, Pending, Solves, open_after, closing_at, fresh_of, goals_of, by_fact, by_step, variables_from, vars_of}
+use Rattle.px_walk.specs.Possible.{IsClosing, IsFinished, IsPossible, open_count}
+use Rattle.px_walk.specs.Search.{ComesFirst}
+use Rattle.px_walk.proofs.Lifting.{open_after-step, variables_grow}
+use Rattle.px_walk.proofs.Lists.{list-solved}
+use Rattle.px_walk.proofs.Outcomes.{first-is}
+use Rattle.px_walk.proofs.Partial.{closed-proves-each}
+use Rattle.px_walk.proofs.Questions.{formula-in, setting_of-is}
+
+-- a valid problem, a formula of it and a model are as the walk asks
+pub asked-of : (problem : Problem) (atoms formula : List Atom) (vars : ℕ) → IsValid problem → IsModel atoms → All (IsAtomOf problem vars) formula → vars ≤ 4096 → (0 < vars → 0 < problem.objects) → IsAsked (setting_of problem atoms) formula vars
+asked-of problem atoms formula vars valid model scope few some = record {
+  setting = setting_of-is problem atoms valid model;
+  scope = formula-in problem vars formula scope;
+  some_object = some;
+  clauses = λ k d within. (valid.axioms k d within).vars;
+  ascending = model.ascending;
+  short = omega (arith, model.short);
+  few_variables = few;
+  few_ticks = valid.shapes.1;
+}
+
+module _ (loose : Bool) (s : Setting) where
+  -- each tick brings its variables
+  pub variables-sum : (ticks : List Tick) (n : ℕ) (goals : List Goal) (p : Pending) → open_after loose s n goals ticks ≡ Some p → p.variables ≡ n + fresh_sum s ticks
+  variables-sum [] n goals p ends = let e : n ≡ p.variables = ap (λ (q : Pending). q.variables) (some_same _ _ ends) in omega (arith, e)
+  variables-sum (tick ∷ ticks) n [] p ends = absurd (cc)
+  variables-sum (tick ∷ ticks) n (goal ∷ goals) p ends = go (closing_at loose s n goal tick) refl (λ closing. variables-sum ticks (n + fresh_of s tick) (closing.parts ++ goals) p)
+    where
+      go : (o : Option Closing) → closing_at loose s n goal tick ≡ o →
+          ((closing : Closing) → open_after loose s (n + fresh_of s tick) (closing.parts ++ goals) ticks ≡ Some p → p.variables ≡ n + fresh_of s tick + fresh_sum s ticks) → p.variables ≡ n + (fresh_of s tick + fresh_sum s ticks)
+      go None is later = absurd (let none = rw is at ends in cc)
+      go (Some closing) is later = omega (arith, later closing (sym (open_after-step loose s n goal goals tick ticks closing is) ∙ ends))
+
+module _ (s : Setting) where
+  fact-there : (i : ℕ) (o : Option Atom) (closing : Closing) → slice_get s.facts i ≡ o → by_fact o ≡ Some closing → i < length s.facts
+  fact-there i None closing at is = absurd (cc)
+  fact-there i (Some a) closing at is = slice_get-within s.facts i a at
+
+  step-there : (goal : Goal) (theta : List Term) (number place : ℕ) (o : Option Clause) (closing : Closing) → slice_get s.axioms number ≡ o → by_step goal theta place o ≡ Some closing → number < length s.axioms
+  step-there goal theta number place None closing at is = absurd (cc)
+  step-there goal theta number place (Some clause) closing at is = slice_get-within s.axioms number clause at
+
+  tick-there : (n : ℕ) (goal : Goal) (tick : Tick) (closing : Closing) → IsClosing tick → closing_at false s n goal tick ≡ Some closing → IsThere s tick
+  tick-there n goal (Fact i) closing closes is = fact-there i (slice_get s.facts i) closing refl is
+  tick-there n goal (Anc i) closing closes is = tt
+  tick-there n goal (Step number place) closing closes is = step-there goal (variables_from n (vars_of (slice_get s.axioms number))) number place (slice_get s.axioms number) closing refl is
+  tick-there n goal Gap closing closes is = absurd (cc)
+  tick-there n goal Open closing closes is = closes
+
+  -- the facts and axioms of the ticks are there
+  pub ticks-there : (ticks : List Tick) (n : ℕ) (goals : List Goal) (p : Pending) → AllByRecursion IsClosing ticks → open_after false s n goals ticks ≡ Some p → AllByRecursion (IsThere s) ticks
+  ticks-there [] n goals p closing ends = tt
+  ticks-there (tick ∷ ticks) n [] p closing ends = absurd (cc)
+  ticks-there (tick ∷ ticks) n (goal ∷ goals) p closing ends =
+      go (closing_at false s n goal tick) refl (λ made. ticks-there ticks (n + fresh_of s tick) (made.parts ++ goals) p closing.1)
+    where
+      go : (o : Option Closing) → closing_at false s n goal tick ≡ o →
+          ((made : Closing) → open_after false s (n + fresh_of s tick) (made.parts ++ goals) ticks ≡ Some p → AllByRecursion (IsThere s) ticks) → IsThere s tick × AllByRecursion (IsThere s) ticks
+      go None is later = absurd (let none = rw is at ends in cc)
+      go (Some made) is later = (tick-there n goal tick made closing.0 is, later made (sym (open_after-step false s n goal goals tick ticks made is) ∙ ends))
+
+split : {X : Type 0} (k : ℕ) (xs : List X) → take k xs ++ drop k xs ≡ xs
+split zero xs = refl
+split (suc k) [] = refl
+split (suc k) (x ∷ xs) = ap (λ ys. x ∷ ys) (split k xs)
+
+length-front : {X : Type 0} (k : ℕ) (xs : List X) → k ≤ length xs → length (take k xs) ≡ k
+length-front zero xs within = refl
+length-front (suc k) [] within = absurd (omega (arith, within))
+length-front (suc k) (x ∷ xs) within = ap suc (length-front k xs (omega (arith, within)))
+
+module _ (s : Setting) (formula : List Atom) (vars : ℕ) (ticks : List Tick) (v : StackValue) (asked : IsAsked s formula vars) (sound : IsSound false s formula vars ticks v) where
+  pub sum-is : variables_of v.changes ≡ vars + fresh_sum s ticks
+  sum-is = variables-sum false s ticks vars (goals_of s formula) (record { variables = variables_of v.changes; goals = goals_at v.goals v.first }) sound.stands.pending
+
+  pub all-there : AllByRecursion (IsThere s) ticks
+  all-there = ticks-there s ticks vars (goals_of s formula) (record { variables = variables_of v.changes; goals = goals_at v.goals v.first }) sound.closing sound.stands.pending
+
+  module _ (first : ComesFirst (IsPossible false s formula vars) (IsFinished false s formula vars) s.limit ticks) (objects : List ℕ) (least : AreLeast v.changes objects) where
+    solved : Solves false s (object_terms objects) vars (goals_of s formula) ticks
+    solved = (sound.stands.matched (object_terms objects)).0 (least-fits v.changes objects least sound.solvable)
+
+    fits-other : (others : List ℕ) → Solves false s (object_terms others) vars (goals_of s formula) ticks → Fits (object_terms others) v.changes
+    fits-other others solves = (sound.stands.matched (object_terms others)).1 solves
+
+    below : All (λ n. n < s.objects) objects
+    below = go first.possible.1
+      where
+        go : Rattle.px_walk.specs.Pending.IsFeasible false s formula vars ticks → All (λ n. n < s.objects) objects
+        go (p, now, (others, enough, small, solves)) =
+            let same : p.variables ≡ variables_of v.changes = ap (λ (q : Pending). q.variables) (some_same _ _ (sym now ∙ sound.stands.pending)) in
+            least-below v.changes objects least s.objects others (fits-other others solves) (omega (arith, least.long, enough, same)) small
+
+    nothing-open : (gs : List Goal) → length gs ≡ 0 → gs ≡ []
+    nothing-open [] e = refl
+    nothing-open (g ∷ gs) e = absurd (omega (arith, e))
+
+    ends : open_after false s vars (goals_of s formula) ticks ≡ Some (record { variables = variables_of v.changes; goals = [] })
+    ends =
+        let none : length (goals_at v.goals v.first) ≡ 0 = sym (ap Rattle.px_walk.specs.Possible.left_of sound.stands.pending) ∙ first.finished in
+        sound.stands.pending ∙ ap (λ gs. Some (record { variables = variables_of v.changes; goals = gs })) (nothing-open (goals_at v.goals v.first) none)
+
+    whole : take vars objects ++ drop vars objects ≡ objects
+    whole = split vars objects
+
+    count : length (take vars objects) ≡ vars
+    count = length-front vars objects (omega (arith, least.long, sum-is))
+
+    total : length (take vars objects) + length (drop vars objects) ≡ variables_of v.changes
+    total = sym (length-append (take vars objects) (drop vars objects)) ∙ ap length whole ∙ least.long
+
+    found : (ps : Derivations) × IsList (Rattle.px_proof.specs.Proves.or_open (proofs_in s)) s formula vars (take vars objects) ps × (ticks_of ps ≡ ticks) × (all_choices_of ps ≡ drop vars objects)
+    found =
+        list-solved false s asked.setting formula vars asked.scope ticks (take vars objects) (drop vars objects) count (All-take (λ n. n < s.objects) vars objects below) (All-drop (λ n. n < s.objects) vars objects below)
+        (ends ∙ ap (λ n. Some (record { variables = n; goals = [] })) (sym total))
+        (subst (λ (os : List ℕ). Solves false s (object_terms os) vars (goals_of s formula) ticks) (sym whole) solved)
+
+    finished : IsList (proofs_in s) s formula vars (take vars objects) found.0
+    finished = record {
+      count = found.1.count;
+      below = found.1.below;
+      proved = closed-proves-each (proofs_in s) s.axioms [] (literals_of formula (take vars objects)) found.0 (rw found.2 sound.closing) found.1.proved;
+      low = found.1.low;
+    }
+
+    all_objects : take vars objects ++ all_choices_of found.0 ≡ objects
+    all_objects = ap (λ ns. take vars objects ++ ns) found.3 ∙ whole
+
+    rest : drop (length objects - fresh_sum s ticks) objects ≡ drop vars objects
+    rest = ap (λ n. drop n objects) (omega (arith, least.long, sum-is))
+
+    made : derivations (built s ticks (drop (length objects - fresh_sum s ticks) objects)) ≡ found.0
+    made =
+        ap (λ ns. derivations (built s ticks ns)) (rest ∙ sym found.3) ∙ ap (λ ts. derivations (built s ts (all_choices_of found.0))) (sym found.2)
+        ∙ built-is s (literals_of formula (take vars objects)) found.0 finished.proved
+
+    -- the answer is the first one
+    pub answer-first : (answered : List ℕ) (proofs : List Derivation) → answered ≡ take vars objects → proofs ≡ built s ticks (drop (length objects - fresh_sum s ticks) objects) → IsFirst s formula vars answered (derivations proofs)
+    answer-first answered proofs objects_are proofs_are =
+        rw (objects_are, proofs_are, made)
+        (first-is s asked.setting formula vars asked.scope ticks (take vars objects) found.0 first finished found.2
+        (λ others solves long. subst (λ (ns : List ℕ). AtMost ns others) (sym all_objects) (least-all v.changes objects least others (fits-other others solves) (long ∙ ap length all_objects))))
+
+-- the same of the state itself
+module _ (loose : Bool) (s : Setting) (formula : List Atom) (vars : ℕ) (v : StackValue) (strict : loose ≡ false) (standing : IsStanding loose s formula vars v) (choices : List Choice) (are : reverse choices ≡ v.choices) where
+  ticks-same : ticks_in v.choices ≡ map (λ (c : Choice). c.tick) choices
+  ticks-same = ap ticks_in (sym are) ∙ ticks-map choices
+
+  sound : IsSound false s formula vars (map (λ (c : Choice). c.tick) choices) v
+  sound = subst (λ (ts : List Tick). IsSound false s formula vars ts v) ticks-same (subst (λ (b : Bool). IsSound b s formula vars (ticks_in v.choices) v) strict (standing-sound loose s formula vars v standing))
+
+  pub given-there : AllByRecursion (IsThere s) (map (λ (c : Choice). c.tick) choices)
+  given-there = all-there s formula vars (map (λ (c : Choice). c.tick) choices) v standing.asked sound
+
+  pub given-room : (changes : List Change) (objects listed : List ℕ) → changes ≡ v.changes → AreLeast changes objects → listed ≡ objects → fresh_sum s (map (λ (c : Choice). c.tick) choices) ≤ length listed
+  given-room changes objects listed changes_are least listed_are =
+      let long : length objects ≡ variables_of v.changes = least.long ∙ ap variables_of changes_are in
+      omega (arith, long, ap length listed_are, sum-is s formula vars (map (λ (c : Choice). c.tick) choices) v standing.asked sound)
+
+  pub given-first : (limit : ℕ) → limit ≡ s.limit → ComesFirst (IsPossible loose s formula vars) (IsFinished loose s formula vars) limit (ticks_in v.choices) → (changes : List Change) (objects listed : List ℕ) → changes ≡ v.changes → AreLeast changes objects → listed ≡ objects →
+      (answered : List ℕ) (proofs made : List Derivation) → answered ≡ take vars objects → proofs ≡ made → made ≡ built s (map (λ (c : Choice). c.tick) choices) (drop (length listed - fresh_sum s (map (λ (c : Choice). c.tick) choices)) listed) →
+      IsFirst s formula vars answered (derivations proofs)
+  given-first limit limit_is first changes objects listed changes_are least listed_are answered proofs made objects_are proofs_are made_is =
+      answer-first s formula vars (map (λ (c : Choice). c.tick) choices) v standing.asked sound
+      (subst (λ (b : Bool). ComesFirst (IsPossible b s formula vars) (IsFinished b s formula vars) s.limit (map (λ (c : Choice). c.tick) choices)) strict
+      (subst (λ (ts : List Tick). ComesFirst (IsPossible loose s formula vars) (IsFinished loose s formula vars) s.limit ts) ticks-same
+      (subst (λ (n : ℕ). ComesFirst (IsPossible loose s formula vars) (IsFinished loose s formula vars) n (ticks_in v.choices)) limit_is first)))
+      objects (subst (λ (cs : List Change). AreLeast cs objects) changes_are least) answered proofs objects_are
+      (proofs_are ∙ made_is ∙ ap (λ ns. built s (map (λ (c : Choice). c.tick) choices) (drop (length ns - fresh_sum s (map (λ (c : Choice). c.tick) choices)) ns)) listed_are)

@@ -1,0 +1,96 @@
+-- A closing makes a sound state of the longer list, and keeps what was there.
+use Rattle.std.proofs.Common.{◌≡◌, ℕ, suc, ◌+◌, ◌*◌, ◌-◌, ◌<◌, ◌≤◌, Bool, true, Some, List, [], ◌∷◌, ◌++◌, length, take, slice_get, refl, ap, sym, ◌∙◌, arith, length-append}
+use Rattle.std.specs.Prelude.{All}
+use Rattle.std.specs.List.{AllByRecursion}
+use Rattle.std.proofs.lemmas.List.{take-append-le}
+use Rattle.std.proofs.Math.Seq.{take-length}
+use Rattle.px_prover.specs.Standing.{IsAsked, IsSound}
+use Rattle.px_prover.specs.Tries.{IsReady, IsLonger}
+use Rattle.px_prover.proofs.Ready.{goal_in, ready-next}
+use Rattle.px_proof.specs.Proves.{IsName}
+use Rattle.px_proof.specs.PlaceLaws.{All-got, some_same}
+use Rattle.px_proof.specs.declared.shape.Tick.{Tick}
+use Rattle.px_proof.specs.declared.shape.Tick.TheVariants.{Fact, Anc, Step, Gap, Open}
+use Rattle.px_question.specs.Settings.{Setting, IsObjectBelow}
+use Rattle.px_stack.specs.Matches.{ClosesBy, choice_by}
+use Rattle.px_stack.specs.Steps.{ClosesByStep}
+use Rattle.px_stack.specs.States.{StackValue, Stands}
+use Rattle.px_stack.specs.declared.open.OpenGoal.{OpenGoal}
+use Rattle.px_terms.specs.declared.atom.Atom.{Atom}
+use Rattle.px_terms.specs.declared.clause.Clause.{Clause}
+use Rattle.px_terms.specs.declared.clause.Lit.{Lit}
+use Rattle.px_terms.specs.declared.term.Term.{Term}
+use Rattle.px_terms.specs.declared.term.Term.TheVariants.{Obj, Var, Any}
+use Rattle.px_unify.specs.Changes.{variables_of}
+use Rattle.px_walk.specs.Possible.{IsClosing}
+use Rattle.px_walk.proofs.Every.{all-push, all-recursion, all-weaker}
+use Rattle.px_walk.proofs.Objects.{FactIsIn}
+
+take-front : {X : Type 0} (xs ys : List X) → take (length xs) (xs ++ ys) ≡ xs
+take-front [] ys = refl
+take-front (x ∷ xs) ys = ap (λ zs. x ∷ zs) (take-front xs ys)
+
+take-whole : {X : Type 0} (xs : List X) → take (length xs) xs ≡ xs
+take-whole [] = refl
+take-whole (x ∷ xs) = ap (λ zs. x ∷ zs) (take-whole xs)
+
+object-name : (objects : ℕ) (t : Term) → IsObjectBelow objects t → IsName objects 0 t
+object-name objects (Obj n) h = h
+object-name objects (Var v) h = absurd h
+object-name objects Any h = h
+
+-- a fact over the objects
+pub fact-in : (s : Setting) (k : ℕ) (fact : Atom) → slice_get s.facts k ≡ Some fact → All (IsObjectBelow s.objects) fact.args → FactIsIn s (Fact k)
+fact-in s k fact at below a is =
+    let same : fact ≡ a = some_same _ _ (sym at ∙ is) in
+    rw (← same) (all-weaker (IsObjectBelow s.objects) (IsName s.objects 0) fact.args (object-name s.objects) (all-recursion (IsObjectBelow s.objects) fact.args below))
+
+module _ (loose : Bool) (s : Setting) (formula : List Atom) (vars : ℕ) (ticks : List Tick) (old new : StackValue) (goal : OpenGoal) (ready : IsReady loose s formula vars ticks old goal) (tick : Tick)
+    (closes_place : IsClosing tick) (fact_is_in : FactIsIn s tick) (stands : Stands loose s formula vars (ticks ++ tick ∷ []) new) where
+  more : length (ticks ++ tick ∷ []) ≡ length ticks + 1
+  more = length-append ticks (tick ∷ [])
+
+  -- a closing without parts
+  pub longer-closed : (lit : Lit) → ClosesBy old new tick goal.lit lit goal.next true → IsLonger loose s formula vars ticks old tick new
+  longer-closed lit closes =
+      let pushed = closes.pushed refl in
+      let goals_same : new.goals ≡ old.goals = ap (λ (v : StackValue). v.goals) pushed in
+      let first_is : new.first ≡ goal.next = ap (λ (v : StackValue). v.first) pushed in
+      let grows = closes.is_match.grows refl in
+      record {
+        sound = record {
+          stands = stands;
+          facts_in = all-push (FactIsIn s) ticks tick ready.sound.facts_in fact_is_in;
+          closing = all-push IsClosing ticks tick ready.sound.closing closes_place;
+          arena = rw goals_same ready.sound.arena;
+          within = rw (goals_same, first_is) (ready-next loose s formula vars ticks old goal ready);
+          solvable = closes.is_match.solvable refl;
+          few = omega (arith, grows.variables, ready.sound.few, more);
+        };
+        chosen = ap (λ (v : StackValue). v.choices) pushed;
+        changes = grows.prefix;
+        more_changes = grows.grown;
+        goals = ap (take (length old.goals)) goals_same ∙ take-whole old.goals;
+        more_goals = rw goals_same (omega arith);
+      }
+
+  -- a closing by a clause
+  pub longer-stepped : (clause : Clause) (place : ℕ) → clause.vars ≤ 12 → ClosesByStep old new tick goal clause place true → IsLonger loose s formula vars ticks old tick new
+  longer-stepped clause place few closes =
+      let grown = closes.grown refl in
+      record {
+        sound = record {
+          stands = stands;
+          facts_in = all-push (FactIsIn s) ticks tick ready.sound.facts_in fact_is_in;
+          closing = all-push IsClosing ticks tick ready.sound.closing closes_place;
+          arena = closes.arena refl ready.sound.arena;
+          within = closes.older refl;
+          solvable = closes.is_match.solvable refl;
+          few = omega (arith, closes.is_match.variables refl, few, ready.sound.few, more);
+        };
+        chosen = closes.chosen refl;
+        changes = closes.is_match.prefix refl;
+        more_changes = closes.is_match.grown refl;
+        goals = ap (take (length old.goals)) grown.1 ∙ take-front old.goals grown.0;
+        more_goals = rw grown.1 (omega (arith, length-append old.goals grown.0));
+      }

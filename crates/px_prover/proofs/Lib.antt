@@ -1,0 +1,16 @@
+pub mod Answering
+pub mod Attempted
+pub mod AttemptedSteps
+pub mod Built
+pub mod Chosen
+pub mod Deciding
+pub mod Growing
+pub mod Joins
+pub mod Later
+pub mod Making
+pub mod Moves
+pub mod Ready
+pub mod Scopes
+pub mod Since
+pub mod StepTurns
+pub mod Turns

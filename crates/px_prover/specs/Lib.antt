@@ -1,0 +1,6 @@
+pub mod Asking
+pub mod Building
+pub mod Outcomes
+pub mod Shorter
+pub mod Standing
+pub mod Tries

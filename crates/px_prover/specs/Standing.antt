@@ -1,0 +1,56 @@
+-- What holds of the prover's state at each moment of a walk.
+use Rattle.std.specs.Prelude.{◌≡◌, ℕ, ◌+◌, ◌*◌, ◌<◌, ◌≤◌, Bool, List, [], ◌∷◌, ◌++◌, length, take, All}
+use Rattle.std.specs.List.{AllByRecursion}
+use Rattle.px_proof.specs.declared.shape.Tick.{Tick}
+use Rattle.px_question.specs.Settings.{Setting}
+use Rattle.px_stack.specs.Arena.{AreOlder}
+use Rattle.px_stack.specs.States.{StackValue, Stands}
+use Rattle.px_stack.specs.declared.open.Choice.{Choice}
+use Rattle.px_stack.specs.declared.open.OpenGoal.{OpenGoal}
+use Rattle.px_terms.specs.AtomSets.{IsAtomSet}
+use Rattle.px_terms.specs.declared.atom.Atom.{Atom}
+use Rattle.px_terms.specs.declared.clause.Clause.{Clause}
+use Rattle.px_unify.specs.declared.change.Change.{Change}
+use Rattle.px_unify.specs.Changes.{HasSolutions, variables_of}
+use Rattle.px_walk.proofs.Objects.{FactIsIn}
+use Rattle.px_walk.specs.Possible.{IsClosing}
+use Rattle.px_walk.specs.Scope.{IsSetting, IsAtomIn}
+
+-- the ticks of the choices, which stand last first
+abbrev pub ticks_in : List Choice → List Tick
+ticks_in [] = []
+ticks_in (c ∷ rest) = ticks_in rest ++ c.tick ∷ []
+
+-- what a walk relies on: the formula's objects and variables are in range, and so are the numbers of the problem and the model
+pub record IsAsked (s : Setting) (formula : List Atom) (vars : ℕ) : Type 0 where
+  pub setting : IsSetting s
+  pub scope : AllByRecursion (IsAtomIn s.objects vars) formula
+  pub some_object : 0 < vars → 0 < s.objects
+  pub clauses : All (λ (clause : Clause). clause.vars ≤ 12) s.axioms
+  pub ascending : IsAtomSet s.facts
+  pub short : length s.facts < 4294967296
+  pub few_variables : vars ≤ 4096
+  pub few_ticks : s.limit ≤ 70000
+
+-- the state is that after its ticks, which close places, by facts over the objects; its goals name older ones; its bindings can be met
+pub record IsSound (loose : Bool) (s : Setting) (formula : List Atom) (vars : ℕ) (ticks : List Tick) (v : StackValue) : Type 0 where
+  pub stands : Stands loose s formula vars ticks v
+  pub facts_in : AllByRecursion (FactIsIn s) ticks
+  pub closing : AllByRecursion IsClosing ticks
+  pub arena : AreOlder v.goals
+  pub within : v.first ≤ length v.goals
+  pub solvable : HasSolutions v.changes
+  pub few : variables_of v.changes ≤ vars + 12 * length ticks
+
+-- it is sound, and so is each state before, which the marks of the choices give back
+abbrev pub WasSound : Bool → Setting → List Atom → ℕ → List Choice → List Change → List OpenGoal → ℕ → Type 0
+WasSound loose s formula vars [] changes goals first = IsSound loose s formula vars [] (record { changes = changes; goals = goals; first = first; choices = [] })
+WasSound loose s formula vars (c ∷ rest) changes goals first =
+    IsSound loose s formula vars (ticks_in (c ∷ rest)) (record { changes = changes; goals = goals; first = first; choices = c ∷ rest })
+    × (c.mark ≤ length changes) × (c.goals ≤ length goals)
+    × WasSound loose s formula vars rest (take c.mark changes) (take c.goals goals) c.first
+
+-- the state is one of the question
+pub record IsStanding (loose : Bool) (s : Setting) (formula : List Atom) (vars : ℕ) (v : StackValue) : Type 0 where
+  pub asked : IsAsked s formula vars
+  pub was : WasSound loose s formula vars v.choices v.changes v.goals v.first

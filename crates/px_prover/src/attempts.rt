@@ -1,0 +1,122 @@
+ghost use Rattle.std.specs.Prelude.{◌≡◌, IfOk, nat_eq};
+ghost use Rattle.std.specs.List.{list_any};
+ghost use Rattle.px_question.specs.Settings.{added_by};
+ghost use Rattle.px_terms.specs.declared.atom.Atom.{Atom as AtomValue};
+ghost use Rattle.px_terms.specs.declared.problem.Schema.{Schema as SchemaValue};
+ghost use Rattle.px_prover.specs.Tries.{IsReadyIn, TriesSince, TriesLater};
+
+use crate::question::Question;
+use px_base::NoMemory;
+use px_proof::Tick;
+use px_stack::{OpenGoal, Stack, close_by_gap, try_ancestors, try_axioms, try_facts};
+use px_terms::{Atom, Schema};
+
+/// Does the operator add the predicate?
+fn adds(atoms: &[Atom], pred: u32) -> bool
+    ensures { result ≡ list_any (λ (atom : AtomValue). nat_eq pred atom.pred) atoms.now }
+{
+    atoms.iter().any(|atom| pred == atom.pred())
+}
+
+/// Does some operator add the predicate?
+fn is_added(schemas: &[Schema], pred: u32) -> bool
+    ensures { result ≡ list_any (λ (schema : SchemaValue). list_any (λ (atom : AtomValue). nat_eq pred atom.pred) schema.add) schemas.now }
+{
+    schemas
+        .iter()
+        .any(|schema| adds(schema.add.as_slice(), pred))
+}
+
+/// Closes the first goal by a gap, where that is allowed.
+fn try_gap(stack: &mut Stack, question: &Question, goal: &OpenGoal) -> Result<bool, NoMemory>
+    requires { IsReadyIn question.now stack.old goal.now }
+    ensures { IfOk result (λ found. TriesSince question.now Tick.Gap stack.old stack.new found) }
+{
+    if !question.loose {
+        return Ok(false);
+    }
+    if !goal.lit.positive {
+        return Ok(false);
+    }
+    if !is_added(question.problem.schemas.as_slice(), goal.lit.atom.pred()) {
+        return Ok(false);
+    }
+    close_by_gap(stack, goal)
+}
+
+/// Closes the first goal by the first literal of an axiom from there on, or by a gap.
+fn try_since_axiom(
+    stack: &mut Stack,
+    question: &Question,
+    goal: &OpenGoal,
+    from: usize,
+    place: usize,
+) -> Result<bool, NoMemory>
+    requires { IsReadyIn question.now stack.old goal.now }
+    ensures { IfOk result (λ found. TriesSince question.now (Tick.Step from place) stack.old stack.new found) }
+{
+    match try_axioms(stack, &question.problem.axioms, goal, from, place) {
+        Ok(true) => return Ok(true),
+        Ok(false) => {}
+        Err(NoMemory) => return Err(NoMemory),
+    }
+    try_gap(stack, question, goal)
+}
+
+/// Closes the first goal by the first ancestor from there on, or by what comes after ancestors.
+fn try_since_ancestor(
+    stack: &mut Stack,
+    question: &Question,
+    goal: &OpenGoal,
+    from: usize,
+) -> Result<bool, NoMemory>
+    requires { IsReadyIn question.now stack.old goal.now }
+    ensures { IfOk result (λ found. TriesSince question.now (Tick.Anc from) stack.old stack.new found) }
+{
+    match try_ancestors(stack, goal, from) {
+        Ok(true) => return Ok(true),
+        Ok(false) => {}
+        Err(NoMemory) => return Err(NoMemory),
+    }
+    try_since_axiom(stack, question, goal, 0, 0)
+}
+
+/// Closes the first goal by the first fact from there on, or by what comes after facts.
+fn try_since_fact(
+    stack: &mut Stack,
+    question: &Question,
+    goal: &OpenGoal,
+    from: usize,
+) -> Result<bool, NoMemory>
+    requires { IsReadyIn question.now stack.old goal.now }
+    ensures { IfOk result (λ found. TriesSince question.now (Tick.Fact from) stack.old stack.new found) }
+{
+    match try_facts(stack, question.problem.objects, question.facts, goal, from) {
+        Ok(true) => return Ok(true),
+        Ok(false) => {}
+        Err(NoMemory) => return Err(NoMemory),
+    }
+    try_since_ancestor(stack, question, goal, 0)
+}
+
+/// Closes the first goal by the least tick after the last one that was tried.
+pub(crate) fn try_later(
+    stack: &mut Stack,
+    question: &Question,
+    goal: &OpenGoal,
+    last: Option<Tick>,
+) -> Result<bool, NoMemory>
+    requires { IsReadyIn question.now stack.old goal.now }
+    ensures { IfOk result (λ found. TriesLater question.now last stack.old stack.new found) }
+{
+    match last {
+        None => try_since_fact(stack, question, goal, 0),
+        Some(Tick::Open) => try_since_fact(stack, question, goal, 0),
+        Some(Tick::Fact(number)) => try_since_fact(stack, question, goal, number as usize + 1),
+        Some(Tick::Anc(number)) => try_since_ancestor(stack, question, goal, number as usize + 1),
+        Some(Tick::Step(number, place)) => {
+            try_since_axiom(stack, question, goal, number as usize, place as usize + 1)
+        }
+        Some(Tick::Gap) => Ok(false),
+    }
+}

@@ -1,0 +1,91 @@
+ghost use Rattle.std.specs.Prelude.{◌≡◌, ◌≤◌, ◌<◌, List, map as map_list, IfOk, All, false};
+ghost use Rattle.px_proof.specs.Derivation.{derivations};
+ghost use Rattle.px_proof.specs.ProofTerm.{derivation_of};
+ghost use Rattle.px_proof.specs.declared.shape.Tick.{Tick};
+ghost use Rattle.px_question.specs.Answers.{IsAnswer, IsFirst};
+ghost use Rattle.px_question.specs.Limits.{AreFewBefore, AreFewShapes, IsLimited};
+ghost use Rattle.px_question.specs.Settings.{setting_of};
+ghost use Rattle.px_terms.specs.Validity.{IsValid, IsAtomOf};
+ghost use Rattle.px_walk.specs.Search.{ComesFirst};
+ghost use Rattle.px_prover.specs.Asking.{setting_in, IsPossibleIn, IsFinishedIn};
+ghost use Rattle.px_prover.specs.Outcomes.{IfShapeLimit};
+ghost use Rattle.px_prover.specs.Standing.{ticks_in, IsStanding};
+
+use crate::building::{build, least_objects};
+use crate::outcome::{Answer, ProveErr};
+use crate::question::Question;
+use px_base::{NoMemory, Sequence};
+use px_ops::Model;
+use px_stack::Stack;
+use px_terms::{Atom, Problem};
+use px_walk::{End, walk_to_finished};
+use std::alloc::Global;
+
+/// What a state in which no place is open answers.
+fn answer(alloc: Global, question: &Question, stack: &Stack) -> Result<Answer, NoMemory>
+    requires strict { question.now.loose ≡ false }
+    requires stands { IsStanding question.now.loose (setting_in question.now) question.now.formula.now question.now.vars stack.now }
+    requires first { ComesFirst (IsPossibleIn question.now) (IsFinishedIn question.now) question.now.problem.now.shapes (ticks_in stack.now.choices) }
+    ensures { IfOk result (λ answer. IsFirst (setting_in question.now) question.now.formula.now question.now.vars answer.objects (derivations (map_list derivation_of answer.proofs))) }
+{
+    let mut objects = least_objects(alloc, stack.bind())?;
+    let mut proofs = build(
+        alloc,
+        question.problem,
+        question.facts,
+        stack.choices(),
+        &objects,
+    )?;
+    proofs.reverse();
+    objects.truncate(question.vars as usize);
+    Ok(Answer {
+        objects: Sequence::from_vec(objects),
+        proofs: Sequence::from_vec(proofs),
+    })
+}
+
+/// The first finished proof of the formula from the facts of the model.
+///
+/// # Errors
+/// `Unprovable` where there is none, `ShapeLimit` where as many shapes of unfinished lists as the problem allows come
+/// first, and `NoMemory`. The clauses say that each of the first two comes only there, and exclude each other.
+pub fn prove(
+    alloc: Global,
+    problem: &Problem,
+    formula: &[Atom],
+    vars: u32,
+    model: &Model,
+) -> Result<Answer, ProveErr>
+    requires problem { IsValid problem.now }
+    requires formula { All (IsAtomOf problem.now vars) formula.now }
+    requires few_variables { vars ≤ 12 }
+    requires objects { 0 < vars → 0 < problem.now.objects }
+    ensures first { IfOk result (λ answer. IsFirst (setting_of problem.now model.now.atoms) formula.now vars answer.objects (derivations (map_list derivation_of answer.proofs))) }
+    ensures few { IfOk result (λ answer. (shapes : List (List Tick)) → ¬ IsLimited (setting_of problem.now model.now.atoms) formula.now vars shapes) }
+    ensures few_before { IfOk result (λ answer. AreFewBefore (setting_of problem.now model.now.atoms) formula.now vars (derivations (map_list derivation_of answer.proofs))) }
+    ensures none { result ≡ Err ProveErr.Unprovable → ¬ IsAnswer (setting_of problem.now model.now.atoms) formula.now vars }
+    ensures none_few { result ≡ Err ProveErr.Unprovable → (shapes : List (List Tick)) → ¬ IsLimited (setting_of problem.now model.now.atoms) formula.now vars shapes }
+    ensures few_shapes { result ≡ Err ProveErr.Unprovable → AreFewShapes (setting_of problem.now model.now.atoms) formula.now vars }
+    ensures limited { IfShapeLimit result (IsLimited (setting_of problem.now model.now.atoms) formula.now vars) }
+{
+    let question = Question {
+        problem,
+        formula,
+        vars,
+        facts: model.atoms(),
+        loose: false,
+    };
+    let mut stack = match Stack::new(alloc, formula, vars, problem.height) {
+        Ok(stack) => stack,
+        Err(NoMemory) => return Err(ProveErr::NoMemory),
+    };
+    match walk_to_finished(alloc, &question, &mut stack, problem.shapes) {
+        Ok(End::Found) => match answer(alloc, &question, &stack) {
+            Ok(answer) => Ok(answer),
+            Err(NoMemory) => Err(ProveErr::NoMemory),
+        },
+        Ok(End::NoMore) => Err(ProveErr::Unprovable),
+        Ok(End::Limit(shapes)) => Err(ProveErr::ShapeLimit(shapes)),
+        Err(NoMemory) => Err(ProveErr::NoMemory),
+    }
+}

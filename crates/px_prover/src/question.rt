@@ -1,0 +1,12 @@
+use px_terms::{Atom, Problem};
+
+/// What is asked: a formula over so many variables, of a problem and the facts of a model.
+#[derive(Clone, Copy)]
+pub(crate) struct Question<'a> {
+    pub problem: &'a Problem,
+    pub formula: &'a [Atom],
+    pub vars: u32,
+    pub facts: &'a [Atom],
+    /// Whether an atom whose predicate some operator adds may be closed by a gap.
+    pub loose: bool,
+}

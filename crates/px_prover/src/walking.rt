@@ -1,0 +1,70 @@
+ghost use Rattle.std.specs.Prelude.{◌≡◌, ◌≤◌, ◌++◌, ◌∷◌, [], IfOk, length, replicate};
+ghost use Rattle.px_stack.specs.Arena.{goals_at, AreOlder};
+
+use crate::attempts::try_later;
+use crate::keep::keep;
+use crate::question::Question;
+use px_base::NoMemory;
+use px_proof::{Shape, Tick};
+use px_stack::Stack;
+use px_walk::Walk;
+
+/// Appends a tick for each open place.
+fn push_open(stack: &Stack, ticks: &mut Vec<Tick>) -> Result<(), NoMemory>
+    requires arena { AreOlder stack.now.goals }
+    requires within { stack.now.first ≤ length stack.now.goals }
+    ensures { IfOk result (λ _. ticks.new.items ≡ ticks.old.items ++ replicate (length (goals_at stack.now.goals stack.now.first)) Tick.Open) }
+{
+    let mut at = stack.first();
+    while at > 0 {
+        keep(ticks, Tick::Open)?;
+        at = stack.goal_at(at).next;
+    }
+    Ok(())
+}
+
+impl<'a> Walk<Question<'a>> for Stack {
+    ghost use Rattle.px_prover.specs.Asking.{setting_in, IsPossibleIn, IsFinishedIn, shape_in};
+    ghost use Rattle.px_prover.specs.Standing.{ticks_in, IsStanding};
+    ghost use Rattle.px_prover.specs.Shorter.{possible-shorter};
+
+    ghost ticks = { λ v. ticks_in v.choices };
+
+    ghost stands = { λ q v. IsStanding q.loose (setting_in q) q.formula.now q.vars v };
+
+    ghost possible = { λ q ticks. IsPossibleIn q ticks };
+
+    ghost shorter = { λ q. possible-shorter q.loose (setting_in q) q.formula.now q.vars };
+
+    ghost finished = { λ q ticks. IsFinishedIn q ticks };
+
+    ghost shape_of = { λ q ticks. shape_in q ticks };
+
+    ghost most = { λ q. q.problem.now.shapes };
+
+    fn try_after(&mut self, question: &Question<'a>, last: Option<Tick>) -> Result<bool, NoMemory> {
+        let place = self.first();
+        if place == 0 {
+            return Ok(false);
+        }
+        let goal = self.goal_at(place);
+        try_later(self, question, &goal, last)
+    }
+
+    fn retract(&mut self, _question: &Question<'a>) -> Option<Tick> {
+        self.retract_last()
+    }
+
+    fn is_finished(&self, _question: &Question<'a>) -> bool {
+        self.first() == 0
+    }
+
+    fn shape(&self, _question: &Question<'a>) -> Result<Shape, NoMemory> {
+        let mut ticks = Vec::new(*self.allocator());
+        for choice in self.choices() {
+            keep(&mut ticks, choice.tick)?;
+        }
+        push_open(self, &mut ticks)?;
+        Ok(Shape::from_ticks(ticks))
+    }
+}

@@ -1,0 +1,9 @@
+pub mod AncestorRange
+pub mod AxiomRange
+pub mod FactPlaces
+pub mod Hanging
+pub mod Literals
+pub mod NewVariables
+pub mod Opening
+pub mod PlaceRange
+pub mod Trying

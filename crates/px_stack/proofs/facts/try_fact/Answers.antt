@@ -1,0 +1,15 @@
+use Rattle.px_proof.specs.Literals.{positive_of}
+use Rattle.px_proof.specs.declared.shape.Tick.TheVariants.{Fact}
+use Rattle.px_stack.specs.Matches.{ClosesBy}
+use Rattle.px_stack.specs.Ranges.{TriesFact}
+use Rattle.px_stack.proofs.FactPlaces.{tried-fact}
+use Rattle.px_stack.proofs.Trying.{if_ok}
+use Rattle.px_stack.proofs.facts.try_fact.Goals as goal
+
+pub returns : goal.returns
+returns c =
+    if_ok c.close_by.result
+    (λ found. ClosesBy c.args.stack.now c.close_by.new.self (Fact c.args.number) c.args.goal.now.lit (positive_of c.args.fact.now) c.args.goal.now.next found)
+    (λ found. TriesFact c.args.stack.now c.close_by.new.self c.args.objects c.args.number c.args.fact.now c.args.goal.now found)
+    (λ found closes. tried-fact c.args.stack.now c.close_by.new.self c.args.objects c.args.number c.args.fact.now c.args.goal.now found (rw c.args-2.ensures.value at (c.all_below.ensures.0 c.if-not-all_below.false)) closes)
+    c.close_by.ensures

@@ -1,0 +1,89 @@
+ghost use Rattle.std.specs.Prelude.{◌≡◌, ◌↔◌, ◌<◌, ◌≤◌, ℕ, IsTrue, IfOk, All, length, slice_get, Some};
+ghost use Rattle.px_terms.specs.AtomSets.{IsAtomSet};
+ghost use Rattle.px_terms.specs.Instances.{IsGround};
+ghost use Rattle.px_unify.specs.Changes.{variables_of};
+ghost use Rattle.px_question.specs.Settings.{IsObjectBelow};
+ghost use Rattle.px_stack.specs.Parts.{IsLitBelow};
+ghost use Rattle.px_stack.specs.Ranges.{TriesRange, TriesFact, NeverFact, ComesFact, HasItsFacts};
+
+use crate::open::{OpenGoal, Stack};
+use px_proof::Tick;
+use px_terms::{Atom, Lit, NoMemory, Term};
+
+/// Is the term an object of the problem?
+fn is_object_below(objects: u32, term: Term) -> bool
+    ensures { IsTrue result ↔ IsObjectBelow objects term }
+{
+    match term {
+        Term::Obj(number) => number < objects,
+        Term::Var(_) => false,
+        Term::Any => false,
+    }
+}
+
+/// Are all terms objects of the problem?
+fn all_below(objects: u32, terms: &[Term]) -> bool
+    ensures { IsTrue result ↔ All (IsObjectBelow objects) terms.now }
+{
+    for term in terms {
+        if !is_object_below(objects, *term) {
+            return false;
+        }
+    }
+    true
+}
+
+/// Closes the first goal by the fact, if it has objects of the problem alone.
+fn try_fact(
+    stack: &mut Stack,
+    objects: u32,
+    number: u32,
+    fact: &Atom,
+    goal: &OpenGoal,
+) -> Result<bool, NoMemory>
+    requires goal_below { IsLitBelow (variables_of stack.old.changes) goal.now.lit }
+    ensures { IfOk result (λ found. TriesFact stack.old stack.new objects number fact.now goal.now found) }
+{
+    if !all_below(objects, fact.args()) {
+        return Ok(false);
+    }
+    let lit = Lit {
+        positive: true,
+        atom: *fact,
+    };
+    stack.close_by(Tick::Fact(number), &goal.lit, goal.next, &lit)
+}
+
+/// The first place of a fact with the predicate, and the first place after all of them.
+fn places_of(facts: &[Atom], pred: u32) -> (usize, usize)
+    requires { IsAtomSet facts.now }
+    ensures { HasItsFacts facts.now pred result.0 result.1 }
+{
+    let first = facts.partition_point(|fact| fact.pred() < pred);
+    let end = facts.partition_point(|fact| fact.pred() <= pred);
+    (first, end)
+}
+
+/// Closes the first goal by the first fact from the number on that does.
+pub fn try_facts(
+    stack: &mut Stack,
+    objects: u32,
+    facts: &[Atom],
+    goal: &OpenGoal,
+    from: usize,
+) -> Result<bool, NoMemory>
+    requires few { length facts.now < 4294967296 }
+    requires ascending { IsAtomSet facts.now }
+    requires goal_below { IsLitBelow (variables_of stack.old.changes) goal.now.lit }
+    ensures { IfOk result (λ found. TriesRange (NeverFact objects facts.now stack.old goal.now) (ComesFact objects facts.now stack.old goal.now) from (length facts.now) stack.old stack.new found) }
+{
+    let (first, end) = places_of(facts, goal.lit.atom.pred());
+    for number in from.max(first)..end {
+        match try_fact(stack, objects, number as u32, &facts[number], goal) {
+            Ok(true) => return Ok(true),
+            Ok(false) => {}
+            Err(NoMemory) => return Err(NoMemory),
+        }
+    }
+    Ok(false)
+}

@@ -1,0 +1,30 @@
+//! The state of the prover: a list of unfinished proofs, and the attempts to close its first open place.
+//!
+//! # Calling it
+//!
+//! - [`Stack`] holds the places of a list of proofs, in the order in which they are closed: which are open, how each
+//!   other one was closed, and what that binds. Contracts see it as a `StackValue` (`specs/States.antt`).
+//! - [`try_facts`], [`try_ancestors`] and [`try_axioms`] close the first open place by the first fact, the nearest
+//!   ancestor, or the first literal of an axiom, from a number on, that can be made equal to its literal. They answer
+//!   whether one can. Where none can, nothing has changed. `TriesRange` in `specs/Ranges.antt` is what they say: what
+//!   closes the place, and that nothing before it ever does, whatever objects the variables stand for.
+//!   [`close_by_gap`] closes the place by nothing.
+//! - `retract_last` opens the place again that was closed last, and gives back the very state before.
+//! - After `NoMemory` a state is of no further use.
+#![tactic(auto)]
+
+mod ancestors;
+mod axioms;
+mod facts;
+mod gaps;
+mod matching;
+mod open;
+mod parts;
+mod places;
+mod stepping;
+
+pub use ancestors::try_ancestors;
+pub use axioms::try_axioms;
+pub use facts::try_facts;
+pub use gaps::close_by_gap;
+pub use open::{Choice, OpenGoal, Stack};
