@@ -1,4 +1,15 @@
+pub mod Carrying
+pub mod Choices
+pub mod Conclusions
 pub mod EntryLaws
 pub mod EntryOrder
+pub mod Kernels
+pub mod MarkLaws
+pub mod Marks
 pub mod NodeLaws
 pub mod Nodes
+pub mod Once
+pub mod OnceLaws
+pub mod RowLaws
+pub mod Supports
+pub mod Tables

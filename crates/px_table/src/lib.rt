@@ -14,12 +14,32 @@
 //! - `try_copy` of each answers an equal value, or `NoMemory`.
 #![tactic(auto)]
 
+mod building;
+mod conclusions;
 mod entry;
+mod goal_row;
+mod kept;
+mod kernel_atoms;
 mod laws;
+mod mark;
+mod mark_list;
 mod node;
+mod proper_instance;
+mod ranges;
+mod table;
+#[cfg(test)]
+mod table_tests;
 #[cfg(test)]
 mod tests;
+mod under_objects;
+mod validation;
 
+pub use building::build;
 pub use entry::{Entry, Move};
+pub use kernel_atoms::kernel;
 pub use laws::{entries_are_ordered, nodes_are_compared};
+pub use mark::Mark;
 pub use node::Node;
+pub use proper_instance::proper;
+pub use table::{Row, Table};
+pub use validation::check_table;
