@@ -3,6 +3,7 @@ pub mod Choices
 pub mod Conclusions
 pub mod EntryLaws
 pub mod EntryOrder
+pub mod KernelLaws
 pub mod Kernels
 pub mod MarkLaws
 pub mod Marks
@@ -13,3 +14,4 @@ pub mod OnceLaws
 pub mod RowLaws
 pub mod Supports
 pub mod Tables
+pub mod UnderLaws

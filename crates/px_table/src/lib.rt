@@ -26,6 +26,7 @@ mod mark_list;
 mod node;
 mod proper_instance;
 mod ranges;
+mod schema;
 mod table;
 #[cfg(test)]
 mod table_tests;

@@ -1,7 +1,6 @@
 ghost use Rattle.std.specs.Prelude.{◌≡◌, ◌↔◌, ◌+◌, ◌<◌, ◌≤◌, Some, All, IsTrue, length, map, slice_get};
-ghost use Rattle.px_terms.specs.Operators.{adds as adds_of, precondition, schema_of as spec_schema_of};
-ghost use Rattle.px_terms.specs.Validity.{IsAtomOf, IsSchemaWellFormed, IsValid};
-ghost use Rattle.px_ops.specs.Models.{IsInstanceOfSchema};
+ghost use Rattle.px_terms.specs.Operators.{adds as adds_of, precondition};
+ghost use Rattle.px_terms.specs.Validity.{IsAtomOf, IsValid};
 ghost use Rattle.px_proof.specs.ProofTerm.{derivation_of};
 ghost use Rattle.px_proof.specs.Proves.{IsName};
 ghost use Rattle.px_table.specs.Kernels.{KernelsCarry};
@@ -14,10 +13,11 @@ use crate::goal_row::goal_is_proved;
 use crate::mark::Mark;
 use crate::mark_list::marks_are_leaves;
 use crate::ranges::{is_atom_of, is_in_range};
-use crate::table::{Row, Table};
+use crate::schema::schema_of;
+use crate::table::Table;
 use px_ops::{adds, pre};
 use px_proof::{Proof, is_tree};
-use px_terms::{OpInst, Problem, Schema};
+use px_terms::{OpInst, Problem};
 
 /// Is it a table for the problem? It is where its numbers are in range, its rows prove the preconditions of its steps and
 /// an instance of its goal over the problem's objects and the parameters, each mark names where its atom comes from, and
@@ -28,21 +28,18 @@ pub fn check_table(problem: &Problem, table: &Table) -> bool
     ensures exact { IsTrue result ↔ IsTable problem.now table.now }
     ensures carries { IsTrue result → KernelsCarry problem.now table.now }
 {
+    is_table(problem, table)
+}
+
+/// Does the table meet each of the conditions?
+fn is_table(problem: &Problem, table: &Table) -> bool
+    requires { IsValid problem.now }
+    ensures { IsTrue result ↔ IsTable problem.now table.now }
+{
     is_in_range(problem, table)
         && rows_prove(problem, table)
         && marks_are_leaves(table)
         && are_marks_of(problem, table)
-}
-
-/// The schema of the step's operator.
-fn schema_of<'a>(problem: &'a Problem, params: u32, inst: &OpInst) -> &'a Schema
-    requires problem { IsValid problem.now }
-    requires inst { IsStepOf problem.now params inst.now }
-    ensures schema { result.now ≡ spec_schema_of problem.now inst.now }
-    ensures well_formed { IsSchemaWellFormed result.now }
-    ensures instance { IsInstanceOfSchema result.now inst.now }
-{
-    &problem.schemas.as_slice()[inst.op() as usize]
 }
 
 /// Do the proofs of the row prove the step's precondition?
@@ -51,7 +48,7 @@ fn row_proves(problem: &Problem, params: u32, inst: &OpInst, row: &[Proof]) -> b
     requires inst { IsStepOf problem.now params inst.now }
     ensures { IsTrue result ↔ ProvesEachOf (IsName problem.now.objects params) problem.now.axioms (precondition problem.now inst.now) (map derivation_of row.now) }
 {
-    let schema = schema_of(problem, params, inst);
+    let schema = schema_of(problem, inst);
     if row.len() != schema.pre.len() {
         return false;
     }
@@ -95,7 +92,7 @@ fn adds_mark(problem: &Problem, params: u32, inst: &OpInst, mark: &Mark) -> bool
     requires inst { IsStepOf problem.now params inst.now }
     ensures { IsTrue result ↔ (slice_get (adds_of problem.now inst.now) mark.now.index ≡ Some mark.now.atom) }
 {
-    let schema = schema_of(problem, params, inst);
+    let schema = schema_of(problem, inst);
     let index = mark.index as usize;
     index < schema.add.len() && adds(schema, inst, index) == mark.atom
 }

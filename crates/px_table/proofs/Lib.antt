@@ -1,0 +1,6 @@
+pub mod Choosing
+pub mod Fronts
+pub mod KeptSteps
+pub mod Layers
+pub mod Loops
+pub mod Writing
