@@ -1,12 +1,14 @@
 -- The terms that a goal's variables get from the conclusions of its row.
-use Rattle.std.proofs.Common.{◌≡◌, ◌↔◌, ◌⊎◌, ℕ, zero, suc, ◌+◌, ◌-◌, ◌<◌, ◌≤◌, Bool, true, false, cond, List, [], ◌∷◌, ◌++◌, length, map, drop, get_or, refl, sym, ap, ◌∙◌, subst, inl, inr, arith, Some, None, eq-eqb}
+use Rattle.std.proofs.Common.{◌≡◌, ◌↔◌, ◌⊎◌, ℕ, zero, suc, ◌+◌, ◌-◌, ◌<◌, ◌≤◌, Bool, true, false, cond, List, [], ◌∷◌, ◌++◌, length, map, drop, get_or, refl, sym, ap, ◌∙◌, subst, inl, inr, arith, Some, None, eq-eqb, add-one}
 use Rattle.std.specs.Prelude.{All, Option, Contains, nat_lt, ◌==◌}
 use Rattle.std.proofs.lemmas.Bool.Decides.{nat_tests}
 use Rattle.std.proofs.lemmas.List.{get_or_append_left, get_or-append_right, length-map}
 use Rattle.std.proofs.Math.Seq.{drop-cons}
 use Rattle.px_base.specs.ListLaws.{All-at, Contains-none, Contains-first, Contains-later, Contains-cases}
 use Rattle.px_terms.specs.declared.atom.Atom.{Atom}
+use Rattle.px_terms.specs.declared.clause.Clause.{Clause}
 use Rattle.px_terms.specs.declared.problem.Problem.{Problem}
+use Rattle.px_proof.specs.declared.proof.Proof.{Proof}
 use Rattle.px_terms.specs.declared.term.Term.{Term}
 use Rattle.px_terms.specs.declared.term.Term.TheVariants.{Obj, Var, Any}
 use Rattle.px_terms.specs.Language.{substitute}
@@ -14,7 +16,8 @@ use Rattle.px_terms.specs.Substitution.{substitute_atom}
 use Rattle.px_terms.specs.Validity.{IsAtomOf, IsTermOf}
 use Rattle.px_table.specs.Choices.{atom_by, choice_of, chosen_or_any, first_answer, term_beside, term_by, term_if}
 use Rattle.px_table.specs.Supports.{variables, variables_from}
-use Rattle.px_table.proofs.Loops.{drop_whole}
+use Rattle.px_table.specs.Conclusions.{AreConclusions, IsConclusion}
+use Rattle.px_table.proofs.Loops.{drop_whole, read_itself, zip_at, zip_length}
 
 -- ---- steps of the loops
 
@@ -166,3 +169,25 @@ module _ (problem : Problem) (params goal_vars : ℕ) (goal : List Atom) (in_ran
         (λ pattern has.
         ap (λ (args : List Term). record { pred = pattern.pred; args = args })
         (map_alike (term_by params goal Given) (substitute (variables params ++ chosen)) pattern.args (λ t inside. term-given pattern has t inside)))
+
+-- ---- the conclusion of one proof of the row
+
+abbrev pub no_atom : Atom
+no_atom = record { pred = 0; args = [] }
+
+module _ (axioms : List Clause) (row : List Proof) (k : ℕ) (proof : Proof) (is : proof ≡ get_or row k proof) (below : k < length row) (atoms : List Atom) (concluded : AreConclusions axioms atoms row) where
+  pub within_atoms : k < length atoms
+  within_atoms = let same = zip_length (IsConclusion axioms) atoms row concluded in omega (arith, below, same)
+
+  pub conclusion_here : IsConclusion axioms (get_or atoms k no_atom) proof
+  conclusion_here = subst (IsConclusion axioms (get_or atoms k no_atom)) (sym is) (zip_at (IsConclusion axioms) atoms row k no_atom proof concluded within_atoms)
+
+  pub choice_here : (v : ℕ) (goal : List Atom) (pattern : Atom) → k < length goal → pattern ≡ get_or goal k pattern
+      → choice_of v (drop k goal) (drop k atoms) ≡ first_answer (term_beside v pattern.args (get_or atoms k no_atom).args) (choice_of v (drop (k + 1) goal) (drop (k + 1) atoms))
+  choice_here v goal pattern below' is' = rw (add-one k) (choice_step v goal atoms k pattern (get_or atoms k no_atom) below' within_atoms is' (read_itself atoms k no_atom within_atoms))
+
+pub atom_is : (a b : Atom) → a.pred ≡ b.pred → a.args ≡ b.args → a ≡ b
+atom_is a b p q = λ i. record { pred = p i; args = q i }
+
+pub nothing_is_some : {X G : Type 0} (x : X) → ◌≡◌ None (Some x) → G
+nothing_is_some x e = cc

@@ -3,6 +3,7 @@ use Rattle.std.proofs.Common.{◌≡◌, ◌⊎◌, ℕ, zero, suc, ◌+◌, ◌
 use Rattle.std.specs.Prelude.{All}
 use Rattle.std.specs.List.{AllZip}
 use Rattle.std.proofs.lemmas.List.{get_or_default, take_more, map-append}
+use Rattle.std.proofs.lemmas.List.Elements.{All-cons}
 
 below_or_here : (j i : ℕ) → j < i + 1 → (j < i) ⊎ (j ≡ i)
 below_or_here j i h = grind arith
@@ -45,6 +46,14 @@ map_at f (x ∷ xs) (y ∷ ys) zero d e below same = cc
 map_at f (x ∷ xs) (y ∷ ys) (suc i) d e below same =
     let rest : map f xs ≡ ys = cc in
     map_at f xs ys i d e (omega (arith, below)) rest
+
+pub get_map : {X Y : Type 0} (f : X → Y) (xs : List X) (i : ℕ) (d : X) (e : Y) → i < length xs → get_or (map f xs) i e ≡ f (get_or xs i d)
+get_map f [] i d e below = absurd (omega (arith, below))
+get_map f (x ∷ xs) zero d e below = refl
+get_map f (x ∷ xs) (suc i) d e below = get_map f xs i d e (omega (arith, below))
+
+pub read_itself : {X : Type 0} (xs : List X) (i : ℕ) (d : X) → i < length xs → get_or xs i d ≡ get_or xs i (get_or xs i d)
+read_itself xs i d below = get_or_default xs i d (get_or xs i d) below
 
 -- ---- two lists, item by item
 
@@ -89,8 +98,7 @@ pub zip_each : {A B : Type 0} (R : A → B → Type 0) (xs : List A) (ys : List 
 zip_each R [] [] h = λ k d below. absurd (omega (arith, below))
 zip_each R [] (y ∷ ys) h = absurd h
 zip_each R (x ∷ xs) [] h = absurd h
-zip_each R (x ∷ xs) (y ∷ ys) h zero d below = (x, h.0)
-zip_each R (x ∷ xs) (y ∷ ys) h (suc k) d below = zip_each R xs ys h.1 k d (omega (arith, below))
+zip_each R (x ∷ xs) (y ∷ ys) h = All-cons (λ y. (x : _) × R x y) y ys (x, h.0) (zip_each R xs ys h.1)
 
 -- the second list under a map
 pub zip_to_map : {A B C : Type 0} (R : A → C → Type 0) (g : B → C) (xs : List A) (ys : List B) → AllZip (λ x y. R x (g y)) xs ys → AllZip R xs (map g ys)

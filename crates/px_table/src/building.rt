@@ -38,18 +38,25 @@ pub fn build(
     ensures carries { (atoms : List _) → Supports problem.now atoms steps.now goal.now goal_vars (rows_of support.items) → Carries problem.now atoms steps.now goal_vars goal.now }
 {
     let marks = marks_of(alloc, &support)?;
-    let mut table_steps = Vec::new(alloc);
-    table_steps.extend_from_slice(steps)?;
-    let mut table_goal = Vec::new(alloc);
-    table_goal.extend_from_slice(goal)?;
+    let table_steps = copied(alloc, steps)?;
+    let table_goal = copied(alloc, goal)?;
     Ok(Table {
         params: 0,
-        steps: Sequence::from_vec(table_steps),
-        goal: Sequence::from_vec(table_goal),
+        steps: table_steps,
+        goal: table_goal,
         goal_vars,
         marks: Sequence::from_vec(marks),
         proofs: Sequence::from_vec(support),
     })
+}
+
+/// A copy of the items.
+fn copied<T: Copy>(alloc: Global, items: &[T]) -> Result<Sequence<T>, NoMemory>
+    ensures { IfOk result (λ copy. copy ≡ items.now) }
+{
+    let mut copies = Vec::new(alloc);
+    copies.extend_from_slice(items)?;
+    Ok(Sequence::from_vec(copies))
 }
 
 /// The marks of the rows, the first of which has number 1.

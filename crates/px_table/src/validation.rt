@@ -36,10 +36,10 @@ fn is_table(problem: &Problem, table: &Table) -> bool
     requires { IsValid problem.now }
     ensures { IsTrue result ↔ IsTable problem.now table.now }
 {
-    is_in_range(problem, table)
-        && rows_prove(problem, table)
-        && marks_are_leaves(table)
-        && are_marks_of(problem, table)
+    if !is_in_range(problem, table) || !rows_prove(problem, table) {
+        return false;
+    }
+    marks_are_leaves(table) && are_marks_of(problem, table)
 }
 
 /// Do the proofs of the row prove the step's precondition?

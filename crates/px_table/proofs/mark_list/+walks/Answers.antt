@@ -14,7 +14,10 @@ after_proof-returns-in-Step t c =
     (rw c.as_slice.ensures at c.after_proofs.ensures)
 
 pub after_proofs-returns-in-None : goal.after_proofs-returns-in-None
-after_proofs-returns-in-None t c = ?
+after_proofs-returns-in-None t c =
+    walk-fails c.args.marks.now c.args.count c.args.row c.args.proofs.now c.loop-proof.proof-index c.proof-item.result c.proof-item.is c.loop-proof-test.true c.loop-proof.at c.loop-proof.invariant.front c.in-None.ensures
 
 pub after_proofs-loop-proof-preserved : goal.after_proofs-loop-proof-preserved
-after_proofs-loop-proof-preserved t c = ?
+after_proofs-loop-proof-preserved t c =
+    let next = walk-next c.args.marks.now c.args.count c.args.row c.args.proofs.now c.loop-proof.proof-index c.proof-item.result c.proof-item.is c.loop-proof-test.true c.loop-proof.at c.loop-proof.invariant.front c.in-Some.next c.in-Some.ensures in
+    record { within = next.0; front = next.1 }
