@@ -12,6 +12,7 @@ pub mod Nodes
 pub mod Once
 pub mod OnceLaws
 pub mod RowLaws
+pub mod SupportLaws
 pub mod Supports
 pub mod Tables
 pub mod UnderLaws
