@@ -1,7 +1,8 @@
 pub mod Choosing
 pub mod Fronts
-pub mod KernelSteps
+pub mod GivenSupport
 pub mod KeptSteps
+pub mod KernelSteps
 pub mod Layers
 pub mod Loops
 pub mod RowSteps

@@ -31,6 +31,8 @@ mod table;
 #[cfg(test)]
 mod table_tests;
 #[cfg(test)]
+mod test_problems;
+#[cfg(test)]
 mod tests;
 mod under_objects;
 mod validation;

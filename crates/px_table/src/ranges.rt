@@ -67,7 +67,7 @@ fn are_steps_of(problem: &Problem, params: u32, steps: &[OpInst]) -> bool
 }
 
 /// Is each of the atoms one of the problem over its objects and so many variables?
-fn are_atoms_of(problem: &Problem, vars: u64, atoms: &[Atom]) -> bool
+pub fn are_atoms_of(problem: &Problem, vars: u64, atoms: &[Atom]) -> bool
     ensures { IsTrue result ↔ All (IsAtomOf problem.now vars) atoms.now }
 {
     for atom in atoms {
