@@ -1,10 +1,10 @@
-ghost use Rattle.std.specs.Prelude.{◌≡◌, ◌<◌, ◌≤◌, ℕ, All, EachIndex, IfOk, IsTrue, length, slice_index_or};
+ghost use Rattle.std.specs.Prelude.{◌≡◌, ◌<◌, ◌≤◌, ℕ, All, EachIndex, IsTrue, length, slice_index_or};
 ghost use Rattle.px_terms.specs.Operators.{no_schema};
 ghost use Rattle.px_terms.specs.declared.clause.Clause.{Clause};
 ghost use Rattle.px_terms.specs.Validity.{IsAtomOf, IsAxiomOf, IsPatternOf, IsPatternTermOf, IsSchemaOf, IsValid};
 
 use crate::ranges::{are_atoms_of, is_atom_of};
-use px_base::{NoMemory, Sequence};
+use px_base::Sequence;
 use px_terms::{Atom, ClauseArena, Lit, OpInst, Problem, Schema, Term};
 use std::alloc::Global;
 use std::process::Abort;
@@ -129,10 +129,10 @@ fn is_valid(problem: &Problem) -> bool
     are_schemas(problem, problem.schemas.as_slice())
 }
 
-pub fn sequence_of<T: Copy>(alloc: Global, items: &[T]) -> Result<Sequence<T>, NoMemory> {
+pub fn sequence_of<T: Copy>(alloc: Global, rt: &impl Abort, items: &[T]) -> Sequence<T> {
     let mut made = Vec::new(alloc);
-    made.extend_from_slice(items)?;
-    Ok(Sequence::from_vec(made))
+    made.extend_from_slice(items).expect(rt, "memory");
+    Sequence::from_vec(made)
 }
 
 pub fn atom(rt: &impl Abort, pred: u32, args: &[Term]) -> Atom {
@@ -143,21 +143,11 @@ pub fn instance(rt: &impl Abort, op: u32, args: &[Term]) -> OpInst {
     OpInst::new(op, args).expect(rt, "at most eight arguments")
 }
 
-fn schema(
-    alloc: Global,
-    op: u32,
-    params: u32,
-    pre: &[Atom],
-    del: &[Atom],
-    add: &[Atom],
-) -> Result<Schema, NoMemory> {
-    Ok(Schema {
-        op,
-        params,
-        pre: sequence_of(alloc, pre)?,
-        del: sequence_of(alloc, del)?,
-        add: sequence_of(alloc, add)?,
-    })
+fn schemas_of(alloc: Global, rt: &impl Abort, first: Schema, second: Schema) -> Sequence<Schema> {
+    let mut schemas = Vec::new(alloc);
+    schemas.push(first).expect(rt, "memory");
+    schemas.push(second).expect(rt, "memory");
+    Sequence::from_vec(schemas)
 }
 
 fn problem(
@@ -166,25 +156,21 @@ fn problem(
     objects: u32,
     arities: &[u8],
     axioms: ClauseArena,
-    first: Schema,
-    second: Schema,
-) -> Result<Problem, NoMemory>
-    ensures { IfOk result IsValid }
+    schemas: Sequence<Schema>,
+) -> Problem
+    ensures { IsValid result }
 {
-    let mut schemas = Vec::new(alloc);
-    schemas.push(first)?;
-    schemas.push(second)?;
     let problem = Problem {
         objects,
-        arities: sequence_of(alloc, arities)?,
+        arities: sequence_of(alloc, rt, arities),
         axioms,
-        schemas: Sequence::from_vec(schemas),
+        schemas,
         height: 8,
         nodes: 100,
         shapes: 100,
     };
     assert!(rt; is_valid(&problem));
-    Ok(problem)
+    problem
 }
 
 const X: Term = Term::Var(0);
@@ -192,19 +178,34 @@ const Y: Term = Term::Var(1);
 const Z: Term = Term::Var(2);
 const W: Term = Term::Var(3);
 
-/// A(x) needs P(x), deletes Q(x) and adds R(x); B(x,y) needs R(x) and Q(y), and adds G(x). The objects are a and b, and the
-/// predicates P, Q, R and G.
-pub fn two_names(alloc: Global, rt: &impl Abort) -> Result<Problem, NoMemory>
-    ensures { IfOk result IsValid }
+/// A(x) needs P(x), deletes Q(x) and adds R(x).
+fn operator_a(alloc: Global, rt: &impl Abort) -> Schema {
+    Schema {
+        op: 0,
+        params: 1,
+        pre: sequence_of(alloc, rt, &[atom(rt, 0, &[X])]),
+        del: sequence_of(alloc, rt, &[atom(rt, 1, &[X])]),
+        add: sequence_of(alloc, rt, &[atom(rt, 2, &[X])]),
+    }
+}
+
+/// B(x,y) needs R(x) and Q(y), and adds G(x).
+fn operator_b(alloc: Global, rt: &impl Abort) -> Schema {
+    Schema {
+        op: 1,
+        params: 2,
+        pre: sequence_of(alloc, rt, &[atom(rt, 2, &[X]), atom(rt, 1, &[Y])]),
+        del: sequence_of(alloc, rt, &[]),
+        add: sequence_of(alloc, rt, &[atom(rt, 3, &[X])]),
+    }
+}
+
+/// The objects a and b, the predicates P, Q, R and G, and the operators A and B.
+pub fn two_names(alloc: Global, rt: &impl Abort) -> Problem
+    ensures { IsValid result }
 {
-    let p = atom(rt, 0, &[X]);
-    let q = atom(rt, 1, &[X]);
-    let q_of_y = atom(rt, 1, &[Y]);
-    let r = atom(rt, 2, &[X]);
-    let g = atom(rt, 3, &[X]);
-    let first = schema(alloc, 0, 1, &[p], &[q], &[r])?;
-    let second = schema(alloc, 1, 2, &[r, q_of_y], &[], &[g])?;
-    problem(alloc, rt, 2, &[1, 1, 1, 1], ClauseArena::new(alloc), first, second)
+    let schemas = schemas_of(alloc, rt, operator_a(alloc, rt), operator_b(alloc, rt));
+    problem(alloc, rt, 2, &[1, 1, 1, 1], ClauseArena::new(alloc), schemas)
 }
 
 /// A door that connects one room with another connects the other with the one.
@@ -222,31 +223,42 @@ fn doors_lead_both_ways(alloc: Global, rt: &impl Abort) -> ClauseArena {
     axioms
 }
 
-/// The rooms and the box: GOTHRU(d,r1,r2) and PUSHTHRU(b,d,r1,r2). The objects are ROBOT, R1, R2, R3, D1, D2 and B1, and the
-/// predicates INROOM, CONNECTS and BOX.
-pub fn rooms(alloc: Global, rt: &impl Abort) -> Result<Problem, NoMemory>
-    ensures { IfOk result IsValid }
-{
+/// GOTHRU(d,r1,r2): the robot goes through a door.
+fn going(alloc: Global, rt: &impl Abort) -> Schema {
     let robot = Term::Obj(0);
-    let here = atom(rt, 0, &[robot, Y]);
-    let doors = atom(rt, 1, &[X, Y, Z]);
-    let anywhere = atom(rt, 0, &[robot, Term::Any]);
-    let there = atom(rt, 0, &[robot, Z]);
-    let going = schema(alloc, 0, 3, &[here, doors], &[anywhere], &[there])?;
-    let box_here = atom(rt, 0, &[X, Z]);
-    let robot_here = atom(rt, 0, &[robot, Z]);
-    let door = atom(rt, 1, &[Y, Z, W]);
-    let box_anywhere = atom(rt, 0, &[X, Term::Any]);
-    let robot_there = atom(rt, 0, &[robot, W]);
-    let box_there = atom(rt, 0, &[X, W]);
-    let pushing = schema(
-        alloc,
-        1,
-        4,
-        &[box_here, robot_here, door],
-        &[anywhere, box_anywhere],
-        &[robot_there, box_there],
-    )?;
-    let axioms = doors_lead_both_ways(alloc, rt);
-    problem(alloc, rt, 7, &[2, 3, 1], axioms, going, pushing)
+    let needed = [atom(rt, 0, &[robot, Y]), atom(rt, 1, &[X, Y, Z])];
+    Schema {
+        op: 0,
+        params: 3,
+        pre: sequence_of(alloc, rt, &needed),
+        del: sequence_of(alloc, rt, &[atom(rt, 0, &[robot, Term::Any])]),
+        add: sequence_of(alloc, rt, &[atom(rt, 0, &[robot, Z])]),
+    }
+}
+
+/// PUSHTHRU(b,d,r1,r2): the robot pushes a box through a door.
+fn pushing(alloc: Global, rt: &impl Abort) -> Schema {
+    let robot = Term::Obj(0);
+    let needed = [
+        atom(rt, 0, &[X, Z]),
+        atom(rt, 0, &[robot, Z]),
+        atom(rt, 1, &[Y, Z, W]),
+    ];
+    let deleted = [atom(rt, 0, &[robot, Term::Any]), atom(rt, 0, &[X, Term::Any])];
+    let added = [atom(rt, 0, &[robot, W]), atom(rt, 0, &[X, W])];
+    Schema {
+        op: 1,
+        params: 4,
+        pre: sequence_of(alloc, rt, &needed),
+        del: sequence_of(alloc, rt, &deleted),
+        add: sequence_of(alloc, rt, &added),
+    }
+}
+
+/// The objects ROBOT, R1, R2, R3, D1, D2 and B1, the predicates INROOM, CONNECTS and BOX, and these two operators.
+pub fn rooms(alloc: Global, rt: &impl Abort) -> Problem
+    ensures { IsValid result }
+{
+    let schemas = schemas_of(alloc, rt, going(alloc, rt), pushing(alloc, rt));
+    problem(alloc, rt, 7, &[2, 3, 1], doors_lead_both_ways(alloc, rt), schemas)
 }
