@@ -144,10 +144,10 @@ module _ (problem : Problem) (params goal_vars : ℕ) (goal : List Atom) (in_ran
     choices_from params goal_vars goal atoms,
     length-choices params goal_vars goal atoms,
     sym (map_alike (atom_by params goal atoms) (substitute_atom (variables params ++ choices_from params goal_vars goal atoms)) goal
-    (λ pattern has.
-    ap (λ (args : List Term). record { pred = pattern.pred; args = args })
-    (map_alike (term_by params goal atoms) (substitute (variables params ++ choices_from params goal_vars goal atoms)) pattern.args
-    (λ t inside. term-made atoms t (All-at (IsTermOf problem (params + goal_vars)) pattern.args t (All-at (IsAtomOf problem (params + goal_vars)) goal pattern in_range has).1 inside))))) ∙ is,
+        (λ pattern has.
+        ap (λ (args : List Term). record { pred = pattern.pred; args = args })
+        (map_alike (term_by params goal atoms) (substitute (variables params ++ choices_from params goal_vars goal atoms)) pattern.args
+        (λ t inside. term-made atoms t (All-at (IsTermOf problem (params + goal_vars)) pattern.args t (All-at (IsAtomOf problem (params + goal_vars)) goal pattern in_range has).1 inside))))) ∙ is,
   )
 
   module _ (chosen : List Term) where

@@ -15,7 +15,8 @@ use Rattle.px_terms.specs.ValidityLaws.{atom_of-is_ground}
 use Rattle.px_proof.specs.declared.proof.Leaf.{Leaf}
 use Rattle.px_proof.specs.declared.proof.Proof.{Proof}
 use Rattle.px_proof.specs.declared.proof.Proof.TheOpen as layer
-use Rattle.px_proof.specs.declared.proof.Proof.TheViews.{Fact, rolls-Fact}
+use Rattle.px_proof.specs.declared.proof.Proof.TheVariants.{Fact}
+use Rattle.px_proof.specs.declared.proof.Proof.TheViews.{rolls-Fact}
 use Rattle.px_proof.specs.declared.proof.Proof.TheFolds.{fold-roll-Proof}
 use Rattle.px_proof.specs.Derivation.{Derivation, fact, leaf_atoms, leaves_of, terms_of}
 use Rattle.px_proof.specs.ProofTerm.{derivation_of, derivation_step}

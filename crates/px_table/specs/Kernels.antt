@@ -7,11 +7,14 @@ use Rattle.px_terms.specs.declared.term.Term.TheVariants.{Obj}
 use Rattle.px_terms.specs.Order.{atom_eq}
 use Rattle.px_terms.specs.Plans.{Carries}
 use Rattle.px_terms.specs.Substitution.{substitute_atom, substitute_instance}
+use Rattle.px_proof.specs.Derivation.{Derivation}
+use Rattle.px_proof.specs.Substitution.{derivation_under}
 use Rattle.px_table.specs.declared.mark.Mark.{Mark}
 use Rattle.px_table.specs.declared.table.Table.{Table}
 use Rattle.px_table.specs.Marks.{IsKept}
 use Rattle.px_table.specs.Once.{each_once}
 use Rattle.px_table.specs.Supports.{variables}
+use Rattle.px_table.specs.Tables.{rows_of}
 
 -- the marks that step `i` or a later row rests on and that stand before step `i`
 abbrev pub kernel_marks : Table → ℕ → List Mark
@@ -45,6 +48,10 @@ steps_under table sigma = map (instance_under sigma) table.steps
 
 abbrev pub goal_under : Table → List ℕ → List Atom
 goal_under table sigma = map (substitute_atom (map Obj sigma ++ variables table.goal_vars)) table.goal
+
+-- the rows, with the objects in their proofs
+abbrev pub rows_under : Table → List ℕ → List (List Derivation)
+rows_under table sigma = map (map (derivation_under (map Obj sigma))) (rows_of table.proofs)
 
 -- no step from `i` on deletes the instance of a mark whose column it comes after and whose row it comes before
 abbrev pub IsProper : Problem → Table → List ℕ → ℕ → Type 0

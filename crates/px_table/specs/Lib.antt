@@ -13,6 +13,7 @@ pub mod Once
 pub mod OnceLaws
 pub mod RowLaws
 pub mod SupportLaws
+pub mod SupportShapes
 pub mod Supports
 pub mod Tables
 pub mod UnderLaws

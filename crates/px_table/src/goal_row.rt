@@ -16,13 +16,7 @@ fn beside(variable: u32, pattern: Term, term: Term) -> Option<Term>
     ensures { result ≡ term_if variable pattern term }
 {
     match pattern {
-        Term::Var(number) => {
-            if number == variable {
-                Some(term)
-            } else {
-                None
-            }
-        }
+        Term::Var(number) => { if number == variable { Some(term) } else { None } }
         Term::Obj(_) | Term::Any => None,
     }
 }

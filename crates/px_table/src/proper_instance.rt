@@ -59,7 +59,9 @@ fn is_kept(problem: &Problem, table: &Table, sigma: &[u32], first: u32, mark: &M
 {
     let atom = atom_with(sigma, &mark.atom);
     for (before, step) in table.steps.as_slice().iter().enumerate() {
-        if stands_between(first, mark, before + 1) && step_deletes(problem, table, sigma, step, &atom) {
+        if stands_between(first, mark, before + 1)
+            && step_deletes(problem, table, sigma, step, &atom)
+        {
             return false;
         }
     }
@@ -67,13 +69,7 @@ fn is_kept(problem: &Problem, table: &Table, sigma: &[u32], first: u32, mark: &M
 }
 
 /// Does the step's instance delete the atom?
-fn step_deletes(
-    problem: &Problem,
-    table: &Table,
-    sigma: &[u32],
-    step: &OpInst,
-    atom: &Atom,
-) -> bool
+fn step_deletes(problem: &Problem, table: &Table, sigma: &[u32], step: &OpInst, atom: &Atom) -> bool
     requires problem { IsValid problem.now }
     requires step { IsStepOf problem.now table.now.params step.now }
     requires sigma { IsInstantiation problem.now table.now sigma.now }

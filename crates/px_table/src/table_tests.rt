@@ -46,13 +46,7 @@ fn row_of_two(alloc: Global, rt: &impl Abort, first: Proof, second: Proof) -> Ro
     Row::from_proofs(proofs)
 }
 
-fn row_of_three(
-    alloc: Global,
-    rt: &impl Abort,
-    first: Proof,
-    second: Proof,
-    third: Proof,
-) -> Row {
+fn row_of_three(alloc: Global, rt: &impl Abort, first: Proof, second: Proof, third: Proof) -> Row {
     let mut proofs = Vec::new(alloc);
     proofs.push(first).expect(rt, "memory");
     proofs.push(second).expect(rt, "memory");
@@ -88,6 +82,7 @@ fn is_instantiation(problem: &Problem, table: &Table, sigma: &[u32]) -> bool
 }
 
 const P1: Term = Term::Var(0);
+
 const P2: Term = Term::Var(1);
 
 /// The rows of the steps A(p1) and B(p1,p2) and of the goal G(p1).
@@ -147,15 +142,20 @@ fn two_parameters_with_one_object_are_not_proper(rt: HostRuntime) {
 }
 
 const ROBOT: Term = Term::Obj(0);
+
 const R1: Term = Term::Obj(1);
+
 const R2: Term = Term::Obj(2);
+
 const D1: Term = Term::Obj(4);
+
 const B1: Term = Term::Obj(6);
 
 /// CONNECTS(D1,R2,R1), by the axiom from CONNECTS(D1,R1,R2).
 fn the_other_way(alloc: Global, rt: &impl Abort) -> Proof {
     let mut subs = Vec::new(alloc);
-    subs.push(fact(0, 0, atom(rt, 1, &[D1, R1, R2]))).expect(rt, "memory");
+    subs.push(fact(0, 0, atom(rt, 1, &[D1, R1, R2])))
+        .expect(rt, "memory");
     Proof::Step {
         clause: 0,
         theta: sequence_of(alloc, rt, &[D1, R1, R2]),
@@ -171,7 +171,13 @@ fn door_rows(alloc: Global, rt: &impl Abort) -> Sequence<Row> {
     let first = row_of_two(alloc, rt, robot_at_first, connects);
     let box_at_first = fact(0, 0, atom(rt, 0, &[B1, R2]));
     let robot_there = fact(1, 0, atom(rt, 0, &[ROBOT, R2]));
-    let second = row_of_three(alloc, rt, box_at_first, robot_there, the_other_way(alloc, rt));
+    let second = row_of_three(
+        alloc,
+        rt,
+        box_at_first,
+        robot_there,
+        the_other_way(alloc, rt),
+    );
     let is_box = fact(0, 0, atom(rt, 2, &[B1]));
     let box_there = fact(2, 1, atom(rt, 0, &[B1, R1]));
     let last = row_of_two(alloc, rt, is_box, box_there);
@@ -194,7 +200,10 @@ fn door_marks(alloc: Global, rt: &impl Abort) -> Sequence<Mark> {
 
 /// The robot goes through the door, and pushes the box back through it; some box is to be in R1.
 fn box_through_door(alloc: Global, rt: &impl Abort, goal_vars: u32, room: Term) -> Table {
-    let steps = [instance(rt, 0, &[D1, R1, R2]), instance(rt, 1, &[B1, D1, R2, R1])];
+    let steps = [
+        instance(rt, 0, &[D1, R1, R2]),
+        instance(rt, 1, &[B1, D1, R2, R1]),
+    ];
     let goal = [atom(rt, 2, &[P1]), atom(rt, 0, &[P1, room])];
     Table {
         params: 0,
@@ -241,7 +250,8 @@ fn given_row(alloc: Global, rt: &impl Abort, atom: Atom) -> Vec<Row>
     ensures { result.items ≡ (Proof.Fact (record { column = 0; index = 0; atom = atom }) ∷ []) ∷ [] }
 {
     let mut rows = Vec::new(alloc);
-    rows.push(row_of_one(alloc, rt, fact(0, 0, atom))).expect(rt, "memory");
+    rows.push(row_of_one(alloc, rt, fact(0, 0, atom)))
+        .expect(rt, "memory");
     rows
 }
 

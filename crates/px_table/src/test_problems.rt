@@ -174,8 +174,11 @@ fn problem(
 }
 
 const X: Term = Term::Var(0);
+
 const Y: Term = Term::Var(1);
+
 const Z: Term = Term::Var(2);
+
 const W: Term = Term::Var(3);
 
 /// A(x) needs P(x), deletes Q(x) and adds R(x).
@@ -205,7 +208,14 @@ pub fn two_names(alloc: Global, rt: &impl Abort) -> Problem
     ensures { IsValid result }
 {
     let schemas = schemas_of(alloc, rt, operator_a(alloc, rt), operator_b(alloc, rt));
-    problem(alloc, rt, 2, &[1, 1, 1, 1], ClauseArena::new(alloc), schemas)
+    problem(
+        alloc,
+        rt,
+        2,
+        &[1, 1, 1, 1],
+        ClauseArena::new(alloc),
+        schemas,
+    )
 }
 
 /// A door that connects one room with another connects the other with the one.
@@ -244,7 +254,10 @@ fn pushing(alloc: Global, rt: &impl Abort) -> Schema {
         atom(rt, 0, &[robot, Z]),
         atom(rt, 1, &[Y, Z, W]),
     ];
-    let deleted = [atom(rt, 0, &[robot, Term::Any]), atom(rt, 0, &[X, Term::Any])];
+    let deleted = [
+        atom(rt, 0, &[robot, Term::Any]),
+        atom(rt, 0, &[X, Term::Any]),
+    ];
     let added = [atom(rt, 0, &[robot, W]), atom(rt, 0, &[X, W])];
     Schema {
         op: 1,
@@ -260,5 +273,12 @@ pub fn rooms(alloc: Global, rt: &impl Abort) -> Problem
     ensures { IsValid result }
 {
     let schemas = schemas_of(alloc, rt, going(alloc, rt), pushing(alloc, rt));
-    problem(alloc, rt, 7, &[2, 3, 1], doors_lead_both_ways(alloc, rt), schemas)
+    problem(
+        alloc,
+        rt,
+        7,
+        &[2, 3, 1],
+        doors_lead_both_ways(alloc, rt),
+        schemas,
+    )
 }
