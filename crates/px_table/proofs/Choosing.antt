@@ -1,8 +1,8 @@
 -- The terms that a goal's variables get from the conclusions of its row.
-use Rattle.std.proofs.Common.{◌≡◌, ◌↔◌, ◌⊎◌, ℕ, zero, suc, ◌+◌, ◌-◌, ◌<◌, ◌≤◌, Bool, true, false, cond, List, [], ◌∷◌, ◌++◌, length, map, drop, get_or, refl, sym, ap, ◌∙◌, subst, inl, inr, arith, Some, None, eq-eqb, add-one}
+use Rattle.std.proofs.Common.{◌≡◌, ◌⊎◌, ℕ, zero, suc, ◌+◌, ◌-◌, ◌<◌, ◌≤◌, true, false, cond, List, [], ◌∷◌, ◌++◌, length, map, drop, get_or, refl, sym, ap, ◌∙◌, subst, inl, inr, arith, Some, None, add-one}
 use Rattle.std.specs.Prelude.{All, Option, Contains, nat_lt, ◌==◌}
 use Rattle.std.proofs.lemmas.Bool.Decides.{nat_tests}
-use Rattle.std.proofs.lemmas.List.{get_or_append_left, get_or-append_right, length-map}
+use Rattle.std.proofs.lemmas.List.{get_or_append_left, get_or-append_right}
 use Rattle.std.proofs.Math.Seq.{drop-cons}
 use Rattle.px_base.specs.ListLaws.{All-at, Contains-none, Contains-first, Contains-later, Contains-cases}
 use Rattle.px_terms.specs.declared.atom.Atom.{Atom}
@@ -14,7 +14,7 @@ use Rattle.px_terms.specs.declared.term.Term.TheVariants.{Obj, Var, Any}
 use Rattle.px_terms.specs.Language.{substitute}
 use Rattle.px_terms.specs.Substitution.{substitute_atom}
 use Rattle.px_terms.specs.Validity.{IsAtomOf, IsTermOf}
-use Rattle.px_table.specs.Choices.{atom_by, choice_of, chosen_or_any, first_answer, term_beside, term_by, term_if}
+use Rattle.px_table.specs.Choices.{atom_by, choice_of, chosen_or_any, first_answer, term_beside, term_by}
 use Rattle.px_table.specs.Supports.{variables, variables_from}
 use Rattle.px_table.specs.Conclusions.{AreConclusions, IsConclusion}
 use Rattle.px_table.proofs.Loops.{drop_whole, read_itself, zip_at, zip_length}

@@ -1,5 +1,5 @@
 -- One mark more, in a kernel and in the marks of rows.
-use Rattle.std.proofs.Common.{◌≡◌, ℕ, suc, ◌+◌, ◌<◌, Bool, true, false, cond, ◌&&◌, List, [], ◌∷◌, ◌++◌, length, map, take, get_or, refl, sym, ap, ◌∙◌, arith, add-one, append-nil, length-take}
+use Rattle.std.proofs.Common.{◌≡◌, ℕ, ◌+◌, ◌<◌, Bool, true, false, cond, ◌&&◌, List, [], ◌∷◌, ◌++◌, length, map, take, get_or, sym, ap, ◌∙◌, arith, append-nil, length-take}
 use Rattle.std.specs.Prelude.{filter, nat_le, nat_lt}
 use Rattle.std.proofs.lemmas.List.{take_more, map-append, length-map}
 use Rattle.std.proofs.lemmas.List.Elements.{filter-append}
@@ -7,7 +7,7 @@ use Rattle.px_terms.specs.declared.atom.Atom.{Atom}
 use Rattle.px_terms.specs.Order.{atom_eq}
 use Rattle.px_terms.specs.OrderLaws.{atom_eq-decides}
 use Rattle.px_proof.specs.declared.proof.Proof.{Proof}
-use Rattle.px_proof.specs.Derivation.{Derivation, leaves_of}
+use Rattle.px_proof.specs.Derivation.{leaves_of}
 use Rattle.px_proof.specs.ProofTerm.{derivation_of}
 use Rattle.px_table.specs.declared.mark.Mark.{Mark}
 use Rattle.px_table.specs.MarkLaws.{marks_from-push, row_leaves-append}

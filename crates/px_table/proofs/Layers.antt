@@ -1,6 +1,5 @@
 -- One layer of a proof term, and the one atom that it can prove.
 use Rattle.std.proofs.Common.{◌≡◌, ℕ, ◌<◌, List, [], length, map, get_or, slice_get, Some, sym, ap, ◌∙◌, subst}
-use Rattle.std.specs.Prelude.{All}
 use Rattle.px_terms.specs.Clauses.{IsArena, ArePlainBelow}
 use Rattle.px_terms.specs.declared.atom.Atom.{Atom}
 use Rattle.px_terms.specs.declared.clause.Clause.{Clause}
@@ -15,7 +14,7 @@ use Rattle.px_proof.specs.declared.proof.Proof.TheViews.{Step, rolls-Step}
 use Rattle.px_proof.specs.declared.proof.Proof.TheFolds.{fold-roll-Proof}
 use Rattle.px_proof.specs.Derivation.{Derivation, derivations, step}
 use Rattle.px_proof.specs.Literals.{positive_of, substitute_literal}
-use Rattle.px_proof.specs.PlaceLaws.{slice_get-map, slice_get-read, slice_get-within, some_same}
+use Rattle.px_proof.specs.PlaceLaws.{slice_get-map, slice_get-read, some_same}
 use Rattle.px_proof.specs.ProofTerm.{derivation_of, derivation_step}
 use Rattle.px_proof.specs.Proves.{instance_of}
 

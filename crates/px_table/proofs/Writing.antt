@@ -1,7 +1,7 @@
 -- What one more write does to a list that is written from the front.
-use Rattle.std.proofs.Common.{◌≡◌, ◌+◌, ◌<◌, ◌≤◌, ℕ, List, [], ◌∷◌, ◌++◌, length, map, take, drop, set, get_or, refl, ap, arith, add-one, append_assoc, length-take}
+use Rattle.std.proofs.Common.{◌≡◌, ◌+◌, ◌<◌, ℕ, List, [], ◌∷◌, ◌++◌, length, map, take, drop, set, get_or, refl, ap, arith, add-one, append_assoc, length-take}
 use Rattle.std.proofs.Math.Seq.{take-suc, drop-cons}
-use Rattle.std.proofs.lemmas.List.{map-append, length-map, take-append-le}
+use Rattle.std.proofs.lemmas.List.{map-append, length-map}
 
 set_seam : {X : Type 0} (done rest : List X) (i : ℕ) (old new : X) → i ≡ length done → set (done ++ old ∷ rest) i new ≡ done ++ new ∷ rest
 set_seam [] rest i old new e = rw e

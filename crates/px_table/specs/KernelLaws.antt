@@ -1,6 +1,6 @@
 -- Each proper instance of each kernel of a table carries the steps that are left to the goal.
-use Rattle.std.specs.Prelude.{◌≡◌, ℕ, ◌+◌, ◌-◌, ◌<◌, ◌≤◌, ◌&&◌, true, nat_le, nat_lt, Some, List, [], ◌∷◌, ◌++◌, length, map, filter, drop, slice_get, All, Contains}
-use Rattle.std.proofs.Common.{zero, suc, refl, sym, ap, ◌∙◌, subst, arith}
+use Rattle.std.specs.Prelude.{◌≡◌, ℕ, ◌+◌, ◌-◌, ◌<◌, ◌≤◌, ◌&&◌, true, nat_le, nat_lt, Some, List, [], ◌∷◌, ◌++◌, length, map, drop, All, Contains}
+use Rattle.std.proofs.Common.{zero, suc, refl, sym, ◌∙◌, subst, arith}
 use Rattle.std.proofs.lemmas.Bool.Decides.{nat_tests}
 use Rattle.std.proofs.lemmas.List.{length-map}
 use Rattle.std.proofs.lemmas.List.Elements.{All-map}
@@ -8,7 +8,6 @@ use Rattle.px_base.specs.ListLaws.{All-at, All-each, Contains-filter}
 use Rattle.px_terms.specs.declared.atom.Atom.{Atom}
 use Rattle.px_terms.specs.declared.instance.OpInst.{OpInst}
 use Rattle.px_terms.specs.declared.problem.Problem.{Problem}
-use Rattle.px_terms.specs.declared.term.Term.{Term}
 use Rattle.px_terms.specs.declared.term.Term.TheVariants.{Obj}
 use Rattle.px_terms.specs.Operators.{precondition}
 use Rattle.px_terms.specs.Order.{atom_eq}
@@ -29,8 +28,8 @@ use Rattle.px_table.specs.Carrying.{IsCarried, KernelHolds, RowHolds, carry_meet
 use Rattle.px_table.specs.Kernels.{IsInstantiation, IsProper, KernelsCarry, TailCarries, atom_under, goal_under, instance_under, kernel_marks, kernel_of, kernel_under, mark_under, steps_under}
 use Rattle.px_table.specs.Marks.{IsKept, IsNamed, mark_of, row_leaves, step_at}
 use Rattle.px_table.specs.OnceLaws.{Contains-each_once}
-use Rattle.px_table.specs.RowLaws.{HasRow, row_of_goal, row_of_step, row_true}
-use Rattle.px_table.specs.Supports.{IsProofOf, ProvesEachOf, ProvesGoal, variables}
+use Rattle.px_table.specs.RowLaws.{row_of_goal, row_of_step, row_true}
+use Rattle.px_table.specs.Supports.{IsProofOf, ProvesEachOf, variables}
 use Rattle.px_table.specs.Tables.{IsTable, rows_of}
 use Rattle.px_table.specs.UnderLaws.{IsNamed-under, atom_under-is_of, elements-are_values, elements_under, from_map, term-within, goal_holds-under, holds-under, precondition-under}
 

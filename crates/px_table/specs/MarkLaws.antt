@@ -2,15 +2,12 @@
 use Rattle.std.specs.Prelude.{◌≡◌, ◌+◌, ℕ, List, [], ◌∷◌, ◌++◌, length, map}
 use Rattle.std.proofs.Common.{suc, refl, sym, ap, ◌∙◌, append_assoc, append-nil, arith}
 use Rattle.std.proofs.lemmas.Bool.Decides.{Decides-and, Decides-eqb, Decides-like}
-use Rattle.std.proofs.lemmas.List.{map-append}
 use Rattle.std.specs.Bool.{Decides}
-use Rattle.std.specs.List.{flat_map}
 use Rattle.px_terms.specs.OrderLaws.{atom_eq-decides}
-use Rattle.px_proof.specs.declared.proof.Leaf.{Leaf}
 use Rattle.px_proof.specs.Derivation.{Derivation, derivations, leaves_of, all_leaves_of}
 use Rattle.px_table.specs.declared.mark.Mark.{Mark}
 use Rattle.px_table.specs.Marks.{mark_eq, mark_of, marks_from, row_leaves, row_marks}
-use Rattle.px_table.specs.Once.{each_once, put_each}
+use Rattle.px_table.specs.Once.{put_each}
 use Rattle.px_table.specs.OnceLaws.{put_each-each_once}
 
 pub mark_eq-decides : (first second : Mark) → Decides (mark_eq first second) (first ≡ second)

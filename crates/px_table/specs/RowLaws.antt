@@ -1,6 +1,6 @@
 -- The rows of supports and tables: where they stand, what their leaves mark, and what they prove where their leaves hold.
-use Rattle.std.specs.Prelude.{◌≡◌, ℕ, ◌+◌, ◌<◌, Some, List, [], ◌∷◌, ◌++◌, length, map, slice_get, All, Contains}
-use Rattle.std.proofs.Common.{zero, suc, refl, sym, ap, subst, inl, inr, arith}
+use Rattle.std.specs.Prelude.{◌≡◌, ℕ, ◌+◌, Some, List, [], ◌∷◌, length, map, slice_get, All, Contains}
+use Rattle.std.proofs.Common.{zero, suc, subst, arith}
 use Rattle.std.proofs.lemmas.List.Elements.{All-map, All-cons, Contains-append_left, Contains-append_right}
 use Rattle.px_base.specs.ListLaws.{All-each}
 use Rattle.px_terms.specs.declared.atom.Atom.{Atom}

@@ -1,12 +1,10 @@
 -- A support carries its steps to the goal, and over the problem's numbers it makes a table.
-use Rattle.std.specs.Prelude.{◌≡◌, ℕ, ◌+◌, ◌<◌, Some, true, List, [], ◌∷◌, ◌++◌, length, map, slice_get, slice_index_or, All, Contains}
+use Rattle.std.specs.Prelude.{◌≡◌, ℕ, ◌+◌, ◌<◌, Some, List, [], ◌∷◌, length, map, slice_index_or, All, Contains}
 use Rattle.std.proofs.Common.{zero, suc, refl, sym, ap, ◌∙◌, subst, inl, inr, arith}
-use Rattle.std.specs.List.{AllZip, flat_map}
 use Rattle.std.proofs.lemmas.List.{length-map}
-use Rattle.std.proofs.lemmas.List.Elements.{All-map, Contains-append_cases, Contains-append_left, Contains-append_right}
+use Rattle.std.proofs.lemmas.List.Elements.{All-map, Contains-append_cases}
 use Rattle.px_base.specs.ListLaws.{All-at, All-each, Contains-none, Contains-first, Contains-later, Contains-cases, Contains-filter}
 use Rattle.px_terms.specs.declared.atom.Atom.{Atom}
-use Rattle.px_terms.specs.declared.clause.Clause.{Clause}
 use Rattle.px_terms.specs.declared.clause.Lit.{Lit}
 use Rattle.px_terms.specs.declared.instance.OpInst.{OpInst}
 use Rattle.px_terms.specs.declared.problem.Problem.{Problem}
@@ -18,22 +16,21 @@ use Rattle.px_terms.specs.Plans.{Carries, GoalHolds}
 use Rattle.px_terms.specs.States.{State, IsState, Holds, HoldsUnder, AxiomsHold, element_of}
 use Rattle.px_terms.specs.Substitution.{substitute_atom}
 use Rattle.px_terms.specs.Validity.{HasArity, IsAtomOf, IsAxiomOf, IsInstanceOf, IsTermOf, IsValid}
-use Rattle.px_terms.specs.ValidityLaws.{atom-is_of, precondition-is_of}
+use Rattle.px_terms.specs.ValidityLaws.{atom-is_of}
 use Rattle.px_proof.specs.declared.proof.Leaf.{Leaf}
 use Rattle.px_proof.specs.declared.proof.Proof.{Proof}
 use Rattle.px_proof.specs.Derivation.{Derivation, Derivations, fact, ancestor, step, gap, open_place, none, also, leaves_of, all_leaves_of, leaf_atoms, terms_of, all_terms_of}
 use Rattle.px_proof.specs.Literals.{positive_of, substitute_literal}
-use Rattle.px_proof.specs.PlaceLaws.{All-back, All-front, All-got, Contains-mapped, slice_get-read, slice_get-within, some_same}
-use Rattle.px_proof.specs.Proves.{Proves, ProvesEach, IsName, from_atoms, instance_of, parts_of}
+use Rattle.px_proof.specs.PlaceLaws.{All-back, All-front, All-got, Contains-mapped}
+use Rattle.px_proof.specs.Proves.{Proves, ProvesEach, IsName, from_atoms, parts_of}
 use Rattle.px_proof.specs.Soundness.{follows}
 use Rattle.px_proof.specs.TruthLaws.{literal-under}
 use Rattle.px_table.specs.declared.mark.Mark.{Mark}
-use Rattle.px_table.specs.declared.table.Table.{Table}
 use Rattle.px_table.specs.Carrying.{IsCarried, KernelHolds, RowHolds, carry_meets, carry_ends}
-use Rattle.px_table.specs.Marks.{IsKept, IsNamed, mark_eq, mark_of, marks_from, row_leaves, row_marks, step_at}
+use Rattle.px_table.specs.Marks.{IsKept, mark_eq, mark_of, marks_from, row_leaves, row_marks, step_at}
 use Rattle.px_table.specs.Once.{each_once}
-use Rattle.px_table.specs.RowLaws.{HasRow, row_of_goal, row_of_step, row_true}
-use Rattle.px_table.specs.Supports.{IsProofOf, ProvesEachOf, ProvesGoal, RowsProve, Supports}
+use Rattle.px_table.specs.RowLaws.{row_of_goal, row_of_step, row_true}
+use Rattle.px_table.specs.Supports.{IsProofOf, ProvesEachOf, RowsProve, Supports}
 use Rattle.px_table.specs.Tables.{AreOfProblem, IsStepOf, IsTable, rows_of}
 use Rattle.px_table.specs.UnderLaws.{from_map, term-within}
 

@@ -1,5 +1,5 @@
 -- Supports: proofs that carry the steps of a plan to its goal, from the atoms of a model and from what the steps add.
-use Rattle.std.specs.Prelude.{◌≡◌, ℕ, ◌+◌, List, [], ◌∷◌, ◌++◌, length, map, All, Contains}
+use Rattle.std.specs.Prelude.{◌≡◌, ℕ, List, [], ◌∷◌, ◌++◌, length, map, All, Contains}
 use Rattle.std.proofs.Common.{zero, suc}
 use Rattle.std.specs.List.{AllZip}
 use Rattle.px_terms.specs.declared.atom.Atom.{Atom}

@@ -1,5 +1,5 @@
 -- What objects for parameters make of atoms, operator instances and marks, and what these then say in a state.
-use Rattle.std.specs.Prelude.{◌≡◌, ◌↔◌, ℕ, ◌+◌, ◌<◌, ◌≤◌, Some, List, [], ◌∷◌, ◌++◌, length, map, slice_get, slice_index, All, Contains}
+use Rattle.std.specs.Prelude.{◌≡◌, ◌↔◌, ℕ, ◌<◌, ◌≤◌, Some, List, [], ◌∷◌, ◌++◌, length, map, slice_get, slice_index, All}
 use Rattle.std.proofs.Common.{zero, suc, refl, sym, ap, ◌∙◌, subst, append_assoc, length-append, arith}
 use Rattle.std.proofs.lemmas.List.{length-map, map-append}
 use Rattle.std.proofs.lemmas.List.Elements.{All-map}
@@ -20,7 +20,7 @@ use Rattle.px_proof.specs.TruthLaws.{elements_of, literal-under, object-within}
 use Rattle.px_terms.specs.Language.{substitute}
 use Rattle.px_table.specs.declared.mark.Mark.{Mark}
 use Rattle.px_table.specs.declared.table.Table.{Table}
-use Rattle.px_table.specs.Kernels.{IsInstantiation, atom_under, mark_under, instance_under, steps_under}
+use Rattle.px_table.specs.Kernels.{IsInstantiation, atom_under, mark_under, instance_under}
 use Rattle.px_table.specs.Marks.{IsNamed, step_at}
 use Rattle.px_table.specs.Supports.{variables, variables_from}
 use Rattle.px_table.specs.Tables.{IsStepOf}

@@ -1,4 +1,4 @@
-use Rattle.std.proofs.Common.{◌<◌, length, ap, ◌∙◌, arith, Some}
+use Rattle.std.proofs.Common.{ap, ◌∙◌, arith, Some}
 use Rattle.px_table.proofs.Layers.{no_clause, plain_lits, plain_variable, concluded}
 use Rattle.px_table.proofs.conclusions.atom_at.Goals as goal
 

@@ -1,4 +1,4 @@
-use Rattle.std.proofs.Common.{◌≡◌, ◌≤◌, true, false, length, refl, sym, ◌∙◌, arith}
+use Rattle.std.proofs.Common.{refl, arith}
 use Rattle.px_table.specs.Conclusions.{ProvesSome}
 use Rattle.px_table.proofs.Loops.{all-next, all-fails}
 use Rattle.px_table.proofs.conclusions.each_proves_some.Goals as goal

@@ -1,6 +1,5 @@
-use Rattle.std.proofs.Common.{◌≡◌, false, take, sym, ap, ◌∙◌, subst}
+use Rattle.std.proofs.Common.{◌≡◌, false, take, sym, ◌∙◌}
 use Rattle.std.specs.List.{list_any}
-use Rattle.px_table.specs.declared.mark.Mark.{Mark}
 use Rattle.px_table.specs.Marks.{mark_eq, mark_of}
 use Rattle.px_table.proofs.Fronts.{front-more, front-other, front-end}
 use Rattle.px_table.proofs.mark_list.after_leaf.Goals as goal

@@ -1,4 +1,4 @@
-use Rattle.std.proofs.Common.{◌≡◌, ℕ, suc, ◌+◌, ◌-◌, ◌<◌, ◌≤◌, length, map, take, drop, get_or, refl, sym, ap, ◌∙◌, subst, arith, add-one, length-drop, Some, None, eq-eqb}
+use Rattle.std.proofs.Common.{◌≡◌, ℕ, suc, ◌-◌, ◌<◌, ◌≤◌, length, map, take, drop, get_or, sym, ap, ◌∙◌, arith, add-one, length-drop, Some, None, eq-eqb}
 use Rattle.std.specs.Prelude.{List}
 use Rattle.std.proofs.lemmas.List.{length-map}
 use borrow.Author.Tests.{eqb-true}

@@ -1,4 +1,4 @@
-use Rattle.std.proofs.Common.{◌≡◌, ◌↔◌, ◌≤◌, ℕ, suc, length, drop}
+use Rattle.std.proofs.Common.{◌≡◌, ◌↔◌, ◌≤◌, suc, length, drop}
 use Rattle.px_table.specs.Marks.{marks_from}
 use Rattle.px_table.specs.Tables.{rows_of}
 use Rattle.px_table.proofs.mark_list.marks_are_leaves.Given as goal

@@ -1,4 +1,4 @@
-use Rattle.std.proofs.Common.{◌≡◌, suc, ◌<◌, ◌≤◌, length, map, get_or, sym, ap, ◌∙◌, arith}
+use Rattle.std.proofs.Common.{◌≡◌, suc, ◌<◌, length, map, get_or, ap, arith}
 use Rattle.std.proofs.lemmas.List.{length-map}
 use Rattle.px_proof.specs.ProofTerm.{derivation_of}
 use Rattle.px_proof.specs.Proves.{IsName}
