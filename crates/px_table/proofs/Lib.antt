@@ -1,0 +1,9 @@
+pub mod Choosing
+pub mod Fronts
+pub mod GivenSupport
+pub mod KeptSteps
+pub mod KernelSteps
+pub mod Layers
+pub mod Loops
+pub mod RowSteps
+pub mod Writing

@@ -1,0 +1,66 @@
+-- Kernels of tables: what has to hold so that the steps from one on lead to the goal (Fikes, Hart and Nilsson 1972).
+use Rattle.std.specs.Prelude.{◌≡◌, ℕ, ◌<◌, ◌≤◌, ◌+◌, ◌-◌, ◌&&◌, nat_le, nat_lt, List, ◌++◌, length, map, filter, drop, All}
+use Rattle.px_terms.specs.declared.atom.Atom.{Atom}
+use Rattle.px_terms.specs.declared.instance.OpInst.{OpInst}
+use Rattle.px_terms.specs.declared.problem.Problem.{Problem}
+use Rattle.px_terms.specs.declared.term.Term.TheVariants.{Obj}
+use Rattle.px_terms.specs.Order.{atom_eq}
+use Rattle.px_terms.specs.Plans.{Carries}
+use Rattle.px_terms.specs.Substitution.{substitute_atom, substitute_instance}
+use Rattle.px_proof.specs.Derivation.{Derivation}
+use Rattle.px_proof.specs.Substitution.{derivation_under}
+use Rattle.px_table.specs.declared.mark.Mark.{Mark}
+use Rattle.px_table.specs.declared.table.Table.{Table}
+use Rattle.px_table.specs.Marks.{IsKept}
+use Rattle.px_table.specs.Once.{each_once}
+use Rattle.px_table.specs.Supports.{variables}
+use Rattle.px_table.specs.Tables.{rows_of}
+
+-- the marks that step `i` or a later row rests on and that stand before step `i`
+abbrev pub kernel_marks : Table → ℕ → List Mark
+kernel_marks table i = filter (λ (mark : Mark). nat_le i mark.row && nat_lt mark.column i) table.marks
+
+-- their atoms in order, each once
+abbrev pub kernel_of : Table → ℕ → List Atom
+kernel_of table i = each_once atom_eq (map (λ (mark : Mark). mark.atom) (kernel_marks table i))
+
+-- one of the problem's objects for each parameter
+pub record IsInstantiation (problem : Problem) (table : Table) (sigma : List ℕ) : Type 0 where
+  pub count : length sigma ≡ table.params
+  pub objects : All (λ n. n < problem.objects) sigma
+
+-- an atom, a mark and an operator instance with the objects for the parameters
+abbrev pub atom_under : List ℕ → Atom → Atom
+atom_under sigma atom = substitute_atom (map Obj sigma) atom
+
+abbrev pub mark_under : List ℕ → Mark → Mark
+mark_under sigma mark = record { atom = atom_under sigma mark.atom; row = mark.row; column = mark.column; index = mark.index }
+
+abbrev pub instance_under : List ℕ → OpInst → OpInst
+instance_under sigma inst = substitute_instance (map Obj sigma) inst
+
+-- the kernel, the steps and the goal with the objects for the parameters; the goal's own variables stay, numbered from 0
+abbrev pub kernel_under : Table → List ℕ → ℕ → List Atom
+kernel_under table sigma i = map (atom_under sigma) (kernel_of table i)
+
+abbrev pub steps_under : Table → List ℕ → List OpInst
+steps_under table sigma = map (instance_under sigma) table.steps
+
+abbrev pub goal_under : Table → List ℕ → List Atom
+goal_under table sigma = map (substitute_atom (map Obj sigma ++ variables table.goal_vars)) table.goal
+
+-- the rows, with the objects in their proofs
+abbrev pub rows_under : Table → List ℕ → List (List Derivation)
+rows_under table sigma = map (map (derivation_under (map Obj sigma))) (rows_of table.proofs)
+
+-- no step from `i` on deletes the instance of a mark whose column it comes after and whose row it comes before
+abbrev pub IsProper : Problem → Table → List ℕ → ℕ → Type 0
+IsProper problem table sigma i = All (λ mark. IsKept problem (steps_under table sigma) i (mark_under sigma mark)) table.marks
+
+-- the instance of kernel `i` carries the steps from `i` on to the goal
+abbrev pub TailCarries : Problem → Table → List ℕ → ℕ → Type 0
+TailCarries problem table sigma i = Carries problem (kernel_under table sigma i) (drop (i - 1) (steps_under table sigma)) table.goal_vars (goal_under table sigma)
+
+-- each proper instance of each kernel does
+pub record KernelsCarry (problem : Problem) (table : Table) : Type 0 where
+  pub carry : (sigma : List ℕ) → IsInstantiation problem table sigma → (i : ℕ) → 1 ≤ i → i ≤ length table.steps + 1 → IsProper problem table sigma i → TailCarries problem table sigma i

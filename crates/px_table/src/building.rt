@@ -1,0 +1,85 @@
+ghost use Rattle.std.specs.Prelude.{◌≡◌, ◌<◌, ◌≤◌, ℕ, List, All, IfOk, length, map};
+ghost use Rattle.px_terms.specs.Plans.{Carries};
+ghost use Rattle.px_terms.specs.Validity.{IsAtomOf, IsInstanceOf, IsValid};
+ghost use Rattle.px_proof.specs.ProofTerm.{derivation_of};
+ghost use Rattle.px_table.specs.Marks.{marks_from, row_marks};
+ghost use Rattle.px_table.specs.Supports.{Supports};
+ghost use Rattle.px_table.specs.Tables.{IsTable, AreOfProblem, rows_of};
+
+use crate::kept::put_leaves;
+use crate::mark::Mark;
+use crate::table::{Row, Table};
+use px_base::{NoMemory, Sequence};
+use px_proof::{Proof, leaves};
+use px_terms::{Atom, OpInst, Problem};
+use std::alloc::Global;
+
+/// The table of a support: of steps and a goal with the proofs that carry them, over the problem's numbers. It has no parameters.
+/// A support carries its steps: wherever its atoms hold, each precondition is met and the goal holds at the end.
+///
+/// # Errors
+/// `NoMemory` where there is none for the table. The support is then dropped.
+pub fn build(
+    alloc: Global,
+    problem: &Problem,
+    goal: &[Atom],
+    goal_vars: u32,
+    steps: &[OpInst],
+    support: Vec<Row>,
+) -> Result<Table, NoMemory>
+    requires problem { IsValid problem.now }
+    requires supports { (atoms : List _) × Supports problem.now atoms steps.now goal.now goal_vars (rows_of support.items) }
+    requires steps { All (IsInstanceOf problem.now) steps.now }
+    requires goal { All (IsAtomOf problem.now goal_vars) goal.now }
+    requires rows { AreOfProblem problem.now (rows_of support.items) }
+    requires short { length steps.now < 4294967295 }
+    ensures table { IfOk result (λ table. IsTable problem.now table) }
+    ensures value { IfOk result (λ table. table ≡ record { params = 0; steps = steps.now; goal = goal.now; goal_vars = goal_vars; marks = marks_from 1 (rows_of support.items); proofs = support.items }) }
+    ensures carries { (atoms : List _) → Supports problem.now atoms steps.now goal.now goal_vars (rows_of support.items) → Carries problem.now atoms steps.now goal_vars goal.now }
+{
+    let marks = marks_of(alloc, &support)?;
+    let table_steps = copied(alloc, steps)?;
+    let table_goal = copied(alloc, goal)?;
+    Ok(Table {
+        params: 0,
+        steps: table_steps,
+        goal: table_goal,
+        goal_vars,
+        marks: Sequence::from_vec(marks),
+        proofs: Sequence::from_vec(support),
+    })
+}
+
+/// A copy of the items.
+fn copied<T: Copy>(alloc: Global, items: &[T]) -> Result<Sequence<T>, NoMemory>
+    ensures { IfOk result (λ copy. copy ≡ items.now) }
+{
+    let mut copies = Vec::new(alloc);
+    copies.extend_from_slice(items)?;
+    Ok(Sequence::from_vec(copies))
+}
+
+/// The marks of the rows, the first of which has number 1.
+fn marks_of(alloc: Global, rows: &[Row]) -> Result<Vec<Mark>, NoMemory>
+    requires { length rows.now ≤ 4294967295 }
+    ensures { IfOk result (λ marks. marks.items ≡ marks_from 1 (rows_of rows.now)) }
+{
+    let mut marks = Vec::new(alloc);
+    for (k, row) in rows.iter().enumerate() {
+        let found = marks_of_row(alloc, k as u32 + 1, row.proofs())?;
+        marks.extend_from_slice(&found)?;
+    }
+    Ok(marks)
+}
+
+/// The marks of one row.
+fn marks_of_row(alloc: Global, number: u32, proofs: &[Proof]) -> Result<Vec<Mark>, NoMemory>
+    ensures { IfOk result (λ marks. marks.items ≡ row_marks number (map derivation_of proofs.now)) }
+{
+    let mut marks = Vec::new(alloc);
+    for proof in proofs {
+        let found = leaves(alloc, proof)?;
+        put_leaves(&mut marks, number, &found)?;
+    }
+    Ok(marks)
+}

@@ -1,0 +1,82 @@
+ghost use Rattle.std.specs.Prelude.{◌≡◌, IfOk, map};
+ghost use Rattle.std.specs.List.{list_any};
+ghost use Rattle.px_terms.specs.Order.{atom_eq};
+ghost use Rattle.px_table.specs.Marks.{mark_eq, mark_of};
+ghost use Rattle.px_table.specs.Once.{put_once, put_each};
+
+use crate::mark::Mark;
+use px_base::NoMemory;
+use px_proof::Leaf;
+use px_terms::Atom;
+
+/// The mark that a leaf makes in the row of that number.
+pub fn leaf_mark(row: u32, leaf: &Leaf) -> Mark
+    ensures { result ≡ mark_of row leaf.now }
+{
+    Mark {
+        atom: leaf.atom,
+        row,
+        column: leaf.column,
+        index: leaf.index,
+    }
+}
+
+/// Is the mark among the marks?
+pub fn has_mark(marks: &[Mark], mark: &Mark) -> bool
+    ensures { result ≡ list_any (λ other. mark_eq other mark.now) marks.now }
+{
+    for other in marks {
+        if *other == *mark {
+            return true;
+        }
+    }
+    false
+}
+
+/// Is the atom among the atoms?
+fn has_atom(atoms: &[Atom], atom: &Atom) -> bool
+    ensures { result ≡ list_any (λ other. atom_eq other atom.now) atoms.now }
+{
+    for other in atoms {
+        if *other == *atom {
+            return true;
+        }
+    }
+    false
+}
+
+/// Puts the atom last, unless it is there.
+pub fn put_atom(atoms: &mut Vec<Atom>, atom: Atom) -> Result<(), NoMemory>
+    ensures { IfOk result (λ _. atoms.new.items ≡ put_once atom_eq atoms.old.items atom) }
+{
+    if has_atom(atoms, &atom) {
+        return Ok(());
+    }
+    match atoms.push(atom) {
+        Ok(()) => Ok(()),
+        Err(_) => Err(NoMemory),
+    }
+}
+
+/// Puts the mark last, unless it is there.
+fn put_mark(marks: &mut Vec<Mark>, mark: Mark) -> Result<(), NoMemory>
+    ensures { IfOk result (λ _. marks.new.items ≡ put_once mark_eq marks.old.items mark) }
+{
+    if has_mark(marks, &mark) {
+        return Ok(());
+    }
+    match marks.push(mark) {
+        Ok(()) => Ok(()),
+        Err(_) => Err(NoMemory),
+    }
+}
+
+/// Puts the marks of the leaves last, but for those that are there.
+pub fn put_leaves(marks: &mut Vec<Mark>, row: u32, leaves: &[Leaf]) -> Result<(), NoMemory>
+    ensures { IfOk result (λ _. marks.new.items ≡ put_each mark_eq marks.old.items (map (mark_of row) leaves.now)) }
+{
+    for leaf in leaves {
+        put_mark(marks, leaf_mark(row, leaf))?;
+    }
+    Ok(())
+}

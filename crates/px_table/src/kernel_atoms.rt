@@ -1,0 +1,36 @@
+ghost use Rattle.std.specs.Prelude.{◌≡◌, ◌&&◌, IfOk, cond, nat_le, nat_lt};
+ghost use Rattle.px_terms.specs.Order.{atom_eq};
+ghost use Rattle.px_table.specs.Kernels.{kernel_of};
+ghost use Rattle.px_table.specs.Once.{put_once};
+
+use crate::kept::put_atom;
+use crate::mark::Mark;
+use crate::table::Table;
+use px_base::NoMemory;
+use px_terms::Atom;
+use std::alloc::Global;
+
+/// Kernel `i`: the atoms that have to hold so that the steps from `i` on lead to the goal, in the order of the marks, each once
+/// (Fikes, Hart and Nilsson 1972). Kernel 1 is what the whole plan rests on, and the one after the last step the goal's row.
+///
+/// # Errors
+/// `NoMemory` where there is none for the list.
+pub fn kernel(alloc: Global, table: &Table, i: u32) -> Result<Vec<Atom>, NoMemory>
+    ensures { IfOk result (λ atoms. atoms.items ≡ kernel_of table.now i) }
+{
+    let mut atoms = Vec::new(alloc);
+    for mark in table.marks.as_slice() {
+        put_atom_of(&mut atoms, mark, i)?;
+    }
+    Ok(atoms)
+}
+
+/// Puts the mark's atom last, where kernel `i` rests on the mark, and unless the atom is there.
+fn put_atom_of(atoms: &mut Vec<Atom>, mark: &Mark, i: u32) -> Result<(), NoMemory>
+    ensures { IfOk result (λ _. atoms.new.items ≡ cond (nat_le i mark.now.row && nat_lt mark.now.column i) (put_once atom_eq atoms.old.items mark.now.atom) atoms.old.items) }
+{
+    if i <= mark.row && mark.column < i {
+        return put_atom(atoms, mark.atom);
+    }
+    Ok(())
+}

@@ -1,0 +1,78 @@
+ghost use Rattle.std.specs.Prelude.{◌≡◌, ◌↔◌, ◌<◌, ◌≤◌, [], ◌∷◌, IsTrue, length, map, take, drop};
+ghost use Rattle.px_proof.specs.Derivation.{derivations, leaves_of, all_leaves_of};
+ghost use Rattle.px_proof.specs.ProofTerm.{derivation_of};
+ghost use Rattle.px_table.specs.Marks.{mark_eq, mark_of, marks_from, row_marks};
+ghost use Rattle.px_table.specs.Once.{IsFront, put_each};
+ghost use Rattle.px_table.specs.Tables.{rows_of};
+
+use crate::kept::{has_mark, leaf_mark};
+use crate::mark::Mark;
+use crate::table::Table;
+use px_proof::{Leaf, Proof};
+
+/// Where the first marks and the leaf make a beginning of the list, how many marks this has.
+fn after_leaf(marks: &[Mark], count: usize, row: u32, leaf: &Leaf) -> Option<usize>
+    requires { count ≤ length marks.now }
+    ensures { IsFront marks.now (put_each mark_eq (take count marks.now) (map (mark_of row) (leaf.now ∷ []))) result }
+{
+    let mark = leaf_mark(row, leaf);
+    if has_mark(&marks[..count], &mark) {
+        return Some(count);
+    }
+    if count < marks.len() && marks[count] == mark {
+        return Some(count + 1);
+    }
+    None
+}
+
+/// The same for the leaves of a proof.
+#[cycle(walks)]
+fn after_proof(marks: &[Mark], count: usize, row: u32, proof: &Proof) -> Option<usize>
+    requires { count ≤ length marks.now }
+    ensures { IsFront marks.now (put_each mark_eq (take count marks.now) (map (mark_of row) (leaves_of (derivation_of proof.now)))) result }
+{
+    match proof {
+        Proof::Fact(leaf) => after_leaf(marks, count, row, leaf),
+        Proof::Anc(_) | Proof::Gap(_) => Some(count),
+        Proof::Step { subs, .. } => after_proofs(marks, count, row, subs.as_slice()),
+    }
+}
+
+/// The same for the leaves of several proofs.
+#[cycle(walks)]
+fn after_proofs(marks: &[Mark], count: usize, row: u32, proofs: &[Proof]) -> Option<usize>
+    requires { count ≤ length marks.now }
+    ensures { IsFront marks.now (put_each mark_eq (take count marks.now) (map (mark_of row) (all_leaves_of (derivations (map derivation_of proofs.now))))) result }
+{
+    let mut at = count;
+    for proof in proofs {
+        match after_proof(marks, at, row, proof) {
+            Some(next) => at = next,
+            None => return None,
+        }
+    }
+    Some(at)
+}
+
+/// Where the list begins with the marks of the row, how many these are.
+fn after_row(marks: &[Mark], row: u32, proofs: &[Proof]) -> Option<usize>
+    ensures { IsFront marks.now (row_marks row (map derivation_of proofs.now)) result }
+{
+    after_proofs(marks, 0, row, proofs)
+}
+
+/// Are the marks the leaves of the rows, each once in its row?
+pub fn marks_are_leaves(table: &Table) -> bool
+    requires { length table.now.proofs ≤ 4294967295 }
+    ensures { IsTrue result ↔ (table.now.marks ≡ marks_from 1 (rows_of table.now.proofs)) }
+{
+    let marks = table.marks.as_slice();
+    let mut at = 0;
+    for (k, row) in table.proofs.as_slice().iter().enumerate() {
+        match after_row(&marks[at..], k as u32 + 1, row.proofs()) {
+            Some(count) => at += count,
+            None => return false,
+        }
+    }
+    at == marks.len()
+}

@@ -1,0 +1,81 @@
+ghost use Rattle.std.specs.Prelude.{◌≡◌, ◌↔◌, ◌<◌, ◌≤◌, ◌+◌, All, IsTrue, length};
+ghost use Rattle.px_terms.specs.Instances.{IsGround};
+ghost use Rattle.px_terms.specs.Operators.{IsDeleted, schema_of as spec_schema_of};
+ghost use Rattle.px_terms.specs.Validity.{IsAtomOf, IsValid};
+ghost use Rattle.px_table.specs.Kernels.{IsInstantiation, IsProper, TailCarries, instance_under, mark_under, steps_under};
+ghost use Rattle.px_table.specs.Marks.{IsKept};
+ghost use Rattle.px_table.specs.Tables.{IsStepOf, IsTable};
+
+use crate::mark::Mark;
+use crate::schema::schema_of;
+use crate::table::Table;
+use crate::under_objects::{atom_with, instance_with};
+use px_ops::deletes;
+use px_terms::{Atom, OpInst, Problem};
+
+/// Is the instance of kernel `i` under the objects of `sigma` proper? It is where no step from `i` on deletes the instance of a mark
+/// that it stands between: two parameters may have one object, and a step may then delete what a later one needs.
+/// A proper instance carries the steps from `i` on to the goal. Takes no memory.
+pub fn proper(problem: &Problem, table: &Table, sigma: &[u32], i: u32) -> bool
+    requires problem { IsValid problem.now }
+    requires table { IsTable problem.now table.now }
+    requires sigma { IsInstantiation problem.now table.now sigma.now }
+    requires number { (1 ≤ i) × (i ≤ length table.now.steps + 1) }
+    ensures exact { IsTrue result ↔ IsProper problem.now table.now sigma.now i }
+    ensures carries { IsTrue result → TailCarries problem.now table.now sigma.now i }
+{
+    are_kept(problem, table, sigma, i)
+}
+
+/// Is the instance of each mark kept by the steps from `first` on?
+fn are_kept(problem: &Problem, table: &Table, sigma: &[u32], first: u32) -> bool
+    requires problem { IsValid problem.now }
+    requires table { IsTable problem.now table.now }
+    requires sigma { IsInstantiation problem.now table.now sigma.now }
+    ensures { IsTrue result ↔ IsProper problem.now table.now sigma.now first }
+{
+    for mark in table.marks.as_slice() {
+        if !is_kept(problem, table, sigma, first, mark) {
+            return false;
+        }
+    }
+    true
+}
+
+/// Does step `k` come no earlier than `first`, after the mark's column and before its row?
+fn stands_between(first: u32, mark: &Mark, k: usize) -> bool
+    ensures { IsTrue result ↔ ((first ≤ k) × (mark.now.column < k) × (k < mark.now.row)) }
+{
+    first as usize <= k && (mark.column as usize) < k && k < mark.row as usize
+}
+
+/// Is the mark's instance kept by the steps from `first` on?
+fn is_kept(problem: &Problem, table: &Table, sigma: &[u32], first: u32, mark: &Mark) -> bool
+    requires problem { IsValid problem.now }
+    requires steps { All (IsStepOf problem.now table.now.params) table.now.steps }
+    requires sigma { IsInstantiation problem.now table.now sigma.now }
+    requires mark { IsAtomOf problem.now table.now.params mark.now.atom }
+    ensures { IsTrue result ↔ IsKept problem.now (steps_under table.now sigma.now) first (mark_under sigma.now mark.now) }
+{
+    let atom = atom_with(sigma, &mark.atom);
+    for (before, step) in table.steps.as_slice().iter().enumerate() {
+        if stands_between(first, mark, before + 1)
+            && step_deletes(problem, table, sigma, step, &atom)
+        {
+            return false;
+        }
+    }
+    true
+}
+
+/// Does the step's instance delete the atom?
+fn step_deletes(problem: &Problem, table: &Table, sigma: &[u32], step: &OpInst, atom: &Atom) -> bool
+    requires problem { IsValid problem.now }
+    requires step { IsStepOf problem.now table.now.params step.now }
+    requires sigma { IsInstantiation problem.now table.now sigma.now }
+    requires is_ground { IsGround atom.now }
+    ensures { IsTrue result ↔ IsDeleted (spec_schema_of problem.now (instance_under sigma.now step.now)) (instance_under sigma.now step.now) atom.now }
+{
+    let inst = instance_with(sigma, step);
+    deletes(schema_of(problem, &inst), &inst, atom)
+}

@@ -1,0 +1,112 @@
+ghost use Rattle.std.specs.Prelude.{◌≡◌, IfOk};
+
+use crate::mark::Mark;
+use px_base::{NoMemory, Sequence};
+use px_proof::Proof;
+use px_terms::{Atom, OpInst};
+use std::marker::Model;
+
+/// A row of a triangle table: a proof for each atom of a step's precondition, or of the goal. Contracts see it as the
+/// list of its proofs.
+#[derive(Drop)]
+pub struct Row {
+    proofs: Sequence<Proof>,
+}
+
+impl Model for Row {
+    ghost use Rattle.std.specs.Prelude.{List};
+    ghost use Rattle.px_proof.specs.declared.proof.Proof.{Proof};
+    ghost use Rattle.px_proof.specs.contracts.proof.Proof as term;
+    ghost use Rattle.std.specs.Coded.{coded_list};
+
+    ghost Value = { List Proof };
+
+    ghost coded = { coded_list term.the_row.coded };
+
+    ghost view = { λ r. r.proofs };
+}
+
+impl Row {
+    /// The row of these proofs. Takes no memory.
+    pub fn from_proofs(proofs: Vec<Proof>) -> Row
+        ensures { result ≡ proofs.items }
+    {
+        Row {
+            proofs: Sequence::from_vec(proofs),
+        }
+    }
+
+    /// The proofs, in the order of the atoms that they prove.
+    pub fn proofs(&self) -> &[Proof]
+        ensures { result.now ≡ self.now }
+    {
+        self.proofs.as_slice()
+    }
+
+    /// An equal row, in memory of the same allocator.
+    ///
+    /// # Errors
+    /// `NoMemory` where there is none for the copy.
+    pub fn try_copy(&self) -> Result<Row, NoMemory>
+        ensures { IfOk result (λ copy. copy ≡ self.now) }
+    {
+        let mut copies = Vec::new(*self.proofs.allocator());
+        for proof in self.proofs() {
+            let copy = proof.try_copy()?;
+            copies.push(copy)?;
+        }
+        Ok(Row::from_proofs(copies))
+    }
+}
+
+/// A triangle table (Fikes, Hart and Nilsson 1972): a plan's steps and goal with the proofs that carry them, and the
+/// facts that these rest on. `Var(v)` with `v` below `params` is a parameter; in the goal alone, the goal's own variables follow.
+#[derive(Drop)]
+pub struct Table {
+    /// How many parameters it has.
+    pub params: u32,
+    /// The steps in order.
+    pub steps: Sequence<OpInst>,
+    pub goal: Sequence<Atom>,
+    /// How many variables of its own the goal has.
+    pub goal_vars: u32,
+    /// The facts that the rows rest on, row by row, each once in its row.
+    pub marks: Sequence<Mark>,
+    /// A row for each step, and one for the goal.
+    pub proofs: Sequence<Row>,
+}
+
+impl Table {
+    /// An equal table, each part in memory of its own allocator.
+    ///
+    /// # Errors
+    /// `NoMemory` where there is none for the copy.
+    pub fn try_copy(&self) -> Result<Table, NoMemory>
+        ensures { IfOk result (λ copy. copy ≡ self.now) }
+    {
+        let steps = self.steps.try_copy()?;
+        let goal = self.goal.try_copy()?;
+        let marks = self.marks.try_copy()?;
+        let proofs = copy_rows(&self.proofs)?;
+        Ok(Table {
+            params: self.params,
+            steps,
+            goal,
+            goal_vars: self.goal_vars,
+            marks,
+            proofs,
+        })
+    }
+}
+
+/// A copy of the rows, in the same order.
+fn copy_rows(rows: &Sequence<Row>) -> Result<Sequence<Row>, NoMemory>
+    ensures { IfOk result (λ copy. copy ≡ rows.now) }
+{
+    let mut copies = Vec::new(*rows.allocator());
+    for row in rows.as_slice() {
+        let copy = row.try_copy()?;
+        copies.push(copy)?;
+    }
+    Ok(Sequence::from_vec(copies))
+}

@@ -1,0 +1,276 @@
+ghost use Rattle.std.specs.Prelude.{◌≡◌, ◌∷◌, [], IsTrue};
+ghost use Rattle.px_terms.specs.Validity.{IsAtomOf, IsValid};
+ghost use Rattle.px_table.specs.Kernels.{IsInstantiation};
+
+use crate::ranges::is_atom_of;
+use crate::test_problems::{atom, instance, rooms, sequence_of, two_names};
+use crate::{Mark, Row, Table, build, check_table, kernel, proper};
+use px_base::Sequence;
+use px_proof::{Leaf, Proof};
+use px_terms::{Atom, Problem, Term};
+use std::alloc::Global;
+use std::process::Abort;
+use std::rt::HostRuntime;
+
+fn fact(column: u32, index: u32, atom: Atom) -> Proof
+    ensures { result ≡ Proof.Fact (record { column = column; index = index; atom = atom }) }
+{
+    Proof::Fact(Leaf {
+        column,
+        index,
+        atom,
+    })
+}
+
+fn mark(row: u32, column: u32, index: u32, atom: Atom) -> Mark {
+    Mark {
+        atom,
+        row,
+        column,
+        index,
+    }
+}
+
+fn row_of_one(alloc: Global, rt: &impl Abort, proof: Proof) -> Row
+    ensures { result ≡ proof ∷ [] }
+{
+    let mut proofs = Vec::new(alloc);
+    proofs.push(proof).expect(rt, "memory");
+    Row::from_proofs(proofs)
+}
+
+fn row_of_two(alloc: Global, rt: &impl Abort, first: Proof, second: Proof) -> Row {
+    let mut proofs = Vec::new(alloc);
+    proofs.push(first).expect(rt, "memory");
+    proofs.push(second).expect(rt, "memory");
+    Row::from_proofs(proofs)
+}
+
+fn row_of_three(alloc: Global, rt: &impl Abort, first: Proof, second: Proof, third: Proof) -> Row {
+    let mut proofs = Vec::new(alloc);
+    proofs.push(first).expect(rt, "memory");
+    proofs.push(second).expect(rt, "memory");
+    proofs.push(third).expect(rt, "memory");
+    Row::from_proofs(proofs)
+}
+
+fn rows_of(alloc: Global, rt: &impl Abort, first: Row, second: Row, third: Row) -> Sequence<Row> {
+    let mut rows = Vec::new(alloc);
+    rows.push(first).expect(rt, "memory");
+    rows.push(second).expect(rt, "memory");
+    rows.push(third).expect(rt, "memory");
+    Sequence::from_vec(rows)
+}
+
+fn has_kernel(alloc: Global, rt: &impl Abort, table: &Table, i: u32, atoms: &[Atom]) -> bool {
+    kernel(alloc, table, i).expect(rt, "memory").as_slice() == atoms
+}
+
+/// Is there an object of the problem for each parameter?
+fn is_instantiation(problem: &Problem, table: &Table, sigma: &[u32]) -> bool
+    ensures { IsTrue result → IsInstantiation problem.now table.now sigma.now }
+{
+    if sigma.len() != table.params as usize {
+        return false;
+    }
+    for object in sigma {
+        if *object >= problem.objects {
+            return false;
+        }
+    }
+    true
+}
+
+const P1: Term = Term::Var(0);
+
+const P2: Term = Term::Var(1);
+
+/// The rows of the steps A(p1) and B(p1,p2) and of the goal G(p1).
+fn two_rows(alloc: Global, rt: &impl Abort) -> Sequence<Row> {
+    let first = row_of_one(alloc, rt, fact(0, 0, atom(rt, 0, &[P1])));
+    let r = fact(1, 0, atom(rt, 2, &[P1]));
+    let q = fact(0, 0, atom(rt, 1, &[P2]));
+    let second = row_of_two(alloc, rt, r, q);
+    let last = row_of_one(alloc, rt, fact(2, 0, atom(rt, 3, &[P1])));
+    rows_of(alloc, rt, first, second, last)
+}
+
+/// The table with the steps A(p1) and B(p1,p2) and the goal G(p1).
+fn two_steps(alloc: Global, rt: &impl Abort) -> Table {
+    let marks = [
+        mark(1, 0, 0, atom(rt, 0, &[P1])),
+        mark(2, 1, 0, atom(rt, 2, &[P1])),
+        mark(2, 0, 0, atom(rt, 1, &[P2])),
+        mark(3, 2, 0, atom(rt, 3, &[P1])),
+    ];
+    let steps = [instance(rt, 0, &[P1]), instance(rt, 1, &[P1, P2])];
+    Table {
+        params: 2,
+        steps: sequence_of(alloc, rt, &steps),
+        goal: sequence_of(alloc, rt, &[atom(rt, 3, &[P1])]),
+        goal_vars: 0,
+        marks: sequence_of(alloc, rt, &marks),
+        proofs: two_rows(alloc, rt),
+    }
+}
+
+#[test]
+fn kernels_of_two_steps(rt: HostRuntime) {
+    let table = two_steps(rt.alloc(), &rt).try_copy().expect(&rt, "memory");
+    let p = atom(&rt, 0, &[P1]);
+    let q = atom(&rt, 1, &[P2]);
+    let r = atom(&rt, 2, &[P1]);
+    let g = atom(&rt, 3, &[P1]);
+    assert!(&rt; has_kernel(rt.alloc(), &rt, &table, 1, &[p, q]));
+    assert!(&rt; has_kernel(rt.alloc(), &rt, &table, 2, &[r, q]));
+    assert!(&rt; has_kernel(rt.alloc(), &rt, &table, 3, &[g]));
+}
+
+#[test]
+fn two_parameters_with_one_object_are_not_proper(rt: HostRuntime) {
+    let problem = two_names(rt.alloc(), &rt);
+    let table = two_steps(rt.alloc(), &rt);
+    assert!(&rt; check_table(&problem, &table));
+    assert!(&rt; table.steps.len() == 2);
+    let same = [0u32, 0];
+    assert!(&rt; is_instantiation(&problem, &table, &same));
+    assert!(&rt; !proper(&problem, &table, &same, 1));
+    assert!(&rt; proper(&problem, &table, &same, 2));
+    let apart = [0u32, 1];
+    assert!(&rt; is_instantiation(&problem, &table, &apart));
+    assert!(&rt; proper(&problem, &table, &apart, 1));
+}
+
+const ROBOT: Term = Term::Obj(0);
+
+const R1: Term = Term::Obj(1);
+
+const R2: Term = Term::Obj(2);
+
+const D1: Term = Term::Obj(4);
+
+const B1: Term = Term::Obj(6);
+
+/// CONNECTS(D1,R2,R1), by the axiom from CONNECTS(D1,R1,R2).
+fn the_other_way(alloc: Global, rt: &impl Abort) -> Proof {
+    let mut subs = Vec::new(alloc);
+    subs.push(fact(0, 0, atom(rt, 1, &[D1, R1, R2])))
+        .expect(rt, "memory");
+    Proof::Step {
+        clause: 0,
+        theta: sequence_of(alloc, rt, &[D1, R1, R2]),
+        place: 1,
+        subs: Sequence::from_vec(subs),
+    }
+}
+
+/// The rows of going through the door, of pushing the box back, and of the goal.
+fn door_rows(alloc: Global, rt: &impl Abort) -> Sequence<Row> {
+    let robot_at_first = fact(0, 0, atom(rt, 0, &[ROBOT, R1]));
+    let connects = fact(0, 0, atom(rt, 1, &[D1, R1, R2]));
+    let first = row_of_two(alloc, rt, robot_at_first, connects);
+    let box_at_first = fact(0, 0, atom(rt, 0, &[B1, R2]));
+    let robot_there = fact(1, 0, atom(rt, 0, &[ROBOT, R2]));
+    let second = row_of_three(
+        alloc,
+        rt,
+        box_at_first,
+        robot_there,
+        the_other_way(alloc, rt),
+    );
+    let is_box = fact(0, 0, atom(rt, 2, &[B1]));
+    let box_there = fact(2, 1, atom(rt, 0, &[B1, R1]));
+    let last = row_of_two(alloc, rt, is_box, box_there);
+    rows_of(alloc, rt, first, second, last)
+}
+
+fn door_marks(alloc: Global, rt: &impl Abort) -> Sequence<Mark> {
+    let connects = atom(rt, 1, &[D1, R1, R2]);
+    let marks = [
+        mark(1, 0, 0, atom(rt, 0, &[ROBOT, R1])),
+        mark(1, 0, 0, connects),
+        mark(2, 0, 0, atom(rt, 0, &[B1, R2])),
+        mark(2, 1, 0, atom(rt, 0, &[ROBOT, R2])),
+        mark(2, 0, 0, connects),
+        mark(3, 0, 0, atom(rt, 2, &[B1])),
+        mark(3, 2, 1, atom(rt, 0, &[B1, R1])),
+    ];
+    sequence_of(alloc, rt, &marks)
+}
+
+/// The robot goes through the door, and pushes the box back through it; some box is to be in R1.
+fn box_through_door(alloc: Global, rt: &impl Abort, goal_vars: u32, room: Term) -> Table {
+    let steps = [
+        instance(rt, 0, &[D1, R1, R2]),
+        instance(rt, 1, &[B1, D1, R2, R1]),
+    ];
+    let goal = [atom(rt, 2, &[P1]), atom(rt, 0, &[P1, room])];
+    Table {
+        params: 0,
+        steps: sequence_of(alloc, rt, &steps),
+        goal: sequence_of(alloc, rt, &goal),
+        goal_vars,
+        marks: door_marks(alloc, rt),
+        proofs: door_rows(alloc, rt),
+    }
+}
+
+#[test]
+fn a_box_is_pushed_through_a_door(rt: HostRuntime) {
+    let problem = rooms(rt.alloc(), &rt);
+    let table = box_through_door(rt.alloc(), &rt, 1, R1);
+    assert!(&rt; check_table(&problem, &table));
+    let connects = atom(&rt, 1, &[D1, R1, R2]);
+    let box_at_first = atom(&rt, 0, &[B1, R2]);
+    let is_box = atom(&rt, 2, &[B1]);
+    let first = [atom(&rt, 0, &[ROBOT, R1]), connects, box_at_first, is_box];
+    assert!(&rt; has_kernel(rt.alloc(), &rt, &table, 1, &first));
+    let second = [box_at_first, atom(&rt, 0, &[ROBOT, R2]), connects, is_box];
+    assert!(&rt; has_kernel(rt.alloc(), &rt, &table, 2, &second));
+    let third = [is_box, atom(&rt, 0, &[B1, R1])];
+    assert!(&rt; has_kernel(rt.alloc(), &rt, &table, 3, &third));
+}
+
+#[test]
+fn damaged_tables_are_refused(rt: HostRuntime) {
+    let problem = rooms(rt.alloc(), &rt);
+    let no_variable = box_through_door(rt.alloc(), &rt, 0, R1);
+    assert!(&rt; !check_table(&problem, &no_variable));
+    let other_goal = box_through_door(rt.alloc(), &rt, 1, R2);
+    assert!(&rt; !check_table(&problem, &other_goal));
+    let other_problem = two_names(rt.alloc(), &rt);
+    assert!(&rt; !check_table(&other_problem, &other_goal));
+    let mut fewer_marks = box_through_door(rt.alloc(), &rt, 1, R1);
+    fewer_marks.marks = sequence_of(rt.alloc(), &rt, &[]);
+    assert!(&rt; !check_table(&problem, &fewer_marks));
+}
+
+/// The support of no steps, whose goal is given at first.
+fn given_row(alloc: Global, rt: &impl Abort, atom: Atom) -> Vec<Row>
+    ensures { result.items ≡ (Proof.Fact (record { column = 0; index = 0; atom = atom }) ∷ []) ∷ [] }
+{
+    let mut rows = Vec::new(alloc);
+    rows.push(row_of_one(alloc, rt, fact(0, 0, atom)))
+        .expect(rt, "memory");
+    rows
+}
+
+/// The table of no steps, whose goal is given at first.
+fn given_table(alloc: Global, rt: &impl Abort, problem: &Problem, atom: Atom) -> Table
+    requires problem { IsValid problem.now }
+    requires atom { IsAtomOf problem.now 0 atom }
+{
+    let rows = given_row(alloc, rt, atom);
+    build(alloc, problem, &[atom], 0, &[], rows).expect(rt, "memory")
+}
+
+#[test]
+fn a_support_makes_a_table(rt: HostRuntime) {
+    let problem = rooms(rt.alloc(), &rt);
+    let here = atom(&rt, 0, &[ROBOT, R1]);
+    assert!(&rt; is_atom_of(&problem, 0, &here));
+    let table = given_table(rt.alloc(), &rt, &problem, here);
+    assert!(&rt; table.marks.as_slice() == [mark(1, 0, 0, here)].as_slice());
+    assert!(&rt; has_kernel(rt.alloc(), &rt, &table, 1, &[here]));
+    assert!(&rt; check_table(&problem, &table));
+}
