@@ -80,6 +80,7 @@ fn ask(
 ) -> Result<Answer, ProveErr> {
     assert!(rt; is_valid(problem));
     assert!(rt; atoms_fit(problem, vars, formula) && vars <= 12);
+    assert!(rt; problem.objects > 0);
     prove(alloc, problem, formula, vars, model)
 }
 
