@@ -6,9 +6,9 @@
 //! variables. It answers one of these.
 //!
 //! - [`Found`]: the moves to the first solved node, and the steps that they take. The clause `carries` says what the
-//!   steps are worth: in each run of them that begins where the initial model holds, each precondition is met, and the
-//!   run ends in the goal.
-//! - `Exhausted`: no list of moves reaches a solved node.
+//!   steps are worth: in each run of them that begins where the initial model holds, each precondition is met where it
+//!   is reached, and a run of all steps ends in the goal.
+//! - `Exhausted`: no list of moves reaches a solved node, and all nodes that moves reach may be kept.
 //! - `NodeLimit`: `nodes` are the first nodes, in order, as many as the problem allows. None of them is solved, and
 //!   `moves` moves reach a further one.
 //! - `NoMemory`, of which nothing more is said.
@@ -26,9 +26,9 @@
 //! - `Ends`: nodes come in the order of their least lists of moves: fewer moves first, and then, at the first different
 //!   push, the lesser entry (`order_of` of `px_table`: by the number of its operator, then by its arguments).
 //!
-//! A formula without variables has one list of gap proofs, since there are no axioms, and a formula of at most 12 atoms
-//! has at most 2^12 - 1 unfinished ones. So no formula of that size comes to a limit of 10,000 shapes of unfinished
-//! proofs, and the search asks for none.
+//! The search asks of no limit of shapes. (A remark, which no clause carries: a formula without variables has one list of
+//! gap proofs, since there are no axioms, and a formula of at most 12 atoms has at most 2^12 - 1 unfinished ones. So
+//! where formulas are no longer than that, a limit of 10,000 shapes is never met.)
 #![tactic(auto)]
 
 mod breadth_first;
