@@ -2,6 +2,7 @@ ghost use Rattle.std.specs.Prelude.{◌≡◌, ◌<◌, ◌≤◌, ℕ, List, Al
 ghost use Rattle.px_terms.specs.Plans.{Carries};
 ghost use Rattle.px_terms.specs.Validity.{IsAtomOf, IsInstanceOf, IsValid};
 ghost use Rattle.px_proof.specs.ProofTerm.{derivation_of};
+ghost use Rattle.px_table.specs.Kernels.{KernelsCarry};
 ghost use Rattle.px_table.specs.Marks.{marks_from, row_marks};
 ghost use Rattle.px_table.specs.Supports.{Supports};
 ghost use Rattle.px_table.specs.Tables.{IsTable, AreOfProblem, rows_of};
@@ -34,6 +35,7 @@ pub fn build(
     requires rows { AreOfProblem problem.now (rows_of support.items) }
     requires short { length steps.now < 4294967295 }
     ensures table { IfOk result (λ table. IsTable problem.now table) }
+    ensures kernels { IfOk result (λ table. KernelsCarry problem.now table) }
     ensures value { IfOk result (λ table. table ≡ record { params = 0; steps = steps.now; goal = goal.now; goal_vars = goal_vars; marks = marks_from 1 (rows_of support.items); proofs = support.items }) }
     ensures carries { (atoms : List _) → Supports problem.now atoms steps.now goal.now goal_vars (rows_of support.items) → Carries problem.now atoms steps.now goal_vars goal.now }
 {
