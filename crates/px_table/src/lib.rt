@@ -59,6 +59,7 @@ mod validation;
 pub use building::build;
 pub use entry::{Entry, Move};
 pub use kernel_atoms::kernel;
+pub use laws::marks_are_compared;
 pub use laws::{entries_are_ordered, nodes_are_compared};
 pub use mark::Mark;
 pub use node::Node;

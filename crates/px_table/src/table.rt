@@ -43,6 +43,13 @@ impl Row {
         self.proofs.as_slice()
     }
 
+    /// The proofs, for the caller to keep. Takes no memory.
+    pub fn into_proofs(self) -> Vec<Proof>
+        ensures { result.items ≡ self }
+    {
+        self.proofs.into_vec()
+    }
+
     /// An equal row, in memory of the same allocator.
     ///
     /// # Errors
