@@ -16,7 +16,8 @@ use px_terms::{Atom, OpInst, Problem};
 use std::alloc::Global;
 
 /// The table of a support: of steps and a goal with the proofs that carry them, over the problem's numbers. It has no parameters.
-/// A support carries its steps: wherever its atoms hold, each precondition is met and the goal holds at the end.
+/// In each run that begins in a state in which the atoms hold, in which the axioms hold throughout, and each step of which
+/// leaves what its operator describes, each precondition is met, and a run of all steps ends in the goal (Lifschitz 1987).
 ///
 /// # Errors
 /// `NoMemory` where there is none for the table. The support is then dropped.
