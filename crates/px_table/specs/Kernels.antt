@@ -16,7 +16,7 @@ use Rattle.px_table.specs.Once.{each_once}
 use Rattle.px_table.specs.Supports.{variables}
 use Rattle.px_table.specs.Tables.{rows_of}
 
--- the marks that step `i` or a later row rests on and that stand before step `i`
+-- the marks of row `i` and later whose column is before `i`
 abbrev pub kernel_marks : Table → ℕ → List Mark
 kernel_marks table i = filter (λ (mark : Mark). nat_le i mark.row && nat_lt mark.column i) table.marks
 
@@ -61,6 +61,6 @@ IsProper problem table sigma i = All (λ mark. IsKept problem (steps_under table
 abbrev pub TailCarries : Problem → Table → List ℕ → ℕ → Type 0
 TailCarries problem table sigma i = Carries problem (kernel_under table sigma i) (drop (i - 1) (steps_under table sigma)) table.goal_vars (goal_under table sigma)
 
--- each proper instance of each kernel does
+-- each proper instance of each kernel carries the steps that are left to the goal
 pub record KernelsCarry (problem : Problem) (table : Table) : Type 0 where
   pub carry : (sigma : List ℕ) → IsInstantiation problem table sigma → (i : ℕ) → 1 ≤ i → i ≤ length table.steps + 1 → IsProper problem table sigma i → TailCarries problem table sigma i

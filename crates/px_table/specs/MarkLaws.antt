@@ -6,7 +6,7 @@ use Rattle.std.specs.Bool.{Decides}
 use Rattle.px_terms.specs.OrderLaws.{atom_eq-decides}
 use Rattle.px_proof.specs.Derivation.{Derivation, derivations, leaves_of, all_leaves_of}
 use Rattle.px_table.specs.declared.mark.Mark.{Mark}
-use Rattle.px_table.specs.Marks.{mark_eq, mark_of, marks_from, row_leaves, row_marks}
+use Rattle.px_table.specs.Marks.{MarksAreCompared, mark_eq, mark_of, marks_from, row_leaves, row_marks}
 use Rattle.px_table.specs.Once.{put_each}
 use Rattle.px_table.specs.OnceLaws.{put_each-each_once}
 
@@ -14,6 +14,9 @@ pub mark_eq-decides : (first second : Mark) → Decides (mark_eq first second) (
 mark_eq-decides m n =
     Decides-like _ (λ e i. record { atom = e.0 i; row = e.1.0 i; column = e.1.1.0 i; index = e.1.1.1 i }) (λ e. (ap (λ (x : Mark). x.atom) e, (ap (λ (x : Mark). x.row) e, (ap (λ (x : Mark). x.column) e, ap (λ (x : Mark). x.index) e))))
     (Decides-and _ _ (atom_eq-decides m.atom n.atom) (Decides-and _ _ (Decides-eqb m.row n.row) (Decides-and _ _ (Decides-eqb m.column n.column) (Decides-eqb m.index n.index))))
+
+pub marks_are_compared : MarksAreCompared
+marks_are_compared = record { computes = λ first second. refl; equality = mark_eq-decides }
 
 -- the leaves of parts are the leaves of a row
 pub all_leaves-row : (row : List Derivation) → all_leaves_of (derivations row) ≡ row_leaves row

@@ -107,7 +107,7 @@ Contains-from_each_once same (x ∷ xs) y has = elim (Contains-cases x _ y has) 
   | inr later ↦ Contains-later x xs y (Contains-from_each_once same xs y ((Contains-filter _ (each_once same xs) y).0 later).0)
 ]
 
--- a fact of the leaves of all derivations is one of the marks
+-- what holds of the atom of each leaf holds of the atom of each mark
 module _ (P : Atom → Type 0) where
   row_leaf : (row : List Derivation) → All (λ d. (leaf : Leaf) → Contains (leaves_of d) leaf → P leaf.atom) row → (leaf : Leaf) → Contains (row_leaves row) leaf → P leaf.atom
   row_leaf [] all leaf has = absurd (Contains-none leaf has)

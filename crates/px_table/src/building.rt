@@ -2,6 +2,7 @@ ghost use Rattle.std.specs.Prelude.{◌≡◌, ◌<◌, ◌≤◌, ℕ, List, Al
 ghost use Rattle.px_terms.specs.Plans.{Carries};
 ghost use Rattle.px_terms.specs.Validity.{IsAtomOf, IsInstanceOf, IsValid};
 ghost use Rattle.px_proof.specs.ProofTerm.{derivation_of};
+ghost use Rattle.px_table.specs.Kernels.{KernelsCarry};
 ghost use Rattle.px_table.specs.Marks.{marks_from, row_marks};
 ghost use Rattle.px_table.specs.Supports.{Supports};
 ghost use Rattle.px_table.specs.Tables.{IsTable, AreOfProblem, rows_of};
@@ -15,7 +16,8 @@ use px_terms::{Atom, OpInst, Problem};
 use std::alloc::Global;
 
 /// The table of a support: of steps and a goal with the proofs that carry them, over the problem's numbers. It has no parameters.
-/// A support carries its steps: wherever its atoms hold, each precondition is met and the goal holds at the end.
+/// In each run that begins in a state in which the atoms hold, in which the axioms hold throughout, and each step of which
+/// leaves what its operator describes, each precondition is met, and a run of all steps ends in the goal (Lifschitz 1987).
 ///
 /// # Errors
 /// `NoMemory` where there is none for the table. The support is then dropped.
@@ -34,6 +36,7 @@ pub fn build(
     requires rows { AreOfProblem problem.now (rows_of support.items) }
     requires short { length steps.now < 4294967295 }
     ensures table { IfOk result (λ table. IsTable problem.now table) }
+    ensures kernels { IfOk result (λ table. KernelsCarry problem.now table) }
     ensures value { IfOk result (λ table. table ≡ record { params = 0; steps = steps.now; goal = goal.now; goal_vars = goal_vars; marks = marks_from 1 (rows_of support.items); proofs = support.items }) }
     ensures carries { (atoms : List _) → Supports problem.now atoms steps.now goal.now goal_vars (rows_of support.items) → Carries problem.now atoms steps.now goal_vars goal.now }
 {

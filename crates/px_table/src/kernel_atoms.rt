@@ -10,8 +10,10 @@ use px_base::NoMemory;
 use px_terms::Atom;
 use std::alloc::Global;
 
-/// Kernel `i`: the atoms that have to hold so that the steps from `i` on lead to the goal, in the order of the marks, each once
-/// (Fikes, Hart and Nilsson 1972). Kernel 1 is what the whole plan rests on, and the one after the last step the goal's row.
+/// Kernel `i` (Fikes, Hart and Nilsson 1972): the atoms of the marks of row `i` and later with column before `i`, in order,
+/// each once. In a table, where a proper instance of them holds, the steps from `i` on lead to the goal
+/// (`proper`). Kernel 1 is what the whole plan rests on, and the one after the last step is the goal's
+/// row. Numbers past the goal's row give no atom.
 ///
 /// # Errors
 /// `NoMemory` where there is none for the list.

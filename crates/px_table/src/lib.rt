@@ -59,7 +59,7 @@ mod validation;
 pub use building::build;
 pub use entry::{Entry, Move};
 pub use kernel_atoms::kernel;
-pub use laws::{entries_are_ordered, nodes_are_compared};
+pub use laws::{entries_are_ordered, marks_are_compared, nodes_are_compared};
 pub use mark::Mark;
 pub use node::Node;
 pub use proper_instance::proper;

@@ -13,9 +13,13 @@ use crate::under_objects::{atom_with, instance_with};
 use px_ops::deletes;
 use px_terms::{Atom, OpInst, Problem};
 
-/// Is the instance of kernel `i` under the objects of `sigma` proper? It is where no step from `i` on deletes the instance of a mark
-/// that it stands between: two parameters may have one object, and a step may then delete what a later one needs.
-/// A proper instance carries the steps from `i` on to the goal. Takes no memory.
+/// Is the instance of kernel `i` under the objects of `sigma` proper? It is where no step from `i` on deletes the instance of
+/// a mark between whose column and row it stands: two parameters may have one object, and a step may then delete what a
+/// later one needs.
+///
+/// A proper instance carries the steps from `i` on: in each run of them that begins in a state in which the instance holds,
+/// in which the axioms hold throughout, and each step of which leaves what its operator describes, each precondition is
+/// met, and a run of all of them ends in the goal (Lifschitz 1987). Takes no memory.
 pub fn proper(problem: &Problem, table: &Table, sigma: &[u32], i: u32) -> bool
     requires problem { IsValid problem.now }
     requires table { IsTable problem.now table.now }

@@ -43,7 +43,14 @@ impl Row {
         self.proofs.as_slice()
     }
 
-    /// An equal row, in memory of the same allocator.
+    /// The proofs, for the caller to keep. Takes no memory.
+    pub fn into_proofs(self) -> Vec<Proof>
+        ensures { result.items ≡ self }
+    {
+        self.proofs.into_vec()
+    }
+
+    /// An equal row.
     ///
     /// # Errors
     /// `NoMemory` where there is none for the copy.
@@ -60,7 +67,8 @@ impl Row {
 }
 
 /// A triangle table (Fikes, Hart and Nilsson 1972): a plan's steps and goal with the proofs that carry them, and the
-/// facts that these rest on. `Var(v)` with `v` below `params` is a parameter; in the goal alone, the goal's own variables follow.
+/// facts that these rest on. In what `check_table` accepts, `Var(v)` with `v` below `params` is a
+/// parameter, and in the goal alone the goal's own variables follow.
 #[derive(Drop)]
 pub struct Table {
     /// How many parameters it has.
@@ -70,14 +78,14 @@ pub struct Table {
     pub goal: Sequence<Atom>,
     /// How many variables of its own the goal has.
     pub goal_vars: u32,
-    /// The facts that the rows rest on, row by row, each once in its row.
+    /// In what `check_table` accepts: the facts that the rows rest on, row by row, each once in its row.
     pub marks: Sequence<Mark>,
-    /// A row for each step, and one for the goal.
+    /// In what `check_table` accepts: a row for each step, and one for the goal.
     pub proofs: Sequence<Row>,
 }
 
 impl Table {
-    /// An equal table, each part in memory of its own allocator.
+    /// An equal table.
     ///
     /// # Errors
     /// `NoMemory` where there is none for the copy.

@@ -4,7 +4,7 @@ ghost use Rattle.px_table.specs.Kernels.{IsInstantiation};
 
 use crate::ranges::is_atom_of;
 use crate::test_problems::{atom, instance, rooms, sequence_of, two_names};
-use crate::{Mark, Row, Table, build, check_table, kernel, proper};
+use crate::{Mark, Row, Table, build, check_table, kernel, marks_are_compared, proper};
 use px_base::Sequence;
 use px_proof::{Leaf, Proof};
 use px_terms::{Atom, Problem, Term};
@@ -85,23 +85,28 @@ const P1: Term = Term::Var(0);
 
 const P2: Term = Term::Var(1);
 
-/// The rows of the steps A(p1) and B(p1,p2) and of the goal G(p1).
-fn two_rows(alloc: Global, rt: &impl Abort) -> Sequence<Row> {
+/// The rows of the steps A(p1) and B(p1,p2) and of the goal G(p1), which comes from that column and index.
+fn two_rows(alloc: Global, rt: &impl Abort, column: u32, index: u32) -> Sequence<Row> {
     let first = row_of_one(alloc, rt, fact(0, 0, atom(rt, 0, &[P1])));
     let r = fact(1, 0, atom(rt, 2, &[P1]));
     let q = fact(0, 0, atom(rt, 1, &[P2]));
     let second = row_of_two(alloc, rt, r, q);
-    let last = row_of_one(alloc, rt, fact(2, 0, atom(rt, 3, &[P1])));
+    let last = row_of_one(alloc, rt, fact(column, index, atom(rt, 3, &[P1])));
     rows_of(alloc, rt, first, second, last)
 }
 
-/// The table with the steps A(p1) and B(p1,p2) and the goal G(p1).
+/// The table with the steps A(p1) and B(p1,p2) and the goal G(p1), which B adds.
 fn two_steps(alloc: Global, rt: &impl Abort) -> Table {
+    two_steps_from(alloc, rt, 2, 0)
+}
+
+/// The same, but that G(p1) comes from that column and index.
+fn two_steps_from(alloc: Global, rt: &impl Abort, column: u32, index: u32) -> Table {
     let marks = [
         mark(1, 0, 0, atom(rt, 0, &[P1])),
         mark(2, 1, 0, atom(rt, 2, &[P1])),
         mark(2, 0, 0, atom(rt, 1, &[P2])),
-        mark(3, 2, 0, atom(rt, 3, &[P1])),
+        mark(3, column, index, atom(rt, 3, &[P1])),
     ];
     let steps = [instance(rt, 0, &[P1]), instance(rt, 1, &[P1, P2])];
     Table {
@@ -110,7 +115,7 @@ fn two_steps(alloc: Global, rt: &impl Abort) -> Table {
         goal: sequence_of(alloc, rt, &[atom(rt, 3, &[P1])]),
         goal_vars: 0,
         marks: sequence_of(alloc, rt, &marks),
-        proofs: two_rows(alloc, rt),
+        proofs: two_rows(alloc, rt, column, index),
     }
 }
 
@@ -151,68 +156,104 @@ const D1: Term = Term::Obj(4);
 
 const B1: Term = Term::Obj(6);
 
-/// CONNECTS(D1,R2,R1), by the axiom from CONNECTS(D1,R1,R2).
-fn the_other_way(alloc: Global, rt: &impl Abort) -> Proof {
+/// A door, the rooms that it connects, and a box.
+#[derive(Clone, Copy)]
+struct Scene {
+    door: Term,
+    here: Term,
+    there: Term,
+    cargo: Term,
+}
+
+fn objects() -> Scene {
+    Scene {
+        door: D1,
+        here: R1,
+        there: R2,
+        cargo: B1,
+    }
+}
+
+fn parameters() -> Scene {
+    Scene {
+        door: Term::Var(0),
+        here: Term::Var(1),
+        there: Term::Var(2),
+        cargo: Term::Var(3),
+    }
+}
+
+/// The door leads back, by the axiom from its leading there.
+fn the_other_way(alloc: Global, rt: &impl Abort, scene: Scene) -> Proof {
+    let terms = [scene.door, scene.here, scene.there];
     let mut subs = Vec::new(alloc);
-    subs.push(fact(0, 0, atom(rt, 1, &[D1, R1, R2])))
+    subs.push(fact(0, 0, atom(rt, 1, &terms)))
         .expect(rt, "memory");
     Proof::Step {
         clause: 0,
-        theta: sequence_of(alloc, rt, &[D1, R1, R2]),
+        theta: sequence_of(alloc, rt, &terms),
         place: 1,
         subs: Sequence::from_vec(subs),
     }
 }
 
 /// The rows of going through the door, of pushing the box back, and of the goal.
-fn door_rows(alloc: Global, rt: &impl Abort) -> Sequence<Row> {
-    let robot_at_first = fact(0, 0, atom(rt, 0, &[ROBOT, R1]));
-    let connects = fact(0, 0, atom(rt, 1, &[D1, R1, R2]));
+fn door_rows(alloc: Global, rt: &impl Abort, scene: Scene) -> Sequence<Row> {
+    let robot_at_first = fact(0, 0, atom(rt, 0, &[ROBOT, scene.here]));
+    let connects = fact(0, 0, atom(rt, 1, &[scene.door, scene.here, scene.there]));
     let first = row_of_two(alloc, rt, robot_at_first, connects);
-    let box_at_first = fact(0, 0, atom(rt, 0, &[B1, R2]));
-    let robot_there = fact(1, 0, atom(rt, 0, &[ROBOT, R2]));
-    let second = row_of_three(
-        alloc,
-        rt,
-        box_at_first,
-        robot_there,
-        the_other_way(alloc, rt),
-    );
-    let is_box = fact(0, 0, atom(rt, 2, &[B1]));
-    let box_there = fact(2, 1, atom(rt, 0, &[B1, R1]));
+    let box_at_first = fact(0, 0, atom(rt, 0, &[scene.cargo, scene.there]));
+    let robot_there = fact(1, 0, atom(rt, 0, &[ROBOT, scene.there]));
+    let back = the_other_way(alloc, rt, scene);
+    let second = row_of_three(alloc, rt, box_at_first, robot_there, back);
+    let is_box = fact(0, 0, atom(rt, 2, &[scene.cargo]));
+    let box_there = fact(2, 1, atom(rt, 0, &[scene.cargo, scene.here]));
     let last = row_of_two(alloc, rt, is_box, box_there);
     rows_of(alloc, rt, first, second, last)
 }
 
-fn door_marks(alloc: Global, rt: &impl Abort) -> Sequence<Mark> {
-    let connects = atom(rt, 1, &[D1, R1, R2]);
+fn door_marks(alloc: Global, rt: &impl Abort, scene: Scene) -> Sequence<Mark> {
+    let connects = atom(rt, 1, &[scene.door, scene.here, scene.there]);
     let marks = [
-        mark(1, 0, 0, atom(rt, 0, &[ROBOT, R1])),
+        mark(1, 0, 0, atom(rt, 0, &[ROBOT, scene.here])),
         mark(1, 0, 0, connects),
-        mark(2, 0, 0, atom(rt, 0, &[B1, R2])),
-        mark(2, 1, 0, atom(rt, 0, &[ROBOT, R2])),
+        mark(2, 0, 0, atom(rt, 0, &[scene.cargo, scene.there])),
+        mark(2, 1, 0, atom(rt, 0, &[ROBOT, scene.there])),
         mark(2, 0, 0, connects),
-        mark(3, 0, 0, atom(rt, 2, &[B1])),
-        mark(3, 2, 1, atom(rt, 0, &[B1, R1])),
+        mark(3, 0, 0, atom(rt, 2, &[scene.cargo])),
+        mark(3, 2, 1, atom(rt, 0, &[scene.cargo, scene.here])),
     ];
     sequence_of(alloc, rt, &marks)
 }
 
-/// The robot goes through the door, and pushes the box back through it; some box is to be in R1.
-fn box_through_door(alloc: Global, rt: &impl Abort, goal_vars: u32, room: Term) -> Table {
+/// The robot goes through the door, and pushes the box back through it; some box is to be in that room.
+fn through_door(
+    alloc: Global,
+    rt: &impl Abort,
+    scene: Scene,
+    params: u32,
+    goal_vars: u32,
+    room: Term,
+) -> Table {
     let steps = [
-        instance(rt, 0, &[D1, R1, R2]),
-        instance(rt, 1, &[B1, D1, R2, R1]),
+        instance(rt, 0, &[scene.door, scene.here, scene.there]),
+        instance(rt, 1, &[scene.cargo, scene.door, scene.there, scene.here]),
     ];
-    let goal = [atom(rt, 2, &[P1]), atom(rt, 0, &[P1, room])];
+    let some = Term::Var(params);
+    let goal = [atom(rt, 2, &[some]), atom(rt, 0, &[some, room])];
     Table {
-        params: 0,
+        params,
         steps: sequence_of(alloc, rt, &steps),
         goal: sequence_of(alloc, rt, &goal),
         goal_vars,
-        marks: door_marks(alloc, rt),
-        proofs: door_rows(alloc, rt),
+        marks: door_marks(alloc, rt, scene),
+        proofs: door_rows(alloc, rt, scene),
     }
+}
+
+/// The table over objects, where some box is to be in the room.
+fn box_through_door(alloc: Global, rt: &impl Abort, goal_vars: u32, room: Term) -> Table {
+    through_door(alloc, rt, objects(), 0, goal_vars, room)
 }
 
 #[test]
@@ -229,6 +270,69 @@ fn a_box_is_pushed_through_a_door(rt: HostRuntime) {
     assert!(&rt; has_kernel(rt.alloc(), &rt, &table, 2, &second));
     let third = [is_box, atom(&rt, 0, &[B1, R1])];
     assert!(&rt; has_kernel(rt.alloc(), &rt, &table, 3, &third));
+}
+
+#[test]
+fn a_table_over_objects_is_proper(rt: HostRuntime) {
+    let problem = rooms(rt.alloc(), &rt);
+    let table = box_through_door(rt.alloc(), &rt, 1, R1);
+    assert!(&rt; check_table(&problem, &table));
+    assert!(&rt; table.steps.len() == 2);
+    let none = [0u32; 0];
+    assert!(&rt; is_instantiation(&problem, &table, &none));
+    assert!(&rt; proper(&problem, &table, &none, 1));
+    assert!(&rt; proper(&problem, &table, &none, 3));
+}
+
+#[test]
+fn the_robot_is_no_box(rt: HostRuntime) {
+    let problem = rooms(rt.alloc(), &rt);
+    let scene = parameters();
+    let table = through_door(rt.alloc(), &rt, scene, 4, 1, scene.here);
+    assert!(&rt; check_table(&problem, &table));
+    assert!(&rt; table.steps.len() == 2);
+    let robot_as_box = [4u32, 1, 2, 0];
+    assert!(&rt; is_instantiation(&problem, &table, &robot_as_box));
+    assert!(&rt; !proper(&problem, &table, &robot_as_box, 1));
+    assert!(&rt; proper(&problem, &table, &robot_as_box, 2));
+    let a_box = [4u32, 1, 2, 6];
+    assert!(&rt; is_instantiation(&problem, &table, &a_box));
+    assert!(&rt; proper(&problem, &table, &a_box, 1));
+}
+
+#[test]
+fn marks_name_where_their_atoms_come_from(rt: HostRuntime) {
+    marks_are_compared();
+    let problem = two_names(rt.alloc(), &rt);
+    let given_at_first = two_steps_from(rt.alloc(), &rt, 0, 0);
+    assert!(&rt; check_table(&problem, &given_at_first));
+    let place_at_first = two_steps_from(rt.alloc(), &rt, 0, 1);
+    assert!(&rt; !check_table(&problem, &place_at_first));
+    let other_add = two_steps_from(rt.alloc(), &rt, 2, 1);
+    assert!(&rt; !check_table(&problem, &other_add));
+    let column_at_row = two_steps_from(rt.alloc(), &rt, 3, 0);
+    assert!(&rt; !check_table(&problem, &column_at_row));
+}
+
+#[test]
+fn a_mark_stands_once(rt: HostRuntime) {
+    let problem = two_names(rt.alloc(), &rt);
+    let mut table = two_steps(rt.alloc(), &rt);
+    let mut marks = Vec::new(rt.alloc());
+    marks
+        .extend_from_slice(table.marks.as_slice())
+        .expect(&rt, "memory");
+    marks
+        .push(mark(3, 2, 0, atom(&rt, 3, &[P1])))
+        .expect(&rt, "memory");
+    table.marks = Sequence::from_vec(marks);
+    assert!(&rt; !check_table(&problem, &table));
+}
+
+#[test]
+fn a_row_gives_its_proofs_back(rt: HostRuntime) {
+    let row = row_of_one(rt.alloc(), &rt, fact(0, 0, atom(&rt, 0, &[ROBOT, R1])));
+    assert!(&rt; row.into_proofs().len() == 1);
 }
 
 #[test]

@@ -19,10 +19,13 @@ use px_ops::{adds, pre};
 use px_proof::{Proof, is_tree};
 use px_terms::{OpInst, Problem};
 
-/// Is it a table for the problem? It is where its numbers are in range, its rows prove the preconditions of its steps and
-/// an instance of its goal over the problem's objects and the parameters, each mark names where its atom comes from, and
-/// the marks are the leaves of the rows, each once in its row. Then each proper instance of each kernel carries the steps
-/// that are left to the goal (Fikes, Hart and Nilsson 1972). Takes no memory.
+/// Is it a table for the problem? It is where it has fewer than 4,294,967,295 steps, its other numbers are in range, its
+/// rows prove the preconditions of its steps and an instance of its goal over the problem's objects and the parameters,
+/// each mark names where its atom comes from, and the marks are the leaves of the rows, each once in its row.
+///
+/// Then each proper instance of each kernel carries the steps that are left (Fikes, Hart and Nilsson 1972): in each run of
+/// them that begins in a state in which the instance holds, in which the axioms hold throughout, and each step of which
+/// leaves what its operator describes, each precondition is met, and a run of all of them ends in the goal. Takes no memory.
 pub fn check_table(problem: &Problem, table: &Table) -> bool
     requires { IsValid problem.now }
     ensures exact { IsTrue result ↔ IsTable problem.now table.now }

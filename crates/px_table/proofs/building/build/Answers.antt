@@ -2,6 +2,7 @@ use Rattle.std.proofs.Common.{length, map, ap, ◌∙◌, arith}
 use Rattle.std.proofs.lemmas.List.{length-map}
 use Rattle.px_terms.specs.Language.{IsObject}
 use Rattle.px_proof.specs.ProofTerm.{derivation_of}
+use Rattle.px_table.specs.KernelLaws.{kernels_carry}
 use Rattle.px_table.specs.Marks.{marks_from}
 use Rattle.px_table.specs.SupportLaws.{support_carries, support_table}
 use Rattle.px_table.specs.Tables.{rows_of}
@@ -27,6 +28,9 @@ returns-clause-table c =
     let marks = c.from_vec.ensures ∙ c.in_ok-marks.ensures ∙ ap (λ rows. marks_from 1 (rows_of rows)) c.deref.ensures.value in
     rw (c.in_ok-table_steps.ensures, c.in_ok-table_goal.ensures, marks, c.from_vec-2.ensures)
     (support_table c.args.problem.now c.requires.problem c.requires.supports.0 c.args.steps.now c.args.goal.now c.args.goal_vars c.args.support.items c.requires.supports.1 c.requires.steps c.requires.goal c.requires.rows c.requires.short)
+
+pub returns-clause-kernels : goal.returns-clause-kernels
+returns-clause-kernels c = kernels_carry _ _ (returns-clause-table c)
 
 pub returns-clause-carries : goal.returns-clause-carries
 returns-clause-carries c = λ atoms supports. support_carries c.args.problem.now atoms c.args.steps.now c.args.goal.now c.args.goal_vars (rows_of c.args.support.items) c.requires.rows supports
