@@ -44,10 +44,11 @@ fn answer(alloc: Global, question: &Question, stack: &Stack) -> Result<Answer, N
     })
 }
 
-/// The first finished proof of the formula from the facts of the model.
+/// The first finished proof of the formula from the facts of the model (after the prover of Fikes and Nilsson 1971). An
+/// object is needed where there is a variable.
 ///
 /// # Errors
-/// `Unprovable` where there is none, `ShapeLimit` where as many shapes of unfinished lists as the problem allows come
+/// `Unprovable` where there is none, `ShapeLimit` where as many shapes of unfinished lists as the shape limit come
 /// first, and `NoMemory`. The clauses say that each of the first two comes only there, and exclude each other.
 pub fn prove(
     alloc: Global,

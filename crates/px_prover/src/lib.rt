@@ -11,9 +11,9 @@
 //!   before an axiom; facts come in the model's order, ancestors from the nearest, axioms by number and place. Among lists
 //!   of one shape the least objects come first, so a variable that the proofs leave free gets object 0. A leaf has column
 //!   0 and the fact's place in the model as its index.
-//! - `Unprovable`: there is no finished list.
-//! - `ShapeLimit`: as many shapes of unfinished lists as the problem allows stand before the first finished one, or exist
-//!   at all where there is none. The answer has the first so many.
+//! - `Unprovable`: there is no finished list, and fewer unfinished ones than the shape limit.
+//! - `ShapeLimit`: as many shapes of unfinished lists as the shape limit stand before the first finished one, or exist at
+//!   all where there is none. The answer has the first so many.
 //! - `NoMemory`, of which nothing more is said.
 //!
 //! Facts with objects outside the problem are passed over. What these words mean is said in `px_question`: trees without
@@ -21,7 +21,7 @@
 //! holds, and the answers exclude each other.
 //!
 //! Internally places are closed from left to right, over variables whose bindings are undone (`px_stack`), in the order
-//! of the shapes (`px_walk`), so that no list of objects is ever tried.
+//! of the shapes (`px_walk`).
 #![tactic(auto)]
 
 mod attempts;

@@ -15,11 +15,11 @@ pub struct Answer {
 /// Why no proof is answered.
 #[derive(Drop, Error)]
 pub enum ProveErr {
-    /// No objects make each atom provable, and fewer shapes of unfinished lists exist than the problem allows.
+    /// No objects make each atom provable, and fewer shapes of unfinished lists exist than the shape limit.
     #[error("no objects make each atom provable")]
     Unprovable,
-    /// As many shapes of unfinished lists as the problem allows come first. These are they, in order.
-    #[error("as many unfinished lists as the problem allows come first")]
+    /// As many shapes of unfinished lists as the shape limit come first. These are they, in order.
+    #[error("as many unfinished lists as the shape limit come first")]
     ShapeLimit(Vec<Shape>),
     /// There is no memory.
     #[error("out of memory")]

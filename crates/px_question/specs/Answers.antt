@@ -31,7 +31,7 @@ pub record IsList (rules : Rules) (s : Setting) (formula : List Atom) (vars : �
 abbrev pub IsAnswer : Setting → List Atom → ℕ → Type 0
 IsAnswer s formula vars = (objects : List ℕ) × (ds : Derivations) × IsList (proofs_in s) s formula vars objects ds
 
--- the atom has no variables, and it has a proof
+-- an atom without variables has a proof
 abbrev pub IsProvable : Setting → Atom → Type 0
 IsProvable s atom = IsAnswer s (atom ∷ []) 0
 

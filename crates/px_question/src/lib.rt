@@ -1,7 +1,7 @@
 //! What a question to the prover is, and what answers it.
 //!
-//! The definitions are over lists and trees alone: no variable is bound in them, no stack stands there, and nothing says how a
-//! proof is found. A formula is a list of atoms over variables that stand for one object each in the whole list.
+//! The definitions are over lists and trees alone. A formula is a list of atoms over variables that stand for one object
+//! each in the whole list.
 //!
 //! # Calling it
 //!
@@ -10,8 +10,8 @@
 //! - `specs/Answers`: `IsList` is one proof for each atom of the formula, under objects for its variables and within
 //!   the height; `IsAnswer` and `IsProvable` say that there is one; `IsFirst` is the one of the least shape, and among those the one
 //!   of the least objects.
-//! - `specs/Limits`: the shapes of unfinished lists; `IsLimited` and `IsGapLimited` are the first of them, as many as
-//!   the limit. `AreFewShapes`, `AreFewBefore` and `AreFewGapShapes` say that there are fewer.
+//! - `specs/Limits`: the shapes of unfinished lists; `IsLimited` and `IsGapLimited` say of a list of shapes that it is the
+//!   first of them, as many as the limit. `AreFewShapes`, `AreFewBefore` and `AreFewGapShapes` say that there are fewer.
 //! - `specs/Gaps`: `IsGapOf` is an atom that a list of gap proofs lacks where the formula has no answer, `AreGapLists`
 //!   all gap lists of loose gap proofs, `MeetsGapLimit` where finding gaps meets the limit (after the differences of
 //!   Fikes and Nilsson 1971).

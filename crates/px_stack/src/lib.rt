@@ -9,7 +9,7 @@
 //!   whether one can. Where none can, nothing has changed. `TriesRange` in `specs/Ranges.antt` is what they say: what
 //!   closes the place, and that nothing before it ever does, whatever objects the variables stand for.
 //!   [`close_by_gap`] closes the place by nothing.
-//! - `retract_last` opens the place again that was closed last, and gives back the very state before.
+//! - `retract_last` opens the place again that was closed last: bindings and places are cut at the marks of its choice.
 //! - After `NoMemory` a state is of no further use.
 #![tactic(auto)]
 

@@ -3,19 +3,18 @@
 //!
 //! An unfinished list of proofs is told by the ticks that close its places in preorder: each closes the first place that is
 //! open. The lists are visited in the order of the ticks, a list before those that it grows into, so the first finished
-//! one that is met is the first one that there is (linear resolution with ancestors, searched depth first).
+//! one that is met is the first one that there is.
 //!
 //! # Calling it
 //!
 //! - [`Walk`] is what a state offers: `try_after` closes the first open place by the least possible tick after a given
-//!   one, `retract` opens the last place again and answers its tick. No place keeps a position of its own. Its ghost
-//!   members say which lists are possible, which are finished, and which states belong to a question; `most` is how
-//!   many ticks there may be, so that a state can bound its variables.
+//!   one, `retract` opens the last place again and answers its tick. Its ghost members
+//!   say which lists are possible, which are finished, and which states belong to a question; `most` is how many ticks
+//!   there may be, so that a state can bound its variables.
 //! - [`advance`] goes on to the next possible list: the least after the one where the walk stands, and no other is between.
 //!   Its false says that none is after it.
 //! - [`walk_to_finished`] starts at the empty list and stops at the first finished one, or where there is none, or where
-//!   as many unfinished ones as the limit have been met; then [`End::Limit`] has their shapes, in order. A walk over
-//!   all possible lists of a question of the prover is so exactly its definition of the limit.
+//!   as many unfinished ones as the limit have been met; then [`End::Limit`] has their shapes, in order.
 //! - [`walk_to_end`] visits all lists and lets a [`Gather`] gather at each, or stops at the limit. It is for walks over
 //!   lists that all have an open place; what is finished is gathered from the list before it.
 //! - Whatever takes memory answers `NoMemory` where there is none. The walk may then stand anywhere, and isn't gone on with.
