@@ -25,7 +25,7 @@ use Rattle.px_table.specs.Marks.{IsKept, IsNamed, step_at}
 use Rattle.px_table.specs.Supports.{IsProofOf, Supports}
 use Rattle.px_table.specs.Tables.{AreOfProblem, rows_of}
 
-derivation_of-fact : (leaf : Leaf) → derivation_of (Fact leaf) ≡ fact leaf
+pub derivation_of-fact : (leaf : Leaf) → derivation_of (Fact leaf) ≡ fact leaf
 derivation_of-fact leaf = ap derivation_of (sym (rolls-Fact leaf)) ∙ fold-roll-Proof Derivation derivation_step (layer.Fact leaf)
 
 abbrev given_leaf : Atom → Leaf
@@ -37,13 +37,13 @@ given_rows atom = (Fact (given_leaf atom) ∷ []) ∷ []
 rows-given : (atom : Atom) → rows_of (given_rows atom) ≡ (fact (given_leaf atom) ∷ []) ∷ []
 rows-given atom = ap (λ d. (d ∷ []) ∷ []) (derivation_of-fact (given_leaf atom))
 
-stays : (ts : List Term) → All IsObject ts → map (substitute []) ts ≡ ts
+pub stays : (ts : List Term) → All IsObject ts → map (substitute []) ts ≡ ts
 stays [] all = refl
 stays (Obj n ∷ ts) all = ap (λ l. Obj n ∷ l) (stays ts (λ k d below. all (suc k) d (omega (arith, below))))
 stays (Var v ∷ ts) all = absurd (all 0 Any (omega arith))
 stays (Any ∷ ts) all = absurd (all 0 Any (omega arith))
 
-one : {A : Type 0} (P : A → Type 0) (x : A) → P x → All P (x ∷ [])
+pub one : {A : Type 0} (P : A → Type 0) (x : A) → P x → All P (x ∷ [])
 one P x h = All-cons P x [] h (λ k d below. absurd (omega (arith, below)))
 
 given_proof : (problem : Problem) (atom : Atom) → All IsObject atom.args → IsProofOf IsObject problem.axioms (substitute_atom [] atom) (fact (given_leaf atom))
@@ -70,7 +70,7 @@ given_derivations problem atom is = record {
 pub given_support : (problem : Problem) (atom : Atom) → IsAtomOf problem 0 atom → Supports problem (atom ∷ []) [] (atom ∷ []) 0 (rows_of (given_rows atom))
 given_support problem atom is = subst (λ rows. Supports problem (atom ∷ []) [] (atom ∷ []) 0 rows) (sym (rows-given atom)) (given_derivations problem atom is)
 
-abbrev IsGivenOf : Problem → Derivation → Type 0
+abbrev pub IsGivenOf : Problem → Derivation → Type 0
 IsGivenOf problem d = All (IsTermOf problem 0) (terms_of d) × All (HasArity problem) (leaf_atoms (leaves_of d))
 
 pub given_numbers : (problem : Problem) (atom : Atom) → IsAtomOf problem 0 atom → AreOfProblem problem (rows_of (given_rows atom))

@@ -1,3 +1,4 @@
+pub mod AddedSupport
 pub mod Choosing
 pub mod Fronts
 pub mod GivenSupport

@@ -42,7 +42,7 @@ pub fn is_atom_of(problem: &Problem, vars: u64, atom: &Atom) -> bool
 }
 
 /// Is it an instance of an operator of the problem over its objects and so many parameters?
-fn is_step_of(problem: &Problem, params: u32, inst: &OpInst) -> bool
+pub fn is_step_of(problem: &Problem, params: u32, inst: &OpInst) -> bool
     ensures { IsTrue result ↔ IsStepOf problem.now params inst.now }
 {
     let schemas = problem.schemas.as_slice();

@@ -1,13 +1,19 @@
-ghost use Rattle.std.specs.Prelude.{◌≡◌, ◌∷◌, [], IsTrue};
+ghost use Rattle.std.specs.Prelude.{◌≡◌, ◌∷◌, [], IsTrue, Some, map, slice_get};
+ghost use Rattle.px_terms.specs.Operators.{adds as adds_of, precondition};
 ghost use Rattle.px_terms.specs.Validity.{IsAtomOf, IsValid};
+ghost use Rattle.px_proof.specs.ProofTerm.{derivation_of};
+ghost use Rattle.px_proof.specs.Proves.{IsName};
 ghost use Rattle.px_table.specs.Kernels.{IsInstantiation};
+ghost use Rattle.px_table.specs.Supports.{ProvesEachOf};
+ghost use Rattle.px_table.specs.Tables.{IsStepOf};
 
-use crate::ranges::is_atom_of;
+use crate::ranges::{is_atom_of, is_step_of};
 use crate::test_problems::{atom, instance, rooms, sequence_of, two_names};
+use crate::validation::{adds_mark, row_proves};
 use crate::{Mark, Row, Table, build, check_table, kernel, marks_are_compared, proper};
 use px_base::Sequence;
 use px_proof::{Leaf, Proof};
-use px_terms::{Atom, Problem, Term};
+use px_terms::{Atom, OpInst, Problem, Term};
 use std::alloc::Global;
 use std::process::Abort;
 use std::rt::HostRuntime;
@@ -22,7 +28,9 @@ fn fact(column: u32, index: u32, atom: Atom) -> Proof
     })
 }
 
-fn mark(row: u32, column: u32, index: u32, atom: Atom) -> Mark {
+fn mark(row: u32, column: u32, index: u32, atom: Atom) -> Mark
+    ensures { result ≡ record { atom = atom; row = row; column = column; index = index } }
+{
     Mark {
         atom,
         row,
@@ -376,5 +384,55 @@ fn a_support_makes_a_table(rt: HostRuntime) {
     let table = given_table(rt.alloc(), &rt, &problem, here);
     assert!(&rt; table.marks.as_slice() == [mark(1, 0, 0, here)].as_slice());
     assert!(&rt; has_kernel(rt.alloc(), &rt, &table, 1, &[here]));
+    assert!(&rt; check_table(&problem, &table));
+}
+
+/// The support of a step whose precondition is given at first and which adds the goal.
+fn added_rows(alloc: Global, rt: &impl Abort, given: Atom, added: Atom) -> Vec<Row>
+    ensures { result.items ≡ (Proof.Fact (record { column = 0; index = 0; atom = given }) ∷ []) ∷ (Proof.Fact (record { column = 1; index = 0; atom = added }) ∷ []) ∷ [] }
+{
+    let mut rows = Vec::new(alloc);
+    rows.push(row_of_one(alloc, rt, fact(0, 0, given)))
+        .expect(rt, "memory");
+    rows.push(row_of_one(alloc, rt, fact(1, 0, added)))
+        .expect(rt, "memory");
+    rows
+}
+
+/// The table of that step.
+fn one_step_table(
+    alloc: Global,
+    rt: &impl Abort,
+    problem: &Problem,
+    inst: OpInst,
+    given: Atom,
+    added: Atom,
+) -> Table
+    requires problem { IsValid problem.now }
+    requires inst { IsStepOf problem.now 0 inst }
+    requires given { IsAtomOf problem.now 0 given }
+    requires added { IsAtomOf problem.now 0 added }
+    requires met { ProvesEachOf (IsName problem.now.objects 0) problem.now.axioms (precondition problem.now inst) (map derivation_of (Proof.Fact (record { column = 0; index = 0; atom = given }) ∷ [])) }
+    requires adds { slice_get (adds_of problem.now inst) 0 ≡ Some added }
+{
+    let rows = added_rows(alloc, rt, given, added);
+    build(alloc, problem, &[added], 0, &[inst], rows).expect(rt, "memory")
+}
+
+#[test]
+fn a_step_that_adds_the_goal_makes_a_table(rt: HostRuntime) {
+    let problem = two_names(rt.alloc(), &rt);
+    let inst = instance(&rt, 0, &[Term::Obj(0)]);
+    assert!(&rt; is_step_of(&problem, 0, &inst));
+    let given = atom(&rt, 0, &[Term::Obj(0)]);
+    assert!(&rt; is_atom_of(&problem, 0, &given));
+    let added = atom(&rt, 2, &[Term::Obj(0)]);
+    assert!(&rt; is_atom_of(&problem, 0, &added));
+    let row = row_of_one(rt.alloc(), &rt, fact(0, 0, given));
+    assert!(&rt; row_proves(&problem, 0, &inst, row.proofs()));
+    let goal_mark = mark(2, 1, 0, added);
+    assert!(&rt; adds_mark(&problem, 0, &inst, &goal_mark));
+    let table = one_step_table(rt.alloc(), &rt, &problem, inst, given, added);
+    assert!(&rt; table.marks.as_slice() == [mark(1, 0, 0, given), goal_mark].as_slice());
     assert!(&rt; check_table(&problem, &table));
 }

@@ -46,7 +46,7 @@ fn is_table(problem: &Problem, table: &Table) -> bool
 }
 
 /// Do the proofs of the row prove the step's precondition?
-fn row_proves(problem: &Problem, params: u32, inst: &OpInst, row: &[Proof]) -> bool
+pub fn row_proves(problem: &Problem, params: u32, inst: &OpInst, row: &[Proof]) -> bool
     requires problem { IsValid problem.now }
     requires inst { IsStepOf problem.now params inst.now }
     ensures { IsTrue result ↔ ProvesEachOf (IsName problem.now.objects params) problem.now.axioms (precondition problem.now inst.now) (map derivation_of row.now) }
@@ -90,7 +90,7 @@ fn rows_prove(problem: &Problem, table: &Table) -> bool
 }
 
 /// Does the step add the atom of the mark at the mark's index?
-fn adds_mark(problem: &Problem, params: u32, inst: &OpInst, mark: &Mark) -> bool
+pub fn adds_mark(problem: &Problem, params: u32, inst: &OpInst, mark: &Mark) -> bool
     requires problem { IsValid problem.now }
     requires inst { IsStepOf problem.now params inst.now }
     ensures { IsTrue result ↔ (slice_get (adds_of problem.now inst.now) mark.now.index ≡ Some mark.now.atom) }
