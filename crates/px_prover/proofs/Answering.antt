@@ -1,7 +1,7 @@
 -- The state in which nothing is open gives the first answer.
-use Rattle.std.proofs.Common.{◌≡◌, ◌↔◌, ◌⊎◌, ℕ, zero, suc, ◌+◌, ◌-◌, ◌<◌, ◌≤◌, Bool, true, false, ◌&&◌, cond, Option, Some, None, List, [], ◌∷◌, ◌++◌, length, take, drop, map, slice_get, refl, ap, sym, subst, ◌∙◌, arith, length-append}
-use Rattle.std.specs.Prelude.{All, nat_eq, reverse}
-use Rattle.std.specs.List.{AllByRecursion, list_any}
+use Rattle.std.proofs.Common.{◌≡◌, ℕ, zero, suc, ◌+◌, ◌-◌, ◌<◌, ◌≤◌, Bool, false, Option, Some, None, List, [], ◌∷◌, ◌++◌, length, take, drop, map, slice_get, refl, ap, sym, subst, ◌∙◌, arith, length-append}
+use Rattle.std.specs.Prelude.{All, reverse}
+use Rattle.std.specs.List.{AllByRecursion}
 use Rattle.std.proofs.lemmas.List.Elements.{All-take, All-drop}
 use Rattle.px_ops.specs.Models.{IsModel}
 use Rattle.px_prover.specs.Building.{AreLeast, IsThere, built, fresh_sum}
@@ -20,7 +20,7 @@ use Rattle.px_question.specs.Answers.{AtMost, IsFirst, IsList, all_choices_of, l
 use Rattle.px_question.specs.Settings.{Setting, proofs_in, setting_of}
 use Rattle.px_stack.specs.Arena.{goals_at}
 use Rattle.px_stack.specs.States.{StackValue}
-use Rattle.px_terms.specs.Validity.{IsValid, IsAtomOf, IsAxiomOf}
+use Rattle.px_terms.specs.Validity.{IsValid, IsAtomOf}
 use Rattle.px_terms.specs.declared.atom.Atom.{Atom}
 use Rattle.px_terms.specs.declared.clause.Clause.{Clause}
 use Rattle.px_terms.specs.declared.problem.Problem.{Problem}
@@ -29,7 +29,7 @@ use Rattle.px_unify.specs.Changes.{Fits, variables_of}
 use Rattle.px_walk.specs.Pending.{Goal, Closing, Pending, Solves, open_after, closing_at, fresh_of, goals_of, by_fact, by_step, variables_from, vars_of}
 use Rattle.px_walk.specs.Possible.{IsClosing, IsFinished, IsPossible, open_count}
 use Rattle.px_walk.specs.Search.{ComesFirst}
-use Rattle.px_walk.proofs.Lifting.{open_after-step, variables_grow}
+use Rattle.px_walk.proofs.Lifting.{open_after-step}
 use Rattle.px_walk.proofs.Lists.{list-solved}
 use Rattle.px_walk.proofs.Outcomes.{first-is}
 use Rattle.px_walk.proofs.Partial.{closed-proves-each}

@@ -1,6 +1,6 @@
 -- What attempts at facts, ancestors and axioms say of longer lists of ticks.
-use Rattle.std.proofs.Common.{◌≡◌, ◌↔◌, ◌⊎◌, ℕ, zero, suc, ◌+◌, ◌-◌, ◌<◌, ◌≤◌, Bool, true, false, ◌||◌, Option, Some, None, unwrap_or, List, [], ◌∷◌, ◌++◌, length, map, get_or, slice_get, refl, ap, sym, ◌∙◌, arith, inl, inr}
-use Rattle.std.specs.Prelude.{All, IsSomeAnd}
+use Rattle.std.proofs.Common.{◌≡◌, ℕ, zero, suc, ◌+◌, ◌<◌, ◌≤◌, Bool, Option, Some, None, List, [], ◌∷◌, ◌++◌, length, map, get_or, slice_get, refl, ap, sym, ◌∙◌, arith}
+use Rattle.std.specs.Prelude.{All}
 use Rattle.std.specs.List.{AllByRecursion}
 use Rattle.px_terms.specs.Language.{IsObject, substitute}
 use Rattle.px_proof.specs.Literals.{substitute_literal, complement_of, positive_of}
@@ -11,16 +11,15 @@ use Rattle.px_terms.specs.declared.atom.Atom.{Atom}
 use Rattle.px_terms.specs.declared.clause.Lit.{Lit}
 use Rattle.px_proof.specs.declared.shape.Tick.{Tick}
 use Rattle.px_proof.specs.declared.shape.Tick.TheVariants.{Fact, Anc}
-use Rattle.px_unify.specs.Changes.{Fits, variables_of}
+use Rattle.px_unify.specs.Changes.{variables_of}
 use Rattle.px_question.specs.Settings.{Setting, IsObjectBelow}
 use Rattle.px_question.specs.Answers.{object_terms}
-use Rattle.px_walk.specs.Pending.{Goal, Closing, Pending, open_after, closing_at, goals_of, IsFeasible}
+use Rattle.px_walk.specs.Pending.{Goal, Pending, open_after, closing_at, goals_of, IsFeasible}
 use Rattle.px_walk.specs.Scope.{IsSetting, IsLitIn}
 use Rattle.px_walk.proofs.Pushing.{solves-push, open_after-push}
 use Rattle.px_stack.specs.declared.open.OpenGoal.{OpenGoal}
 use Rattle.px_stack.specs.Arena.{goals_at}
 use Rattle.px_stack.specs.States.{StackValue, Stands}
-use Rattle.px_stack.specs.Matches.{ClosesBy}
 use Rattle.px_stack.specs.Ranges.{NeverFact, ComesFact}
 use Rattle.px_stack.specs.Ancestors.{NeverAncestor, ComesAncestor}
 use Rattle.px_prover.proofs.StepTurns.{none-at, none-agree}

@@ -1,7 +1,6 @@
 -- What attempts at the axioms say of longer lists of ticks.
-use Rattle.std.proofs.Common.{◌≡◌, ◌⊎◌, ℕ, zero, suc, ◌+◌, ◌-◌, ◌<◌, ◌≤◌, Bool, true, false, ◌||◌, Option, Some, None, List, [], ◌∷◌, ◌++◌, length, map, slice_get, refl, ap, sym, ◌∙◌, arith, inl, inr}
+use Rattle.std.proofs.Common.{◌≡◌, ◌⊎◌, ℕ, zero, suc, ◌<◌, ◌≤◌, Bool, true, false, ◌||◌, Option, Some, None, List, [], ◌∷◌, ◌++◌, length, slice_get, refl, ◌∙◌, arith, inl, inr}
 use Rattle.std.specs.Prelude.{nat_le}
-use Rattle.px_proof.specs.Literals.{substitute_literal}
 use Rattle.px_terms.specs.declared.term.Term.{Term}
 use Rattle.px_terms.specs.declared.atom.Atom.{Atom}
 use Rattle.px_terms.specs.declared.clause.Lit.{Lit}
@@ -11,12 +10,12 @@ use Rattle.px_proof.specs.declared.shape.Tick.TheVariants.{Step}
 use Rattle.px_proof.specs.Proves.{instance_of, parts_of}
 use Rattle.px_unify.specs.Changes.{variables_of}
 use Rattle.px_question.specs.Settings.{Setting}
-use Rattle.px_walk.specs.Pending.{Goal, Closing, closing_at, goals_below, has_room, variables_from, IsFeasible}
+use Rattle.px_walk.specs.Pending.{Goal, goals_below, has_room, variables_from, IsFeasible}
 use Rattle.px_stack.specs.declared.open.OpenGoal.{OpenGoal}
 use Rattle.px_stack.specs.Arena.{goals_at, path_at}
 use Rattle.px_stack.specs.States.{StackValue, Stands}
 use Rattle.px_stack.specs.Steps.{ClosesByStep, new_literal}
-use Rattle.px_stack.specs.Axioms.{HasRoom, IsFrom, NeverAxiom, ComesAxiom}
+use Rattle.px_stack.specs.Axioms.{IsFrom, NeverAxiom, ComesAxiom}
 use Rattle.px_prover.proofs.StepTurns.{step-closing, step-none, none-at, none-agree, stands-stepped}
 
 or_right : (a b : Bool) → b ≡ true → (a || b) ≡ true

@@ -1,17 +1,16 @@
 -- The derivations of a list of finished proofs are those that its ticks and its chosen objects stand for.
-use Rattle.std.proofs.Common.{◌≡◌, ℕ, zero, suc, ◌+◌, ◌-◌, ◌<◌, ◌≤◌, Option, Some, None, List, [], ◌∷◌, ◌++◌, length, map, take, drop, get_or, slice_get, refl, ap, sym, subst, ◌∙◌, arith, append_assoc, length-append}
+use Rattle.std.proofs.Common.{◌≡◌, ℕ, zero, suc, ◌-◌, ◌<◌, ◌≤◌, Some, List, [], ◌∷◌, ◌++◌, length, map, take, drop, get_or, slice_get, refl, ap, sym, ◌∙◌, arith, append_assoc, length-append}
 use Rattle.std.specs.Prelude.{All}
 use Rattle.std.proofs.lemmas.List.{length-map}
 use Rattle.std.proofs.lemmas.List.Elements.{All-head, All-tail}
-use Rattle.px_prover.specs.Building.{built, parts_count}
+use Rattle.px_prover.specs.Building.{built}
 use Rattle.px_proof.proofs.Parts.{length-parts_of}
 use Rattle.px_proof.specs.Derivation.{Derivation, Derivations, derivations, fact, ancestor, step, gap, open_place, none, also, no_atom}
 use Rattle.px_proof.specs.Literals.{substitute_literal}
 use Rattle.px_proof.specs.PlaceLaws.{slice_get-within}
-use Rattle.px_proof.specs.Proves.{Rules, Proves, ProvesEach, UsesClause, instance_of, parts_of}
+use Rattle.px_proof.specs.Proves.{Proves, ProvesEach, instance_of, parts_of}
 use Rattle.px_proof.specs.Shapes.{ticks, ticks_of}
 use Rattle.px_proof.specs.declared.proof.Leaf.{Leaf}
-use Rattle.px_proof.specs.declared.shape.Tick.{Tick}
 use Rattle.px_question.specs.Answers.{object_of, object_terms, choices_of, all_choices_of}
 use Rattle.px_question.specs.Settings.{Setting, IsObjectBelow, proofs_in}
 use Rattle.px_terms.specs.declared.atom.Atom.{Atom}
@@ -19,7 +18,6 @@ use Rattle.px_terms.specs.declared.clause.Clause.{Clause}
 use Rattle.px_terms.specs.declared.clause.Lit.{Lit}
 use Rattle.px_terms.specs.declared.term.Term.{Term}
 use Rattle.px_terms.specs.declared.term.Term.TheVariants.{Obj, Var, Any}
-use Rattle.px_walk.specs.Pending.{vars_of}
 
 -- derivations as a list
 abbrev pub listed : Derivations → List Derivation

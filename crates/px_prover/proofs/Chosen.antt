@@ -1,5 +1,5 @@
 -- The objects that the bindings leave fit them, and are the least that do.
-use Rattle.std.proofs.Common.{◌≡◌, ◌↔◌, ℕ, zero, suc, ◌+◌, ◌<◌, ◌≤◌, Some, List, [], ◌∷◌, length, map, replicate, get_or, slice_get, refl, ap, sym, subst, ◌∙◌, arith}
+use Rattle.std.proofs.Common.{◌≡◌, ℕ, zero, suc, ◌<◌, ◌≤◌, Some, List, [], ◌∷◌, length, replicate, get_or, slice_get, refl, ap, sym, subst, ◌∙◌, arith}
 use Rattle.std.specs.Prelude.{All, slice_index}
 use Rattle.std.proofs.lemmas.Option.{get_or_from_slice_get}
 use Rattle.px_prover.specs.Building.{AreLeast, IsLeastAt}
@@ -9,7 +9,6 @@ use Rattle.px_terms.specs.declared.term.Term.{Term}
 use Rattle.px_terms.specs.declared.term.Term.TheVariants.{Obj, Var, Any}
 use Rattle.px_unify.specs.declared.change.Change.{Change}
 use Rattle.px_unify.specs.Changes.{AreOneUnder, Fits, HasSolutions, IsRoot, IsUnbound, variables_of}
-use Rattle.px_unify.specs.ChangeLaws.{slots-fresh}
 use Rattle.px_walk.proofs.Least.{at_most-places}
 
 obj_same : {m n : ℕ} → Obj m ≡ Obj n → m ≡ n

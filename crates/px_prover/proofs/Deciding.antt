@@ -1,6 +1,5 @@
 -- What the end of a walk says of the formula.
-use Rattle.std.proofs.Common.{◌≡◌, ◌⊎◌, ℕ, Bool, false, List, ◌++◌, map, subst, sym, ◌∙◌, inl, inr}
-use Rattle.std.specs.Prelude.{Contains}
+use Rattle.std.proofs.Common.{◌≡◌, ◌⊎◌, ℕ, false, List, ◌++◌, map, subst, ◌∙◌, inl, inr}
 use Rattle.px_prover.specs.Standing.{IsAsked}
 use Rattle.px_proof.specs.Derivation.{Derivations}
 use Rattle.px_proof.specs.Shapes.{ticks_of, ShapeBefore}

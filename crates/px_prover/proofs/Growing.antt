@@ -1,18 +1,14 @@
 -- A closing makes a sound state of the longer list, and keeps what was there.
-use Rattle.std.proofs.Common.{◌≡◌, ℕ, suc, ◌+◌, ◌*◌, ◌-◌, ◌<◌, ◌≤◌, Bool, true, Some, List, [], ◌∷◌, ◌++◌, length, take, slice_get, refl, ap, sym, ◌∙◌, arith, length-append}
+use Rattle.std.proofs.Common.{◌≡◌, ℕ, ◌+◌, ◌≤◌, Bool, true, Some, List, [], ◌∷◌, ◌++◌, length, take, slice_get, refl, ap, sym, ◌∙◌, arith, length-append}
 use Rattle.std.specs.Prelude.{All}
-use Rattle.std.specs.List.{AllByRecursion}
-use Rattle.std.proofs.lemmas.List.{take-append-le}
-use Rattle.std.proofs.Math.Seq.{take-length}
-use Rattle.px_prover.specs.Standing.{IsAsked, IsSound}
 use Rattle.px_prover.specs.Tries.{IsReady, IsLonger}
-use Rattle.px_prover.proofs.Ready.{goal_in, ready-next}
+use Rattle.px_prover.proofs.Ready.{ready-next}
 use Rattle.px_proof.specs.Proves.{IsName}
-use Rattle.px_proof.specs.PlaceLaws.{All-got, some_same}
+use Rattle.px_proof.specs.PlaceLaws.{some_same}
 use Rattle.px_proof.specs.declared.shape.Tick.{Tick}
-use Rattle.px_proof.specs.declared.shape.Tick.TheVariants.{Fact, Anc, Step, Gap, Open}
+use Rattle.px_proof.specs.declared.shape.Tick.TheVariants.{Fact}
 use Rattle.px_question.specs.Settings.{Setting, IsObjectBelow}
-use Rattle.px_stack.specs.Matches.{ClosesBy, choice_by}
+use Rattle.px_stack.specs.Matches.{ClosesBy}
 use Rattle.px_stack.specs.Steps.{ClosesByStep}
 use Rattle.px_stack.specs.States.{StackValue, Stands}
 use Rattle.px_stack.specs.declared.open.OpenGoal.{OpenGoal}
@@ -21,7 +17,6 @@ use Rattle.px_terms.specs.declared.clause.Clause.{Clause}
 use Rattle.px_terms.specs.declared.clause.Lit.{Lit}
 use Rattle.px_terms.specs.declared.term.Term.{Term}
 use Rattle.px_terms.specs.declared.term.Term.TheVariants.{Obj, Var, Any}
-use Rattle.px_unify.specs.Changes.{variables_of}
 use Rattle.px_walk.specs.Possible.{IsClosing}
 use Rattle.px_walk.proofs.Every.{all-push, all-recursion, all-weaker}
 use Rattle.px_walk.proofs.Objects.{FactIsIn}

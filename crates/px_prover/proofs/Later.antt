@@ -1,16 +1,16 @@
 -- Which ticks come after the last one that was tried.
-use Rattle.std.proofs.Common.{◌≡◌, ◌⊎◌, ℕ, zero, suc, ◌+◌, ◌<◌, ◌≤◌, Bool, true, false, Option, Some, None, List, [], ◌∷◌, ◌++◌, refl, ap, sym, ◌∙◌, arith, inl, inr}
+use Rattle.std.proofs.Common.{◌≡◌, ◌⊎◌, ℕ, zero, suc, ◌+◌, ◌<◌, ◌≤◌, Bool, false, Option, Some, None, List, [], ◌∷◌, ◌++◌, refl, ap, sym, arith, inl, inr}
 use Rattle.std.specs.List.{AllByRecursion}
 use Rattle.px_prover.specs.Tries.{IsSince, TriesAmong}
 use Rattle.px_prover.proofs.Since.{kind-since, fact-since, anc-since}
-use Rattle.px_proof.specs.Shapes.{TickBefore, tick_kind}
+use Rattle.px_proof.specs.Shapes.{TickBefore}
 use Rattle.px_proof.specs.declared.shape.Tick.{Tick}
 use Rattle.px_proof.specs.declared.shape.Tick.TheVariants.{Fact, Anc, Step, Gap, Open}
 use Rattle.px_question.specs.Settings.{Setting}
 use Rattle.px_stack.specs.States.{StackValue}
 use Rattle.px_terms.specs.declared.atom.Atom.{Atom}
 use Rattle.px_walk.specs.Order.{IsAfter}
-use Rattle.px_walk.specs.Possible.{IsClosing, IsPossible}
+use Rattle.px_walk.specs.Possible.{IsClosing}
 
 last-closing : (ticks : List Tick) (u : Tick) → AllByRecursion IsClosing (ticks ++ u ∷ []) → IsClosing u
 last-closing [] u all = all.0

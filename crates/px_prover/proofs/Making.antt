@@ -1,14 +1,13 @@
 -- The loops that collect objects and proofs.
-use Rattle.std.proofs.Common.{◌≡◌, ◌⊎◌, ℕ, zero, suc, ◌+◌, ◌-◌, ◌<◌, ◌≤◌, Option, Some, None, IfOk, Result, Ok, Err, List, [], ◌∷◌, ◌++◌, length, take, drop, map, get_or, slice_get, refl, ap, sym, subst, ◌∙◌, arith, inl, inr, length-append, reverse}
-use Rattle.std.specs.Prelude.{slice_index, option_to_list}
+use Rattle.std.proofs.Common.{◌≡◌, ◌⊎◌, ℕ, zero, suc, ◌+◌, ◌-◌, ◌<◌, ◌≤◌, Some, IfOk, Result, Ok, Err, List, [], ◌∷◌, ◌++◌, length, take, drop, map, get_or, slice_get, refl, ap, sym, subst, ◌∙◌, arith, inl, inr, length-append, reverse}
+use Rattle.std.specs.Prelude.{slice_index}
 use Rattle.std.specs.List.{AllByRecursion}
 use Rattle.std.proofs.lemmas.List.{reverse-append}
 use Rattle.px_prover.specs.Building.{IsLeastAt, IsThere, built, extended, fresh_sum, parts_count}
 use Rattle.px_proof.proofs.Layers.{derivation_of-step}
-use Rattle.px_proof.specs.Derivation.{Derivation, derivations, fact, ancestor, step}
+use Rattle.px_proof.specs.Derivation.{Derivation, derivations, step}
 use Rattle.px_proof.specs.PlaceLaws.{slice_get-read}
 use Rattle.px_proof.specs.ProofTerm.{derivation_of}
-use Rattle.px_proof.specs.declared.proof.Leaf.{Leaf}
 use Rattle.px_proof.specs.declared.proof.Proof.{Proof}
 use Rattle.px_proof.specs.declared.proof.Proof.TheViews.{Step as StepProof}
 use Rattle.px_terms.specs.Clauses.{IsArena}

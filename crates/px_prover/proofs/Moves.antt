@@ -1,12 +1,10 @@
 -- How the state of a question goes on, and how it goes back.
-use Rattle.std.proofs.Common.{◌≡◌, ◌↔◌, ◌⊎◌, ℕ, zero, suc, ◌+◌, ◌*◌, ◌-◌, ◌<◌, ◌≤◌, Bool, true, false, Option, Some, None, List, [], ◌∷◌, ◌++◌, length, take, map, replicate, slice_get, refl, ap, sym, subst, ◌∙◌, arith, inl, inr, append_assoc}
-use Rattle.std.specs.Prelude.{All, reverse}
-use Rattle.std.specs.List.{AllByRecursion}
-use Rattle.std.proofs.lemmas.List.{append-nil, reverse-append, length-replicate}
+use Rattle.std.proofs.Common.{◌≡◌, ◌↔◌, ℕ, zero, suc, ◌+◌, ◌-◌, ◌<◌, ◌≤◌, Bool, true, false, Option, Some, None, List, [], ◌∷◌, ◌++◌, length, take, map, replicate, slice_get, refl, ap, sym, subst, ◌∙◌, arith, append_assoc}
+use Rattle.std.specs.Prelude.{reverse}
+use Rattle.std.proofs.lemmas.List.{append-nil, reverse-append}
 use Rattle.std.proofs.lemmas.List.Elements.{All-replicate}
-use Rattle.px_prover.specs.Asking.{setting_in, IsPossibleIn, IsFinishedIn}
 use Rattle.px_prover.specs.Standing.{ticks_in, IsAsked, IsSound, WasSound, IsStanding}
-use Rattle.px_prover.specs.Tries.{IsReady, IsLonger, IsSince, TriesAmong}
+use Rattle.px_prover.specs.Tries.{IsReady, IsLonger, TriesAmong}
 use Rattle.px_prover.proofs.Scopes.{object-there}
 use Rattle.px_proof.specs.Literals.{positive_of}
 use Rattle.px_proof.specs.PlaceLaws.{some_same}
@@ -16,21 +14,19 @@ use Rattle.px_question.specs.Settings.{Setting}
 use Rattle.px_stack.specs.Arena.{goals_at, AreOlder}
 use Rattle.px_stack.specs.Matches.{choice_by}
 use Rattle.px_stack.specs.Parts.{goals_under}
-use Rattle.px_stack.specs.States.{StackValue, Stands, IsOpening, CanRetract, retracted}
+use Rattle.px_stack.specs.States.{StackValue, IsOpening, CanRetract, retracted}
 use Rattle.px_stack.specs.declared.open.Choice.{Choice}
 use Rattle.px_stack.specs.declared.open.OpenGoal.{OpenGoal}
 use Rattle.px_stack.proofs.Hanging.{goals_at-index, goals_at-nothing}
 use Rattle.px_terms.specs.declared.atom.Atom.{Atom}
-use Rattle.px_terms.specs.declared.term.Term.{Term}
 use Rattle.px_unify.specs.ChangeLaws.{variables-fresh}
 use Rattle.px_unify.specs.declared.change.Change.{Change}
 use Rattle.px_unify.specs.declared.change.Change.TheVariants.{Fresh}
-use Rattle.px_unify.specs.Changes.{Fits, Meets, variables_of}
+use Rattle.px_unify.specs.Changes.{Meets, variables_of}
 use Rattle.px_walk.specs.Order.{IsAfter, TriesAfter}
 use Rattle.px_walk.specs.Pending.{Goal, Pending, Solves, open_after, goals_of, IsFeasible}
-use Rattle.px_walk.specs.Possible.{IsClosing, IsPossible, IsFinished, open_count, left_of, shape_of}
-use Rattle.px_walk.proofs.Objects.{FactIsIn, feasible-from_bindings}
-use Rattle.px_walk.proofs.Pushing.{open_after-prefix}
+use Rattle.px_walk.specs.Possible.{IsPossible, IsFinished, open_count, left_of, shape_of}
+use Rattle.px_walk.proofs.Objects.{feasible-from_bindings}
 
 module _ (loose : Bool) (s : Setting) (formula : List Atom) (vars : ℕ) where
   sound-now : (choices : List Choice) (changes : List Change) (goals : List OpenGoal) (first : ℕ) → WasSound loose s formula vars choices changes goals first →

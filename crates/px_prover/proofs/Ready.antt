@@ -1,25 +1,23 @@
 -- What a sound state says of its first open goal.
-use Rattle.std.proofs.Common.{◌≡◌, ℕ, zero, suc, ◌+◌, ◌*◌, ◌-◌, ◌<◌, ◌≤◌, Bool, Some, List, [], ◌∷◌, ◌++◌, length, get_or, slice_get, refl, ap, sym, ◌∙◌, arith}
+use Rattle.std.proofs.Common.{◌≡◌, ℕ, zero, suc, ◌+◌, ◌-◌, ◌<◌, ◌≤◌, Bool, Some, List, [], ◌∷◌, length, get_or, slice_get, refl, ap, ◌∙◌, arith}
 use Rattle.std.specs.Prelude.{All}
 use Rattle.std.specs.List.{AllByRecursion}
-use Rattle.px_prover.specs.Standing.{IsAsked, IsSound}
 use Rattle.px_prover.specs.Tries.{IsReady}
 use Rattle.px_prover.proofs.Scopes.{open-in, open-near, goals-near, lit-plain, lits-plain, IsNear}
-use Rattle.px_proof.specs.PlaceLaws.{All-got, slice_get-within}
+use Rattle.px_proof.specs.PlaceLaws.{All-got}
 use Rattle.px_proof.specs.declared.shape.Tick.{Tick}
 use Rattle.px_question.specs.Settings.{Setting}
-use Rattle.px_stack.specs.Arena.{goals_at, path_at, AreOlder}
+use Rattle.px_stack.specs.Arena.{goals_at, path_at}
 use Rattle.px_stack.specs.Axioms.{IsFit}
 use Rattle.px_stack.specs.Parts.{IsLitBelow}
 use Rattle.px_stack.specs.States.{StackValue}
 use Rattle.px_stack.specs.declared.open.OpenGoal.{OpenGoal}
 use Rattle.px_stack.proofs.Hanging.{goals_at-index, path_at-index}
-use Rattle.px_terms.specs.Clauses.{ArePlainBelow}
 use Rattle.px_terms.specs.declared.atom.Atom.{Atom}
 use Rattle.px_terms.specs.declared.clause.Clause.{Clause}
 use Rattle.px_unify.specs.Changes.{variables_of}
-use Rattle.px_walk.specs.Pending.{Goal, Pending, goals_of}
-use Rattle.px_walk.specs.Scope.{IsGoalIn, IsLitIn}
+use Rattle.px_walk.specs.Pending.{Goal, goals_of}
+use Rattle.px_walk.specs.Scope.{IsGoalIn}
 use Rattle.px_walk.proofs.Objects.{goals-in}
 
 -- the goal with what hangs above it

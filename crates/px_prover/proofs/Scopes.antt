@@ -1,8 +1,8 @@
 -- What is open after the ticks is over the problem's objects and the variables, and no further below the top than there are ticks.
-use Rattle.std.proofs.Common.{◌≡◌, ◌⊎◌, ℕ, zero, suc, ◌+◌, ◌*◌, ◌-◌, ◌<◌, ◌≤◌, Bool, true, false, ◌&&◌, cond, Option, Some, None, List, [], ◌∷◌, ◌++◌, length, slice_get, refl, ap, sym, ◌∙◌, arith, inl, inr}
+use Rattle.std.proofs.Common.{◌≡◌, ℕ, zero, suc, ◌+◌, ◌<◌, ◌≤◌, Bool, true, false, ◌&&◌, cond, Option, Some, None, List, [], ◌∷◌, ◌++◌, length, slice_get, refl, ap, sym, ◌∙◌, arith}
 use Rattle.std.specs.Prelude.{All, nat_eq}
 use Rattle.std.specs.List.{AllByRecursion, list_any}
-use Rattle.px_proof.specs.PlaceLaws.{All-got, some_same}
+use Rattle.px_proof.specs.PlaceLaws.{some_same}
 use Rattle.px_proof.specs.Proves.{IsName, instance_of, parts_of}
 use Rattle.px_proof.specs.declared.shape.Tick.{Tick}
 use Rattle.px_proof.specs.declared.shape.Tick.TheVariants.{Fact, Anc, Step, Gap, Open}
@@ -15,7 +15,7 @@ use Rattle.px_terms.specs.declared.term.Term.{Term}
 use Rattle.px_terms.specs.declared.term.Term.TheVariants.{Obj, Var, Any}
 use Rattle.px_walk.specs.Pending.{Goal, Closing, Pending, open_after, closing_at, fresh_of, vars_of, goals_of, goals_below, by_fact, by_ancestor, by_literal, by_step, has_room, variables_from}
 use Rattle.px_walk.specs.Scope.{IsSetting, IsLitIn, IsGoalIn}
-use Rattle.px_walk.proofs.Every.{all-both, all-mapped, all-weaker}
+use Rattle.px_walk.proofs.Every.{all-both, all-weaker}
 use Rattle.px_walk.proofs.Lifting.{open_after-step}
 use Rattle.px_walk.proofs.Objects.{FactIsIn, closing-in, goal-more}
 

@@ -1,9 +1,8 @@
 -- Attempts at facts, ancestors, axioms and a gap in their order.
-use Rattle.std.proofs.Common.{◌≡◌, ◌⊎◌, ℕ, zero, suc, ◌+◌, ◌-◌, ◌<◌, ◌≤◌, Bool, true, false, ◌&&◌, Option, Some, None, List, [], ◌∷◌, ◌++◌, length, slice_get, refl, ap, sym, ◌∙◌, arith, inl, inr}
+use Rattle.std.proofs.Common.{◌≡◌, ◌⊎◌, ℕ, zero, suc, ◌<◌, ◌≤◌, Bool, true, false, ◌&&◌, Some, List, [], ◌∷◌, ◌++◌, length, slice_get, refl, ap, sym, ◌∙◌, arith, inl, inr}
 use Rattle.std.specs.Prelude.{nat_eq}
-use Rattle.std.specs.List.{AllByRecursion, list_any}
-use Rattle.px_prover.specs.Standing.{IsAsked, IsSound}
-use Rattle.px_prover.specs.Tries.{IsReady, IsLonger, IsSince, TriesAmong}
+use Rattle.std.specs.List.{list_any}
+use Rattle.px_prover.specs.Tries.{IsReady, IsSince, TriesAmong}
 use Rattle.px_prover.proofs.Attempted.{fact-stands, fact-nowhere, ancestor-stands, ancestor-nowhere}
 use Rattle.px_prover.proofs.AttemptedSteps.{axiom-first, axiom-nowhere}
 use Rattle.px_prover.proofs.Growing.{fact-in, longer-closed, longer-stepped}
@@ -22,14 +21,12 @@ use Rattle.px_stack.specs.States.{StackValue}
 use Rattle.px_stack.specs.declared.open.OpenGoal.{OpenGoal}
 use Rattle.px_terms.specs.declared.atom.Atom.{Atom}
 use Rattle.px_terms.specs.declared.clause.Clause.{Clause}
-use Rattle.px_terms.specs.declared.clause.Lit.{Lit}
-use Rattle.px_walk.specs.Order.{IsAfter}
 use Rattle.px_stack.specs.Matches.{ClosesBy}
 use Rattle.px_prover.proofs.StepTurns.{none-at}
 use Rattle.px_prover.proofs.Turns.{stands-closed, none-closed}
 use Rattle.px_unify.specs.Changes.{variables_of}
 use Rattle.px_walk.specs.Pending.{IsFeasible, closing_at}
-use Rattle.px_walk.specs.Possible.{IsClosing, IsPossible}
+use Rattle.px_walk.specs.Possible.{IsPossible}
 
 -- ---- which ticks are left
 

@@ -1,5 +1,5 @@
 -- What holds between attempts goes on to hold where a clause closes a place and its parts are opened.
-use Rattle.std.proofs.Common.{◌≡◌, ◌↔◌, ℕ, zero, suc, ◌+◌, ◌-◌, ◌<◌, Bool, true, false, cond, Option, Some, None, List, [], ◌∷◌, ◌++◌, length, map, get_or, slice_get, refl, ap, sym, ◌∙◌, arith}
+use Rattle.std.proofs.Common.{◌≡◌, ◌↔◌, ℕ, zero, suc, ◌+◌, ◌-◌, ◌<◌, Bool, true, false, Some, None, List, [], ◌∷◌, ◌++◌, length, get_or, slice_get, refl, ap, sym, ◌∙◌, arith}
 use Rattle.px_proof.specs.Literals.{substitute_literal}
 use Rattle.px_terms.specs.declared.term.Term.{Term}
 use Rattle.px_terms.specs.declared.atom.Atom.{Atom}
@@ -10,7 +10,7 @@ use Rattle.px_proof.specs.declared.shape.Tick.TheVariants.{Step}
 use Rattle.px_proof.specs.Proves.{instance_of, parts_of}
 use Rattle.px_unify.specs.Changes.{Fits, variables_of}
 use Rattle.px_question.specs.Settings.{Setting}
-use Rattle.px_walk.specs.Pending.{Goal, Closing, Pending, open_after, closing_at, fresh_of, vars_of, goals_of, goals_below, by_literal, by_step, has_room, variables_from, IsFeasible}
+use Rattle.px_walk.specs.Pending.{Goal, Closing, open_after, closing_at, fresh_of, vars_of, goals_of, goals_below, has_room, variables_from, IsFeasible}
 use Rattle.px_walk.proofs.Pushing.{open_after-push}
 use Rattle.px_walk.proofs.Attempts.{matched-push, infeasible-clash, infeasible-none}
 use Rattle.px_stack.specs.declared.open.OpenGoal.{OpenGoal}

@@ -1,18 +1,16 @@
 -- What holds between attempts goes on to hold.
-use Rattle.std.proofs.Common.{◌≡◌, ◌↔◌, ℕ, ◌+◌, Bool, true, false, Option, Some, None, List, [], ◌∷◌, ◌++◌, length, refl, ap, sym, ◌∙◌, arith}
-use Rattle.px_proof.specs.Literals.{substitute_literal}
-use Rattle.px_terms.specs.declared.term.Term.{Term}
+use Rattle.std.proofs.Common.{◌≡◌, ℕ, ◌+◌, Bool, true, false, Some, List, [], ◌∷◌, ◌++◌, refl, arith}
 use Rattle.px_terms.specs.declared.atom.Atom.{Atom}
 use Rattle.px_terms.specs.declared.clause.Lit.{Lit}
 use Rattle.px_proof.specs.declared.shape.Tick.{Tick}
-use Rattle.px_unify.specs.Changes.{Fits, variables_of}
+use Rattle.px_unify.specs.Changes.{variables_of}
 use Rattle.px_question.specs.Settings.{Setting}
-use Rattle.px_walk.specs.Pending.{Goal, Closing, Pending, open_after, closing_at, fresh_of, goals_of, IsFeasible}
+use Rattle.px_walk.specs.Pending.{Goal, open_after, closing_at, fresh_of, goals_of, IsFeasible}
 use Rattle.px_walk.proofs.Pushing.{open_after-push}
 use Rattle.px_walk.proofs.Attempts.{matched-push, infeasible-clash}
 use Rattle.px_stack.specs.Arena.{goals_at}
 use Rattle.px_stack.specs.States.{StackValue, Stands}
-use Rattle.px_stack.specs.Matches.{ClosesBy, closed_by}
+use Rattle.px_stack.specs.Matches.{ClosesBy}
 
 module _ (loose : Bool) (s : Setting) (formula : List Atom) (vars : ℕ) (ticks : List Tick) (old new : StackValue) (stands : Stands loose s formula vars ticks old)
     (tick : Tick) (goal : Goal) (goals : List Goal) (lit : Lit) (next : ℕ) (open_is : goals_at old.goals old.first ≡ goal ∷ goals) (rest_is : goals_at old.goals next ≡ goals)

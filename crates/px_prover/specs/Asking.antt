@@ -1,5 +1,5 @@
 -- What a question to the prover reads.
-use Rattle.std.specs.Prelude.{ℕ, List}
+use Rattle.std.specs.Prelude.{List}
 use Rattle.px_prover.specs.declared.question.Question.{Question}
 use Rattle.px_proof.specs.declared.shape.Tick.{Tick}
 use Rattle.px_question.specs.Settings.{Setting, setting_of}

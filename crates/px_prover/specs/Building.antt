@@ -1,5 +1,5 @@
 -- The objects that the bindings leave, and the proofs that ticks and objects stand for.
-use Rattle.std.specs.Prelude.{◌≡◌, ℕ, ◌+◌, ◌-◌, ◌<◌, Option, Some, None, List, [], ◌∷◌, length, take, drop, get_or, slice_get, slice_index, map}
+use Rattle.std.specs.Prelude.{◌≡◌, ℕ, ◌+◌, ◌-◌, ◌<◌, Option, Some, None, List, [], ◌∷◌, length, take, drop, get_or, slice_get, slice_index}
 use Rattle.px_proof.specs.Derivation.{Derivation, derivations, fact, ancestor, step, no_atom}
 use Rattle.px_proof.specs.declared.shape.Tick.{Tick}
 use Rattle.px_proof.specs.declared.shape.Tick.TheVariants.{Fact, Anc, Step, Gap, Open}

@@ -1,10 +1,8 @@
-use Rattle.std.proofs.Common.{◌≡◌, Bool, true, false, refl, ap, sym, ◌∙◌}
-use Rattle.std.specs.Prelude.{nat_eq}
-use Rattle.std.specs.List.{list_any}
+use Rattle.std.proofs.Common.{true, false}
 use Rattle.px_prover.specs.Asking.{setting_in}
 use Rattle.px_prover.specs.Standing.{ticks_in}
 use Rattle.px_prover.specs.Tries.{TriesSince}
-use Rattle.px_prover.proofs.Joins.{any-added, any-as, gap-not_loose, gap-denied, gap-not_added, gap-tried}
+use Rattle.px_prover.proofs.Joins.{any-as, gap-not_loose, gap-denied, gap-not_added, gap-tried}
 use Rattle.px_prover.proofs.Ready.{ready-below}
 use Rattle.px_proof.specs.declared.shape.Tick.TheVariants.{Gap}
 use Rattle.px_stack.specs.Matches.{ClosesBy}

@@ -1,11 +1,10 @@
-use Rattle.std.proofs.Common.{◌≡◌, Bool, true, false}
 use Rattle.px_prover.specs.Asking.{setting_in}
 use Rattle.px_prover.specs.Standing.{ticks_in}
 use Rattle.px_prover.specs.Tries.{TriesSince}
 use Rattle.px_prover.proofs.Joins.{ready-same, join-ancestor}
 use Rattle.px_prover.proofs.Ready.{ready-above, ready-below, ready-near, ready-path_below}
 use Rattle.px_prover.proofs.Since.{ancestor-found}
-use Rattle.px_proof.specs.declared.shape.Tick.TheVariants.{Fact, Anc, Step, Gap}
+use Rattle.px_proof.specs.declared.shape.Tick.TheVariants.{Anc, Step}
 use Rattle.px_stack.proofs.Trying.{if_ok}
 use Rattle.px_prover.proofs.attempts.try_since_ancestor.Goals as goal
 

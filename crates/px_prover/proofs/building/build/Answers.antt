@@ -1,9 +1,8 @@
-use Rattle.std.proofs.Common.{◌≡◌, ◌+◌, ◌-◌, ◌<◌, ◌≤◌, suc, ℕ, Some, length, map, reverse, get_or, slice_get, arith, ap, sym, ◌∙◌, refl}
+use Rattle.std.proofs.Common.{◌-◌, ◌<◌, ℕ, length, map, reverse, get_or, arith, ap, ◌∙◌, refl}
 use Rattle.px_prover.proofs.Making.{built-start, built-room, built-there, built-next, built-end}
 use Rattle.px_proof.specs.PlaceLaws.{slice_get-read}
 use Rattle.px_proof.specs.ProofTerm.{derivation_of}
 use Rattle.px_question.specs.Settings.{Setting, setting_of}
-use Rattle.px_stack.specs.declared.open.Choice.{Choice}
 use Rattle.px_prover.proofs.building.build.Goals as goal
 
 pub loop-done-init : goal.loop-done-init

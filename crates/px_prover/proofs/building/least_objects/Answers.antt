@@ -1,4 +1,4 @@
-use Rattle.std.proofs.Common.{◌≡◌, ◌<◌, ◌≤◌, ◌+◌, ℕ, length, arith}
+use Rattle.std.proofs.Common.{arith}
 use Rattle.px_prover.proofs.Making.{least-push}
 use Rattle.px_prover.proofs.building.least_objects.Goals as goal
 

@@ -1,4 +1,4 @@
-use Rattle.std.proofs.Common.{◌≡◌, ◌-◌, ◌++◌, ◌∷◌, [], length, map, reverse, ap, ◌∙◌}
+use Rattle.std.proofs.Common.{◌-◌, length, ◌∙◌}
 use Rattle.px_prover.proofs.Making.{if_ok_any, lits-some, parts-are, pushed-step}
 use Rattle.px_prover.proofs.building.push_step.Goals as goal
 

@@ -1,4 +1,4 @@
-use Rattle.std.proofs.Common.{rules, ◌≡◌, ◌+◌, ℕ, length, arith, ap, []}
+use Rattle.std.proofs.Common.{rules, ◌≡◌, ◌+◌, length, arith}
 use Rattle.px_prover.proofs.Making.{popped-some, popped-none, none-left}
 use Rattle.px_prover.proofs.building.take_last.Goals.{in-Some+in_ok-keep-in-Some, in-None}
 use Rattle.px_prover.proofs.building.take_last.Goals as goal

@@ -1,4 +1,4 @@
-use Rattle.std.proofs.Common.{◌≡◌, ◌≤◌, ap, sym, ◌∙◌, refl, map}
+use Rattle.std.proofs.Common.{ap, ◌∙◌, refl, map}
 use Rattle.px_proof.specs.ProofTerm.{derivation_of}
 use Rattle.px_prover.specs.Asking.{setting_in}
 use Rattle.px_prover.proofs.Answering.{given-there, given-room, given-first}

@@ -1,4 +1,4 @@
-use Rattle.std.proofs.Common.{◌≡◌, ◌≤◌, arith, sym, refl, false, [], subst, List, ℕ, ap, map, ◌<◌}
+use Rattle.std.proofs.Common.{◌≡◌, ◌≤◌, arith, sym, false, [], subst, List, ℕ, map, ◌<◌}
 use Rattle.std.specs.Prelude.{All}
 use Rattle.px_ops.specs.Models.{IsModel}
 use Rattle.px_proof.specs.Derivation.{derivations}
@@ -8,9 +8,9 @@ use Rattle.px_prover.specs.Standing.{IsAsked, ticks_in}
 use Rattle.px_prover.proofs.Answering.{asked-of}
 use Rattle.px_prover.proofs.Deciding.{decided-few, decided-unlimited, decided-none, decided-none_few, decided-none_unlimited, decided-limit}
 use Rattle.px_prover.proofs.Moves.{opening-sound, opening-standing, sound-possible}
-use Rattle.px_question.specs.Answers.{IsAnswer, IsFirst}
+use Rattle.px_question.specs.Answers.{IsAnswer}
 use Rattle.px_question.specs.Limits.{AreFewBefore, AreFewShapes, IsLimited}
-use Rattle.px_question.specs.Settings.{Setting, setting_of}
+use Rattle.px_question.specs.Settings.{setting_of}
 use Rattle.px_terms.specs.Validity.{IsValid, IsAtomOf}
 use Rattle.px_terms.specs.declared.atom.Atom.{Atom}
 use Rattle.px_terms.specs.declared.problem.Problem.{Problem}

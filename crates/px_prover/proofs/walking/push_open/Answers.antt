@@ -1,5 +1,4 @@
-use Rattle.std.proofs.Common.{◌≡◌, ◌-◌, ◌<◌, ◌≤◌, length, arith}
-use Rattle.px_stack.specs.Arena.{goals_at}
+use Rattle.std.proofs.Common.{arith}
 use Rattle.px_prover.proofs.Moves.{open-next, open-moved, open-ended}
 use Rattle.px_prover.proofs.walking.push_open.Goals as goal
 

@@ -1,4 +1,4 @@
-use Rattle.std.proofs.Common.{◌≡◌, ◌≤◌, length, arith, ◌∙◌}
+use Rattle.std.proofs.Common.{arith, ◌∙◌}
 use Rattle.px_prover.specs.Asking.{setting_in}
 use Rattle.px_prover.proofs.Moves.{standing-sound, shape-made}
 use Rattle.px_prover.proofs.walking.StackWalkQuestion.shape.Goals as goal

@@ -1,4 +1,4 @@
-use Rattle.std.proofs.Common.{◌≡◌, Bool, ◌-◌, ◌<◌, ◌≤◌, Some, slice_get, arith, rules, subst, sym}
+use Rattle.std.proofs.Common.{arith}
 use Rattle.px_prover.specs.Asking.{setting_in, IsPossibleIn}
 use Rattle.px_prover.specs.Standing.{ticks_in, IsStanding}
 use Rattle.px_prover.specs.Tries.{TriesLater}
