@@ -1,12 +1,13 @@
-//! Tests that a problem without operators is valid, for the tests that ask the prover.
+//! Tests that a problem is valid, for the tests that ask the prover.
 
-ghost use Rattle.std.specs.Prelude.{◌≡◌, All, IsTrue};
+ghost use Rattle.std.specs.Prelude.{◌≡◌, All, EachIndex, IsTrue, slice_index_or};
 ghost use Rattle.px_terms.specs.Clauses.{ArePlainBelow};
 ghost use Rattle.px_terms.specs.Language.{IsObject, IsPlainBelow};
-ghost use Rattle.px_terms.specs.Validity.{IsAtomOf, IsAxiomOf, IsTermOf, IsValid};
+ghost use Rattle.px_terms.specs.Operators.{no_schema};
+ghost use Rattle.px_terms.specs.Validity.{IsAtomOf, IsAxiomOf, IsPatternOf, IsPatternTermOf, IsSchemaOf, IsTermOf, IsValid};
 ghost use Rattle.px_terms.specs.declared.clause.Lit.{Lit as LitValue};
 
-use px_terms::{Atom, Lit, Problem, Term};
+use px_terms::{Atom, Lit, Problem, Schema, Term};
 
 fn is_object(term: Term) -> bool
     ensures { IsTrue result → IsObject term }
@@ -136,14 +137,101 @@ fn axioms_fit(problem: &Problem) -> bool
     true
 }
 
-/// Is the problem, which has an object and no operator, valid?
+fn pattern_term_fits(problem: &Problem, vars: u32, term: Term) -> bool
+    ensures { IsTrue result → IsPatternTermOf problem.now vars term }
+{
+    match term {
+        Term::Obj(number) => number < problem.objects,
+        Term::Var(number) => number < vars,
+        Term::Any => true,
+    }
+}
+
+fn pattern_terms_fit(problem: &Problem, vars: u32, terms: &[Term]) -> bool
+    ensures { IsTrue result → All (IsPatternTermOf problem.now vars) terms.now }
+{
+    for term in terms {
+        if !pattern_term_fits(problem, vars, *term) {
+            return false;
+        }
+    }
+    true
+}
+
+fn pattern_fits(problem: &Problem, vars: u32, atom: &Atom) -> bool
+    ensures { IsTrue result → IsPatternOf problem.now vars atom.now }
+{
+    let arities = problem.arities.as_slice();
+    let pred = atom.pred() as usize;
+    if pred >= arities.len() {
+        return false;
+    }
+    if atom.args().len() != arities[pred] as usize {
+        return false;
+    }
+    pattern_terms_fit(problem, vars, atom.args())
+}
+
+fn patterns_fit(problem: &Problem, vars: u32, atoms: &[Atom]) -> bool
+    ensures { IsTrue result → All (IsPatternOf problem.now vars) atoms.now }
+{
+    for atom in atoms {
+        if !pattern_fits(problem, vars, atom) {
+            return false;
+        }
+    }
+    true
+}
+
+fn schema_fits(problem: &Problem, place: usize, schema: &Schema) -> bool
+    ensures { IsTrue result → IsSchemaOf problem.now place schema.now }
+{
+    if schema.op as usize != place || schema.params > 8 {
+        return false;
+    }
+    let (pre, del, add) = (
+        schema.pre.as_slice(),
+        schema.del.as_slice(),
+        schema.add.as_slice(),
+    );
+    if pre.len() > 100 || del.len() > 100 || add.len() > 100 {
+        return false;
+    }
+    if !atoms_fit(problem, schema.params, pre) {
+        return false;
+    }
+    if !patterns_fit(problem, schema.params, del) {
+        return false;
+    }
+    atoms_fit(problem, schema.params, add)
+}
+
+fn schemas_fit(problem: &Problem) -> bool
+    ensures { IsTrue result → EachIndex problem.now.schemas (λ k. IsSchemaOf problem.now k (slice_index_or problem.now.schemas k no_schema)) }
+{
+    let schemas = problem.schemas.as_slice();
+    for place in 0..schemas.len() {
+        if !schema_fits(problem, place, &schemas[place]) {
+            return false;
+        }
+    }
+    true
+}
+
+/// Is the problem valid? One without objects has neither axioms nor operators.
 pub fn is_valid(problem: &Problem) -> bool
     ensures { IsTrue result → IsValid problem.now }
 {
     if !axioms_fit(problem) {
         return false;
     }
-    if problem.objects == 0 || problem.schemas.len() > 0 || problem.arities.len() > 1000 {
+    if !schemas_fit(problem) {
+        return false;
+    }
+    if problem.objects == 0 && (problem.axioms.count() > 0 || problem.schemas.len() > 0) {
+        return false;
+    }
+    if problem.schemas.len() > 100 || problem.arities.len() > 1000 {
         return false;
     }
     if problem.height < 1 || problem.height > 8 || problem.nodes != 1 {
