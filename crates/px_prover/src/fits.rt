@@ -1,7 +1,7 @@
 //! Tests that a problem is valid, for the tests that ask the prover.
 
 ghost use Rattle.std.specs.Prelude.{◌≡◌, All, EachIndex, IsTrue, slice_index_or};
-ghost use Rattle.px_terms.specs.Clauses.{ArePlainBelow};
+ghost use Rattle.px_terms.specs.Clauses.{ArePlainBelow, IsArena};
 ghost use Rattle.px_terms.specs.Language.{IsObject, IsPlainBelow};
 ghost use Rattle.px_terms.specs.Operators.{no_schema};
 ghost use Rattle.px_terms.specs.Validity.{IsAtomOf, IsAxiomOf, IsPatternOf, IsPatternTermOf, IsSchemaOf, IsTermOf, IsValid};
@@ -218,10 +218,20 @@ fn schemas_fit(problem: &Problem) -> bool
     true
 }
 
+/// That the axioms are an arena is known from what an arena answers.
+fn know_arena(problem: &Problem)
+    ensures { IsArena problem.now.axioms }
+{
+    if problem.axioms.count() > 0 {
+        let _vars = problem.axioms.vars(0);
+    }
+}
+
 /// Is the problem valid? One without objects has neither axioms nor operators.
 pub fn is_valid(problem: &Problem) -> bool
     ensures { IsTrue result → IsValid problem.now }
 {
+    know_arena(problem);
     if !axioms_fit(problem) {
         return false;
     }

@@ -48,6 +48,30 @@ fn moving(alloc: Global, rt: &impl Abort, nodes: u32) -> Result<Problem, NoMemor
     })
 }
 
+/// Is a plan found of so many moves, with these steps?
+fn is_plan(found: &Result<Found, SearchErr>, count: usize, expected: &[OpInst]) -> bool {
+    match found {
+        Ok(plan) => plan.moves.len() == count && plan.steps.as_slice() == expected,
+        Err(_) => false,
+    }
+}
+
+/// Is the limit met with so many nodes, the last of them with an entry on its stack, and so many moves to the next one?
+fn is_limit(found: &Result<Found, SearchErr>, count: usize, to_next: u32) -> bool {
+    match found {
+        Err(SearchErr::NodeLimit { nodes, moves }) => {
+            let last = nodes.as_slice().last();
+            nodes.len() == count
+                && *moves == to_next
+                && match last {
+                    Some(node) => node.stack().len() == 1,
+                    None => false,
+                }
+        }
+        _ => false,
+    }
+}
+
 #[test]
 fn a_plan_of_one_step(rt: HostRuntime) -> Result<(), NoMemory> {
     let problem = moving(rt.alloc(), &rt, 10000)?;
@@ -56,11 +80,8 @@ fn a_plan_of_one_step(rt: HostRuntime) -> Result<(), NoMemory> {
     let mut facts = Model::new(rt.alloc());
     facts.insert(start)?;
     let step = OpInst::new(0, &[Term::Obj(0), Term::Obj(1)]).expect(&rt, "two arguments");
-    let is_plan = match search(rt.alloc(), &problem, &facts, &[end]) {
-        Ok(Found { moves, steps }) => moves.len() == 2 && steps.as_slice() == [step].as_slice(),
-        Err(_) => false,
-    };
-    assert!(&rt; is_plan);
+    let found = search(rt.alloc(), &problem, &facts, &[end]);
+    assert!(&rt; is_plan(&found, 2, &[step]));
     Ok(())
 }
 
@@ -78,12 +99,6 @@ fn two_nodes_are_too_few(rt: HostRuntime) -> Result<(), NoMemory> {
     let problem = moving(rt.alloc(), &rt, 2)?;
     let end = Atom::new(0, &[Term::Obj(1)]).expect(&rt, "one argument");
     let found = search(rt.alloc(), &problem, &Model::new(rt.alloc()), &[end]);
-    let is_limit = match found {
-        Err(SearchErr::NodeLimit { nodes, moves }) => nodes.len() == 2
-            && nodes.as_slice()[1].stack().len() == 1
-            && moves == 1,
-        _ => false,
-    };
-    assert!(&rt; is_limit);
+    assert!(&rt; is_limit(&found, 2, 1));
     Ok(())
 }

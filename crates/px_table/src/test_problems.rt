@@ -1,4 +1,5 @@
 ghost use Rattle.std.specs.Prelude.{◌≡◌, ◌<◌, ◌≤◌, ℕ, All, EachIndex, IsTrue, length, slice_index_or};
+ghost use Rattle.px_terms.specs.Clauses.{IsArena};
 ghost use Rattle.px_terms.specs.Operators.{no_schema};
 ghost use Rattle.px_terms.specs.declared.clause.Clause.{Clause};
 ghost use Rattle.px_terms.specs.Validity.{IsAtomOf, IsAxiomOf, IsPatternOf, IsPatternTermOf, IsSchemaOf, IsValid};
@@ -113,10 +114,20 @@ fn are_axioms(problem: &Problem) -> bool
     true
 }
 
+/// That the axioms are an arena is known from what an arena answers.
+fn know_arena(problem: &Problem)
+    ensures { IsArena problem.now.axioms }
+{
+    if problem.axioms.count() > 0 {
+        let _vars = problem.axioms.vars(0);
+    }
+}
+
 /// Is the problem valid? It has to have an object.
 fn is_valid(problem: &Problem) -> bool
     ensures { IsTrue result → IsValid problem.now }
 {
+    know_arena(problem);
     if problem.objects == 0 || problem.arities.len() >= 100 || problem.schemas.len() >= 100 {
         return false;
     }
