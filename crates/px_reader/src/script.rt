@@ -12,7 +12,7 @@ use px_terms::Problem;
 use thiserror::Error;
 
 /// A script that was read. It keeps that its problem is valid, that each of its numbers has a name, that the facts and the
-/// commands are over its numbers, that all is within the limits, and that no result is given twice.
+/// commands are over its numbers, that there are no more of each than the limits say, and that no result is given twice.
 #[derive(Drop)]
 pub struct Script {
     pub version: u32,

@@ -21,8 +21,8 @@ pub fn reads_one_way()
     ensures { (bytes : List ℕ) → ReadsOneWay bytes }
 {}
 
-/// The problem of a script is valid, each of its numbers has a name, the facts and the commands are over its numbers, all
-/// is within the limits, and no result is given twice.
+/// The problem of a script is valid, each of its numbers has a name, the facts and the commands are over its numbers, there
+/// are no more of each than the limits say, and no result is given twice.
 pub fn is_in_range()
     ensures { (bytes : List ℕ) (script : ScriptValue) → IsScript bytes script → IsInRange script }
 {}
