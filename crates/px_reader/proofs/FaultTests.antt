@@ -6,8 +6,9 @@ use Rattle.px_names.specs.Lists.{has_name}
 use Rattle.std.specs.List.{list_any, flat_map}
 use Rattle.std.proofs.lemmas.List.Folds.{list_any-append}
 use Rattle.px_script.specs.Statements as spec
+use Rattle.px_script.specs.Statements.{is_variable}
 use Rattle.px_script.specs.Declarations.{Declared, atom_of_literal, atom_of_edit, number_in}
-use Rattle.px_script.specs.Faults.{is_variable, is_anything, has_variable, atoms_of, arguments_of, is_known_argument, knows_names, has_wrong_arity}
+use Rattle.px_script.specs.Faults.{is_anything, has_variable, atoms_of, arguments_of, is_known_argument, knows_names, has_wrong_arity}
 use Rattle.px_script.proofs.Fronts.{true_not_false}
 use Rattle.px_reader.specs.Checks.{varies, has_dollar, literal_varies, edit_varies, plain_atoms, is_built_form, lacks_argument}
 use Rattle.px_reader.specs.StatementViews.{argument_view, atom_view, literal_view, atom_edit_view, statement_view}

@@ -2,6 +2,7 @@ pub mod TokenLemmas
 pub mod Parameters
 pub mod FaultTests
 pub mod Seen
+pub mod Objects
 pub mod Facts
 pub mod LimitLemmas
 pub mod LineLemmas

@@ -1,5 +1,5 @@
 -- Limits that are passed or not.
-use Rattle.std.proofs.Common.{◌≡◌, ◌≤◌, ℕ, get_or, Bool, true, false, List, [], ◌∷◌, map, length, refl, sym, ap, ◌∙◌, subst, arith}
+use Rattle.std.proofs.Common.{◌≡◌, ◌≤◌, get_or, Bool, true, false, List, [], ◌∷◌, map, length, refl, subst, arith}
 use Rattle.std.specs.Prelude.{All, Some, None, if◌then◌else◌}
 use Rattle.std.specs.Option.{option_map}
 use Rattle.std.proofs.lemmas.List.Elements.{All-cons, All-head, All-tail}

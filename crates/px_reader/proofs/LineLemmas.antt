@@ -1,9 +1,9 @@
 -- Lines without what ends them, and what reading a line shows.
-use Rattle.std.proofs.Common.{◌≡◌, ◌≢◌, ◌⊎◌, ℕ, ◌+◌, ◌-◌, ◌<◌, ◌≤◌, Bool, true, false, List, [], ◌∷◌, ◌++◌, map, take, drop, length, get_or, refl, sym, ap, ◌∙◌, subst, inl, inr, arith}
+use Rattle.std.proofs.Common.{◌≡◌, ◌≢◌, ℕ, ◌+◌, ◌-◌, ◌<◌, true, false, List, [], ◌∷◌, ◌++◌, take, drop, length, get_or, refl, sym, ap, ◌∙◌, subst, inl, inr, arith}
 use Rattle.std.specs.Prelude.{All, Option, None, Some, is_some, Result, Ok, Err, OnOk, IfErr, encode_utf8, slice_index, ◌==◌}
-use Rattle.std.specs.Str.{bytes_eq, chars, all_scalars}
+use Rattle.std.specs.Str.{bytes_eq, all_scalars}
 use Rattle.std.specs.Str.Pattern.{HasCharAt}
-use Rattle.std.proofs.lemmas.Bool.{eqb-true, cases_lt}
+use Rattle.std.proofs.lemmas.Bool.{eqb-true}
 use Rattle.std.proofs.lemmas.List.{take-append-drop, take_more, take_all}
 use Rattle.std.proofs.lemmas.Slice.Eq.{bytes_eq-Decides}
 use Rattle.px_names.specs.Name.{is_name_text}
@@ -12,7 +12,7 @@ use Rattle.px_script.specs.Lines.{mark, without_mark, without_return}
 use Rattle.px_script.specs.Statements.{Statement, Forms, begins_with_word}
 use Rattle.px_script.specs.Parsing.{parse}
 use Rattle.px_script.specs.Declarations.{Declared, has_building, after_line}
-use Rattle.px_script.specs.Faults.{Refusal, fault_of, declared_names}
+use Rattle.px_script.specs.Faults.{fault_of, declared_names}
 use Rattle.px_script.specs.Scripts.{Passes, Fails}
 use Rattle.px_script.proofs.Forms.{parsed}
 use Rattle.px_script.proofs.Sound.{parse-sound}

@@ -1,5 +1,5 @@
 -- What reading a text, and bytes, ends with.
-use Rattle.std.proofs.Common.{◌≡◌, ℕ, ◌+◌, ◌≤◌, List, [], ◌∷◌, map, take, drop, length, refl, sym, ap, ◌∙◌, subst, inl, inr, arith}
+use Rattle.std.proofs.Common.{◌≡◌, ℕ, ◌+◌, ◌≤◌, List, [], ◌∷◌, map, take, length, refl, sym, ap, ◌∙◌, subst, inr, arith}
 use Rattle.std.specs.Prelude.{Some, Result, Ok, Err, IfOk, IfErr, count_by, ◌==◌}
 use Rattle.std.specs.Result.{IsErrAnd}
 use Rattle.std.specs.List.{slice_split}
@@ -12,10 +12,8 @@ use Rattle.px_script.specs.Content.{ScriptValue}
 use Rattle.px_script.specs.Declarations.{Declared, OpenBlock}
 use Rattle.px_script.specs.Faults.{Refusal}
 use Rattle.px_script.specs.Lines.{mark, without_mark, without_return, lines_of}
-use Rattle.px_script.specs.Ranges.{IsInRange}
 use Rattle.px_script.specs.Scripts.{PassAll, FailsIn, IsScript, FirstFault, ReadsOneWay}
 use Rattle.px_script.proofs.Fronts.{by_test}
-use Rattle.px_script.proofs.Kept.{in-range}
 use Rattle.px_script.proofs.Law.{reads-one-way}
 use Rattle.px_reader.specs.declared.script.Script.{Script}
 use Rattle.px_reader.specs.declared.script.ScriptErr.{ScriptErr}
@@ -50,10 +48,6 @@ few-parts parts text is =
 pub err-carried : {A : Type 0} (r : Result A ScriptErr) (P : ScriptErr → Type 0) (x : ScriptErr) → IsErrAnd r (λ e. e ≡ x) → P x → IfErr r P
 err-carried (Ok a) P x is p = tt
 err-carried (Err e) P x is p = subst P (sym is) p
-
-pub ranges-read : (bytes : List ℕ) (r : Result Script ScriptErr) → IfOk r (λ s. IsScript bytes (content s)) → IfOk r (λ s. IsInRange (content s))
-ranges-read bytes (Ok s) is = in-range bytes (content s) is
-ranges-read bytes (Err error) is = tt
 
 module _ (bytes : List ℕ) where
   law : ReadsOneWay bytes

@@ -14,6 +14,7 @@ use Rattle.std.proofs.lemmas.Map.Text.{is_eq-slice_cmp}
 use Rattle.std.proofs.lemmas.Slice.Eq.{bytes_eq-Decides}
 use Rattle.px_names.specs.Lists.{has_name}
 use Rattle.px_script.specs.Faults.{repeats}
+use Rattle.px_script.proofs.Twice.{repeats-cons}
 use Rattle.px_reader.specs.StatementViews.{text_of}
 use Rattle.std.proofs.lemmas.List.{map-append, take_more, drop_more}
 use denote.Ref.{Bor}
@@ -67,17 +68,21 @@ module _ (others done : List (List ℕ)) (n : List ℕ) (rest : List (List ℕ))
   both = list_any-append (bytes_eq n) others done
 
   pub repeats-other : has_name n others ≡ true → repeats (others ++ done) (n ∷ rest) ≡ true
-  repeats-other e = rw (both, e) refl
+  repeats-other e = repeats-cons (others ++ done) n rest ∙ rw (both, e) refl
 
   pub repeats-done : has_name n done ≡ true → repeats (others ++ done) (n ∷ rest) ≡ true
   repeats-done e = by_other (has_name n others) (both ∙ ap (λ b. has_name n others || b) e)
     where
       by_other : (b : Bool) → has_name n (others ++ done) ≡ (b || true) → repeats (others ++ done) (n ∷ rest) ≡ true
-      by_other true f = rw f refl
-      by_other false f = rw f refl
+      by_other true f = repeats-cons (others ++ done) n rest ∙ rw f refl
+      by_other false f = repeats-cons (others ++ done) n rest ∙ rw f refl
 
   pub repeats-later : has_name n others ≡ false → has_name n done ≡ false → repeats (others ++ done) (n ∷ rest) ≡ repeats (others ++ (done ++ n ∷ [])) rest
-  repeats-later e f = rw (both, e, f, append_assoc) refl
+  repeats-later e f = repeats-cons (others ++ done) n rest ∙ rw (both, e, f, append_assoc) refl
+
+-- the names up to a place, with the one there
+pub names-taken : (names : List (Bor (List ℕ))) (i : ℕ) (d : Bor (List ℕ)) → i < length names → map text_of (take (i + 1) names) ≡ map text_of (take i names) ++ (get_or names i d).now ∷ []
+names-taken names i d below = ap (map text_of) (take_more names i d below) ∙ map-append text_of (take i names) (get_or names i d ∷ [])
 
 module _ (others : List (List ℕ)) (names : List (Bor (List ℕ))) (i : ℕ) (d : Bor (List ℕ)) (below : i < length names) (keys : List (Bor (List ℕ)))
     (whole : repeats others (map text_of names) ≡ repeats (others ++ map text_of (take i names)) (map text_of (drop i names)))
@@ -101,7 +106,7 @@ module _ (others : List (List ℕ)) (names : List (Bor (List ℕ))) (i : ℕ) (d
   found-seen e = sym (step ∙ repeats-done others done (get_or names i d).now rest (is_done ∙ e))
 
   taken : map text_of (take (i + 1) names) ≡ done ++ (get_or names i d).now ∷ []
-  taken = ap (map text_of) (take_more names i d below) ∙ map-append text_of (take i names) (get_or names i d ∷ [])
+  taken = names-taken names i d below
 
   pub none-found : has_name (get_or names i d).now others ≡ false → list_any (is_at (text_cmp (get_or names i d))) keys ≡ false
       → repeats others (map text_of names) ≡ repeats (others ++ map text_of (take (i + 1) names)) rest

@@ -1,10 +1,11 @@
 -- Tests of the code's statements.
-use Rattle.std.specs.Prelude.{ℕ, Bool, true, false, not, List, [], length}
+use Rattle.std.specs.Prelude.{Bool, false, not, List, [], length}
 use Rattle.std.specs.List.{list_any}
 use Rattle.px_script.specs.Declarations.{Declared}
-use Rattle.px_script.specs.Faults.{is_variable, is_anything, is_known_argument, too_many, grown}
+use Rattle.px_script.specs.Faults.{is_anything, is_known_argument, too_many, grown}
+use Rattle.px_script.specs.Stages.{stage_now, is_built}
 use Rattle.px_script.specs.Statements as spec
-use Rattle.px_reader.specs.StatementViews.{argument_view}
+use Rattle.px_reader.specs.StatementViews.{argument_view, statement_view}
 use Rattle.px_reader.specs.declared.statement.WrittenAtom.{WrittenAtom}
 use Rattle.px_reader.specs.declared.statement.WrittenLiteral.{WrittenLiteral}
 use Rattle.px_reader.specs.declared.statement.WrittenLiteral.TheVariants as literal
@@ -15,7 +16,7 @@ use Rattle.px_reader.specs.declared.statement.Statement.TheVariants as statement
 
 -- an atom with a variable, with the wild card
 abbrev pub varies : WrittenAtom → Bool
-varies atom = list_any (λ a. is_variable (argument_view a)) atom.arguments.items
+varies atom = list_any (λ a. spec.is_variable (argument_view a)) atom.arguments.items
 
 abbrev pub has_dollar : WrittenAtom → Bool
 has_dollar atom = list_any (λ a. is_anything (argument_view a)) atom.arguments.items
@@ -39,19 +40,7 @@ plain_atoms _ = []
 
 -- the line's word is built
 abbrev pub is_built_form : Statement → Bool
-is_built_form (statement.Script n) = true
-is_built_form (statement.Object ns) = true
-is_built_form (statement.Predicate n a) = true
-is_built_form (statement.Operator n ps) = true
-is_built_form (statement.Pre atoms) = true
-is_built_form (statement.Delete atoms) = true
-is_built_form (statement.Add atoms) = true
-is_built_form statement.End = true
-is_built_form (statement.Fact atoms) = true
-is_built_form (statement.Nodes n) = true
-is_built_form (statement.Plan n atoms) = true
-is_built_form statement.Facts = true
-is_built_form _ = false
+is_built_form s = is_built stage_now (statement_view s)
 
 -- some argument of the atom isn't declared
 abbrev pub lacks_argument : Declared → WrittenAtom → Bool

@@ -1,8 +1,8 @@
 -- What reading a line, and all lines, ends with.
-use Rattle.std.specs.Prelude.{◌≡◌, ◌⊎◌, ℕ, List, [], map, Option, None, Some, Ok, Err, Result, MatchResult}
+use Rattle.std.specs.Prelude.{◌≡◌, ℕ, List, map, Some, Ok, Err, Result, MatchResult}
 use Rattle.std.specs.Str.{chars}
 use Rattle.px_script.specs.Content.{ScriptValue}
-use Rattle.px_script.specs.Declarations.{Declared, OpenBlock, nothing_declared}
+use Rattle.px_script.specs.Declarations.{Declared, nothing_declared}
 use Rattle.px_script.specs.Faults.{Refusal, fault_of}
 use Rattle.px_script.specs.Lines.{without_return}
 use Rattle.px_script.specs.Scripts.{Fails, FailsIn, FirstFault}

@@ -1,9 +1,8 @@
 -- What the definitions see of the lines so far.
-use Rattle.std.specs.Prelude.{ℕ, List, [], map, length, Option, None}
+use Rattle.std.specs.Prelude.{ℕ, List, [], map, length, None}
 use Rattle.std.specs.Option.{option_map}
 use Rattle.std.specs.String.{string_bytes}
-use Rattle.px_script.specs.Commands as spec
-use Rattle.px_script.specs.Declarations.{Declared, BlockKind, OpenBlock, of_operator}
+use Rattle.px_script.specs.Declarations.{Declared, OpenBlock, of_operator}
 pub use Rattle.px_reader.specs.CommandViews.{command_view}
 use Rattle.px_reader.specs.declared.reader.Reader.{Reader}
 use Rattle.px_reader.specs.declared.reader.OpenBlock as code

@@ -5,13 +5,14 @@
 //! - [`read_script`] takes the bytes of an input, fewer than 4,294,967,295, and answers a [`Script`]: its names, its
 //!   problem, its facts and its commands. What it is about follows from the bytes alone (`IsScript` of `px_script`).
 //!   The problem is valid, each of its numbers has a name, the facts are ground atoms of it, the numbers in the commands
-//!   are in range, and there are no more of each than the limits say. A `Script` keeps that (`in_range`, by `IsInRange` of
-//!   `px_script`), so a caller may hand its parts on to the search and the printer.
+//!   are in range, and all is within the limits. A `Script` keeps that (`in_range`, by `IsInRange` of `px_script`), and that
+//!   it has only what is built (`of_stage`, by `IsOfStage`), so a caller may hand its parts on to the search and the printer.
 //! - Where the bytes are no script it answers [`ScriptErr::Refused`] with the first fault: its line from 1, its code, and
 //!   the number of the limit that is passed, or 0. That comes exactly where `FirstFault` of `px_script` holds.
 //! - [`Command`] is what a script asks for, in its order. Lines of words that aren't built yet are read, and refused with
-//!   code 11 where no cause stands before it: a bad form has code 2; and a line out of order has code 9, as `room`, `door`,
-//!   `box` and `robot` always are, since no building's block can be open.
+//!   code 11 where no cause stands before it: a bad form has code 2, as the bare word `room`; and a line out of order has
+//!   code 9, as those of `room`, `door`, `box` and `robot` that have their form always are, since no building's block can be
+//!   open.
 //! - Tokens and names borrow from the input. How fast it reads is measured (`bench/reading`).
 #![tactic(auto)]
 

@@ -2,9 +2,9 @@
 ghost use Rattle.std.specs.Prelude.{◌≡◌, ◌||◌, true, false, length, map, not};
 ghost use Rattle.std.specs.List.{list_any};
 ghost use Rattle.px_names.specs.Lists.{names_of};
-ghost use Rattle.px_script.specs.Statements.{is_empty};
+ghost use Rattle.px_script.specs.Statements.{is_empty, is_variable};
 ghost use Rattle.px_script.specs.Stages.{is_unbuilt, precondition_length, stage_now};
-ghost use Rattle.px_script.specs.Faults.{is_command, is_of_operator, is_of_building, is_end, is_script, is_variable, is_anything, has_variable, has_parameter, arguments_of, takes_variables, takes_anything, is_unbound, is_out_of_order, declares_after_command, stands_wrong, is_late_script, has_two_domains, varies_too_early};
+ghost use Rattle.px_script.specs.Faults.{is_command, is_of_operator, is_of_building, is_end, is_script, is_anything, has_variable, has_parameter, arguments_of, takes_variables, takes_anything, is_unbound, is_out_of_order, declares_after_command, stands_wrong, is_late_script, has_two_domains, varies_too_early};
 ghost use Rattle.px_reader.specs.StatementViews.{argument_view, atom_view, literal_view, atom_edit_view, statement_view};
 ghost use Rattle.px_reader.specs.Checks.{varies, has_dollar, literal_varies, edit_varies, plain_atoms, is_built_form};
 ghost use Rattle.px_reader.specs.Readers.{declared_of};

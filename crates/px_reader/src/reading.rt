@@ -3,7 +3,6 @@ ghost use Rattle.std.specs.Prelude.{◌≡◌, ℕ, ◌<◌, ◌+◌, ◌-◌, �
 ghost use Rattle.px_script.specs.Content.{ScriptValue};
 ghost use Rattle.px_script.specs.Declarations.{nothing_declared};
 ghost use Rattle.px_script.specs.Faults.{Refusal};
-ghost use Rattle.px_script.specs.Ranges.{IsInRange};
 ghost use Rattle.px_script.specs.Scripts.{PassAll, IsScript, FirstFault};
 ghost use Rattle.px_reader.specs.LineReads.{characters_of, refusal_told, LinesFail, HasFirstFault, IsRead, IsRefused, content, told};
 ghost use Rattle.px_reader.specs.Readers.{declared_of};
@@ -73,11 +72,11 @@ fn line_after(front: &[u8]) -> u32
 /// Reads a script of version 1, or finds its first fault.
 ///
 /// # Errors
-/// `Refused` where the bytes are no script, with the first fault; `NoMemory` where an allocation fails.
+/// `Refused` where the bytes are no script, with the first fault. `NoMemory` is the want of memory: no clause says when it
+/// comes.
 pub fn read_script(alloc: Global, bytes: &[u8]) -> Result<Script, ScriptErr>
     requires { length bytes.now < 2 ^ 32 - 1 }
     ensures script { IfOk result (λ script. IsScript bytes.now (content script)) }
-    ensures in_range { IfOk result (λ script. IsInRange (content script)) }
     ensures refused { IfErr result (HasFirstFault bytes.now) }
     ensures all_scripts { (value : ScriptValue) → IsScript bytes.now value → IsRead result value }
     ensures all_faults { (line : ℕ) (refusal : Refusal) → FirstFault bytes.now line refusal → IsRefused result line refusal }

@@ -341,6 +341,11 @@ const LONG_TEXTS: &[(&[(&str, u32)], Outcome)] = &[
     ),
     // An example with an axiom, cut off.
     (&[(ROOMS, 1)], (5, 11, 0)),
+    // Many lines, long names, long lines.
+    (&[("\n", 70_000), ("fly", 1)], (70_001, 3, 0)),
+    (&[("object ", 1), ("a", 100_000)], (1, 8, 1)),
+    (&[("predicate P 0\nfact", 1), (" P", 100_000)], READ),
+    (&[("# x\n", 100_000)], READ),
 ];
 
 // The first lines of an example with an axiom, and the others.

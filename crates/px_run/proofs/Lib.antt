@@ -3,5 +3,4 @@ pub mod Fewness
 pub mod Named
 pub mod OneText
 pub mod OutcomeLemmas
-pub mod Plain
 pub mod Ready

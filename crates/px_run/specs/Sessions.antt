@@ -1,10 +1,11 @@
 -- What answering a command takes and gives.
-use Rattle.std.specs.Prelude.{◌≡◌, ◌<◌, ℕ, [], length, All, Result, Ok, Err, slice_index_or}
+use Rattle.std.specs.Prelude.{◌≡◌, ◌<◌, ◌≤◌, ℕ, [], length, All, Result, Ok, Err, slice_index_or}
 use Rattle.px_names.specs.Lists.{NameLists}
 use Rattle.px_printer.specs.Replies.{reply_text}
 use Rattle.px_printer.specs.declared.reply.Reply.{Reply}
 use Rattle.px_script.specs.Commands.{Command, Plan, Facts}
 use Rattle.px_script.specs.Content.{ScriptValue}
+use Rattle.px_search.specs.Limits.{NeedsFewAtoms, AllowsFewAtoms}
 use Rattle.px_terms.specs.AtomSets.{IsAtomSet}
 use Rattle.px_terms.specs.Validity.{IsValid, IsAtomOf}
 use Rattle.px_terms.specs.declared.problem.Problem.{Problem}
@@ -19,15 +20,18 @@ pub record AreNamesOf (problem : Problem) (names : NameLists) : Type 0 where
   pub predicates : length names.predicates ≡ length problem.arities
   pub operators : length names.operators ≡ length problem.schemas
 
--- a plan has the name of a result, and a goal of the problem without variables
+-- a plan has the name of a result, and a goal of at most twelve atoms of the problem without variables
 abbrev pub IsAnswerable : Problem → ℕ → Command → Type 0
-IsAnswerable problem results (Plan name goal vars) = (name < results) × All (IsAtomOf problem 0) goal × (vars ≡ 0)
+IsAnswerable problem results (Plan name goal vars) = (name < results) × All (IsAtomOf problem 0) goal × (vars ≡ 0) × (length goal ≤ 12)
 IsAnswerable problem results _ = Unit {0}
 
--- The problem is valid and has no axioms, and the facts, the names and the commands are those of the problem.
+-- The problem is valid, has no axioms and never meets its limit of shapes, and the facts, the names and the commands are those of
+-- the problem.
 pub record IsReady (script : ScriptValue) : Type 0 where
   pub problem : IsValid script.problem
   pub no_axioms : script.problem.axioms ≡ []
+  pub few_atoms : All NeedsFewAtoms script.problem.schemas
+  pub no_limit : AllowsFewAtoms script.problem
   pub names : AreNamesOf script.problem script.names
   pub fact_set : IsAtomSet script.facts
   pub facts : All (IsAtomOf script.problem 0) script.facts

@@ -1,5 +1,5 @@
 //! Answers the commands of a script.
-ghost use Rattle.std.specs.Prelude.{◌≡◌, ◌<◌, length, All, IfOk};
+ghost use Rattle.std.specs.Prelude.{◌≡◌, ◌<◌, ◌≤◌, length, All, IfOk};
 ghost use Rattle.px_printer.specs.Replies.{IsNamed};
 ghost use Rattle.px_reader.specs.LineReads.{content};
 ghost use Rattle.px_search.specs.Ends.{task_of};
@@ -38,6 +38,7 @@ fn plan(alloc: Global, script: &Script, name: u32, goal: &[Atom]) -> Result<Repl
     requires ready { IsReady (content script.now) }
     requires name { name < length script.now.names.results }
     requires goal { All (IsAtomOf script.now.problem 0) goal.now }
+    requires few_atoms { length goal.now ≤ 12 }
     ensures told { IfOk result (TellsSearch (task_of script.now.problem script.now.facts.atoms goal.now) name 0) }
     ensures named { IfOk result (IsNamed script.now.names) }
 {

@@ -11,9 +11,9 @@ use Rattle.std.proofs.lemmas.List.Folds.{list_any-append}
 use Rattle.px_names.specs.Lists.{has_name}
 use Rattle.px_terms.specs.declared.problem.Problem.{Problem}
 use Rattle.px_terms.specs.Validity.{IsTermOf, IsPatternTermOf, HasArity, IsAtomOf, IsPatternOf}
-use Rattle.px_script.specs.Statements.{Argument, WrittenAtom, named, open_variable, anything}
+use Rattle.px_script.specs.Statements.{Argument, WrittenAtom, named, open_variable, anything, is_variable}
 use Rattle.px_script.specs.Declarations.{Declared, number_in, parameters_here, term_of, atom_of}
-use Rattle.px_script.specs.Faults.{is_variable, is_anything, is_known_argument}
+use Rattle.px_script.specs.Faults.{is_anything, is_known_argument}
 use Rattle.px_script.proofs.Fronts.{by_test, true_not_false}
 use Rattle.px_script.proofs.ListLemmas.{some-position}
 

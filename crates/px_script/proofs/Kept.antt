@@ -1,7 +1,7 @@
 -- Each line without a fault keeps what was declared in range.
 use Rattle.std.proofs.Common.{◌≡◌, ℕ, ◌+◌, ◌<◌, ◌≤◌, Bool, true, false, List, [], ◌∷◌, ◌++◌, map, length, refl, sym, ap, ◌∙◌, subst, inl, inr, arith, length-append}
-use Rattle.std.specs.Prelude.{Option, None, Some, IfSome, All, not, nat_lt, ◌||◌, ◌&&◌, fold, unwrap_or, slice_index, slice_index_or, EachIndex}
-use Rattle.std.specs.List.{list_any, flat_map, range_with_len}
+use Rattle.std.specs.Prelude.{Option, None, Some, IfSome, All, suc, take, not, nat_lt, ◌||◌, ◌&&◌, fold, unwrap_or, slice_index, slice_index_or, EachIndex}
+use Rattle.std.specs.List.{list_any, flat_map, filter_map, range_with_len}
 use Rattle.std.specs.List.Sorted.{IsStrictlySortedBy}
 use Rattle.std.proofs.Math.ListN.{get_or-append}
 use Rattle.std.proofs.Math.Seq.{get_or-append_seam}
@@ -13,7 +13,7 @@ use Rattle.std.proofs.lemmas.Grind.{flat_map-append}
 use Rattle.std.proofs.lemmas.List.Elements.{All-append, All-cons}
 use Rattle.px_base.specs.ListLaws.{All-at, All-each}
 use Rattle.px_base.specs.SetLaws.{set_of-is_sorted, set_of-members}
-use Rattle.px_names.specs.Lists.{has_name}
+use Rattle.px_names.specs.Lists.{AreDistinct, has_name}
 use Rattle.px_terms.specs.AtomSets.{IsAtomSet, atom_set}
 use Rattle.px_terms.specs.Operators.{no_schema}
 use Rattle.px_terms.specs.Order.{atom_cmp}
@@ -26,14 +26,18 @@ use Rattle.px_terms.specs.declared.term.Term.{Term}
 use Rattle.px_terms.specs.declared.term.Term.TheVariants.{Obj, Var, Any}
 use Rattle.px_script.specs.Lexemes.{Lexeme}
 use Rattle.px_script.specs.Lines.{lines_of}
-use Rattle.px_script.specs.Commands.{AtomEdit, RoomEdit, Command, Insert, Remove, Robot, Box, Door, Plan, Learn, Show, DisturbAtoms, DisturbRooms, Run, Facts}
-use Rattle.px_script.specs.Statements.{Argument, WrittenAtom, Statement, named, open_variable, anything, script, object, predicate, «axiom», operator, pre, delete, add, building, room, door, box, robot, end, fact, height, nodes, shapes, plan, learn, show, disturb_atoms, disturb_rooms, run, facts, is_empty}
-use Rattle.px_script.specs.Declarations.{Declared, OpenBlock, BlockKind, of_operator, of_building, nothing_declared, parameters_of, variables_of, with_variable, atom_of, in_open, close_open, after_line}
-use Rattle.px_script.specs.Content.{ScriptValue, problem_of, content_of}
-use Rattle.px_script.specs.Faults.{first_of_tests, grown_in, is_variable, is_known_argument, is_long, IsFaultless}
-use Rattle.px_script.specs.Ranges.{IsEditOf, IsRoomEditOf, IsCommandOf, IsInRange, HasShortLists, IsBlockInRange, AreInRange, result_given}
+use Rattle.px_script.specs.Commands.{AtomEdit, Command, Insert, Remove, Plan, Learn, Show, DisturbAtoms, DisturbRooms, Run, Facts}
+use Rattle.px_script.specs.Statements.{Argument, WrittenAtom, Statement, named, open_variable, anything, script, object, predicate, «axiom», operator, pre, delete, add, building, room, door, box, robot, end, fact, height, nodes, shapes, plan, learn, show, disturb_atoms, disturb_rooms, run, facts, is_empty, is_variable, is_whole}
+use Rattle.px_script.specs.Declarations.{Declared, OpenBlock, BlockKind, of_operator, of_building, nothing_declared, has_building, parameters_of, variables_of, with_variable, atom_of, in_open, close_open, after_line}
+use Rattle.px_script.specs.Content.{ScriptValue, problem_of, things_of, content_of}
+use Rattle.px_script.specs.Faults.{first_of_tests, grown_in, is_known_argument, is_long, IsFaultless}
+use Rattle.px_script.specs.Ranges.{AreShort, IsEditOf, IsGoalOf, IsCommandOf, IsInRange, HasShortLists, IsBlockInRange, AreInRange, NamesEarlier, result_given, all_disturbs, variable_in, first_occurrences}
+use Rattle.px_script.specs.StageRanges.{IsBuiltCommand, IsBlockOfStage, IsOfStage, HasShortPrecondition}
+use Rattle.px_script.specs.Stages.{precondition_length}
+use Rattle.px_script.specs.Buildings.{Thing}
 use Rattle.px_script.specs.Scripts.{PassesLexemes, PassAll, IsScript}
-use Rattle.px_script.proofs.Arguments.{or-false, atoms-are, patterns-of}
+use Rattle.px_script.proofs.Distinct.{one-distinct, more-distinct}
+use Rattle.px_script.proofs.Arguments.{or-false, atoms-are, patterns-of, each-fails}
 use Rattle.px_script.proofs.Faultless.{faultless, passes-test, stands-right, no-block, at-most, and-true}
 use Rattle.px_script.proofs.Fronts.{true_not_false}
 
@@ -79,25 +83,77 @@ module _ (p q : Problem) (more : Grows p q) where
   edit-kept (Insert atom) h = atom-kept atom h
   edit-kept (Remove atom) h = atom-kept atom h
 
-  room_edit-kept : (edit : RoomEdit) → IsRoomEditOf p edit → IsRoomEditOf q edit
-  room_edit-kept (Robot r) h = omega (arith, h, more.objects)
-  room_edit-kept (Box b r) h = (omega (arith, h.0, more.objects), omega (arith, h.1, more.objects))
-  room_edit-kept (Door k is_open) h = omega (arith, h, more.objects)
+  goal-kept : (goal : List Atom) (vars : ℕ) → IsGoalOf p goal vars → IsGoalOf q goal vars
+  goal-kept goal vars h = record {
+    some = h.some;
+    few = h.few;
+    few_variables = h.few_variables;
+    no_objects = λ none. h.no_objects (omega (arith, more.objects, none));
+    atoms = atoms-kept vars goal h.atoms;
+    numbered = h.numbered;
+  }
 
-  command-kept : (old new : ℕ) → old ≤ new → (command : Command) → IsCommandOf p old command → IsCommandOf q new command
-  command-kept old new le (Plan name goal vars) h = (omega (arith, h.0, le), h.1, h.2, atoms-kept vars goal h.3)
-  command-kept old new le (Learn name source) h = (omega (arith, h.0, le), omega (arith, h.1, le))
-  command-kept old new le (Show name) h = omega (arith, h, le)
-  command-kept old new le (DisturbAtoms turn between edits) h = λ k d below. edit-kept _ (h k d below)
-  command-kept old new le (DisturbRooms turn between edits) h = λ k d below. room_edit-kept _ (h k d below)
-  command-kept old new le (Run name bindings) h = (omega (arith, h.0, le), λ k d below. let there = h.1 k d below in omega (arith, there, more.objects))
-  command-kept old new le Facts h = h
+  command-kept : (things : Option (List Thing)) (old new : ℕ) → old ≤ new → (command : Command) → IsCommandOf p things old command → IsCommandOf q things new command
+  command-kept things old new le (Plan name goal vars) h = (omega (arith, h.0, le), goal-kept goal vars h.1)
+  command-kept things old new le (Learn name source) h = (omega (arith, h.0, le), omega (arith, h.1, le))
+  command-kept things old new le (Show name) h = omega (arith, h, le)
+  command-kept things old new le (DisturbAtoms turn between edits) h = (h.0, h.1, λ k d below. edit-kept _ (h.2 k d below))
+  command-kept things old new le (DisturbRooms turn between edits) h = h
+  command-kept things old new le (Run name bindings) h =
+      (omega (arith, h.0, le), (λ k d below. let there = h.1 k d below in (there.0, there.1, (let object = there.2 in omega (arith, object, more.objects)))), h.2)
+  command-kept things old new le Facts h = h
 
 same : (p : Problem) → Grows p p
 same p = record { objects = omega arith; arities = λ k below. (below, refl) }
 
 one-all : {A : Type 0} (P : A → Type 0) (x : A) → P x → All P (x ∷ [])
 one-all P x h = All-cons P x [] h (λ k d below. absurd (omega (arith, below)))
+
+abbrev IsShortName : List ℕ → Type 0
+IsShortName n = length n ≤ 64
+
+short-all : (ns : List (List ℕ)) → list_any is_long ns ≡ false → AreShort ns
+short-all ns e = each-fails is_long IsShortName (λ n long. at-most 64 (length n) long) ns e
+
+-- atoms of the problem without variables
+rest-all : {A : Type 0} (P : A → Type 0) (x : A) (xs : List A) → All P (x ∷ xs) → All P xs
+rest-all P x xs all = λ k d below. all (suc k) d (omega (arith, below))
+
+no-terms : (p : Problem) (ts : List Term) (rest : List Term) → All (IsTermOf p 0) ts → filter_map variable_in (ts ++ rest) ≡ filter_map variable_in rest
+no-terms p [] rest all = refl
+no-terms p (Obj n ∷ ts) rest all = no-terms p ts rest (rest-all (IsTermOf p 0) (Obj n) ts all)
+no-terms p (Var v ∷ ts) rest all = (let here = all 0 Any (omega arith) in absurd (omega (arith, here)))
+no-terms p (Any ∷ ts) rest all = no-terms p ts rest (rest-all (IsTermOf p 0) Any ts all)
+
+without-variables : (p : Problem) (atoms : List Atom) → All (IsAtomOf p 0) atoms → filter_map variable_in (flat_map (λ atom. atom.args) atoms) ≡ []
+without-variables p [] all = refl
+without-variables p (atom ∷ atoms) all =
+    no-terms p atom.args (flat_map (λ atom. atom.args) atoms) (all 0 atom (omega arith)).1 ∙ without-variables p atoms (rest-all (IsAtomOf p 0) atom atoms all)
+
+not-empty : {A : Type 0} (xs : List A) → not (is_empty xs) ≡ true → 1 ≤ length xs
+not-empty [] e = true_not_false false e refl
+not-empty (x ∷ xs) e = omega arith
+
+-- commands that are built disturb nothing, and name no result that was given
+never-disturbed : (commands : List Command) → All IsBuiltCommand commands → All (λ n. n ≤ 64) (all_disturbs commands)
+never-disturbed [] all = λ k d below. absurd (omega (arith, below))
+never-disturbed (Plan name goal vars ∷ more) all =
+    All-cons (λ n. n ≤ 64) 0 (all_disturbs more) (omega arith) (never-disturbed more (rest-all IsBuiltCommand (Plan name goal vars) more all))
+never-disturbed (Facts ∷ more) all = All-cons (λ n. n ≤ 64) 0 (all_disturbs more) (omega arith) (never-disturbed more (rest-all IsBuiltCommand Facts more all))
+never-disturbed (Learn name source ∷ more) all = elim (all 0 Facts (omega arith)) [ ]
+never-disturbed (Show name ∷ more) all = elim (all 0 Facts (omega arith)) [ ]
+never-disturbed (DisturbAtoms turn between edits ∷ more) all = elim (all 0 Facts (omega arith)) [ ]
+never-disturbed (DisturbRooms turn between edits ∷ more) all = elim (all 0 Facts (omega arith)) [ ]
+never-disturbed (Run name bindings ∷ more) all = elim (all 0 Facts (omega arith)) [ ]
+
+names-none : (before : List Command) (command : Command) → IsBuiltCommand command → NamesEarlier before command
+names-none before (Plan name goal vars) built = tt
+names-none before (Learn name source) built = elim built [ ]
+names-none before (Show name) built = elim built [ ]
+names-none before (DisturbAtoms turn between edits) built = elim built [ ]
+names-none before (DisturbRooms turn between edits) built = elim built [ ]
+names-none before (Run name bindings) built = elim built [ ]
+names-none before Facts built = tt
 
 -- a number more
 range-more : (n : ℕ) → range_with_len 0 (n + 1) ≡ range_with_len 0 n ++ n ∷ []
@@ -149,7 +205,7 @@ module _ (n : ℕ) (d : Declared) (r : AreInRange d) where
   script-kept : (version : ℕ) → IsFaultless d (script version) → AreInRange (after_line n d (script version))
   script-kept version f =
       let none = no-block d.block (script version) refl refl refl (stands-right d (script version) f.order).inside in
-      record { few_objects = r.few_objects; short_lists = r.short_lists; few_commands = r.few_commands; results = r.results; predicates = r.predicates; few_predicates = r.few_predicates; few_operators = r.few_operators; arities = r.arities; no_axioms = r.no_axioms; schemas = r.schemas; no_parameters = r.no_parameters; block = (let P : Option OpenBlock → Type 0 = IsBlockInRange (after_line n d (script version)) in subst P (sym none) (closed none)); fact_set = r.fact_set; few_facts = r.few_facts; facts = r.facts; no_building = r.no_building; no_height = r.no_height; nodes = r.nodes; no_shapes = r.no_shapes; few_results = r.few_results; commands = r.commands }
+      record { distinct_names = r.distinct_names; few_disturbs = r.few_disturbs; earlier = r.earlier; short_names = r.short_names; stage = r.stage; few_objects = r.few_objects; short_lists = r.short_lists; few_commands = r.few_commands; results = r.results; predicates = r.predicates; few_predicates = r.few_predicates; few_operators = r.few_operators; arities = r.arities; no_axioms = r.no_axioms; schemas = r.schemas; no_parameters = r.no_parameters; block = (let P : Option OpenBlock → Type 0 = IsBlockInRange (after_line n d (script version)) in subst P (sym none) (closed none)); fact_set = r.fact_set; few_facts = r.few_facts; facts = r.facts; no_building = r.no_building; no_height = r.no_height; nodes = r.nodes; no_shapes = r.no_shapes; few_results = r.few_results; commands = r.commands }
 
   nodes-kept : (limit : ℕ) → IsFaultless d (nodes limit) → AreInRange (after_line n d (nodes limit))
   nodes-kept limit f =
@@ -157,12 +213,13 @@ module _ (n : ℕ) (d : Declared) (r : AreInRange d) where
       let after = problem_of (after_line n d (nodes limit)) in
       let more : Grows (problem_of d) after = record { objects = omega arith; arities = λ k below. (below, refl) } in
       let outside = or-false (nat_lt limit 1) (nat_lt 50000 limit) (passes-test _ _ _ f.limit).0 in
-      record { few_objects = r.few_objects; short_lists = r.short_lists; few_commands = r.few_commands; results = r.results; predicates = r.predicates; few_predicates = r.few_predicates; few_operators = r.few_operators; arities = r.arities; no_axioms = r.no_axioms; schemas = λ k below. schema-kept (problem_of d) after more k _ (r.schemas k below); no_parameters = r.no_parameters; block = (let P : Option OpenBlock → Type 0 = IsBlockInRange (after_line n d (nodes limit)) in subst P (sym none) (closed none)); fact_set = r.fact_set; few_facts = r.few_facts; facts = atoms-kept (problem_of d) after more 0 d.facts r.facts; no_building = r.no_building; no_height = r.no_height; nodes = (not-below limit 1 outside.0, at-most 50000 limit outside.1); no_shapes = r.no_shapes; few_results = r.few_results; commands = λ k c below. command-kept (problem_of d) after more (length d.names.results) (length d.names.results) (omega arith) _ (r.commands k c below) }
+      record { distinct_names = r.distinct_names; few_disturbs = r.few_disturbs; earlier = r.earlier; short_names = r.short_names; stage = r.stage; few_objects = r.few_objects; short_lists = r.short_lists; few_commands = r.few_commands; results = r.results; predicates = r.predicates; few_predicates = r.few_predicates; few_operators = r.few_operators; arities = r.arities; no_axioms = r.no_axioms; schemas = λ k below. schema-kept (problem_of d) after more k _ (r.schemas k below); no_parameters = r.no_parameters; block = (let P : Option OpenBlock → Type 0 = IsBlockInRange (after_line n d (nodes limit)) in subst P (sym none) (closed none)); fact_set = r.fact_set; few_facts = r.few_facts; facts = atoms-kept (problem_of d) after more 0 d.facts r.facts; no_building = r.no_building; no_height = r.no_height; nodes = (not-below limit 1 outside.0, at-most 50000 limit outside.1); no_shapes = r.no_shapes; few_results = r.few_results; commands = λ k c below. command-kept (problem_of d) after more (things_of d) (length d.names.results) (length d.names.results) (omega arith) _ (r.commands k c below) }
 
   facts-kept : IsFaultless d facts → AreInRange (after_line n d facts)
   facts-kept f =
       let none = no-block d.block facts refl refl refl (stands-right d facts f.order).inside in
-      record { few_objects = r.few_objects; short_lists = r.short_lists; few_commands = omega (arith, length-append d.commands (Facts ∷ []), at-most 512 (length d.commands + 1) (passes-test (nat_lt 512 (length d.commands + 1)) 13 None f.limit).0); results = flat_map-append result_given d.commands (Facts ∷ []) ∙ append-nil (flat_map result_given d.commands) ∙ r.results; predicates = r.predicates; few_predicates = r.few_predicates; few_operators = r.few_operators; arities = r.arities; no_axioms = r.no_axioms; schemas = r.schemas; no_parameters = r.no_parameters; block = (let P : Option OpenBlock → Type 0 = IsBlockInRange (after_line n d facts) in subst P (sym none) (closed none)); fact_set = r.fact_set; few_facts = r.few_facts; facts = r.facts; no_building = r.no_building; no_height = r.no_height; nodes = r.nodes; no_shapes = r.no_shapes; few_results = omega (arith, r.few_results, length-append d.commands (Facts ∷ [])); commands = All-append (IsCommandOf (problem_of d) (length d.names.results)) d.commands (Facts ∷ []) r.commands (one-all (IsCommandOf (problem_of d) (length d.names.results)) Facts tt) }
+      let all_built = All-append IsBuiltCommand d.commands (Facts ∷ []) r.stage.commands (one-all IsBuiltCommand Facts tt) in
+      record { distinct_names = r.distinct_names; few_disturbs = never-disturbed (d.commands ++ Facts ∷ []) all_built; earlier = λ k below. names-none (take k (d.commands ++ Facts ∷ [])) _ (all_built k Facts below); short_names = r.short_names; stage = record { schemas = r.stage.schemas; commands = all_built; block = r.stage.block }; few_objects = r.few_objects; short_lists = r.short_lists; few_commands = omega (arith, length-append d.commands (Facts ∷ []), at-most 512 (length d.commands + 1) (passes-test (nat_lt 512 (length d.commands + 1)) 13 None f.limit).0); results = flat_map-append result_given d.commands (Facts ∷ []) ∙ append-nil (flat_map result_given d.commands) ∙ r.results; predicates = r.predicates; few_predicates = r.few_predicates; few_operators = r.few_operators; arities = r.arities; no_axioms = r.no_axioms; schemas = r.schemas; no_parameters = r.no_parameters; block = (let P : Option OpenBlock → Type 0 = IsBlockInRange (after_line n d facts) in subst P (sym none) (closed none)); fact_set = r.fact_set; few_facts = r.few_facts; facts = r.facts; no_building = r.no_building; no_height = r.no_height; nodes = r.nodes; no_shapes = r.no_shapes; few_results = omega (arith, r.few_results, length-append d.commands (Facts ∷ [])); commands = All-append (IsCommandOf (problem_of d) (things_of d) (length d.names.results)) d.commands (Facts ∷ []) r.commands (one-all (IsCommandOf (problem_of d) (things_of d) (length d.names.results)) Facts tt) }
 
   object-kept : (ns : List (List ℕ)) → IsFaultless d (object ns) → AreInRange (after_line n d (object ns))
   object-kept ns f =
@@ -171,7 +228,7 @@ module _ (n : ℕ) (d : Declared) (r : AreInRange d) where
       let full = passes-test (nat_lt 256 (length d.names.objects + length ns)) 2 None long.1 in
       let after = problem_of (after_line n d (object ns)) in
       let more : Grows (problem_of d) after = record { objects = omega (arith, length-append d.names.objects ns); arities = λ k below. (below, refl) } in
-      record { few_objects = omega (arith, length-append d.names.objects ns, at-most 256 (length d.names.objects + length ns) full.0); short_lists = r.short_lists; few_commands = r.few_commands; results = r.results; predicates = r.predicates; few_predicates = r.few_predicates; few_operators = r.few_operators; arities = r.arities; no_axioms = r.no_axioms; schemas = λ k below. schema-kept (problem_of d) after more k _ (r.schemas k below); no_parameters = λ empty. r.no_parameters (omega (arith, length-append d.names.objects ns, empty)); block = (let P : Option OpenBlock → Type 0 = IsBlockInRange (after_line n d (object ns)) in subst P (sym none) (closed none)); fact_set = r.fact_set; few_facts = r.few_facts; facts = atoms-kept (problem_of d) after more 0 d.facts r.facts; no_building = r.no_building; no_height = r.no_height; nodes = r.nodes; no_shapes = r.no_shapes; few_results = r.few_results; commands = λ k c below. command-kept (problem_of d) after more (length d.names.results) (length d.names.results) (omega arith) _ (r.commands k c below) }
+      record { distinct_names = record { objects = more-distinct d.names.objects ns r.distinct_names.objects f.single; predicates = r.distinct_names.predicates; operators = r.distinct_names.operators; results = r.distinct_names.results }; few_disturbs = r.few_disturbs; earlier = r.earlier; short_names = record { objects = All-append IsShortName d.names.objects ns r.short_names.objects (short-all ns long.0); predicates = r.short_names.predicates; operators = r.short_names.operators; results = r.short_names.results }; stage = r.stage; few_objects = omega (arith, length-append d.names.objects ns, at-most 256 (length d.names.objects + length ns) full.0); short_lists = r.short_lists; few_commands = r.few_commands; results = r.results; predicates = r.predicates; few_predicates = r.few_predicates; few_operators = r.few_operators; arities = r.arities; no_axioms = r.no_axioms; schemas = λ k below. schema-kept (problem_of d) after more k _ (r.schemas k below); no_parameters = λ empty. r.no_parameters (omega (arith, length-append d.names.objects ns, empty)); block = (let P : Option OpenBlock → Type 0 = IsBlockInRange (after_line n d (object ns)) in subst P (sym none) (closed none)); fact_set = r.fact_set; few_facts = r.few_facts; facts = atoms-kept (problem_of d) after more 0 d.facts r.facts; no_building = r.no_building; no_height = r.no_height; nodes = r.nodes; no_shapes = r.no_shapes; few_results = r.few_results; commands = λ k c below. command-kept (problem_of d) after more (things_of d) (length d.names.results) (length d.names.results) (omega arith) _ (r.commands k c below) }
 
   predicate-kept : (name : List ℕ) (arity : ℕ) → IsFaultless d (predicate name arity) → AreInRange (after_line n d (predicate name arity))
   predicate-kept name arity f =
@@ -184,7 +241,7 @@ module _ (n : ℕ) (d : Declared) (r : AreInRange d) where
         objects = omega arith;
         arities = λ k below. (omega (arith, below, length-append d.arities (arity ∷ [])), get_or-append d.arities (arity ∷ []) 0 k below);
       } in
-      record { few_objects = r.few_objects; short_lists = r.short_lists; few_commands = r.few_commands; results = r.results; predicates = omega (arith, length-append d.arities (arity ∷ []), length-append d.names.predicates (name ∷ []), r.predicates); few_predicates = omega (arith, length-append d.names.predicates (name ∷ []), at-most 64 (length d.names.predicates + 1) full.0); few_operators = r.few_operators; arities = All-append (λ k. k ≤ 6) d.arities (arity ∷ []) r.arities (one-all (λ k. k ≤ 6) arity (at-most 6 arity wide.0)); no_axioms = r.no_axioms; schemas = λ k below. schema-kept (problem_of d) after more k _ (r.schemas k below); no_parameters = r.no_parameters; block = (let P : Option OpenBlock → Type 0 = IsBlockInRange (after_line n d (predicate name arity)) in subst P (sym none) (closed none)); fact_set = r.fact_set; few_facts = r.few_facts; facts = atoms-kept (problem_of d) after more 0 d.facts r.facts; no_building = r.no_building; no_height = r.no_height; nodes = r.nodes; no_shapes = r.no_shapes; few_results = r.few_results; commands = λ k c below. command-kept (problem_of d) after more (length d.names.results) (length d.names.results) (omega arith) _ (r.commands k c below) }
+      record { distinct_names = record { objects = r.distinct_names.objects; predicates = one-distinct d.names.predicates name r.distinct_names.predicates f.single; operators = r.distinct_names.operators; results = r.distinct_names.results }; few_disturbs = r.few_disturbs; earlier = r.earlier; short_names = record { objects = r.short_names.objects; predicates = All-append IsShortName d.names.predicates (name ∷ []) r.short_names.predicates (one-all IsShortName name (at-most 64 (length name) long.0)); operators = r.short_names.operators; results = r.short_names.results }; stage = r.stage; few_objects = r.few_objects; short_lists = r.short_lists; few_commands = r.few_commands; results = r.results; predicates = omega (arith, length-append d.arities (arity ∷ []), length-append d.names.predicates (name ∷ []), r.predicates); few_predicates = omega (arith, length-append d.names.predicates (name ∷ []), at-most 64 (length d.names.predicates + 1) full.0); few_operators = r.few_operators; arities = All-append (λ k. k ≤ 6) d.arities (arity ∷ []) r.arities (one-all (λ k. k ≤ 6) arity (at-most 6 arity wide.0)); no_axioms = r.no_axioms; schemas = λ k below. schema-kept (problem_of d) after more k _ (r.schemas k below); no_parameters = r.no_parameters; block = (let P : Option OpenBlock → Type 0 = IsBlockInRange (after_line n d (predicate name arity)) in subst P (sym none) (closed none)); fact_set = r.fact_set; few_facts = r.few_facts; facts = atoms-kept (problem_of d) after more 0 d.facts r.facts; no_building = r.no_building; no_height = r.no_height; nodes = r.nodes; no_shapes = r.no_shapes; few_results = r.few_results; commands = λ k c below. command-kept (problem_of d) after more (things_of d) (length d.names.results) (length d.names.results) (omega arith) _ (r.commands k c below) }
 
   operator-kept : (name : List ℕ) (ps : List (List ℕ)) → IsFaultless d (operator name ps) → AreInRange (after_line n d (operator name ps))
   operator-kept name ps f =
@@ -201,7 +258,7 @@ module _ (n : ℕ) (d : Declared) (r : AreInRange d) where
         add = λ k t below. absurd (omega (arith, below));
         short = (omega arith, omega arith, omega arith);
       } in
-      record { few_objects = r.few_objects; short_lists = r.short_lists; few_commands = r.few_commands; results = r.results; predicates = r.predicates; few_predicates = r.few_predicates; few_operators = omega (arith, length-append d.names.operators (name ∷ []), at-most 32 (length d.names.operators + 1) full.0); arities = r.arities; no_axioms = r.no_axioms; schemas = r.schemas; no_parameters = r.no_parameters; block = (omega (arith, length-append d.names.operators (name ∷ []), closed none), refl, opened, at_first, (omega arith, omega arith, omega arith)); fact_set = r.fact_set; few_facts = r.few_facts; facts = r.facts; no_building = r.no_building; no_height = r.no_height; nodes = r.nodes; no_shapes = r.no_shapes; few_results = r.few_results; commands = r.commands }
+      record { distinct_names = record { objects = r.distinct_names.objects; predicates = r.distinct_names.predicates; operators = one-distinct d.names.operators name r.distinct_names.operators (or-false (has_name name d.names.operators) _ f.single).0; results = r.distinct_names.results }; few_disturbs = r.few_disturbs; earlier = r.earlier; short_names = record { objects = r.short_names.objects; predicates = r.short_names.predicates; operators = All-append IsShortName d.names.operators (name ∷ []) r.short_names.operators (one-all IsShortName name (at-most 64 (length name) long.0)); results = r.short_names.results }; stage = record { schemas = r.stage.schemas; commands = r.stage.commands; block = omega arith }; few_objects = r.few_objects; short_lists = r.short_lists; few_commands = r.few_commands; results = r.results; predicates = r.predicates; few_predicates = r.few_predicates; few_operators = omega (arith, length-append d.names.operators (name ∷ []), at-most 32 (length d.names.operators + 1) full.0); arities = r.arities; no_axioms = r.no_axioms; schemas = r.schemas; no_parameters = r.no_parameters; block = (omega (arith, length-append d.names.operators (name ∷ []), closed none), refl, opened, at_first, (omega arith, omega arith, omega arith)); fact_set = r.fact_set; few_facts = r.few_facts; facts = r.facts; no_building = r.no_building; no_height = r.no_height; nodes = r.nodes; no_shapes = r.no_shapes; few_results = r.few_results; commands = r.commands }
 
   fact-kept : (atoms : List WrittenAtom) → IsFaultless d (fact atoms) → AreInRange (after_line n d (fact atoms))
   fact-kept atoms f =
@@ -211,10 +268,10 @@ module _ (n : ℕ) (d : Declared) (r : AreInRange d) where
       let new = atoms-are d (problem_of d) refl refl r.predicates atoms known.0 known.1 f.arity (and-true _ unbound.0) (and-true _ unbound.1) in
       let P : Option OpenBlock → Type 0 = λ o. All (IsAtomOf (problem_of d) (length (parameters_of o))) (map (atom_of d []) atoms) in
       let all = All-append (IsAtomOf (problem_of d) 0) (map (atom_of d []) atoms) d.facts (subst P none new) r.facts in
-      record { few_objects = r.few_objects; short_lists = r.short_lists; few_commands = r.few_commands; results = r.results; predicates = r.predicates; few_predicates = r.few_predicates; few_operators = r.few_operators; arities = r.arities; no_axioms = r.no_axioms; schemas = r.schemas; no_parameters = r.no_parameters; block = (let P : Option OpenBlock → Type 0 = IsBlockInRange (after_line n d (fact atoms)) in subst P (sym none) (closed none)); fact_set = set_of-is_sorted atom_cmp atom_cmp-total atom_cmp-same (map (atom_of d []) atoms ++ d.facts); few_facts = at-most 512 (length (atom_set (map (atom_of d []) atoms ++ d.facts))) (passes-test (nat_lt 512 (length (atom_set (map (atom_of d []) atoms ++ d.facts)))) 11 None f.limit).0; facts = All-each (IsAtomOf (problem_of d) 0) _ (λ q in_set. All-at (IsAtomOf (problem_of d) 0) _ q all ((set_of-members atom_cmp atom_cmp-total atom_cmp-same (map (atom_of d []) atoms ++ d.facts) q).0 in_set)); no_building = r.no_building; no_height = r.no_height; nodes = r.nodes; no_shapes = r.no_shapes; few_results = r.few_results; commands = r.commands }
+      record { distinct_names = r.distinct_names; few_disturbs = r.few_disturbs; earlier = r.earlier; short_names = r.short_names; stage = r.stage; few_objects = r.few_objects; short_lists = r.short_lists; few_commands = r.few_commands; results = r.results; predicates = r.predicates; few_predicates = r.few_predicates; few_operators = r.few_operators; arities = r.arities; no_axioms = r.no_axioms; schemas = r.schemas; no_parameters = r.no_parameters; block = (let P : Option OpenBlock → Type 0 = IsBlockInRange (after_line n d (fact atoms)) in subst P (sym none) (closed none)); fact_set = set_of-is_sorted atom_cmp atom_cmp-total atom_cmp-same (map (atom_of d []) atoms ++ d.facts); few_facts = at-most 512 (length (atom_set (map (atom_of d []) atoms ++ d.facts))) (passes-test (nat_lt 512 (length (atom_set (map (atom_of d []) atoms ++ d.facts)))) 11 None f.limit).0; facts = All-each (IsAtomOf (problem_of d) 0) _ (λ q in_set. All-at (IsAtomOf (problem_of d) 0) _ q all ((set_of-members atom_cmp atom_cmp-total atom_cmp-same (map (atom_of d []) atoms ++ d.facts) q).0 in_set)); no_building = r.no_building; no_height = r.no_height; nodes = r.nodes; no_shapes = r.no_shapes; few_results = r.few_results; commands = r.commands }
 
-  plan-kept : (name : List ℕ) (atoms : List WrittenAtom) → IsFaultless d (plan name atoms) → AreInRange (after_line n d (plan name atoms))
-  plan-kept name atoms f =
+  plan-kept : (name : List ℕ) (atoms : List WrittenAtom) → IsFaultless d (plan name atoms) → not (is_empty atoms) ≡ true → AreInRange (after_line n d (plan name atoms))
+  plan-kept name atoms f whole =
       let none = no-block d.block (plan name atoms) refl refl refl (stands-right d (plan name atoms) f.order).inside in
       let known = atoms-known d atoms f.known in
       let unbound = or-false _ _ f.bound in
@@ -229,11 +286,23 @@ module _ (n : ℕ) (d : Declared) (r : AreInRange d) where
       let large = passes-test (nat_lt 16 (length atoms)) 12 _ many.1 in
       let full = passes-test (nat_lt 512 (length d.commands + 1)) 13 None large.1 in
       let given : Command = Plan (length d.names.results) (map (atom_of d (variables_of atoms)) atoms) (length (variables_of atoms)) in
-      let command : IsCommandOf (problem_of d) (length (d.names.results ++ name ∷ [])) (Plan (length d.names.results) (map (atom_of d (variables_of atoms)) atoms) (length (variables_of atoms))) =
-      rw variables (omega (arith, results), omega arith, omega (arith, length-map atoms (atom_of d []), at-most 12 (length atoms) small.1), goal) in
-      let earlier : All (IsCommandOf (problem_of d) (length (d.names.results ++ name ∷ []))) d.commands =
-      λ k c below. command-kept (problem_of d) (problem_of d) (same (problem_of d)) (length d.names.results) (length (d.names.results ++ name ∷ [])) (omega (arith, results)) _ (r.commands k c below) in
-      record { few_objects = r.few_objects; short_lists = r.short_lists; few_commands = omega (arith, length-append d.commands (given ∷ []), at-most 512 (length d.commands + 1) full.0); results = one-more-given d.commands (length d.names.results) name d.names.results refl (map (atom_of d (variables_of atoms)) atoms) (length (variables_of atoms)) r.results; predicates = r.predicates; few_predicates = r.few_predicates; few_operators = r.few_operators; arities = r.arities; no_axioms = r.no_axioms; schemas = r.schemas; no_parameters = r.no_parameters; block = (let P : Option OpenBlock → Type 0 = IsBlockInRange (after_line n d (plan name atoms)) in subst P (sym none) (closed none)); fact_set = r.fact_set; few_facts = r.few_facts; facts = r.facts; no_building = r.no_building; no_height = r.no_height; nodes = r.nodes; no_shapes = r.no_shapes; few_results = omega (arith, results, r.few_results, length-append d.commands (Plan (length d.names.results) (map (atom_of d (variables_of atoms)) atoms) (length (variables_of atoms)) ∷ [])); commands = All-append (IsCommandOf (problem_of d) (length (d.names.results ++ name ∷ []))) d.commands _ earlier (one-all (IsCommandOf (problem_of d) (length (d.names.results ++ name ∷ []))) _ command) }
+      let command : IsCommandOf (problem_of d) (things_of d) (length (d.names.results ++ name ∷ [])) (Plan (length d.names.results) (map (atom_of d (variables_of atoms)) atoms) (length (variables_of atoms))) =
+      rw variables (
+        omega (arith, results),
+        record {
+          some = omega (arith, length-map atoms (atom_of d []), not-empty atoms whole);
+          few = omega (arith, length-map atoms (atom_of d []), at-most 12 (length atoms) small.1);
+          few_variables = omega arith;
+          no_objects = λ none. refl;
+          atoms = goal;
+          numbered = ap first_occurrences (without-variables (problem_of d) (map (atom_of d []) atoms) goal);
+        },
+      ) in
+      let built : IsBuiltCommand given = rw variables (refl, omega (arith, length-map atoms (atom_of d []), at-most 12 (length atoms) small.1)) in
+      let earlier : All (IsCommandOf (problem_of d) (things_of d) (length (d.names.results ++ name ∷ []))) d.commands =
+      λ k c below. command-kept (problem_of d) (problem_of d) (same (problem_of d)) (things_of d) (length d.names.results) (length (d.names.results ++ name ∷ [])) (omega (arith, results)) _ (r.commands k c below) in
+      let all_built = All-append IsBuiltCommand d.commands (given ∷ []) r.stage.commands (one-all IsBuiltCommand given built) in
+      record { distinct_names = record { objects = r.distinct_names.objects; predicates = r.distinct_names.predicates; operators = r.distinct_names.operators; results = one-distinct d.names.results name r.distinct_names.results f.single }; few_disturbs = never-disturbed (d.commands ++ given ∷ []) all_built; earlier = λ k below. names-none (take k (d.commands ++ given ∷ [])) _ (all_built k Facts below); short_names = record { objects = r.short_names.objects; predicates = r.short_names.predicates; operators = r.short_names.operators; results = All-append IsShortName d.names.results (name ∷ []) r.short_names.results (one-all IsShortName name (at-most 64 (length name) long.0)) }; stage = record { schemas = r.stage.schemas; commands = all_built; block = r.stage.block }; few_objects = r.few_objects; short_lists = r.short_lists; few_commands = omega (arith, length-append d.commands (given ∷ []), at-most 512 (length d.commands + 1) full.0); results = one-more-given d.commands (length d.names.results) name d.names.results refl (map (atom_of d (variables_of atoms)) atoms) (length (variables_of atoms)) r.results; predicates = r.predicates; few_predicates = r.few_predicates; few_operators = r.few_operators; arities = r.arities; no_axioms = r.no_axioms; schemas = r.schemas; no_parameters = r.no_parameters; block = (let P : Option OpenBlock → Type 0 = IsBlockInRange (after_line n d (plan name atoms)) in subst P (sym none) (closed none)); fact_set = r.fact_set; few_facts = r.few_facts; facts = r.facts; no_building = r.no_building; no_height = r.no_height; nodes = r.nodes; no_shapes = r.no_shapes; few_results = omega (arith, results, r.few_results, length-append d.commands (Plan (length d.names.results) (map (atom_of d (variables_of atoms)) atoms) (length (variables_of atoms)) ∷ [])); commands = All-append (IsCommandOf (problem_of d) (things_of d) (length (d.names.results ++ name ∷ []))) d.commands _ earlier (one-all (IsCommandOf (problem_of d) (things_of d) (length (d.names.results ++ name ∷ []))) _ command) }
 
   pre-in : (atoms : List WrittenAtom) → IsFaultless d (pre atoms) → (line : ℕ) (kind : BlockKind) → d.block ≡ Some (record { line = line; kind = kind })
       → AreInRange (record (in_open (λ schema. record schema { pre = schema.pre ++ map (atom_of d []) atoms }) d (Some (record { line = line; kind = kind }))) { begun = true })
@@ -252,10 +321,13 @@ module _ (n : ℕ) (d : Declared) (r : AreInRange d) where
       let G : Option OpenBlock → Type 0 = λ o. first_of_tests ((nat_lt 16 (grown_in o (λ schema. length schema.pre) atoms), 10) ∷ []) ≡ None in
       let limit = subst G e f.limit in
       let few = at-most 16 (length schema.pre + length atoms) (passes-test (nat_lt 16 (length schema.pre + length atoms)) 10 None limit).0 in
+      let S : Option OpenBlock → Type 0 = λ o. nat_lt 12 (precondition_length (record d { block = o }) + length atoms) ≡ false in
+      let short = at-most 12 (length schema.pre + length atoms) (subst S e f.built) in
+      let shorter : length (schema.pre ++ map (atom_of d []) atoms) ≤ 12 = omega (arith, length-append schema.pre (map (atom_of d []) atoms), length-map atoms (atom_of d []), short) in
       let longer : length (schema.pre ++ map (atom_of d []) atoms) ≤ 16 = omega (arith, length-append schema.pre (map (atom_of d []) atoms), length-map atoms (atom_of d []), few) in
       let grown : IsSchemaOf (problem_of d) (length d.schemas) (record schema { pre = schema.pre ++ map (atom_of d []) atoms }) =
       record { number = is.number; params = is.params; pre = All-append (IsAtomOf (problem_of d) schema.params) schema.pre (map (atom_of d []) atoms) is.pre (subst Q (sym params) new); del = is.del; add = is.add; short = (omega (arith, longer), is.short.1, is.short.2) } in
-      record { few_objects = r.few_objects; short_lists = r.short_lists; few_commands = r.few_commands; results = r.results; predicates = r.predicates; few_predicates = r.few_predicates; few_operators = r.few_operators; arities = r.arities; no_axioms = r.no_axioms; schemas = r.schemas; no_parameters = r.no_parameters; block = (open_block.0, open_block.1, grown, open_block.3, (longer, open_block.4.1, open_block.4.2)); fact_set = r.fact_set; few_facts = r.few_facts; facts = r.facts; no_building = r.no_building; no_height = r.no_height; nodes = r.nodes; no_shapes = r.no_shapes; few_results = r.few_results; commands = r.commands }
+      record { distinct_names = r.distinct_names; few_disturbs = r.few_disturbs; earlier = r.earlier; short_names = r.short_names; stage = record { schemas = r.stage.schemas; commands = r.stage.commands; block = shorter }; few_objects = r.few_objects; short_lists = r.short_lists; few_commands = r.few_commands; results = r.results; predicates = r.predicates; few_predicates = r.few_predicates; few_operators = r.few_operators; arities = r.arities; no_axioms = r.no_axioms; schemas = r.schemas; no_parameters = r.no_parameters; block = (open_block.0, open_block.1, grown, open_block.3, (longer, open_block.4.1, open_block.4.2)); fact_set = r.fact_set; few_facts = r.few_facts; facts = r.facts; no_building = r.no_building; no_height = r.no_height; nodes = r.nodes; no_shapes = r.no_shapes; few_results = r.few_results; commands = r.commands }
 
   pre-at : (atoms : List WrittenAtom) → IsFaultless d (pre atoms) → (o : Option OpenBlock) → d.block ≡ o → AreInRange (record (in_open (λ schema. record schema { pre = schema.pre ++ map (atom_of d []) atoms }) d o) { begun = true })
   pre-at atoms f None e = let inside = rw e at (stands-right d (pre atoms) f.order).inside in true_not_false true refl inside
@@ -268,6 +340,8 @@ module _ (n : ℕ) (d : Declared) (r : AreInRange d) where
       let P : Option OpenBlock → Type 0 = IsBlockInRange d in
       let open_block = subst P e r.block in
       let is = open_block.2 in
+      let B : Option OpenBlock → Type 0 = IsBlockOfStage in
+      let block_short : HasShortPrecondition schema = subst B e r.stage.block in
       let params : schema.params ≡ length ps = open_block.1 in
       let known = atoms-known d atoms f.known in
       let unbound = or-false _ _ f.bound in
@@ -281,7 +355,7 @@ module _ (n : ℕ) (d : Declared) (r : AreInRange d) where
       let longer : length (schema.del ++ map (atom_of d []) atoms) ≤ 16 = omega (arith, length-append schema.del (map (atom_of d []) atoms), length-map atoms (atom_of d []), few) in
       let grown : IsSchemaOf (problem_of d) (length d.schemas) (record schema { del = schema.del ++ map (atom_of d []) atoms }) =
       record { number = is.number; params = is.params; pre = is.pre; del = All-append (IsPatternOf (problem_of d) schema.params) schema.del (map (atom_of d []) atoms) is.del (subst Q (sym params) new); add = is.add; short = (is.short.0, omega (arith, longer), is.short.2) } in
-      record { few_objects = r.few_objects; short_lists = r.short_lists; few_commands = r.few_commands; results = r.results; predicates = r.predicates; few_predicates = r.few_predicates; few_operators = r.few_operators; arities = r.arities; no_axioms = r.no_axioms; schemas = r.schemas; no_parameters = r.no_parameters; block = (open_block.0, open_block.1, grown, open_block.3, (open_block.4.0, longer, open_block.4.2)); fact_set = r.fact_set; few_facts = r.few_facts; facts = r.facts; no_building = r.no_building; no_height = r.no_height; nodes = r.nodes; no_shapes = r.no_shapes; few_results = r.few_results; commands = r.commands }
+      record { distinct_names = r.distinct_names; few_disturbs = r.few_disturbs; earlier = r.earlier; short_names = r.short_names; stage = record { schemas = r.stage.schemas; commands = r.stage.commands; block = block_short }; few_objects = r.few_objects; short_lists = r.short_lists; few_commands = r.few_commands; results = r.results; predicates = r.predicates; few_predicates = r.few_predicates; few_operators = r.few_operators; arities = r.arities; no_axioms = r.no_axioms; schemas = r.schemas; no_parameters = r.no_parameters; block = (open_block.0, open_block.1, grown, open_block.3, (open_block.4.0, longer, open_block.4.2)); fact_set = r.fact_set; few_facts = r.few_facts; facts = r.facts; no_building = r.no_building; no_height = r.no_height; nodes = r.nodes; no_shapes = r.no_shapes; few_results = r.few_results; commands = r.commands }
 
   delete-at : (atoms : List WrittenAtom) → IsFaultless d (delete atoms) → (o : Option OpenBlock) → d.block ≡ o → AreInRange (record (in_open (λ schema. record schema { del = schema.del ++ map (atom_of d []) atoms }) d o) { begun = true })
   delete-at atoms f None e = let inside = rw e at (stands-right d (delete atoms) f.order).inside in true_not_false true refl inside
@@ -294,6 +368,8 @@ module _ (n : ℕ) (d : Declared) (r : AreInRange d) where
       let P : Option OpenBlock → Type 0 = IsBlockInRange d in
       let open_block = subst P e r.block in
       let is = open_block.2 in
+      let B : Option OpenBlock → Type 0 = IsBlockOfStage in
+      let block_short : HasShortPrecondition schema = subst B e r.stage.block in
       let params : schema.params ≡ length ps = open_block.1 in
       let known = atoms-known d atoms f.known in
       let unbound = or-false _ _ f.bound in
@@ -307,7 +383,7 @@ module _ (n : ℕ) (d : Declared) (r : AreInRange d) where
       let longer : length (schema.add ++ map (atom_of d []) atoms) ≤ 16 = omega (arith, length-append schema.add (map (atom_of d []) atoms), length-map atoms (atom_of d []), few) in
       let grown : IsSchemaOf (problem_of d) (length d.schemas) (record schema { add = schema.add ++ map (atom_of d []) atoms }) =
       record { number = is.number; params = is.params; pre = is.pre; del = is.del; add = All-append (IsAtomOf (problem_of d) schema.params) schema.add (map (atom_of d []) atoms) is.add (subst Q (sym params) new); short = (is.short.0, is.short.1, omega (arith, longer)) } in
-      record { few_objects = r.few_objects; short_lists = r.short_lists; few_commands = r.few_commands; results = r.results; predicates = r.predicates; few_predicates = r.few_predicates; few_operators = r.few_operators; arities = r.arities; no_axioms = r.no_axioms; schemas = r.schemas; no_parameters = r.no_parameters; block = (open_block.0, open_block.1, grown, open_block.3, (open_block.4.0, open_block.4.1, longer)); fact_set = r.fact_set; few_facts = r.few_facts; facts = r.facts; no_building = r.no_building; no_height = r.no_height; nodes = r.nodes; no_shapes = r.no_shapes; few_results = r.few_results; commands = r.commands }
+      record { distinct_names = r.distinct_names; few_disturbs = r.few_disturbs; earlier = r.earlier; short_names = r.short_names; stage = record { schemas = r.stage.schemas; commands = r.stage.commands; block = block_short }; few_objects = r.few_objects; short_lists = r.short_lists; few_commands = r.few_commands; results = r.results; predicates = r.predicates; few_predicates = r.few_predicates; few_operators = r.few_operators; arities = r.arities; no_axioms = r.no_axioms; schemas = r.schemas; no_parameters = r.no_parameters; block = (open_block.0, open_block.1, grown, open_block.3, (open_block.4.0, open_block.4.1, longer)); fact_set = r.fact_set; few_facts = r.few_facts; facts = r.facts; no_building = r.no_building; no_height = r.no_height; nodes = r.nodes; no_shapes = r.no_shapes; few_results = r.few_results; commands = r.commands }
 
   add-at : (atoms : List WrittenAtom) → IsFaultless d (add atoms) → (o : Option OpenBlock) → d.block ≡ o → AreInRange (record (in_open (λ schema. record schema { add = schema.add ++ map (atom_of d []) atoms }) d o) { begun = true })
   add-at atoms f None e = let inside = rw e at (stands-right d (add atoms) f.order).inside in true_not_false true refl inside
@@ -318,6 +394,8 @@ module _ (n : ℕ) (d : Declared) (r : AreInRange d) where
   end-in line (of_operator ps schema) e =
       let P : Option OpenBlock → Type 0 = IsBlockInRange d in
       let open_block = subst P e r.block in
+      let B : Option OpenBlock → Type 0 = IsBlockOfStage in
+      let block_short : HasShortPrecondition schema = subst B e r.stage.block in
       let count = length-append d.schemas (schema ∷ []) in
       let after = record d { schemas = d.schemas ++ schema ∷ []; block = None; begun = true } in
       let more : Grows (problem_of d) (problem_of after) = record { objects = omega arith; arities = λ k below. (below, refl) } in
@@ -329,43 +407,43 @@ module _ (n : ℕ) (d : Declared) (r : AreInRange d) where
             let S : Schema → Type 0 = IsSchemaOf (problem_of after) (length d.schemas) in
             subst T last (subst S (sym (get_or-append_seam d.schemas schema [] no_schema)) (schema-kept (problem_of d) (problem_of after) more (length d.schemas) schema open_block.2)))
       ] in
-      record { few_objects = r.few_objects; short_lists = All-append HasShortLists d.schemas (schema ∷ []) r.short_lists (one-all HasShortLists schema open_block.4); few_commands = r.few_commands; results = r.results; predicates = r.predicates; few_predicates = r.few_predicates; few_operators = r.few_operators; arities = r.arities; no_axioms = r.no_axioms; schemas = each; no_parameters = λ empty. All-append (λ s. s.params ≡ 0) d.schemas (schema ∷ []) (r.no_parameters empty) (one-all (λ s. s.params ≡ 0) schema (open_block.3 empty)); block = omega (arith, count, open_block.0); fact_set = r.fact_set; few_facts = r.few_facts; facts = atoms-kept (problem_of d) (problem_of after) more 0 d.facts r.facts; no_building = r.no_building; no_height = r.no_height; nodes = r.nodes; no_shapes = r.no_shapes; few_results = r.few_results; commands = λ k c below. command-kept (problem_of d) (problem_of after) more (length d.names.results) (length d.names.results) (omega arith) _ (r.commands k c below) }
+      record { distinct_names = r.distinct_names; few_disturbs = r.few_disturbs; earlier = r.earlier; short_names = r.short_names; stage = record { schemas = All-append HasShortPrecondition d.schemas (schema ∷ []) r.stage.schemas (one-all HasShortPrecondition schema block_short); commands = r.stage.commands; block = tt }; few_objects = r.few_objects; short_lists = All-append HasShortLists d.schemas (schema ∷ []) r.short_lists (one-all HasShortLists schema open_block.4); few_commands = r.few_commands; results = r.results; predicates = r.predicates; few_predicates = r.few_predicates; few_operators = r.few_operators; arities = r.arities; no_axioms = r.no_axioms; schemas = each; no_parameters = λ empty. All-append (λ s. s.params ≡ 0) d.schemas (schema ∷ []) (r.no_parameters empty) (one-all (λ s. s.params ≡ 0) schema (open_block.3 empty)); block = omega (arith, count, open_block.0); fact_set = r.fact_set; few_facts = r.few_facts; facts = atoms-kept (problem_of d) (problem_of after) more 0 d.facts r.facts; no_building = r.no_building; no_height = r.no_height; nodes = r.nodes; no_shapes = r.no_shapes; few_results = r.few_results; commands = λ k c below. command-kept (problem_of d) (problem_of after) more (things_of d) (length d.names.results) (length d.names.results) (omega arith) _ (r.commands k c below) }
 
   end-at : IsFaultless d end → (o : Option OpenBlock) → d.block ≡ o → AreInRange (record (close_open d o) { begun = true })
   end-at f None e = let inside = rw e at (stands-right d end f.order).inside in true_not_false true refl inside
   end-at f (Some block) e = end-in block.line block.kind e
 
   -- a line keeps what was declared in range
-  pub line-kept : (s : Statement) → IsFaultless d s → AreInRange (after_line n d s)
-  line-kept (script x) f = script-kept x f
-  line-kept (object x) f = object-kept x f
-  line-kept (predicate x y) f = predicate-kept x y f
-  line-kept (operator x y) f = operator-kept x y f
-  line-kept (pre x) f = pre-at x f d.block refl
-  line-kept (delete x) f = delete-at x f d.block refl
-  line-kept (add x) f = add-at x f d.block refl
-  line-kept end f = end-at f d.block refl
-  line-kept (fact x) f = fact-kept x f
-  line-kept (nodes x) f = nodes-kept x f
-  line-kept (plan x y) f = plan-kept x y f
-  line-kept facts f = facts-kept f
-  line-kept («axiom» x) f = true_not_false true refl f.built
-  line-kept building f = true_not_false true refl f.built
-  line-kept (room x) f = true_not_false true refl f.built
-  line-kept (door x y z w) f = true_not_false true refl f.built
-  line-kept (box x y) f = true_not_false true refl f.built
-  line-kept (robot x) f = true_not_false true refl f.built
-  line-kept (height x) f = true_not_false true refl f.built
-  line-kept (shapes x) f = true_not_false true refl f.built
-  line-kept (learn x y) f = true_not_false true refl f.built
-  line-kept (show x) f = true_not_false true refl f.built
-  line-kept (disturb_atoms x y z) f = true_not_false true refl f.built
-  line-kept (disturb_rooms x y z) f = true_not_false true refl f.built
-  line-kept (run x y) f = true_not_false true refl f.built
+  pub line-kept : (with_building : Bool) (s : Statement) → IsFaultless d s → is_whole with_building s ≡ true → AreInRange (after_line n d s)
+  line-kept with_building (script x) f whole = script-kept x f
+  line-kept with_building (object x) f whole = object-kept x f
+  line-kept with_building (predicate x y) f whole = predicate-kept x y f
+  line-kept with_building (operator x y) f whole = operator-kept x y f
+  line-kept with_building (pre x) f whole = pre-at x f d.block refl
+  line-kept with_building (delete x) f whole = delete-at x f d.block refl
+  line-kept with_building (add x) f whole = add-at x f d.block refl
+  line-kept with_building end f whole = end-at f d.block refl
+  line-kept with_building (fact x) f whole = fact-kept x f
+  line-kept with_building (nodes x) f whole = nodes-kept x f
+  line-kept with_building (plan x y) f whole = plan-kept x y f whole
+  line-kept with_building facts f whole = facts-kept f
+  line-kept with_building («axiom» x) f whole = true_not_false true refl f.built
+  line-kept with_building building f whole = true_not_false true refl f.built
+  line-kept with_building (room x) f whole = true_not_false true refl f.built
+  line-kept with_building (door x y z w) f whole = true_not_false true refl f.built
+  line-kept with_building (box x y) f whole = true_not_false true refl f.built
+  line-kept with_building (robot x) f whole = true_not_false true refl f.built
+  line-kept with_building (height x) f whole = true_not_false true refl f.built
+  line-kept with_building (shapes x) f whole = true_not_false true refl f.built
+  line-kept with_building (learn x y) f whole = true_not_false true refl f.built
+  line-kept with_building (show x) f whole = true_not_false true refl f.built
+  line-kept with_building (disturb_atoms x y z) f whole = true_not_false true refl f.built
+  line-kept with_building (disturb_rooms x y z) f whole = true_not_false true refl f.built
+  line-kept with_building (run x y) f whole = true_not_false true refl f.built
 
 pub passes-kept : (n : ℕ) (d : Declared) (lexemes : List Lexeme) (after : Declared) → AreInRange d → PassesLexemes n d lexemes after → AreInRange after
 passes-kept n d [] after r passes = subst AreInRange (sym passes) r
-passes-kept n d (x ∷ xs) after r passes = subst AreInRange (sym passes.3) (line-kept n d r passes.0 (faultless d passes.0 passes.2))
+passes-kept n d (x ∷ xs) after r passes = subst AreInRange (sym passes.3) (line-kept n d r (has_building d) passes.0 (faultless d passes.0 passes.2) passes.1.1)
 
 pub lines-kept : (n : ℕ) (d : Declared) (lines : List (List ℕ)) (after : Declared) → AreInRange d → PassAll n d lines after → AreInRange after
 lines-kept n d [] after r pass = subst AreInRange (sym pass) r
@@ -375,8 +453,19 @@ no-facts : IsAtomSet []
 unfolding IsStrictlySortedBy
 no-facts = tt
 
+no-name-long : AreShort []
+no-name-long = λ k t below. absurd (omega (arith, below))
+
+no-name-twice : AreDistinct []
+no-name-twice = λ i j t before below. absurd (omega (arith, below))
+
 pub nothing-in_range : AreInRange nothing_declared
 nothing-in_range = record {
+  distinct_names = record { objects = no-name-twice; predicates = no-name-twice; operators = no-name-twice; results = no-name-twice };
+  short_names = record { objects = no-name-long; predicates = no-name-long; operators = no-name-long; results = no-name-long };
+  few_disturbs = λ k t below. absurd (omega (arith, below));
+  earlier = λ k below. absurd (omega (arith, below));
+  stage = record { schemas = λ k t below. absurd (omega (arith, below)); commands = λ k t below. absurd (omega (arith, below)); block = tt };
   few_objects = omega arith;
   short_lists = λ k t below. absurd (omega (arith, below));
   few_commands = omega arith;
@@ -421,24 +510,47 @@ pub declared-in-range : (d : Declared) → AreInRange d → d.block ≡ None →
 declared-in-range d r closed =
     let operators : length d.schemas ≡ length d.names.operators = subst (IsBlockInRange d) closed r.block in
     record {
+      version = refl;
       problem = valid d r closed;
       objects = refl;
       predicates = sym r.predicates;
       operators = sym operators;
+      distinct_names = r.distinct_names;
+      short_names = r.short_names;
       few_objects = r.few_objects;
       few_predicates = rw r.predicates r.few_predicates;
       arities = r.arities;
+      axiom_variables = rw r.no_axioms (λ k t below. absurd (omega (arith, below)));
       few_operators = rw operators r.few_operators;
       short_lists = r.short_lists;
       fact_set = rw r.no_building r.fact_set;
       facts = rw r.no_building r.facts;
       few_facts = λ none. rw r.no_building r.few_facts;
+      building = rw r.no_building tt;
       commands = r.commands;
       few_commands = r.few_commands;
+      few_disturbs = r.few_disturbs;
       results = r.results;
+      earlier = r.earlier;
     }
+
+-- and it is of the language as far as that is built
+pub declared-of-stage : (d : Declared) → AreInRange d → IsOfStage (content_of d)
+declared-of-stage d r = record {
+  no_building = rw r.no_building refl;
+  no_axioms = r.no_axioms;
+  schemas = r.stage.schemas;
+  height = rw r.no_height refl;
+  shapes = rw r.no_shapes refl;
+  commands = r.stage.commands;
+}
 
 pub in-range : (bytes : List ℕ) (content : ScriptValue) → IsScript bytes content → IsInRange content
 in-range bytes content is =
     let r = lines-kept 1 nothing_declared (lines_of bytes) is.last nothing-in_range is.spells.lines in
     subst IsInRange (sym is.is) (declared-in-range is.last r is.spells.closed)
+
+pub of-stage : (bytes : List ℕ) (content : ScriptValue) → IsScript bytes content → IsOfStage content
+of-stage bytes content is =
+    let r = lines-kept 1 nothing_declared (lines_of bytes) is.last nothing-in_range is.spells.lines in
+    subst IsOfStage (sym is.is) (declared-of-stage is.last r)

@@ -9,6 +9,8 @@ pub mod Forms
 pub mod Sound
 pub mod Law
 pub mod Repeats
+pub mod Twice
+pub mod Distinct
 pub mod Walks
 pub mod Steps
 pub mod Arguments
@@ -22,3 +24,4 @@ pub mod Plain
 pub mod PlainReading
 pub mod NoText
 pub mod Worked
+pub mod WorkedStages

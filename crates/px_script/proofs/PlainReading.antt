@@ -4,7 +4,7 @@ use Rattle.std.specs.Prelude.{Option, None, Some, encode_utf8_all, ◌&&◌, ◌
 use Rattle.std.specs.List.{list_all, slice_split}
 use Rattle.std.specs.Option.{option_map}
 use Rattle.std.specs.Char.{is_ascii_digit}
-use Rattle.std.specs.Str.{IsUtf8, IsAscii, chars}
+use Rattle.std.specs.Str.{IsUtf8, IsAscii, chars, all_scalars}
 use Rattle.std.proofs.lemmas.Bool.{ltb-true}
 use Rattle.std.proofs.lemmas.List.Folds.{list_all-append}
 use Rattle.std.proofs.lemmas.List.Sums.{AllPass-from_list_all}
@@ -216,14 +216,19 @@ lines-text : (bytes : List ℕ) (r : Reading) → IsUtf8 bytes → LinesSay 1 no
 lines-text bytes (passes script) u say = record { text = u; lines = say.0; closed = say.1 }
 lines-text bytes (fails line refusal) u say = inr (u, say)
 
-pub text-says : (bytes : List ℕ) → is_plain_text bytes ≡ true → TextSays bytes (bytes_read stage_now bytes)
-text-says bytes plain =
-    let both = and_both (is_plain bytes) (list_all is_plain (plain_lines bytes)) plain in
-    let lines : lines_of bytes ≡ plain_lines bytes = lines-same (slice_split (λ b. b == 10) (without_mark bytes)) both.1 in
+-- a text whose lines are ASCII, though what stands before them may not be
+plain-lines-say : (bytes : List ℕ) → IsUtf8 bytes → list_all is_plain (plain_lines bytes) ≡ true → TextSays bytes (bytes_read stage_now bytes)
+plain-lines-say bytes text plain =
+    let lines : lines_of bytes ≡ plain_lines bytes = lines-same (slice_split (λ b. b == 10) (without_mark bytes)) plain in
     let P : List (List ℕ) → Type 0 = λ t. LinesSay 1 nothing_declared t (lines_read stage_now 1 nothing_declared (map scan (plain_lines bytes))) in
     let say = subst P (sym lines) (lines-say 1 nothing_declared (plain_lines bytes)) in
     let Q : List (Option (List Lexeme)) → Type 0 = λ t. LinesSay 1 nothing_declared (lines_of bytes) (lines_read stage_now 1 nothing_declared t) in
-    lines-text bytes (bytes_read stage_now bytes) (IsUtf8-from_ascii bytes (is-ascii bytes both.0)) (subst Q (scans-same (plain_lines bytes) both.1) say)
+    lines-text bytes (bytes_read stage_now bytes) text (subst Q (scans-same (plain_lines bytes) plain) say)
+
+pub text-says : (bytes : List ℕ) → is_plain_text bytes ≡ true → TextSays bytes (bytes_read stage_now bytes)
+text-says bytes plain =
+    let both = and_both (is_plain bytes) (list_all is_plain (plain_lines bytes)) plain in
+    plain-lines-say bytes (IsUtf8-from_ascii bytes (is-ascii bytes both.0)) both.1
 
 -- the plain reader finds this fault, so it is the first
 pub refused-so : (bytes : List ℕ) (line : ℕ) (refusal : Refusal) → is_plain_text bytes ≡ true → bytes_read stage_now bytes ≡ fails line refusal → FirstFault bytes line refusal
@@ -232,3 +237,14 @@ refused-so bytes line refusal plain e = subst (TextSays bytes) e (text-says byte
 -- the plain reader reads this, so it is the script
 pub spelled-so : (bytes : List ℕ) (script : Declared) → is_plain_text bytes ≡ true → bytes_read stage_now bytes ≡ passes script → Spells bytes script
 spelled-so bytes script plain e = subst (TextSays bytes) e (text-says bytes plain)
+
+-- the same where the bytes are these characters
+pub spelled-after : (bytes cs : List ℕ) (script : Declared) → all_scalars cs ≡ true → encode_utf8_all cs ≡ bytes → list_all is_plain (plain_lines bytes) ≡ true → bytes_read stage_now bytes ≡ passes script
+    → Spells bytes script
+spelled-after bytes cs script scalars are plain e = subst (TextSays bytes) e (plain-lines-say bytes (cs, (scalars, are)) plain)
+
+-- any text, read by the definitions of lexemes
+pub refused-by : (bytes cs : List ℕ) (line : ℕ) (refusal : Refusal) → all_scalars cs ≡ true → encode_utf8_all cs ≡ bytes → lines_read stage_now 1 nothing_declared (map scan (lines_of bytes)) ≡ fails line refusal
+    → FirstFault bytes line refusal
+refused-by bytes cs line refusal scalars are e =
+    subst (TextSays bytes) e (lines-text bytes (lines_read stage_now 1 nothing_declared (map scan (lines_of bytes))) (cs, (scalars, are)) (lines-say 1 nothing_declared (lines_of bytes)))

@@ -14,10 +14,10 @@ use Rattle.px_terms.specs.Validity.{IsTermOf, IsAtomOf}
 use Rattle.px_terms.specs.declared.problem.Problem.{Problem}
 use Rattle.px_terms.specs.declared.term.Term.{Term}
 use Rattle.px_terms.specs.declared.term.Term.TheVariants.{Obj, Var, Any}
-use Rattle.px_script.specs.Statements.{WrittenAtom, Statement, fact, plan}
+use Rattle.px_script.specs.Statements.{WrittenAtom, Statement, operator, fact, plan}
 use Rattle.px_script.specs.Declarations.{Declared, OpenBlock, BlockKind, of_operator, of_building, number_in, parameters_of, parameters_here, variables_of, atom_of}
 use Rattle.px_script.specs.Content.{problem_of}
-use Rattle.px_script.specs.Faults.{is_long, atoms_of, has_wrong_arity, IsRight, IsFaultless}
+use Rattle.px_script.specs.Faults.{is_long, atoms_of, has_wrong_arity, repeats, IsRight, IsFaultless}
 use Rattle.px_script.specs.Ranges.{IsBlockInRange, AreInRange}
 use Rattle.px_script.proofs.Arguments.{or-false, not-false, atoms-are, each-fails}
 use Rattle.px_script.proofs.Faultless.{stands-right, no-block, and-true, passes-test, at-most}
@@ -79,4 +79,15 @@ plan-fresh d name atoms r f named =
     let below : length d.names.results < 512 = omega (arith, count, r.few_results) in
     let room : nat_lt (length d.names.results) 512 ≡ true = grind (arith, nat_tests) in
     let single : has_name name d.names.results ≡ false = f.single in
+    rw (named, single, room) refl
+
+-- a new operator's name can be declared
+pub operator-fresh : (d : Declared) (name : List ℕ) (parameters : List (List ℕ)) → IsFaultless d (operator name parameters) → is_name_text name ≡ true → refusal kind.Operator d.names name ≡ None
+operator-fresh d name parameters f named =
+    let long = passes-test (is_long name) 1 _ f.limit in
+    let many = passes-test (nat_lt 32 (length d.names.operators + 1)) 8 _ long.1 in
+    let count = at-most 32 (length d.names.operators + 1) many.0 in
+    let below : length d.names.operators < 32 = omega (arith, count) in
+    let room : nat_lt (length d.names.operators) 32 ≡ true = grind (arith, nat_tests) in
+    let single = (or-false (has_name name d.names.operators) (repeats d.names.objects parameters) f.single).0 in
     rw (named, single, room) refl

@@ -1,21 +1,26 @@
 -- What the definitions say of small texts, computed by the plain reader.
-use Rattle.std.proofs.Common.{refl}
+use Rattle.std.proofs.Common.{◌∷◌, ◌++◌, refl}
+use Rattle.std.specs.Prelude.{codes}
+use Rattle.std.specs.Str.{chars}
+use Rattle.unicode_ident.proofs.Computing.{unicode_ident}
+use lib.Utf8.{encode}
 use Rattle.px_base.specs.Sets.{with_item, set_of}
-use Rattle.px_script.specs.Worked.{WorkedScripts, WorkedRefusals, danger_text, blanks_text}
+use Rattle.px_script.specs.Worked.{WorkedScripts, WorkedRefusals, danger_text, blanks_text, marked_text}
 use Rattle.px_script.specs.Parsing.{all_within, items_after}
 use Rattle.px_script.proofs.Plain.{lines_read, scan_by}
-use Rattle.px_script.proofs.PlainReading.{refused-so, spelled-so}
+use Rattle.px_script.proofs.PlainReading.{refused-so, spelled-so, spelled-after, refused-by}
 use Rattle.px_script.proofs.NoText.{byte_of_no_character}
 
 pub worked-scripts : WorkedScripts
-unfolding lines_read scan_by all_within items_after with_item set_of
+unfolding lines_read scan_by all_within items_after with_item set_of encode
 worked-scripts = record {
   danger = record { last = _; spells = spelled-so danger_text _ refl refl; is = refl };
   blanks = record { last = _; spells = spelled-so blanks_text _ refl refl; is = refl };
+  marked = record { last = _; spells = spelled-after marked_text (0xFEFF ∷ codes "object a\nfacts\n") _ refl refl refl refl; is = refl };
 }
 
 pub worked-refusals : WorkedRefusals
-unfolding lines_read scan_by all_within items_after
+unfolding lines_read scan_by all_within items_after encode chars unicode_ident
 worked-refusals = record {
   no_character = byte_of_no_character;
   no_name = refused-so _ _ _ refl refl;
@@ -29,7 +34,18 @@ worked-refusals = record {
   wide_predicate = refused-so _ _ _ refl refl;
   other_version = refused-so _ _ _ refl refl;
   late_object = refused-so _ _ _ refl refl;
+  second_mark = refused-by _ (0xFEFF ∷ 0xFEFF ∷ codes "object a") _ _ refl refl refl;
+  late_mark = refused-by _ (codes "object a\n" ++ 0xFEFF ∷ codes "facts") _ _ refl refl refl;
   cut_line = refused-so _ _ _ refl refl;
   cut_block = refused-so _ _ _ refl refl;
+  token_before_word = refused-so _ _ _ refl refl;
+  form_before_order = refused-so _ _ _ refl refl;
+  order_before_unbuilt = refused-so _ _ _ refl refl;
+  unbuilt_before_name = refused-so _ _ _ refl refl;
+  name_before_duplicate = refused-so _ _ _ refl refl;
+  duplicate_before_arity = refused-so _ _ _ refl refl;
+  unbound_before_limit = refused-so _ _ _ refl refl;
+  duplicate_before_limit = refused-so _ _ _ refl refl;
+  arity_before_unbound = refused-so _ _ _ refl refl;
   not_built = refused-so _ _ _ refl refl;
 }

@@ -1,5 +1,7 @@
 -- The domain that a building gives to its script, as the lines that would declare it.
 use Rattle.std.specs.Prelude.{ℕ, List, [], ◌∷◌, map, codes}
+use Rattle.std.specs.List.{position_or_len}
+use Rattle.std.specs.Str.{bytes_eq}
 use Rattle.px_script.specs.Statements.{WrittenAtom, Statement, named, open_variable, anything, positive, negative, predicate, «axiom», operator, pre, delete, add, end}
 
 abbrev of_names : List ℕ → List (List ℕ) → WrittenAtom
@@ -26,6 +28,14 @@ predicate_lines =
     ∷ predicate (codes "DOOR") 1
     ∷ predicate (codes "BOX") 1
     ∷ []
+
+abbrev predicate_name : Statement → List ℕ
+predicate_name (predicate p arity) = p
+predicate_name _ = []
+
+-- the number of a predicate, by its place among these lines
+abbrev pub predicate_number : List ℕ → ℕ
+predicate_number p = position_or_len (bytes_eq p) (map predicate_name predicate_lines)
 
 -- two ways through each door
 abbrev pub connects_both_ways : Statement

@@ -1,9 +1,9 @@
 -- Which line is refused, and why.
 use Rattle.std.specs.Prelude.{◌≡◌, ℕ, ◌+◌, Bool, true, false, List, [], ◌∷◌, ◌++◌, map, length, Option, None, Some, is_some, if◌then◌else◌, not, ◌||◌, ◌&&◌, ◌==◌, nat_lt, slice_index}
-use Rattle.std.specs.List.{list_any, flat_map}
+use Rattle.std.specs.List.{list_any, flat_map, filter}
 use Rattle.std.specs.Str.{bytes_eq}
 use Rattle.px_names.specs.Lists.{has_name}
-use Rattle.px_script.specs.Statements.{Statement, Argument, WrittenAtom, WrittenRoomEdit, Binding, named, open_variable, anything, robot_to, box_to, door_to, script, object, predicate, «axiom», operator, pre, delete, add, building, room, door, box, robot, end, fact, height, nodes, shapes, plan, learn, show, disturb_atoms, disturb_rooms, run, facts, is_empty}
+use Rattle.px_script.specs.Statements.{Statement, Argument, WrittenAtom, WrittenRoomEdit, Binding, named, anything, is_variable, robot_to, box_to, door_to, script, object, predicate, «axiom», operator, pre, delete, add, building, room, door, box, robot, end, fact, height, nodes, shapes, plan, learn, show, disturb_atoms, disturb_rooms, run, facts, is_empty}
 use Rattle.px_terms.specs.declared.problem.Schema.{Schema}
 use Rattle.px_terms.specs.AtomSets.{atom_set}
 use Rattle.px_script.specs.Buildings.{Thing, a_robot}
@@ -68,10 +68,6 @@ atoms_of _ = []
 
 abbrev pub arguments_of : Statement → List Argument
 arguments_of statement = flat_map (λ atom. atom.arguments) (atoms_of statement)
-
-abbrev pub is_variable : Argument → Bool
-is_variable (open_variable v) = true
-is_variable _ = false
 
 abbrev pub is_anything : Argument → Bool
 is_anything anything = true
@@ -170,15 +166,17 @@ has_unknown_name d s = list_any (λ atom. not (has_name atom.predicate d.names.p
     || list_any (λ a. not (is_known_argument d a)) (arguments_of s)
     || not (knows_names d s)
 
--- a name of the list is among the others, or stands in the list before
-abbrev pub repeats : List (List ℕ) → List (List ℕ) → Bool
-repeats others [] = false
-repeats others (n ∷ ns) = has_name n others || repeats (others ++ n ∷ []) ns
+-- the name stands more than once in the list
+abbrev pub stands_twice : List (List ℕ) → List ℕ → Bool
+stands_twice ns n = nat_lt 1 (length (filter (bytes_eq n) ns))
 
--- a parameter is bound twice
+-- some name of the list is one of the others, or stands more than once in the list
+abbrev pub repeats : List (List ℕ) → List (List ℕ) → Bool
+repeats others ns = list_any (λ n. has_name n others || stands_twice ns n) ns
+
+-- some parameter is bound more than once
 abbrev pub binds_twice : List Binding → Bool
-binds_twice [] = false
-binds_twice (b ∷ bs) = list_any (λ other. other.parameter == b.parameter) bs || binds_twice bs
+binds_twice bs = list_any (λ b. nat_lt 1 (length (filter (λ other. other.parameter == b.parameter) bs))) bs
 
 abbrev pub has_duplicate : Declared → Statement → Bool
 has_duplicate d (object ns) = repeats d.names.objects ns

@@ -12,6 +12,9 @@ pub mod Scripts
 pub mod Scanning
 pub mod Progress
 pub mod Parsing
+pub mod BuildingRanges
+pub mod StageRanges
 pub mod Ranges
 pub mod Worked
+pub mod WorkedStages
 pub mod RangeLaws

@@ -1,6 +1,7 @@
 -- That what is read is in range is a fact with one proof at most, so that a type can keep it.
-use Rattle.std.specs.Prelude.{ℕ}
+use Rattle.std.specs.Prelude.{ℕ, List, Option, None, Some}
 use Rattle.std.proofs.Props.{props}
+use mathlib.Core.Sum.{⊎_set}
 use Rattle.px_terms.specs.declared.atom.Atom.{Atom}
 use Rattle.px_terms.specs.declared.problem.Problem.{Problem}
 use Rattle.px_terms.specs.declared.term.Term.{Term}
@@ -9,7 +10,15 @@ use Rattle.px_terms.specs.Language.{IsPlainBelow}
 use Rattle.px_terms.specs.Validity.{IsTermOf, IsPatternTermOf, IsAtomOf, IsValid}
 use Rattle.px_script.specs.Commands.{AtomEdit, RoomEdit, Command, Insert, Remove, Robot, Box, Door, Plan, Learn, Show, DisturbAtoms, DisturbRooms, Run, Facts}
 use Rattle.px_script.specs.Content.{ScriptValue}
-use Rattle.px_script.specs.Ranges.{IsEditOf, IsRoomEditOf, IsCommandOf, IsInRange}
+use Rattle.px_script.specs.Buildings.{Thing, a_room, a_door, a_box, a_robot}
+use Rattle.px_script.specs.BuildingRanges.{IsThingAfter}
+use Rattle.px_script.specs.Ranges.{IsEditOf, IsRoomEditOf, AreRoomEditsOf, IsCommandOf, NamesEarlier, IsInRange}
+use Rattle.px_script.specs.StageRanges.{IsBuiltCommand, IsOfStage}
+
+ruleset sums = (⊎_set, props)
+
+Term-set : IsSet Term
+Term-set = Prim.hlevel sums
 
 pub IsTermOf-prop : (problem : Problem) (vars : ℕ) (t : Term) → IsProp (IsTermOf problem vars t)
 IsTermOf-prop problem vars (Obj n) = Prim.hlevel props
@@ -38,23 +47,58 @@ IsEditOf-prop : (problem : Problem) (edit : AtomEdit) → IsProp (IsEditOf probl
 IsEditOf-prop problem (Insert atom) = IsAtomOf-prop problem 0 atom
 IsEditOf-prop problem (Remove atom) = IsAtomOf-prop problem 0 atom
 
-IsRoomEditOf-prop : (problem : Problem) (edit : RoomEdit) → IsProp (IsRoomEditOf problem edit)
-IsRoomEditOf-prop problem (Robot r) = Prim.hlevel props
-IsRoomEditOf-prop problem (Box b r) = Prim.hlevel props
-IsRoomEditOf-prop problem (Door d is_open) = Prim.hlevel props
+IsThingAfter-prop : (before : List Thing) (thing : Thing) → IsProp (IsThingAfter before thing)
+IsThingAfter-prop before a_room = Prim.hlevel props
+IsThingAfter-prop before (a_door one other is_open) = Prim.hlevel props
+IsThingAfter-prop before (a_box r) = Prim.hlevel props
+IsThingAfter-prop before (a_robot r) = Prim.hlevel props
 
-ruleset parts = (IsEditOf-prop, IsRoomEditOf-prop, IsAtomOf-prop, terms)
+IsRoomEditOf-prop : (things : List Thing) (edit : RoomEdit) → IsProp (IsRoomEditOf things edit)
+IsRoomEditOf-prop things (Robot r) = Prim.hlevel props
+IsRoomEditOf-prop things (Box b r) = Prim.hlevel props
+IsRoomEditOf-prop things (Door d is_open) = Prim.hlevel props
 
-IsCommandOf-prop : (problem : Problem) (results : ℕ) (command : Command) → IsProp (IsCommandOf problem results command)
-IsCommandOf-prop problem results (Plan name goal vars) = Prim.hlevel parts
-IsCommandOf-prop problem results (Learn name source) = Prim.hlevel parts
-IsCommandOf-prop problem results (Show name) = Prim.hlevel parts
-IsCommandOf-prop problem results (DisturbAtoms turn between edits) = Prim.hlevel parts
-IsCommandOf-prop problem results (DisturbRooms turn between edits) = Prim.hlevel parts
-IsCommandOf-prop problem results (Run name bindings) = Prim.hlevel parts
-IsCommandOf-prop problem results Facts = Prim.hlevel parts
+ruleset parts = (IsEditOf-prop, IsRoomEditOf-prop, IsAtomOf-prop, IsThingAfter-prop, terms)
 
-ruleset all_parts = (IsCommandOf-prop, IsValid-prop, parts)
+AreRoomEditsOf-prop : (building : Option (List Thing)) (edits : List RoomEdit) → IsProp (AreRoomEditsOf building edits)
+AreRoomEditsOf-prop None edits = Prim.hlevel parts
+AreRoomEditsOf-prop (Some things) edits = Prim.hlevel parts
+
+ruleset edits_too = (AreRoomEditsOf-prop, parts)
+
+IsCommandOf-prop : (problem : Problem) (building : Option (List Thing)) (results : ℕ) (command : Command) → IsProp (IsCommandOf problem building results command)
+IsCommandOf-prop problem building results (Plan name goal vars) = Prim.hlevel parts
+IsCommandOf-prop problem building results (Learn name source) = Prim.hlevel parts
+IsCommandOf-prop problem building results (Show name) = Prim.hlevel parts
+IsCommandOf-prop problem building results (DisturbAtoms turn between edits) = Prim.hlevel parts
+IsCommandOf-prop problem building results (DisturbRooms turn between edits) = Prim.hlevel edits_too
+IsCommandOf-prop problem building results (Run name bindings) = Prim.hlevel parts
+IsCommandOf-prop problem building results Facts = Prim.hlevel parts
+
+NamesEarlier-prop : (before : List Command) (command : Command) → IsProp (NamesEarlier before command)
+NamesEarlier-prop before (Plan name goal vars) = Prim.hlevel props
+NamesEarlier-prop before (Learn name source) = Prim.hlevel props
+NamesEarlier-prop before (Show name) = Prim.hlevel props
+NamesEarlier-prop before (DisturbAtoms turn between edits) = Prim.hlevel props
+NamesEarlier-prop before (DisturbRooms turn between edits) = Prim.hlevel props
+NamesEarlier-prop before (Run name bindings) = Prim.hlevel props
+NamesEarlier-prop before Facts = Prim.hlevel props
+
+ruleset all_parts = (IsCommandOf-prop, NamesEarlier-prop, IsValid-prop, Term-set, parts)
 
 pub IsInRange-prop : (script : ScriptValue) → IsProp (IsInRange script)
 IsInRange-prop script = Prim.hlevel all_parts
+
+IsBuiltCommand-prop : (command : Command) → IsProp (IsBuiltCommand command)
+IsBuiltCommand-prop (Plan name goal vars) = Prim.hlevel props
+IsBuiltCommand-prop (Learn name source) = Prim.hlevel props
+IsBuiltCommand-prop (Show name) = Prim.hlevel props
+IsBuiltCommand-prop (DisturbAtoms turn between edits) = Prim.hlevel props
+IsBuiltCommand-prop (DisturbRooms turn between edits) = Prim.hlevel props
+IsBuiltCommand-prop (Run name bindings) = Prim.hlevel props
+IsBuiltCommand-prop Facts = Prim.hlevel props
+
+ruleset built = (IsBuiltCommand-prop, Term-set, props)
+
+pub IsOfStage-prop : (script : ScriptValue) → IsProp (IsOfStage script)
+IsOfStage-prop script = Prim.hlevel built

@@ -10,6 +10,10 @@ pub data Argument : Type 0 where
   open_variable : List ℕ → Argument
   anything : Argument
 
+abbrev pub is_variable : Argument → Bool
+is_variable (open_variable v) = true
+is_variable _ = false
+
 pub record WrittenAtom : Type 0 where
   pub predicate : List ℕ
   pub arguments : List Argument

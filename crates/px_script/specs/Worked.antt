@@ -1,10 +1,11 @@
 -- Small texts, and what the definitions say of them.
-use Rattle.std.specs.Prelude.{ℕ, List, [], ◌∷◌, codes, None}
+use Rattle.std.specs.Prelude.{ℕ, List, [], ◌∷◌, ◌++◌, codes, None}
 use Rattle.px_terms.specs.declared.atom.Atom.{Atom}
 use Rattle.px_terms.specs.declared.term.Term.{Term}
 use Rattle.px_terms.specs.declared.term.Term.TheVariants.{Obj, Var}
 use Rattle.px_script.specs.Commands.{Plan, Facts}
 use Rattle.px_script.specs.Content.{ScriptValue}
+use Rattle.px_script.specs.Lines.{mark}
 use Rattle.px_script.specs.Scripts.{IsScript, FirstFault}
 
 -- the first fault of the bytes: its line, its code and its limit
@@ -59,10 +60,25 @@ blanks = record {
   commands = [];
 }
 
+-- a byte order mark in front
+abbrev pub marked_text : List ℕ
+marked_text = mark ++ codes "object a\nfacts\n"
+
+abbrev pub marked : ScriptValue
+marked = record {
+  version = 1;
+  names = record { objects = codes "a" ∷ []; predicates = []; operators = []; results = [] };
+  problem = record { objects = 1; arities = []; axioms = []; schemas = []; height = 4; nodes = 10000; shapes = 10000 };
+  facts = [];
+  building = None;
+  commands = Facts ∷ [];
+}
+
 -- texts that are scripts, with what they are about
 pub record WorkedScripts : Type 0 where
   pub danger : IsScript danger_text danger
   pub blanks : IsScript blanks_text blanks
+  pub marked : IsScript marked_text marked
 
 -- texts that are no scripts, with the line, the code and the limit of their first fault
 pub record WorkedRefusals : Type 0 where
@@ -78,6 +94,17 @@ pub record WorkedRefusals : Type 0 where
   pub wide_predicate : IsRefused (codes "predicate P 7") 1 8 4
   pub other_version : IsRefused (codes "script 2") 1 8 16
   pub late_object : IsRefused (codes "facts\nobject a") 2 9 0
+  pub second_mark : IsRefused (mark ++ mark ++ codes "object a") 1 2 0
+  pub late_mark : IsRefused (codes "object a\n" ++ mark ++ codes "facts") 2 2 0
   pub cut_line : IsRefused (codes "object a\n\noperator A(x)\ndelete\n") 4 2 0
   pub cut_block : IsRefused (codes "object a\n\noperator A(x)\n") 3 10 0
+  pub token_before_word : IsRefused (codes "fly %") 1 2 0
+  pub form_before_order : IsRefused (codes "operator A\nobject") 2 2 0
+  pub order_before_unbuilt : IsRefused (codes "operator A\nshow N") 2 9 0
+  pub unbuilt_before_name : IsRefused (codes "axiom Q(a)") 1 11 0
+  pub name_before_duplicate : IsRefused (codes "object a\npredicate P 1\nplan N P(a)\nplan N P(b)") 4 4 0
+  pub duplicate_before_arity : IsRefused (codes "object a\npredicate P 1\nplan N P(a)\nplan N P(a,a)") 4 5 0
+  pub unbound_before_limit : IsRefused (codes "object a\npredicate P 1\nplan aaaaaaaaaaaaaaaaaaaaaaaaaaaaaaaaaaaaaaaaaaaaaaaaaaaaaaaaaaaaaaaaa P($)") 3 7 0
+  pub duplicate_before_limit : IsRefused (codes "nodes 5\nnodes 0") 2 5 0
+  pub arity_before_unbound : IsRefused (codes "object a\npredicate P 1\nfact P(?x,a)") 3 6 0
   pub not_built : IsRefused (codes "object ROBOT R1 R2 R3 D1 D2 B1\npredicate INROOM 2\npredicate CONNECTS 3\npredicate BOX 1\naxiom ~CONNECTS(?d,?x,?y) CONNECTS(?d,?y,?x)\noperator GOTHRU(d,r1,r2)\npre INROOM(ROBOT,r1) CONNECTS(d,r1,r2)\ndelete INROOM(ROBOT,$)\n") 5 11 0

@@ -1,5 +1,6 @@
 pub mod Ends
 pub mod Entries
+pub mod Limits
 pub mod Matching
 pub mod Moves
 pub mod Nodes

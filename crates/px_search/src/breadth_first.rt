@@ -2,6 +2,7 @@ ghost use Rattle.std.specs.Prelude.{◌≡◌, ◌<◌, ◌≤◌, ◌^◌, ◌�
 ghost use Rattle.px_terms.specs.Plans.{Carries};
 ghost use Rattle.px_terms.specs.Validity.{IsAtomOf, IsValid};
 ghost use Rattle.px_search.specs.Ends.{IsFound, IsExhausted, IsNodeLimit, task_of};
+ghost use Rattle.px_search.specs.Limits.{HasFewAtoms, AllowsFewAtoms};
 ghost use Rattle.px_search.specs.Nodes.{IsSolved, steps_of};
 ghost use Rattle.px_search.specs.Origins.{AreEarlier, Trace};
 ghost use Rattle.px_search.specs.declared.breadth_first.SearchErr.TheVariants.{NoMemory as OutOfMemory};
@@ -80,6 +81,10 @@ fn is_solved(goal: &[Atom], node: &Node) -> bool
 ///
 /// Nodes are found in the order of their least lists of moves, and the first solved one is answered.
 ///
+/// It is for questions that never meet the limit of shapes: the goal and each precondition have at most twelve atoms
+/// (`few_atoms`), which have fewer shapes of unfinished gap proofs than the problem allows (`no_limit`). Where the limit
+/// may be met, an answer would have to tell of it, and no answer here does.
+///
 /// # Errors
 /// - `Exhausted` where no list of moves reaches a solved node.
 /// - `NodeLimit` where none of the first nodes is solved, as many as the problem allows, and there is a further one.
@@ -93,6 +98,8 @@ pub fn search(
     requires valid { IsValid problem.now }
     requires no_axioms { problem.now.axioms ≡ [] }
     requires goal { All (IsAtomOf problem.now 0) goal.now }
+    requires few_atoms { HasFewAtoms problem.now goal.now }
+    requires no_limit { AllowsFewAtoms problem.now }
     ensures found { IfOk result (λ found. IsFound (task_of problem.now initial.now.atoms goal.now) found.moves) }
     ensures steps { IfOk result (λ found. found.steps ≡ steps_of [] found.moves) }
     ensures carries { IfOk result (λ found. Carries problem.now initial.now.atoms found.steps 0 goal.now) }

@@ -3,7 +3,8 @@
 //! # Calling it
 //!
 //! [`search`] takes a valid problem without axioms, the initial model, and a goal of the problem's atoms without
-//! variables. It answers one of these.
+//! variables. The goal and each operator's precondition have at most twelve atoms, and the problem's limit of shapes is at
+//! least 4,096, so that no question which the search asks meets that limit (below). It answers one of these.
 //!
 //! - [`Found`]: the moves to the first solved node, and the steps that they take. The clause `carries` says what the
 //!   steps are worth: in each run of them that begins where the initial model holds, each precondition is met where it
@@ -25,10 +26,9 @@
 //!   isn't there, adds a gap of the top entry's precondition (or of the goal, where the stack is empty), and is open.
 //! - `Ends`: nodes come in the order of their least lists of moves: fewer moves first, and then, at the first different
 //!   push, the lesser entry (`order_of` of `px_table`: by the number of its operator, then by its arguments).
-//!
-//! The search asks of no limit of shapes. (A remark, which no clause carries: a formula without variables has one list of
-//! gap proofs, since there are no axioms, and a formula of at most 12 atoms has at most 2^12 - 1 unfinished ones. So
-//! where formulas are no longer than that, a limit of 10,000 shapes is never met.)
+//! - `Limits`: why no limit of shapes is met. A formula without variables, where there are no axioms, has its unfinished
+//!   lists of gap proofs by a fact or a gap for each atom before the first open one: at most 2^n - 1 for n atoms, so at most
+//!   4,095 for twelve. (The clauses ask for what this count needs. That the count is right, no clause says.)
 #![tactic(auto)]
 
 mod breadth_first;

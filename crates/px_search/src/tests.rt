@@ -1,5 +1,6 @@
-ghost use Rattle.std.specs.Prelude.{◌≡◌, ◌≤◌, [], ◌∷◌, IfOk};
+ghost use Rattle.std.specs.Prelude.{◌≡◌, ◌≤◌, [], ◌∷◌, All, IfOk};
 ghost use Rattle.px_terms.specs.Validity.{IsValid};
+ghost use Rattle.px_search.specs.Limits.{NeedsFewAtoms, AllowsFewAtoms};
 
 use crate::{Found, SearchErr, search};
 use px_ops::Model;
@@ -22,6 +23,8 @@ fn moving(alloc: Global, rt: &impl Abort, nodes: u32) -> Result<Problem, NoMemor
     ensures valid { IfOk result IsValid }
     ensures axioms { IfOk result (λ p. p.axioms ≡ []) }
     ensures shape { IfOk result (λ p. (p.objects ≡ 2) × (p.arities ≡ 1 ∷ [])) }
+    ensures few_atoms { IfOk result (λ p. All NeedsFewAtoms p.schemas) }
+    ensures no_limit { IfOk result AllowsFewAtoms }
 {
     let here = Atom::new(0, &[Term::Var(0)]).expect(rt, "one argument");
     let there = Atom::new(0, &[Term::Var(1)]).expect(rt, "one argument");

@@ -1,10 +1,10 @@
-use Rattle.std.proofs.Common.{◌≡◌, ◌∷◌, ◌<◌, List, drop, length, map, sym, ap, ◌∙◌, arith}
+use Rattle.std.proofs.Common.{◌≡◌, ◌∷◌, ◌<◌, drop, length, sym, ap, ◌∙◌, arith}
 use Rattle.std.proofs.lemmas.Grind.{common_steps}
 use Rattle.std.proofs.lemmas.List.{length-drop, length-map}
 use Rattle.px_script.specs.Lexemes.{name}
 use Rattle.px_script.specs.Parsing.{operator_form}
 use Rattle.px_reader.specs.Views.{lexeme_of}
-use Rattle.px_reader.specs.StatementViews.{lexemes_of, text_of}
+use Rattle.px_reader.specs.StatementViews.{lexemes_of}
 use Rattle.px_reader.proofs.TokenLemmas.{no-operator}
 use Rattle.px_reader.proofs.forms.operator.Goals as goal
 

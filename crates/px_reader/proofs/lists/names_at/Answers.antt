@@ -1,4 +1,4 @@
-use Rattle.std.proofs.Common.{◌≡◌, ◌+◌, ◌∙◌, true, drop, ap, sym, arith}
+use Rattle.std.proofs.Common.{◌≡◌, ◌∙◌, true, drop, ap, sym, arith}
 use Rattle.px_script.specs.Parsing.{name_of, items_after, opens}
 use Rattle.px_script.proofs.Steps.{items-opened}
 use Rattle.px_reader.specs.StatementViews.{lexemes_of, front_view, items_view, text_of}

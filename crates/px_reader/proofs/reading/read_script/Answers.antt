@@ -1,8 +1,5 @@
-use Rattle.px_reader.proofs.Outcomes.{ranges-read, all-scripts, all-faults}
+use Rattle.px_reader.proofs.Outcomes.{all-scripts, all-faults}
 use Rattle.px_reader.proofs.reading.read_script.Goals as goal
-
-pub returns-in-Ok-clause-in_range : goal.returns-in-Ok-clause-in_range
-returns-in-Ok-clause-in_range c = ranges-read c.in-Ok.text.now c.read_text.result c.read_text.ensures.script
 
 pub returns-in-Ok-clause-all_scripts : goal.returns-in-Ok-clause-all_scripts
 returns-in-Ok-clause-all_scripts c = all-scripts c.args.bytes.now c.read_text.result (rw c.in-Ok.ensures.cases.0 at c.read_text.ensures.script) (rw c.in-Ok.ensures.cases.0 at c.read_text.ensures.refused)

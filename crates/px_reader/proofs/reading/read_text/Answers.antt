@@ -1,9 +1,9 @@
-use Rattle.std.proofs.Common.{◌≡◌, refl, sym, ap, ◌∙◌, subst, inr, length, arith}
+use Rattle.std.proofs.Common.{◌≡◌, sym, ap, ◌∙◌, subst, inr, length, arith}
 use Rattle.px_script.specs.Declarations.{nothing_declared}
 use Rattle.px_script.specs.Lines.{lines_of}
-use Rattle.px_script.specs.Scripts.{PassAll, FailsIn}
+use Rattle.px_script.specs.Scripts.{PassAll}
 use Rattle.px_script.proofs.Kept.{lines-kept, nothing-in_range}
-use Rattle.px_reader.specs.LineReads.{characters_of, HasFirstFault, LinesFail, content}
+use Rattle.px_reader.specs.LineReads.{characters_of, HasFirstFault, LinesFail}
 use Rattle.px_reader.specs.Readers.{declared_of}
 use Rattle.px_reader.proofs.Outcomes.{parts-lines, few-parts, left-open, text-fails, err-carried}
 use Rattle.px_reader.proofs.reading.read_text.Goals as goal

@@ -1,5 +1,4 @@
-use Rattle.std.proofs.Common.{◌≡◌, ◌≢◌, ◌∷◌, ℕ, ◌≤◌, true, false, refl, sym, ap, ◌∙◌, get_or, arith, lit<}
-use Rattle.std.specs.Prelude.{Option, Ok}
+use Rattle.std.proofs.Common.{◌∙◌, arith, lit<}
 use Rattle.std.proofs.lemmas.Str.Pattern.{strip_prefix_char, starts_char}
 use Rattle.px_script.proofs.Fronts.{true_not_false}
 use Rattle.px_reader.proofs.Parameters.{no-letter, no-digit, no-number, a-number}

@@ -13,3 +13,8 @@ pub plan-requires-clause-goal : goal.plan-requires-clause-goal
 plan-requires-clause-goal c =
     let here : get_or c.args.script.now.commands c.args.place c.index-as_slice-place.result ≡ command.Plan c.in-Plan.name c.in-Plan.goal c.in-Plan.vars = grind (arith, common_steps) in
     rw c.as_slice-in-Plan.ensures (plan-ready c.args.script.now.problem (length c.args.script.now.names.results) c.args.script.now.commands c.args.place c.index-as_slice-place.result c.in-Plan.name c.in-Plan.vars c.in-Plan.goal c.requires.ready.commands c.requires.place here).1
+
+pub plan-requires-clause-few_atoms : goal.plan-requires-clause-few_atoms
+plan-requires-clause-few_atoms c =
+    let here : get_or c.args.script.now.commands c.args.place c.index-as_slice-place.result ≡ command.Plan c.in-Plan.name c.in-Plan.goal c.in-Plan.vars = grind (arith, common_steps) in
+    rw c.as_slice-in-Plan.ensures (plan-ready c.args.script.now.problem (length c.args.script.now.names.results) c.args.script.now.commands c.args.place c.index-as_slice-place.result c.in-Plan.name c.in-Plan.vars c.in-Plan.goal c.requires.ready.commands c.requires.place here).3

@@ -4,7 +4,7 @@ use Rattle.px_run.proofs.Ready.{script-ready}
 use Rattle.px_run.proofs.top.run.Goals as goal
 
 pub execute-requires : goal.execute-requires
-execute-requires g c = record { ready = script-ready c.deref.result.now (content c.in-Ok-read_script.script) c.in-Ok-read_script.ensures.script }
+execute-requires g c = record { ready = script-ready (content c.in-Ok-read_script.script) c.in-Ok-read_script.script.in_range c.in-Ok-read_script.script.of_stage }
 
 pub returns-in-Ok-read_script-clause-right : goal.returns-in-Ok-read_script-clause-right
 returns-in-Ok-read_script-clause-right g c =

@@ -1,8 +1,8 @@
-use Rattle.std.proofs.Common.{◌≡◌, [], List, ℕ, true, map, refl, sym, ap, ◌∙◌, arith}
+use Rattle.std.proofs.Common.{◌≡◌, [], true, map, refl, arith}
 use Rattle.px_names.specs.Name.{is_name_text}
 use Rattle.px_script.specs.Faults.{IsFaultless}
 use Rattle.px_script.specs.Statements as spec
-use Rattle.px_script.proofs.Right.{right-of, no-variables, plan-fresh}
+use Rattle.px_script.proofs.Right.{right-of, no-variables, plan-fresh, operator-fresh}
 use Rattle.px_reader.specs.Readers.{declared_of}
 use Rattle.px_reader.specs.StatementViews.{atom_view, text_of}
 use Rattle.px_reader.proofs.LimitLemmas.{all-viewed, sizes-seen, facts-viewed}
@@ -10,6 +10,13 @@ use Rattle.px_reader.proofs.reader.Reader.declare.Goals as goal
 
 pub declare_objects-requires-clause-named : goal.declare_objects-requires-clause-named
 declare_objects-requires-clause-named c = rw c.deref.ensures.value (all-viewed (λ name. is_name_text name ≡ true) text_of c.in-Object.names.items (rw c.in-Object.is at c.requires.named))
+
+pub open_operator-requires : goal.open_operator-requires
+open_operator-requires c =
+    let parameters = map text_of c.in-Operator.parameters.items in
+    let faultless : IsFaultless (declared_of c.args.self.now) (spec.operator c.in-Operator.name.now parameters) = rw c.in-Operator.is at c.requires.faultless in
+    let named = rw c.in-Operator.is at c.requires.named in
+    operator-fresh (declared_of c.args.self.now) c.in-Operator.name.now parameters faultless (named 0 [] (omega arith))
 
 pub extend_operator-requires-clause-sizes : goal.extend_operator-requires-clause-sizes
 extend_operator-requires-clause-sizes c =

@@ -1,7 +1,5 @@
-use Rattle.std.proofs.Common.{◌≡◌, ◌+◌, ◌≤◌, [], map, take, length}
-use Rattle.px_terms.specs.Order.{atom_cmp}
+use Rattle.std.proofs.Common.{[]}
 use Rattle.px_script.specs.Declarations.{atom_of}
-use Rattle.px_script.proofs.FactSets.{Counts}
 use Rattle.px_reader.specs.Readers.{declared_of}
 use Rattle.px_reader.specs.StatementViews.{atom_view}
 use Rattle.px_reader.proofs.Facts.{Counted}

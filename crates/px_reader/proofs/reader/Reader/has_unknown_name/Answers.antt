@@ -1,6 +1,5 @@
-use Rattle.std.proofs.Common.{◌≡◌, true, false, refl, sym, ap, ◌∙◌}
+use Rattle.std.proofs.Common.{refl, sym, ◌∙◌}
 use Rattle.px_reader.specs.Readers.{declared_of}
-use Rattle.px_reader.specs.Checks.{plain_atoms}
 use Rattle.px_reader.proofs.FaultTests.{predicates-lack, arguments-lack, built-knows, unknown-is}
 use Rattle.px_reader.proofs.reader.Reader.has_unknown_name.Goals as goal
 

@@ -1,8 +1,8 @@
-use Rattle.std.proofs.Common.{◌≡◌, true, false, refl, sym, ap, ◌∙◌, map, length, arith}
+use Rattle.std.proofs.Common.{◌≡◌, true, false, refl, sym, ◌∙◌, map, length, arith}
 use Rattle.std.specs.List.{list_any}
 use Rattle.std.proofs.lemmas.Grind.{common_steps}
 use Rattle.std.proofs.lemmas.List.{length-map}
-use Rattle.px_script.specs.Faults.{is_variable}
+use Rattle.px_script.specs.Statements.{is_variable}
 use Rattle.px_reader.specs.StatementViews.{atom_view}
 use Rattle.px_reader.proofs.FaultTests.{arguments, atoms-any}
 use Rattle.px_reader.proofs.reader.Reader.is_unbuilt.Goals as goal

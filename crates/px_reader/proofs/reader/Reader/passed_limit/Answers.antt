@@ -1,16 +1,11 @@
-use Rattle.std.proofs.Common.{◌≡◌, ◌≤◌, [], ℕ, List, map, length, sym, ap, ◌∙◌, subst, arith}
-use Rattle.std.specs.Prelude.{All}
+use Rattle.std.proofs.Common.{◌≡◌, map, length, arith}
 use Rattle.std.proofs.lemmas.Grind.{common_steps}
 use Rattle.std.proofs.lemmas.List.{length-map}
-use Rattle.px_terms.specs.Instances.{IsGround}
-use Rattle.px_script.specs.Declarations.{atom_of}
 use Rattle.px_script.specs.Faults.{IsRight}
 use Rattle.px_script.specs.Statements as spec
-use Rattle.px_script.proofs.Right.{sizes, facts-are, no-variables}
+use Rattle.px_script.proofs.Right.{no-variables}
 use Rattle.px_reader.specs.Readers.{declared_of}
-use Rattle.px_reader.specs.StatementViews.{atom_view, statement_view}
-use Rattle.px_reader.specs.declared.statement.Statement.{Statement}
-use Rattle.px_reader.specs.declared.statement.WrittenAtom.{WrittenAtom}
+use Rattle.px_reader.specs.StatementViews.{atom_view}
 use Rattle.px_reader.proofs.LimitLemmas.{sizes-viewed, facts-viewed}
 use Rattle.px_reader.proofs.reader.Reader.passed_limit.Goals as goal
 

@@ -1,6 +1,4 @@
-use Rattle.std.proofs.Common.{sym, ap, ◌∙◌}
-use Rattle.px_script.specs.Faults.{has_variable}
-use Rattle.px_reader.specs.StatementViews.{statement_view}
+use Rattle.std.proofs.Common.{sym, ◌∙◌}
 use Rattle.px_reader.proofs.FaultTests.{literals-vary, edits-vary, plain-vary}
 use Rattle.px_reader.proofs.statement.Statement.has_variable.Goals as goal
 
