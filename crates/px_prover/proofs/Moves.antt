@@ -29,7 +29,7 @@ use Rattle.px_walk.specs.Possible.{IsPossible, IsFinished, open_count, left_of, 
 use Rattle.px_walk.proofs.Objects.{feasible-from_bindings}
 
 module _ (loose : Bool) (s : Setting) (formula : List Atom) (vars : ℕ) where
-  sound-now : (choices : List Choice) (changes : List Change) (goals : List OpenGoal) (first : ℕ) → WasSound loose s formula vars choices changes goals first →
+  pub sound-now : (choices : List Choice) (changes : List Change) (goals : List OpenGoal) (first : ℕ) → WasSound loose s formula vars choices changes goals first →
       IsSound loose s formula vars (ticks_in choices) (record { changes = changes; goals = goals; first = first; choices = choices })
   sound-now [] changes goals first was = was
   sound-now (c ∷ rest) changes goals first was = was.0
@@ -87,7 +87,7 @@ module _ (loose : Bool) (s : Setting) (formula : List Atom) (vars : ℕ) where
   pub count-open : (v : StackValue) → IsStanding loose s formula vars v → open_count loose s formula vars (ticks_in v.choices) ≡ length (goals_at v.goals v.first)
   count-open v standing = ap left_of (standing-sound v standing).stands.pending
 
-  none-long : (ticks : List Tick) (u : Tick) (n : ℕ) (goals : List Goal) (p q : Pending) → open_after loose s n goals ticks ≡ Some p → p.goals ≡ [] → open_after loose s n goals (ticks ++ u ∷ []) ≡ Some q → ⊥
+  pub none-long : (ticks : List Tick) (u : Tick) (n : ℕ) (goals : List Goal) (p q : Pending) → open_after loose s n goals ticks ≡ Some p → p.goals ≡ [] → open_after loose s n goals (ticks ++ u ∷ []) ≡ Some q → ⊥
   none-long [] u n [] p q now empty later = cc
   none-long [] u n (g ∷ goals) p q now empty later = let same : (g ∷ goals) ≡ p.goals = ap (λ (r : Pending). r.goals) (some_same _ _ now) in cc
   none-long (t ∷ ticks) u n [] p q now empty later = cc

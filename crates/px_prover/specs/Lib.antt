@@ -1,6 +1,10 @@
 pub mod Asking
 pub mod Building
+pub mod GapAsking
+pub mod Gathering
 pub mod Outcomes
+pub mod Passed
 pub mod Shorter
 pub mod Standing
 pub mod Tries
+pub mod Tuples

@@ -41,7 +41,7 @@ pub(crate) fn least_objects(alloc: Global, bind: &Bind) -> Result<Vec<u32>, NoMe
 }
 
 /// The objects as terms.
-fn terms_of(alloc: Global, objects: &[u32]) -> Result<Vec<Term>, NoMemory>
+pub(crate) fn terms_of(alloc: Global, objects: &[u32]) -> Result<Vec<Term>, NoMemory>
     ensures { IfOk result (λ terms. terms.items ≡ object_terms objects.now) }
 {
     let mut terms = Vec::new(alloc);

@@ -1,10 +1,13 @@
-//! The prover: the first proof of a formula, in an exact order and with an exact limit.
+//! The prover: the first proof of a formula, and what a formula lacks for one, each in an exact order and with an exact
+//! limit.
 //!
 //! # Calling it
 //!
-//! [`prove`] takes a valid problem, a formula of the problem's atoms over at most twelve variables, and a world model. It
-//! asks for objects that make each atom of the formula provable: by a fact of the model, or by linear resolution with
-//! ancestors from the problem's axioms, within the problem's height. It answers one of these.
+//! Both calls take a valid problem, a formula of the problem's atoms, how many variables it has, and a world model. Where
+//! there is a variable, the problem has an object. Both ask for objects that make each atom of the formula provable: by a
+//! fact of the model, or by linear resolution with ancestors from the problem's axioms, within the problem's height.
+//!
+//! [`prove`] is for at most twelve variables. It answers one of these.
 //!
 //! - [`Answer`]: the first finished list of proofs, one for each atom, with the objects for the variables. Lists are
 //!   ordered by their shapes: at the first place that is closed otherwise, a fact comes before an ancestor and an ancestor
@@ -16,27 +19,49 @@
 //!   all where there is none. The answer has the first so many.
 //! - `NoMemory`, of which nothing more is said.
 //!
+//! [`gap_lists`] is for at most 4,096 variables. Here an atom may also be left as a gap, if some operator of the problem
+//! adds its predicate; it need not be unprovable. A denied atom is never a gap, and one under an axiom may be. It answers
+//! one of these.
+//!
+//! - The gap lists, ascending by their objects and then by their atoms, each once. A `GapList` of `px_question` has
+//!   objects, one for each variable, and atoms, ascending, each once: those that the gaps of some finished list close
+//!   under these objects. All that exist are there, so the objects of an answer of the formula stand there with no atoms.
+//!   A variable that nothing binds is tried with each object: a formula without atoms has one gap list, with no atoms,
+//!   for each choice of objects for its variables. So a caller with many variables that stand in no atom, or only in
+//!   atoms that may be gaps, asks for very many lists.
+//! - `ShapeLimit`: as many shapes of unfinished lists as the shape limit exist, whether finished ones come before them or
+//!   not. The answer has the first so many, in the order above, in which a gap comes after the axioms.
+//! - `NoMemory`, of which nothing more is said.
+//!
 //! Facts with objects outside the problem are passed over. What these words mean is said in `px_question`: trees without
 //! variables, one for each atom, and nothing of how they are found. Each answer is exact: it comes only where its meaning
-//! holds, and the answers exclude each other.
+//! holds, and the answers of a call exclude each other.
 //!
 //! Internally places are closed from left to right, over variables whose bindings are undone (`px_stack`), in the order
-//! of the shapes (`px_walk`).
+//! of the shapes (`px_walk`). [`prove`] stops at the first finished list. [`gap_lists`] visits the unfinished ones, and
+//! at each gathers what the finished lists one closing later give.
 #![tactic(auto)]
 
 mod attempts;
 mod building;
 mod first;
+mod gap_question;
 #[cfg(test)]
-mod fits;
+mod gap_tests;
+mod gathering;
 mod keep;
+mod listing;
 mod outcome;
 mod question;
 #[cfg(test)]
 mod reference;
 #[cfg(test)]
+mod samples;
+#[cfg(test)]
 mod tests;
+mod tuples;
 mod walking;
 
 pub use first::prove;
-pub use outcome::{Answer, ProveErr};
+pub use listing::gap_lists;
+pub use outcome::{Answer, GapErr, ProveErr};

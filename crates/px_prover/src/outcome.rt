@@ -35,3 +35,23 @@ impl fmt::Debug for ProveErr {
         }
     }
 }
+
+/// Why gap lists aren't answered.
+#[derive(Drop, Error)]
+pub enum GapErr {
+    /// As many shapes of unfinished lists as the problem allows exist. These are the first of them, in order.
+    #[error("as many unfinished lists as the problem allows exist")]
+    ShapeLimit(Vec<Shape>),
+    /// There is no memory.
+    #[error("out of memory")]
+    NoMemory,
+}
+
+impl fmt::Debug for GapErr {
+    fn fmt<W: fmt::Write>(&self, f: &mut fmt::Formatter<W>) -> fmt::Result {
+        match self {
+            GapErr::ShapeLimit(_) => f.write_str("ShapeLimit"),
+            GapErr::NoMemory => f.write_str("NoMemory"),
+        }
+    }
+}

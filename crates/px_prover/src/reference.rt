@@ -1,7 +1,7 @@
 //! A plain slow program that lists proofs by their definition: all trees without variables, one after the other.
 
 use px_base::NoMemory;
-use px_proof::{Tick, complement, same_literal};
+use px_proof::{Shape, Tick, complement, same_literal};
 use px_terms::{Atom, Lit, Problem, Term};
 use std::alloc::Global;
 
@@ -18,11 +18,20 @@ pub fn mark_of(tick: Tick) -> Mark {
     }
 }
 
-/// A tree or a list of trees, some places of which may be open: its ticks in preorder, then the objects chosen.
+/// A tree or a list of trees, some places of which may be open: its ticks in preorder, then the objects chosen, and the
+/// atoms closed by gaps.
 #[derive(PartialEq, Eq, PartialOrd, Ord, Drop)]
 pub struct Tree {
     pub ticks: Vec<Mark>,
     pub chosen: Vec<u32>,
+    pub gaps: Vec<Atom>,
+}
+
+/// What proofs may rest on: facts, and gaps of atoms with these predicates.
+#[derive(Clone, Copy)]
+pub struct Given<'a> {
+    pub facts: &'a [Atom],
+    pub added: &'a [u32],
 }
 
 /// A use of an axiom: its tick, the objects chosen, and what is then to be proved.
@@ -77,15 +86,16 @@ fn leaf(alloc: Global, mark: Mark) -> Result<Tree, NoMemory> {
     Ok(Tree {
         ticks,
         chosen: Vec::new(alloc),
+        gaps: Vec::new(alloc),
     })
 }
 
 /// The trees without parts.
-fn leaves(alloc: Global, facts: &[Atom], path: &[Lit], lit: &Lit) -> Result<Vec<Tree>, NoMemory> {
+fn leaves(alloc: Global, given: Given, path: &[Lit], lit: &Lit) -> Result<Vec<Tree>, NoMemory> {
     let mut found = Vec::new(alloc);
     found.push(leaf(alloc, (0, 0, 0))?)?;
     let mut index = 0u32;
-    for fact in facts {
+    for fact in given.facts {
         if lit.positive && *fact == lit.atom {
             found.push(leaf(alloc, (1, index, 0))?)?;
         }
@@ -97,6 +107,11 @@ fn leaves(alloc: Global, facts: &[Atom], path: &[Lit], lit: &Lit) -> Result<Vec<
             found.push(leaf(alloc, (2, number, 0))?)?;
         }
         number = number.saturating_add(1);
+    }
+    if lit.positive && given.added.contains(&lit.atom.pred()) {
+        let mut closed = leaf(alloc, mark_of(Tick::Gap))?;
+        closed.gaps.push(lit.atom)?;
+        found.push(closed)?;
     }
     Ok(found)
 }
@@ -163,7 +178,13 @@ pub fn product(alloc: Global, lists: &[Tree], trees: &[Tree]) -> Result<Vec<Tree
             ticks.extend_from_slice(&tree.ticks)?;
             let mut chosen = list.chosen.clone()?;
             chosen.extend_from_slice(&tree.chosen)?;
-            longer.push(Tree { ticks, chosen })?;
+            let mut gaps = list.gaps.clone()?;
+            gaps.extend_from_slice(&tree.gaps)?;
+            longer.push(Tree {
+                ticks,
+                chosen,
+                gaps,
+            })?;
         }
     }
     Ok(longer)
@@ -173,12 +194,12 @@ pub fn product(alloc: Global, lists: &[Tree], trees: &[Tree]) -> Result<Vec<Tree
 pub fn trees(
     alloc: Global,
     problem: &Problem,
-    facts: &[Atom],
+    given: Given,
     path: &[Lit],
     lit: &Lit,
     height: u32,
 ) -> Result<Vec<Tree>, NoMemory> {
-    let mut found = leaves(alloc, facts, path, lit)?;
+    let mut found = leaves(alloc, given, path, lit)?;
     let mut longer_path = Vec::new(alloc);
     longer_path.push(*lit)?;
     longer_path.extend_from_slice(path)?;
@@ -192,7 +213,7 @@ pub fn trees(
             }
             for part in &step.parts {
                 if height >= 2 {
-                    let below = trees(alloc, problem, facts, &longer_path, part, height - 1)?;
+                    let below = trees(alloc, problem, given, &longer_path, part, height - 1)?;
                     lists = product(alloc, &lists, &below)?;
                 }
             }
@@ -211,20 +232,23 @@ pub fn lists(
     formula: &[Atom],
     vars: u32,
     facts: &[Atom],
+    added: &[u32],
 ) -> Result<Vec<Tree>, NoMemory> {
+    let given = Given { facts, added };
     let mut found = Vec::new(alloc);
     for objects in all_objects(alloc, problem.objects, vars)? {
         let mut lists = Vec::new(alloc);
         lists.push(Tree {
             ticks: Vec::new(alloc),
             chosen: objects.clone()?,
+            gaps: Vec::new(alloc),
         })?;
         for atom in formula {
             let lit = Lit {
                 positive: true,
                 atom: ground_atom(alloc, &objects, atom)?,
             };
-            let below = trees(alloc, problem, facts, &[], &lit, problem.height)?;
+            let below = trees(alloc, problem, given, &[], &lit, problem.height)?;
             lists = product(alloc, &lists, &below)?;
         }
         for list in lists {
@@ -273,4 +297,54 @@ pub fn partial_shapes(alloc: Global, lists: &[Tree]) -> Result<Vec<Vec<Mark>>, N
         }
     }
     Ok(shapes)
+}
+
+/// Are the shapes those of the reference?
+pub fn are_shapes(alloc: Global, shapes: &[Shape], wanted: &[Vec<Mark>]) -> Result<bool, NoMemory> {
+    if shapes.len() != wanted.len() {
+        return Ok(false);
+    }
+    for (shape, marks) in shapes.iter().zip(wanted) {
+        let mut found = Vec::new(alloc);
+        for tick in shape.ticks() {
+            found.push(mark_of(*tick))?;
+        }
+        if found.as_slice() != marks.as_slice() {
+            return Ok(false);
+        }
+    }
+    Ok(true)
+}
+
+/// The predicates of the add lists.
+pub fn added_preds(alloc: Global, problem: &Problem) -> Result<Vec<u32>, NoMemory> {
+    let mut added = Vec::new(alloc);
+    for schema in problem.schemas.as_slice() {
+        for atom in schema.add.as_slice() {
+            added.push(atom.pred())?;
+        }
+    }
+    Ok(added)
+}
+
+/// The objects for so many variables with the atoms closed by gaps, of the finished lists, ascending, each pair once.
+pub fn pairs(
+    alloc: Global,
+    lists: &[Tree],
+    vars: u32,
+) -> Result<Vec<(Vec<u32>, Vec<Atom>)>, NoMemory> {
+    let mut found = Vec::new(alloc);
+    for list in lists {
+        if is_finished(list) {
+            let mut objects = list.chosen.clone()?;
+            objects.truncate(vars as usize);
+            let mut gaps = list.gaps.clone()?;
+            gaps.sort()?;
+            gaps.dedup();
+            found.push((objects, gaps))?;
+        }
+    }
+    found.sort()?;
+    found.dedup();
+    Ok(found)
 }

@@ -1,73 +1,18 @@
-use crate::fits::{all_objects, are_lits, atoms_fit, is_valid};
-use crate::reference::{Mark, first_finished, lists, mark_of, partial_shapes};
+use crate::reference::{Mark, are_shapes, first_finished, lists, partial_shapes};
+use crate::samples::{
+    add_axiom, are_open_boxes, atom, box_in_first_room, model_of, no, o, opening, problem_of,
+    rooms, v, yes,
+};
 use crate::{Answer, ProveErr, prove};
-use px_base::{NoMemory, Sequence};
+use px_base::NoMemory;
+use px_fits::{atoms_fit, is_valid};
 use px_ops::Model;
-use px_proof::{Proof, Shape, Tick, check};
-use px_terms::{Atom, ClauseArena, Lit, Problem, Term};
+use px_proof::{Proof, check};
+use px_terms::{Atom, ClauseArena, Problem, Term};
 use std::alloc::Global;
 use std::process::Abort;
 use std::rt::HostRuntime;
 use std::test::Fail;
-
-fn o(number: u32) -> Term {
-    Term::Obj(number)
-}
-
-fn v(number: u32) -> Term {
-    Term::Var(number)
-}
-
-fn atom(rt: &impl Abort, pred: u32, args: &[Term]) -> Atom {
-    Atom::new(pred, args).expect(rt, "few arguments")
-}
-
-fn yes(atom: Atom) -> Lit {
-    Lit {
-        positive: true,
-        atom,
-    }
-}
-
-fn no(atom: Atom) -> Lit {
-    Lit {
-        positive: false,
-        atom,
-    }
-}
-
-/// A problem without operators.
-fn problem_of(
-    alloc: Global,
-    objects: u32,
-    arities: &[u8],
-    axioms: ClauseArena,
-    height: u32,
-    shapes: u32,
-) -> Result<Problem, NoMemory> {
-    let mut list = Vec::new(alloc);
-    list.extend_from_slice(arities)?;
-    Ok(Problem {
-        objects,
-        arities: Sequence::from_vec(list),
-        axioms,
-        schemas: Sequence::from_vec(Vec::new(alloc)),
-        height,
-        nodes: 1,
-        shapes,
-    })
-}
-
-/// The model of the atoms that have no variable.
-fn model_of(alloc: Global, atoms: &[Atom]) -> Result<Model, NoMemory> {
-    let mut model = Model::new(alloc);
-    for atom in atoms {
-        if all_objects(atom.args()) {
-            model.insert(*atom)?;
-        }
-    }
-    Ok(model)
-}
 
 /// Asks the prover, once it is seen that the problem and the formula are valid.
 fn ask(
@@ -80,7 +25,7 @@ fn ask(
 ) -> Result<Answer, ProveErr> {
     assert!(rt; is_valid(problem));
     assert!(rt; atoms_fit(problem, vars, formula) && vars <= 12);
-    assert!(rt; problem.objects > 0);
+    assert!(rt; vars == 0 || problem.objects > 0);
     prove(alloc, problem, formula, vars, model)
 }
 
@@ -127,23 +72,6 @@ fn is_answer(
     Ok(marks.as_slice() == ticks && objects.as_slice() == chosen)
 }
 
-/// Are the shapes those of the reference?
-fn are_shapes(alloc: Global, shapes: &[Shape], wanted: &[Vec<Mark>]) -> Result<bool, NoMemory> {
-    if shapes.len() != wanted.len() {
-        return Ok(false);
-    }
-    for (shape, marks) in shapes.iter().zip(wanted) {
-        let mut found = Vec::new(alloc);
-        for tick in shape.ticks() {
-            found.push(mark_of(*tick))?;
-        }
-        if found.as_slice() != marks.as_slice() {
-            return Ok(false);
-        }
-    }
-    Ok(true)
-}
-
 /// Does `prove` answer what the definition says, by the reference?
 fn agrees(
     alloc: Global,
@@ -153,7 +81,7 @@ fn agrees(
     vars: u32,
     model: &Model,
 ) -> Result<bool, NoMemory> {
-    let all = lists(alloc, problem, formula, vars, model.atoms())?;
+    let all = lists(alloc, problem, formula, vars, model.atoms(), &[])?;
     let first = first_finished(&all);
     let shapes = partial_shapes(alloc, &all)?;
     let limit = problem.shapes as usize;
@@ -216,7 +144,7 @@ fn agrees_at_each_limit(
     vars: u32,
     model: &Model,
 ) -> Result<bool, NoMemory> {
-    let all = lists(alloc, problem, formula, vars, model.atoms())?;
+    let all = lists(alloc, problem, formula, vars, model.atoms(), &[])?;
     let count = partial_shapes(alloc, &all)?.len();
     for limit in 2..count.min(1000) as u32 + 3 {
         problem.shapes = limit;
@@ -225,18 +153,6 @@ fn agrees_at_each_limit(
         }
     }
     Ok(true)
-}
-
-/// Adds an axiom.
-fn add_axiom(
-    rt: &impl Abort,
-    axioms: &mut ClauseArena,
-    vars: u32,
-    lits: &[Lit],
-) -> Result<(), Fail> {
-    assert!(rt; are_lits(vars, lits));
-    axioms.push(vars, lits)?;
-    Ok(())
 }
 
 /// The axioms `P Q` and `~Q P`.
@@ -275,35 +191,66 @@ fn an_ancestor_closes_the_proof(rt: HostRuntime) -> Result<(), Fail> {
 #[test]
 fn the_box_is_in_another_room(rt: HostRuntime) -> Result<(), Fail> {
     let alloc = rt.alloc();
-    let mut axioms = ClauseArena::new(alloc);
-    let one_way = atom(&rt, 1, &[v(0), v(1), v(2)]);
-    let other_way = atom(&rt, 1, &[v(0), v(2), v(1)]);
-    add_axiom(&rt, &mut axioms, 3, &[no(one_way), yes(other_way)])?;
-    let facts = [
-        atom(&rt, 0, &[o(0), o(1)]),
-        atom(&rt, 0, &[o(6), o(2)]),
-        atom(&rt, 1, &[o(4), o(1), o(2)]),
-        atom(&rt, 1, &[o(5), o(2), o(3)]),
-        atom(&rt, 2, &[o(6)]),
-    ];
-    let model = model_of(alloc, &facts)?;
-    let formula = [atom(&rt, 2, &[v(0)]), atom(&rt, 0, &[v(0), o(1)])];
-    let mut problem = problem_of(alloc, 7, &[2, 3, 1], axioms, 4, 2)?;
-    let found = ask(alloc, &rt, &problem, &formula, 1, &model);
-    let limited = match &found {
-        Err(ProveErr::ShapeLimit(shapes)) => match shapes.as_slice() {
-            [first, second] => {
-                first.ticks() == [Tick::Open, Tick::Open].as_slice()
-                    && second.ticks() == [Tick::Fact(4), Tick::Open].as_slice()
-            }
-            _ => false,
-        },
+    let mut problem = rooms(alloc, &rt, 2)?;
+    let model = model_of(alloc, &opening(&rt))?;
+    let formula = box_in_first_room(&rt);
+    let limited = match &ask(alloc, &rt, &problem, &formula, 1, &model) {
+        Err(ProveErr::ShapeLimit(shapes)) => are_open_boxes(shapes),
         _ => false,
     };
     assert!(&rt; limited);
     problem.shapes = 3;
     let found = ask(alloc, &rt, &problem, &formula, 1, &model);
     assert!(&rt; matches!(found, Err(ProveErr::Unprovable)));
+    Ok(())
+}
+
+/// Without objects, an atom without arguments is proved by its fact, and else not at all.
+#[test]
+fn a_problem_without_objects(rt: HostRuntime) -> Result<(), Fail> {
+    let alloc = rt.alloc();
+    let p = atom(&rt, 0, &[]);
+    let problem = problem_of(alloc, 0, &[0], ClauseArena::new(alloc), 1, 2)?;
+    let with_fact = model_of(alloc, &[p])?;
+    match ask(alloc, &rt, &problem, &[p], 0, &with_fact) {
+        Ok(answer) => {
+            assert!(&rt; is_answer(alloc, &answer, &[(1, 0, 0)], &[])?);
+            assert!(&rt; answer.objects.len() == 0);
+        }
+        Err(_) => assert!(&rt; false),
+    }
+    let without = Model::new(alloc);
+    let found = ask(alloc, &rt, &problem, &[p], 0, &without);
+    assert!(&rt; matches!(found, Err(ProveErr::Unprovable)));
+    Ok(())
+}
+
+/// Of two ancestors that both close a place the nearest one does: `P` from `P ~P` and `P P`.
+#[test]
+fn the_nearest_of_two_ancestors(rt: HostRuntime) -> Result<(), Fail> {
+    let alloc = rt.alloc();
+    let p = atom(&rt, 0, &[]);
+    let mut axioms = ClauseArena::new(alloc);
+    add_axiom(&rt, &mut axioms, 0, &[yes(p), no(p)])?;
+    add_axiom(&rt, &mut axioms, 0, &[yes(p), yes(p)])?;
+    let mut problem = problem_of(alloc, 1, &[0], axioms, 3, 10)?;
+    let empty = Model::new(alloc);
+    let high: [Mark; 3] = [(3, 0, 0), (3, 1, 0), (2, 0, 0)];
+    let low: [Mark; 2] = [(3, 1, 0), (2, 0, 0)];
+    match ask(alloc, &rt, &problem, &[p], 0, &empty) {
+        Ok(answer) => assert!(&rt; is_answer(alloc, &answer, &high, &[])?),
+        Err(_) => assert!(&rt; false),
+    }
+    assert!(&rt; agrees_at_each_limit(alloc, &rt, &mut problem, &[p], 0, &empty)?);
+    problem.shapes = 4;
+    let met = ask(alloc, &rt, &problem, &[p], 0, &empty);
+    assert!(&rt; matches!(met, Err(ProveErr::ShapeLimit(_))));
+    problem.height = 2;
+    match ask(alloc, &rt, &problem, &[p], 0, &empty) {
+        Ok(answer) => assert!(&rt; is_answer(alloc, &answer, &low, &[])?),
+        Err(_) => assert!(&rt; false),
+    }
+    assert!(&rt; agrees_at_each_limit(alloc, &rt, &mut problem, &[p], 0, &empty)?);
     Ok(())
 }
 
@@ -397,7 +344,7 @@ fn contrapositive_places_and_ancestors(rt: HostRuntime) -> Result<(), Fail> {
     Ok(())
 }
 
-/// A formula with more unfinished lists than any problem allows.
+/// A formula with more unfinished lists than the greatest shape limit.
 #[test]
 fn seventy_thousand_shapes(rt: HostRuntime) -> Result<(), Fail> {
     let alloc = rt.alloc();

@@ -45,6 +45,9 @@ fn try_clause(
 }
 
 /// Closes the first goal by the first literal of the first axiom, from the place of the axiom `from` on, that does.
+///
+/// # Errors
+/// `NoMemory` where there is none for the choice, the variables and the parts. The state is then of no further use.
 pub fn try_axioms(
     stack: &mut Stack,
     axioms: &ClauseArena,

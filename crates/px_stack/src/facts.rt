@@ -65,6 +65,9 @@ fn places_of(facts: &[Atom], pred: u32) -> (usize, usize)
 }
 
 /// Closes the first goal by the first fact from the number on that does.
+///
+/// # Errors
+/// `NoMemory` where there is none for the choice. The state is then of no further use.
 pub fn try_facts(
     stack: &mut Stack,
     objects: u32,

@@ -10,7 +10,9 @@
 //!   closes the place, and that nothing before it ever does, whatever objects the variables stand for.
 //!   [`close_by_gap`] closes the place by nothing.
 //! - `retract_last` opens the place again that was closed last: bindings and places are cut at the marks of its choice.
-//! - After `NoMemory` a state is of no further use.
+//! - After `NoMemory` a state is of no further use, and no clause says what it holds: an attempt that ran out of memory
+//!   may have bound variables and opened places that no choice takes back. Whoever made the state drops it. (So `prove`
+//!   does: its state is its own, and what it was lent stays as it was.)
 #![tactic(auto)]
 
 mod ancestors;
@@ -22,6 +24,8 @@ mod open;
 mod parts;
 mod places;
 mod stepping;
+#[cfg(test)]
+mod tests;
 
 pub use ancestors::try_ancestors;
 pub use axioms::try_axioms;

@@ -12,7 +12,8 @@ pub(crate) fn matches(bind: &mut Bind, a: &Lit, b: &Lit) -> bool
     requires b_below { All (IsPlainBelow (variables_of bind.old)) b.now.atom.args }
     ensures { IsMatch bind.old bind.new a.now b.now result }
 {
-    if a.positive != b.positive {
+    let differ = a.positive != b.positive;
+    if differ {
         return false;
     }
     match unify(bind, &a.atom, &b.atom) {

@@ -62,8 +62,9 @@ pub(crate) fn push_parts(
         let k = lits.len() - 1 - done;
         if k != place {
             let lit = apply_literal(theta, &lits[k]);
+            let opposite = complement(&lit);
             let part = OpenGoal {
-                lit: complement(&lit),
+                lit: opposite,
                 above: at,
                 next: front,
                 budget: goal.budget.saturating_sub(1),

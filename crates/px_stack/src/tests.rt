@@ -1,0 +1,92 @@
+ghost use Rattle.std.specs.Prelude.{◌≡◌, [], ◌∷◌};
+
+use crate::{OpenGoal, Stack, close_by_gap, try_ancestors, try_axioms, try_facts};
+use px_proof::Tick;
+use px_terms::{Atom, ClauseArena, Lit, NoMemory, Term};
+use std::process::Abort;
+use std::rt::HostRuntime;
+
+/// The atom of predicate 0 with one argument.
+fn of(rt: &impl Abort, term: Term) -> Atom
+    ensures { result ≡ record { pred = 0; args = term ∷ [] } }
+{
+    Atom::new(0, &[term]).expect(rt, "one argument")
+}
+
+/// A literal to be proved, with a height of 1 and nothing open after it.
+fn goal_of(positive: bool, atom: Atom, above: usize) -> OpenGoal
+    ensures lit { result.lit ≡ record { positive = positive; atom = atom } }
+    ensures above { result.above ≡ above }
+    ensures next { result.next ≡ 0 }
+    ensures budget { result.budget ≡ 1 }
+{
+    OpenGoal {
+        lit: Lit { positive, atom },
+        above,
+        next: 0,
+        budget: 1,
+    }
+}
+
+/// Is one place closed, by the tick, and none open?
+fn is_closed_by(stack: &Stack, tick: Tick) -> bool {
+    match stack.choices() {
+        [choice] => choice.tick == tick && stack.first() == 0,
+        _ => false,
+    }
+}
+
+/// A fact closes a place and binds its variable, and retracting takes both back.
+#[test]
+fn a_fact_closes_and_is_taken_back(rt: HostRuntime) -> Result<(), NoMemory> {
+    let atom = of(&rt, Term::Var(0));
+    let fact = of(&rt, Term::Obj(0));
+    let mut stack = Stack::new(rt.alloc(), &[atom], 1, 1)?;
+    let first = stack.first();
+    let mark = stack.bind().mark();
+    assert!(&rt; try_facts(&mut stack, 1, &[fact], &goal_of(true, atom, 0), 0)?);
+    assert!(&rt; is_closed_by(&stack, Tick::Fact(0)) && stack.bind().mark() != mark);
+    assert!(&rt; matches!(stack.retract_last(), Some(Tick::Fact(0))));
+    assert!(&rt; stack.first() == first && stack.bind().mark() == mark);
+    assert!(&rt; stack.choices().is_empty());
+    Ok(())
+}
+
+/// The complement of the literal above closes a place.
+#[test]
+fn an_ancestor_closes(rt: HostRuntime) -> Result<(), NoMemory> {
+    let atom = of(&rt, Term::Obj(0));
+    let mut stack = Stack::new(rt.alloc(), &[atom], 0, 1)?;
+    let first = stack.first();
+    assert!(&rt; try_ancestors(&mut stack, &goal_of(false, atom, first), 0)?);
+    assert!(&rt; is_closed_by(&stack, Tick::Anc(0)));
+    Ok(())
+}
+
+/// An axiom of one literal closes a place.
+#[test]
+fn an_axiom_closes(rt: HostRuntime) -> Result<(), NoMemory> {
+    let atom = of(&rt, Term::Obj(0));
+    let goal = goal_of(true, atom, 0);
+    let mut axioms = ClauseArena::new(rt.alloc());
+    if axioms.push(0, &[goal.lit]).is_err() {
+        return Err(NoMemory);
+    }
+    let mut stack = Stack::new(rt.alloc(), &[atom], 0, 1)?;
+    assert!(&rt; try_axioms(&mut stack, &axioms, &goal, 0, 0)?);
+    assert!(&rt; is_closed_by(&stack, Tick::Step(0, 0)));
+    Ok(())
+}
+
+/// A gap closes a place, and retracting opens it again.
+#[test]
+fn a_gap_closes_and_is_taken_back(rt: HostRuntime) -> Result<(), NoMemory> {
+    let atom = of(&rt, Term::Obj(0));
+    let mut stack = Stack::new(rt.alloc(), &[atom], 0, 1)?;
+    assert!(&rt; stack.retract_last().is_none());
+    assert!(&rt; close_by_gap(&mut stack, &goal_of(true, atom, 0))?);
+    assert!(&rt; is_closed_by(&stack, Tick::Gap));
+    assert!(&rt; matches!(stack.retract_last(), Some(Tick::Gap)));
+    assert!(&rt; stack.choices().is_empty() && stack.first() != 0);
+    Ok(())
+}
