@@ -1,0 +1,167 @@
+//! A large building. The robot is object 0, the rooms are 1 to 40, the doors 41 to 140, and the boxes 141 to 199.
+ghost use Rattle.std.specs.Prelude.{◌≤◌, length};
+
+use px_base::Sequence;
+use px_fits::all_objects;
+use px_ops::Model;
+use px_terms::{Atom, ClauseArena, NoMemory, Problem, Schema, Term};
+use std::alloc::Global;
+
+const INROOM: u32 = 0;
+
+const CONNECTS: u32 = 1;
+
+const BOX: u32 = 2;
+
+const DOOR: u32 = 3;
+
+const ROOM: u32 = 4;
+
+const OPENED: u32 = 5;
+
+const NEXTTO: u32 = 6;
+
+const ROBOT: Term = Term::Obj(0);
+
+const B: Term = Term::Var(0);
+
+const D: Term = Term::Var(1);
+
+const X: Term = Term::Var(2);
+
+const Y: Term = Term::Var(3);
+
+pub fn atom(pred: u32, args: &[Term]) -> Atom
+    requires { length args.now ≤ 6 }
+{
+    match Atom::new(pred, args) {
+        Some(atom) => atom,
+        None => unreachable!(),
+    }
+}
+
+fn sequence_of(alloc: Global, atoms: &[Atom]) -> Result<Sequence<Atom>, NoMemory> {
+    let mut list = Vec::new(alloc);
+    list.extend_from_slice(atoms)?;
+    Ok(Sequence::from_vec(list))
+}
+
+/// The operator of that number, with four parameters: a box, a door, the room before it and the one behind it.
+fn schema_of(
+    alloc: Global,
+    op: u32,
+    pre: &[Atom],
+    del: &[Atom],
+    add: &[Atom],
+) -> Result<Schema, NoMemory> {
+    Ok(Schema {
+        op,
+        params: 4,
+        pre: sequence_of(alloc, pre)?,
+        del: sequence_of(alloc, del)?,
+        add: sequence_of(alloc, add)?,
+    })
+}
+
+/// Pushing a box through an open door that it stands at.
+fn push_through(alloc: Global, op: u32) -> Result<Schema, NoMemory> {
+    let pre = [
+        atom(BOX, &[B]),
+        atom(INROOM, &[B, X]),
+        atom(INROOM, &[ROBOT, X]),
+        atom(CONNECTS, &[D, X, Y]),
+        atom(OPENED, &[D]),
+        atom(NEXTTO, &[B, D]),
+    ];
+    let del = [
+        atom(INROOM, &[ROBOT, Term::Any]),
+        atom(INROOM, &[B, Term::Any]),
+        atom(NEXTTO, &[B, Term::Any]),
+    ];
+    let add = [atom(INROOM, &[ROBOT, Y]), atom(INROOM, &[B, Y])];
+    schema_of(alloc, op, &pre, &del, &add)
+}
+
+/// Pushing a box to a door.
+fn push_to_door(alloc: Global, op: u32) -> Result<Schema, NoMemory> {
+    let pre = [
+        atom(BOX, &[B]),
+        atom(INROOM, &[B, X]),
+        atom(INROOM, &[ROBOT, X]),
+        atom(CONNECTS, &[D, X, Y]),
+    ];
+    let del = [atom(NEXTTO, &[B, Term::Any])];
+    let add = [atom(NEXTTO, &[B, D])];
+    schema_of(alloc, op, &pre, &del, &add)
+}
+
+pub fn building(alloc: Global) -> Result<Problem, NoMemory> {
+    let mut arities = Vec::new(alloc);
+    arities.extend_from_slice(&[2, 3, 1, 1, 1, 1, 2])?;
+    let mut schemas = Vec::new(alloc);
+    schemas.push(push_through(alloc, 0)?)?;
+    schemas.push(push_to_door(alloc, 1)?)?;
+    Ok(Problem {
+        objects: 200,
+        arities: Sequence::from_vec(arities),
+        axioms: ClauseArena::new(alloc),
+        schemas: Sequence::from_vec(schemas),
+        height: 4,
+        nodes: 10000,
+        shapes: 10000,
+    })
+}
+
+fn insert(model: &mut Model, pred: u32, numbers: &[u32]) -> Result<(), NoMemory> {
+    let mut terms = [Term::Obj(0); 3];
+    for (k, number) in numbers.iter().enumerate() {
+        if k < 3 {
+            terms[k] = Term::Obj(*number);
+        }
+    }
+    let fact = atom(pred, &terms[..numbers.len().min(3)]);
+    if all_objects(fact.args()) {
+        model.insert(fact)?;
+    }
+    Ok(())
+}
+
+/// What each door is and connects: rooms one, two or three apart, both ways.
+fn insert_doors(model: &mut Model) -> Result<(), NoMemory> {
+    for k in 0..100 {
+        let (door, from, to) = (41 + k, 1 + k % 40, 1 + (k + 1 + k / 40) % 40);
+        insert(model, DOOR, &[door])?;
+        insert(model, OPENED, &[door])?;
+        insert(model, CONNECTS, &[door, from, to])?;
+        insert(model, CONNECTS, &[door, to, from])?;
+    }
+    Ok(())
+}
+
+/// Each box is in a room, and next to four doors; 59 boxes.
+fn insert_boxes(model: &mut Model) -> Result<(), NoMemory> {
+    for k in 0..59 {
+        let thing = 141 + k;
+        insert(model, BOX, &[thing])?;
+        insert(model, INROOM, &[thing, 2 + k % 39])?;
+        for j in 0..4 {
+            insert(model, NEXTTO, &[thing, 41 + (k + 25 * j) % 100])?;
+        }
+    }
+    Ok(())
+}
+
+/// 800 facts: 400 of the doors, 354 of the boxes, 40 of the rooms, and six of the robot.
+pub fn facts(alloc: Global) -> Result<Model, NoMemory> {
+    let mut model = Model::new(alloc);
+    insert_doors(&mut model)?;
+    insert_boxes(&mut model)?;
+    for k in 1..41 {
+        insert(&mut model, ROOM, &[k])?;
+    }
+    insert(&mut model, INROOM, &[0, 5])?;
+    for k in 0..5 {
+        insert(&mut model, NEXTTO, &[0, 41 + k])?;
+    }
+    Ok(model)
+}

@@ -1,0 +1,15 @@
+mod Loops
+mod Grows
+mod Regaps
+mod GapLists
+mod GapAtoms
+mod Fewness
+mod Limits
+mod GapLemmas
+mod PartialLemmas
+mod SchemaLemmas
+mod Covering
+mod Answered
+mod Ordered
+mod Gathered
+mod Opening

@@ -1,0 +1,12 @@
+use Rattle.std.specs.Prelude.{Contains}
+use Rattle.px_terms.specs.declared.atom.Atom.{Atom}
+use Rattle.px_diff.proofs.Loops.{is_false, not_any, said_no, all_before_next}
+use Rattle.px_diff.proofs.closings.meets.Goals as goal
+
+pub loop-atom-preserved : goal.loop-atom-preserved
+loop-atom-preserved c =
+    all_before_next (λ (atom : Atom). Contains c.args.set.now.atoms atom → ⊥) c.args.atoms.now c.loop-atom.atom-index c.atom-item.result c.loop-atom.invariant c.loop-atom-test.true c.atom-item.is
+    (said_no c.holds.result c.holds.ensures c.if-holds.false)
+
+pub returns : goal.returns
+returns c = is_false (not_any (Contains c.args.set.now.atoms) c.args.atoms.now c.loop-atom.atom-index c.loop-atom.invariant c.loop-atom-test.false)

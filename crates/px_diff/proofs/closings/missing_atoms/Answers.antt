@@ -1,0 +1,14 @@
+use Rattle.std.proofs.Common.{List, subst, arith}
+use Rattle.std.specs.Prelude.{◌↔◌, Any, Contains}
+use Rattle.std.proofs.lemmas.List.{take_all}
+use Rattle.px_question.specs.declared.gap_list.GapList.{GapList}
+use Rattle.px_diff.specs.Closings.{IsMissingIn}
+use Rattle.px_diff.proofs.Grows.{grown, one_next}
+use Rattle.px_diff.proofs.closings.missing_atoms.Goals as goal
+
+pub loop-list-preserved : goal.loop-list-preserved
+loop-list-preserved c = λ atom. grown (c.loop-list.invariant atom) (c.in_ok-insert_missing.ensures atom)
+    (one_next (λ (list : GapList). Contains list.gaps atom × (Any (Contains c.args.provable.now.atoms) list.gaps → ⊥)) c.args.lists.now c.loop-list.list-index c.list-item.result c.loop-list-test.true c.list-item.is)
+
+pub returns : goal.returns
+returns c = λ atom. subst (λ (l : List GapList). Contains c.loop-list.missing.atoms atom ↔ IsMissingIn l c.args.provable.now.atoms atom) (take_all c.loop-list.list-index c.args.lists.now (omega arith)) (c.loop-list.invariant atom)

@@ -1,0 +1,10 @@
+pub mod Closings
+pub mod Counting
+pub mod Entries
+pub mod Gathering
+pub mod Instances
+pub mod Listed
+pub mod Outcomes
+pub mod Pushes
+pub mod Questions
+pub mod Requests

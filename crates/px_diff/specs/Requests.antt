@@ -1,0 +1,46 @@
+-- What is relevant and may be pushed for a request.
+use Rattle.std.specs.Prelude.{List}
+use Rattle.px_terms.specs.declared.atom.Atom.{Atom}
+use Rattle.px_terms.specs.declared.instance.OpInst.{OpInst}
+use Rattle.px_proof.specs.declared.shape.Tick.{Tick}
+use Rattle.px_question.specs.declared.gap_list.GapList.{GapList}
+use Rattle.px_table.specs.declared.entry.Entry.{Entry}
+use Rattle.px_table.specs.declared.entry.Entry.TheVariants.{Op}
+use Rattle.px_diff.specs.Entries.{obligations_of}
+use Rattle.px_diff.specs.Gathering.{Gathers, IsAskedIn, IsOpenList, IsUndecided}
+use Rattle.px_diff.specs.Pushes.{IsPushable, IsRelevant}
+use Rattle.px_diff.specs.Questions.{AreUnlimited, LimitsRelevant}
+use Rattle.px_diff.specs.declared.partial.PartialInstance.{PartialInstance}
+use Rattle.px_diff.specs.declared.request.Request.{Request}
+
+-- the instance is relevant for it
+abbrev pub IsRelevantFor : Request → OpInst → Type 0
+IsRelevantFor request inst = IsRelevant request.problem.now request.tables.now request.wanted.now request.stack.now (Op inst)
+
+-- the entry may be pushed for it
+abbrev pub IsPushableFor : Request → Entry → Type 0
+IsPushableFor request = IsPushable request.problem.now request.tables.now request.wanted.now request.stack.now request.model.now.atoms
+
+-- no question about an entry that is relevant for it meets the limit
+abbrev pub AreUnlimitedFor : Request → Type 0
+AreUnlimitedFor request =
+    (entry : Entry) → IsRelevant request.problem.now request.tables.now request.wanted.now request.stack.now entry
+    → AreUnlimited request.problem.now (obligations_of request.problem.now request.tables.now request.model.now.atoms entry)
+
+-- a question about an entry that is relevant for it meets the limit at the formula, by these shapes
+abbrev pub LimitsFor : Request → List Atom → List (List Tick) → Type 0
+LimitsFor request = LimitsRelevant request.problem.now request.tables.now request.wanted.now request.stack.now request.model.now.atoms
+
+-- gathering what of the part may be pushed for it makes the new list from the old one
+abbrev pub GathersFor : Request → (OpInst → Type 0) → List OpInst → List OpInst → Type 0
+GathersFor request = Gathers request.problem.now request.tables.now request.wanted.now request.stack.now request.model.now.atoms
+
+-- what `Gathering` says of gap lists, for it
+abbrev pub IsUndecidedFor : Request → PartialInstance → List OpInst → GapList → Type 0
+IsUndecidedFor request = IsUndecided request.problem.now request.tables.now request.wanted.now request.stack.now
+
+abbrev pub IsAskedFor : Request → PartialInstance → List OpInst → List GapList → Atom → Type 0
+IsAskedFor request = IsAskedIn request.problem.now request.tables.now request.wanted.now request.stack.now
+
+abbrev pub IsOpenFor : Request → PartialInstance → List OpInst → List Atom → GapList → Type 0
+IsOpenFor request = IsOpenList request.problem.now request.tables.now request.wanted.now request.stack.now

@@ -1,0 +1,59 @@
+//! Differences and relevance: what is missing for a formula, and which entries may be pushed for it.
+//!
+//! # Calling it
+//!
+//! - [`gaps`] takes a formula that has no answer from a world model, and answers its gaps, ascending, each once: the atoms
+//!   that are closed as gaps in some list of gap proofs of it (the difference of Fikes and Nilsson 1971, as an unfinished
+//!   proof). A gap is an atom whose predicate some operator adds and that isn't provable. The caller has to know that the
+//!   formula has no answer, as `Unprovable` of `px_prover` says it. There are at most twelve variables, and where there is
+//!   one the problem has an object.
+//! - [`relevant`] takes wanted atoms, as gaps are, the entries that are on the stack, a world model, and the learned
+//!   tables. It answers the entries that may be pushed, in order, each once: those that aren't on the stack, add a wanted
+//!   atom, and are open, which is to say that each formula that they need has an answer or a gap. An entry is an instance
+//!   of an operator, or a MACROP of a table. The list of tables has to be empty so far.
+//! - Both have a valid problem as their condition, and the formula of `gaps` is of the problem's atoms over its variables.
+//!   They stop with [`AskErr::ShapeLimit`] where a question meets the shape limit. It has the formula at which it does,
+//!   which is the question's own or one atom that a gap would close, and the first shapes. `gaps` is one question, finding
+//!   the gaps. `relevant` asks, of each entry that isn't on the stack and adds a wanted atom, whether a formula that it
+//!   needs has an answer, and where it has none, for its gaps. An `Ok` says that no question meets the limit. Whether
+//!   `relevant` meets it doesn't depend on the order in which it works.
+//! - Both answer `NoMemory` where there is none, of which nothing more is said.
+//! - [`relevant_measured`] is `relevant` with a number beside the entries, for benchmarks: how often the prover was asked.
+//!   Finding gaps asks it for the gap lists, and of atoms that these close whether they have a proof. No clause of the call
+//!   speaks of this number.
+//!
+//! The definitions are in `specs/`: `Entries` (what an entry needs, does and adds, and when it is open), `Pushes` (which
+//! entries are relevant, and which may be pushed) and `Questions` (what is asked of a list of needed formulas, and where
+//! that meets the limit).
+//!
+//! Internally `relevant` matches what operators add with the wanted atoms. A match has objects for those parameters that
+//! the atom determines, and the others stay variables. One question of gaps is asked for each match, and its lists are
+//! those of all instances. Where it meets the limit, the first variable is bound to each object in turn, and each of these
+//! narrower matches is asked in the same way. That ends where a question answers, or where no variable is left. All asking
+//! goes through one struct (`asker`), which counts.
+#![tactic(auto)]
+
+mod ask_err;
+mod asker;
+mod asking;
+mod closings;
+mod differences;
+mod instances;
+mod listed;
+mod matching;
+mod measured;
+mod partial;
+mod pushes;
+#[cfg(test)]
+mod reference;
+mod relevance;
+mod request;
+#[cfg(test)]
+mod test_problems;
+#[cfg(test)]
+mod tests;
+
+pub use ask_err::AskErr;
+pub use differences::gaps;
+pub use measured::Measured;
+pub use pushes::{relevant, relevant_measured};

@@ -1,0 +1,10 @@
+use px_table::Entry;
+
+/// The entries that `relevant` answers, and how many questions that took.
+#[derive(Drop)]
+pub struct Measured {
+    /// The entries that may be pushed, in order, each once.
+    pub entries: Vec<Entry>,
+    /// How many questions the prover was asked.
+    pub questions: u64,
+}

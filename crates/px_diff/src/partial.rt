@@ -1,0 +1,10 @@
+use px_terms::OpInst;
+
+/// An operator instance with variables, numbered from 0, for arguments that aren't known yet.
+#[derive(Clone, Copy)]
+pub struct PartialInstance {
+    /// The instance, over objects and the variables.
+    pub inst: OpInst,
+    /// How many variables there are.
+    pub vars: u32,
+}

@@ -1,0 +1,243 @@
+ghost use Rattle.std.specs.Prelude.{◌≡◌, ◌↔◌, ◌++◌, ◌∷◌, [], map, All, Any, Contains, IfOk, OnOk};
+ghost use Rattle.std.specs.List.Sorted.{IsStrictlySortedBy};
+ghost use Rattle.px_proof.specs.declared.shape.Tick.{Tick};
+ghost use Rattle.px_question.specs.Settings.{setting_of};
+ghost use Rattle.px_question.specs.Limits.{IsGapLimited};
+ghost use Rattle.px_table.specs.declared.entry.Entry.{Entry};
+ghost use Rattle.px_table.specs.declared.entry.Entry.TheVariants.{Op};
+ghost use Rattle.px_table.specs.EntryOrder.{order_of};
+ghost use Rattle.px_terms.specs.declared.atom.Atom.{Atom};
+ghost use Rattle.px_terms.specs.declared.instance.OpInst.{OpInst};
+ghost use Rattle.px_terms.specs.Operators.{precondition};
+ghost use Rattle.px_terms.specs.Validity.{IsValid, IsInstanceOf};
+ghost use Rattle.px_diff.specs.Entries.{obligations_of};
+ghost use Rattle.px_diff.specs.Instances.{IsCovered, IsPartialInstance, StandsFor};
+ghost use Rattle.px_diff.specs.Outcomes.{IfLimit};
+ghost use Rattle.px_diff.specs.Pushes.{IsRelevant, IsPushable};
+ghost use Rattle.px_diff.specs.Questions.{AreUnlimited, LimitsRelevant};
+ghost use Rattle.px_diff.specs.Requests.{AreUnlimitedFor, GathersFor, IsPushableFor, LimitsFor};
+
+use crate::ask_err::AskErr;
+use crate::asker::Asker;
+use crate::asking::copied;
+use crate::instances::bound;
+use crate::listed::{gather_lists, keep};
+use crate::matching::matches_of;
+use crate::measured::Measured;
+use crate::partial::PartialInstance;
+use crate::relevance::{is_relevant, schema_of};
+use crate::request::Request;
+use px_ops::Model;
+use px_proof::Shape;
+use px_prover::{GapErr, ProveErr};
+use px_table::{Entry, Table};
+use px_terms::{Atom, NoMemory, OpInst, Problem, Sequence, apply};
+use std::alloc::Global;
+
+/// What the instance needs.
+fn precondition_of(
+    alloc: Global,
+    problem: &Problem,
+    partial: &PartialInstance,
+) -> Result<Vec<Atom>, NoMemory>
+    requires problem { IsValid problem.now }
+    requires partial { IsPartialInstance problem.now partial.now }
+    ensures { IfOk result (λ atoms. atoms.items ≡ precondition problem.now partial.now.inst) }
+{
+    let patterns = schema_of(problem, &partial.inst).pre.as_slice();
+    let mut atoms = Vec::new(alloc);
+    for pattern in patterns {
+        atoms.extend_from_slice(&[apply(partial.inst.args(), pattern)])?;
+    }
+    Ok(atoms)
+}
+
+/// Adds the instance without variables where it may be pushed, though finding its gaps meets the limit by these shapes.
+fn gather_one(
+    asker: &mut Asker,
+    found: &mut Vec<OpInst>,
+    request: &Request,
+    inst: &OpInst,
+    formula: &[Atom],
+    shapes: Vec<Shape>,
+) -> Result<(), AskErr>
+    requires problem { IsValid request.now.problem.now }
+    requires inst { IsInstanceOf request.now.problem.now inst.now }
+    requires formula { formula.now ≡ precondition request.now.problem.now inst.now }
+    requires shapes { IsGapLimited (setting_of request.now.problem.now request.now.model.now.atoms) formula.now 0 shapes.items }
+    ensures gathers { OnOk result (GathersFor request.now (λ other. inst.now ≡ other) found.old.items found.new.items) }
+    ensures limited { IfLimit result (LimitsFor request.now) }
+{
+    if !is_relevant(request, inst) {
+        return Ok(());
+    }
+    match asker.prove(request.problem, formula, 0, request.model) {
+        Ok(_) => {
+            keep(found, inst)?;
+            Ok(())
+        }
+        Err(ProveErr::Unprovable) => {
+            let formula = copied(asker.alloc, formula)?;
+            let shapes = Sequence::from_vec(shapes);
+            Err(AskErr::ShapeLimit { formula, shapes })
+        }
+        Err(ProveErr::ShapeLimit(shapes)) => {
+            let formula = copied(asker.alloc, formula)?;
+            let shapes = Sequence::from_vec(shapes);
+            Err(AskErr::ShapeLimit { formula, shapes })
+        }
+        Err(ProveErr::NoMemory) => Err(AskErr::NoMemory),
+    }
+}
+
+/// Adds the instances that the partial one stands for and that may be pushed: by one question, where this answers all of
+/// them, else in the same way for each object that its first variable may be. Each call of itself has a variable less.
+fn gather(
+    asker: &mut Asker,
+    found: &mut Vec<OpInst>,
+    request: &Request,
+    partial: &PartialInstance,
+) -> Result<(), AskErr>
+    requires problem { IsValid request.now.problem.now }
+    requires partial { IsPartialInstance request.now.problem.now partial.now }
+    ensures gathers { OnOk result (GathersFor request.now (StandsFor request.now.problem.now partial.now) found.old.items found.new.items) }
+    ensures limited { IfLimit result (LimitsFor request.now) }
+{
+    let formula = precondition_of(asker.alloc, request.problem, partial)?;
+    match asker.gap_lists(request.problem, &formula, partial.vars, request.model) {
+        Ok(lists) => gather_lists(asker, found, request, partial, &lists),
+        Err(GapErr::ShapeLimit(shapes)) => {
+            if partial.vars == 0 {
+                return gather_one(asker, found, request, &partial.inst, &formula, shapes);
+            }
+            for object in 0..request.problem.objects {
+                let next = bound(partial, 0, object);
+                gather(asker, found, request, &next)?;
+            }
+            Ok(())
+        }
+        Err(GapErr::NoMemory) => Err(AskErr::NoMemory),
+    }
+}
+
+/// Adds the instances that the matches stand for and that may be pushed.
+fn gather_matches(
+    asker: &mut Asker,
+    found: &mut Vec<OpInst>,
+    request: &Request,
+    matches: &[PartialInstance],
+) -> Result<(), AskErr>
+    requires problem { IsValid request.now.problem.now }
+    requires matches { All (IsPartialInstance request.now.problem.now) matches.now }
+    ensures gathers { OnOk result (GathersFor request.now (IsCovered request.now.problem.now matches.now) found.old.items found.new.items) }
+    ensures limited { IfLimit result (LimitsFor request.now) }
+{
+    for partial in matches {
+        gather(asker, found, request, partial)?;
+    }
+    Ok(())
+}
+
+/// The entries of the instances.
+fn entries_of(alloc: Global, insts: &[OpInst]) -> Result<Vec<Entry>, NoMemory>
+    ensures { IfOk result (λ entries. entries.items ≡ map Op insts.now) }
+{
+    let mut entries = Vec::new(alloc);
+    for inst in insts {
+        entries.push(Entry::Op(*inst))?;
+    }
+    Ok(entries)
+}
+
+/// The entries of the instances in order, each once.
+fn ordered(alloc: Global, mut found: Vec<OpInst>) -> Result<Vec<Entry>, NoMemory>
+    ensures members { IfOk result (λ entries. (entry : Entry) → Contains entries.items entry ↔ ((inst : OpInst) × Contains found.items inst × (Op inst ≡ entry))) }
+    ensures order { IfOk result (λ entries. IsStrictlySortedBy order_of entries.items) }
+{
+    found.sort_unstable();
+    found.dedup();
+    let entries = entries_of(alloc, &found)?;
+    Ok(entries)
+}
+
+/// The entries that may be pushed for the request.
+fn pushable_for(asker: &mut Asker, request: &Request) -> Result<Vec<Entry>, AskErr>
+    requires problem { IsValid request.now.problem.now }
+    requires no_tables { request.now.tables.now ≡ [] }
+    ensures exact { IfOk result (λ entries. (entry : Entry) → Contains entries.items entry ↔ IsPushableFor request.now entry) }
+    ensures order { IfOk result (λ entries. IsStrictlySortedBy order_of entries.items) }
+    ensures unlimited { IfOk result (λ entries. AreUnlimitedFor request.now) }
+    ensures limited { IfLimit result (LimitsFor request.now) }
+{
+    let matches = matches_of(asker.alloc, request.problem, request.wanted)?;
+    let mut found = Vec::new(asker.alloc);
+    gather_matches(asker, &mut found, request, &matches)?;
+    let entries = ordered(asker.alloc, found)?;
+    Ok(entries)
+}
+
+/// What `relevant` answers, with the number of questions that it asks the prover. The number is measured: it begins with 0,
+/// and the clause `counted` of each of the two private methods that ask (`Asker::gap_lists` and `Asker::prove`) says that
+/// it asks one more, up to the greatest number of 64 bits. No clause of this call speaks of it.
+///
+/// # Errors
+/// Those of `relevant`.
+pub fn relevant_measured(
+    alloc: Global,
+    problem: &Problem,
+    wanted: &[Atom],
+    stack: &[Entry],
+    model: &Model,
+    tables: &[Table],
+) -> Result<Measured, AskErr>
+    requires problem { IsValid problem.now }
+    requires no_tables { tables.now ≡ [] }
+    ensures exact { IfOk result (λ measured. (entry : Entry) → Contains measured.entries.items entry ↔ IsPushable problem.now tables.now wanted.now stack.now model.now.atoms entry) }
+    ensures order { IfOk result (λ measured. IsStrictlySortedBy order_of measured.entries.items) }
+    ensures unlimited { IfOk result (λ measured. (entry : Entry) → IsRelevant problem.now tables.now wanted.now stack.now entry → AreUnlimited problem.now (obligations_of problem.now tables.now model.now.atoms entry)) }
+    ensures limited { IfLimit result (LimitsRelevant problem.now tables.now wanted.now stack.now model.now.atoms) }
+{
+    let mut asker = Asker::new(alloc);
+    let request = Request {
+        problem,
+        wanted,
+        stack,
+        model,
+        tables,
+    };
+    match pushable_for(&mut asker, &request) {
+        Ok(entries) => Ok(Measured {
+            entries,
+            questions: asker.questions(),
+        }),
+        Err(error) => Err(error),
+    }
+}
+
+/// The entries that may be pushed where these atoms are wanted, in order, each once: operators by number, then by
+/// arguments. They aren't on the stack, add a wanted atom, and what they need has an answer or a gap in the model (Fikes
+/// and Nilsson 1971). No table is learned so far.
+///
+/// # Errors
+/// `ShapeLimit` where a question about an entry that isn't on the stack and adds a wanted atom meets the limit: proving
+/// what it needs, or where that has no answer finding its gaps. `NoMemory` where there is none.
+pub fn relevant(
+    alloc: Global,
+    problem: &Problem,
+    wanted: &[Atom],
+    stack: &[Entry],
+    model: &Model,
+    tables: &[Table],
+) -> Result<Vec<Entry>, AskErr>
+    requires problem { IsValid problem.now }
+    requires no_tables { tables.now ≡ [] }
+    ensures exact { IfOk result (λ entries. (entry : Entry) → Contains entries.items entry ↔ IsPushable problem.now tables.now wanted.now stack.now model.now.atoms entry) }
+    ensures order { IfOk result (λ entries. IsStrictlySortedBy order_of entries.items) }
+    ensures unlimited { IfOk result (λ entries. (entry : Entry) → IsRelevant problem.now tables.now wanted.now stack.now entry → AreUnlimited problem.now (obligations_of problem.now tables.now model.now.atoms entry)) }
+    ensures limited { IfLimit result (LimitsRelevant problem.now tables.now wanted.now stack.now model.now.atoms) }
+{
+    match relevant_measured(alloc, problem, wanted, stack, model, tables) {
+        Ok(measured) => Ok(measured.entries),
+        Err(error) => Err(error),
+    }
+}

@@ -1,0 +1,358 @@
+//! A plain slow program for what is missing and what may be pushed: it tries all lists of objects, asks about each instance
+//! by itself, and keeps each limit that a question meets. It never asks about a formula with variables.
+
+ghost use Rattle.std.specs.Prelude.{◌≡◌};
+ghost use Rattle.px_question.specs.Answers.{IsAnswer};
+ghost use Rattle.px_question.specs.Settings.{setting_of};
+
+use crate::request::Request;
+use px_fits::{all_objects, are_variables_below, atoms_fit, is_valid};
+use px_ops::Model;
+use px_proof::{Shape, Tick};
+use px_prover::{Answer, GapErr, ProveErr, gap_lists, prove};
+use px_question::GapList;
+use px_table::Entry;
+use px_terms::{Atom, NoMemory, OpInst, Problem, Schema, Term, apply};
+use std::alloc::Global;
+use std::process::Abort;
+
+/// A tick as numbers that compare as ticks do: kind, number, place.
+pub type Mark = (u32, u32, u32);
+
+fn mark_of(tick: Tick) -> Mark {
+    match tick {
+        Tick::Open => (0, 0, 0),
+        Tick::Fact(index) => (1, index, 0),
+        Tick::Anc(number) => (2, number, 0),
+        Tick::Step(clause, place) => (3, clause, place),
+        Tick::Gap => (4, 0, 0),
+    }
+}
+
+/// A question that meets the limit: its formula, and the shapes that it has then.
+#[derive(PartialEq, Eq, Drop)]
+pub struct Limit {
+    pub formula: Vec<Atom>,
+    pub shapes: Vec<Vec<Mark>>,
+}
+
+pub fn limit_of(alloc: Global, formula: &[Atom], shapes: &[Shape]) -> Result<Limit, NoMemory> {
+    let mut atoms = Vec::new(alloc);
+    for atom in formula {
+        atoms.push(*atom)?;
+    }
+    Ok(Limit {
+        formula: atoms,
+        shapes: marks_of(alloc, shapes)?,
+    })
+}
+
+fn marks_of(alloc: Global, shapes: &[Shape]) -> Result<Vec<Vec<Mark>>, NoMemory> {
+    let mut all = Vec::new(alloc);
+    for shape in shapes {
+        let mut marks = Vec::new(alloc);
+        for tick in shape.ticks() {
+            marks.push(mark_of(*tick))?;
+        }
+        all.push(marks)?;
+    }
+    Ok(all)
+}
+
+/// Is it so, or does a question meet the limit?
+#[derive(Clone, Copy, PartialEq, Eq)]
+enum Plain {
+    Yes,
+    No,
+    Limited,
+}
+
+/// Asks the prover, once it is seen that the problem and the formula are valid.
+pub fn ask(
+    alloc: Global,
+    rt: &impl Abort,
+    problem: &Problem,
+    formula: &[Atom],
+    vars: u32,
+    model: &Model,
+) -> Result<Answer, ProveErr>
+    ensures { result ≡ Err ProveErr.Unprovable → ¬ IsAnswer (setting_of problem.now model.now.atoms) formula.now vars }
+{
+    assert!(rt; is_valid(problem));
+    assert!(rt; atoms_fit(problem, vars, formula) && vars <= 12);
+    assert!(rt; problem.objects > 0);
+    prove(alloc, problem, formula, vars, model)
+}
+
+/// Has the formula without variables an answer?
+fn has_answer(
+    alloc: Global,
+    rt: &impl Abort,
+    problem: &Problem,
+    formula: &[Atom],
+    model: &Model,
+    limits: &mut Vec<Limit>,
+) -> Result<Plain, NoMemory> {
+    match ask(alloc, rt, problem, formula, 0, model) {
+        Ok(_) => Ok(Plain::Yes),
+        Err(ProveErr::Unprovable) => Ok(Plain::No),
+        Err(ProveErr::ShapeLimit(shapes)) => {
+            limits.push(limit_of(alloc, formula, &shapes)?)?;
+            Ok(Plain::Limited)
+        }
+        Err(ProveErr::NoMemory) => Err(NoMemory),
+    }
+}
+
+/// The gap lists of a formula without variables, or its shapes where these meet the limit.
+fn lists_of(
+    alloc: Global,
+    rt: &impl Abort,
+    problem: &Problem,
+    formula: &[Atom],
+    model: &Model,
+) -> Result<Result<Vec<GapList>, Vec<Shape>>, NoMemory> {
+    assert!(rt; is_valid(problem) && atoms_fit(problem, 0, formula));
+    match gap_lists(alloc, problem, formula, 0, model) {
+        Ok(lists) => Ok(Ok(lists)),
+        Err(GapErr::ShapeLimit(shapes)) => Ok(Err(shapes)),
+        Err(GapErr::NoMemory) => Err(NoMemory),
+    }
+}
+
+/// How many lists of so many objects there are; at most eight of at most seven.
+fn lists_count(objects: u32, places: u32) -> u32 {
+    let mut count = 1u32;
+    for _ in 0..places {
+        count = count.wrapping_mul(objects);
+    }
+    count
+}
+
+/// The list of that number, in the order of the lists.
+fn list_at(objects: u32, places: u32, number: u32) -> [Term; 8] {
+    let mut terms = [Term::Obj(0); 8];
+    let mut rest = number;
+    for k in 0..8 {
+        if k < places && objects > 0 {
+            terms[(places.min(8) - 1 - k) as usize] = Term::Obj(rest % objects);
+            rest /= objects;
+        }
+    }
+    terms
+}
+
+/// The atom with these terms for its variables.
+fn under(rt: &impl Abort, terms: &[Term], atom: &Atom) -> Atom {
+    assert!(rt; are_variables_below(terms.len(), atom.args()));
+    apply(terms, atom)
+}
+
+/// The atoms with these terms for their variables.
+fn atoms_under(
+    alloc: Global,
+    rt: &impl Abort,
+    terms: &[Term],
+    atoms: &[Atom],
+) -> Result<Vec<Atom>, NoMemory> {
+    let mut made = Vec::new(alloc);
+    for atom in atoms {
+        made.push(under(rt, terms, atom))?;
+    }
+    Ok(made)
+}
+
+/// The first unfinished shapes of a formula without variables, as many as the limit or all: at the greatest limit that they
+/// meet. A formula of which no limit is met has only the shape in which all is open.
+fn shapes_of(
+    alloc: Global,
+    rt: &impl Abort,
+    problem: &mut Problem,
+    formula: &[Atom],
+    model: &Model,
+) -> Result<Vec<Vec<Mark>>, NoMemory> {
+    let limit = problem.shapes;
+    let mut found = Vec::new(alloc);
+    for less in 0..limit.min(20) {
+        problem.shapes = (limit - less).max(2);
+        if let Err(shapes) = lists_of(alloc, rt, problem, formula, model)? {
+            found = marks_of(alloc, &shapes)?;
+            break;
+        }
+    }
+    problem.shapes = limit;
+    Ok(found)
+}
+
+/// Keeps the limit of the formula, where its instances have as many unfinished shapes.
+fn insert_limit(
+    alloc: Global,
+    rt: &impl Abort,
+    problem: &mut Problem,
+    formula: &[Atom],
+    vars: u32,
+    model: &Model,
+    limits: &mut Vec<Limit>,
+) -> Result<(), NoMemory> {
+    let mut all = Vec::new(alloc);
+    for number in 0..lists_count(problem.objects, vars) {
+        let terms = list_at(problem.objects, vars, number);
+        let instance = atoms_under(alloc, rt, &terms, formula)?;
+        for shape in shapes_of(alloc, rt, problem, &instance, model)? {
+            all.push(shape)?;
+        }
+    }
+    all.sort()?;
+    all.dedup();
+    if all.len() >= problem.shapes as usize {
+        all.truncate(problem.shapes as usize);
+        let mut limit = limit_of(alloc, formula, &[])?;
+        limit.shapes = all;
+        limits.push(limit)?;
+    }
+    Ok(())
+}
+
+/// Which of the atoms is provable: one, none, or proving one of them meets the limit.
+fn any_provable(
+    alloc: Global,
+    rt: &impl Abort,
+    problem: &Problem,
+    atoms: &[Atom],
+    model: &Model,
+    limits: &mut Vec<Limit>,
+) -> Result<Plain, NoMemory> {
+    let mut found = Plain::No;
+    for atom in atoms {
+        let one = has_answer(alloc, rt, problem, &[*atom], model, limits)?;
+        if found != Plain::Limited && one != Plain::No {
+            found = one;
+        }
+    }
+    Ok(found)
+}
+
+/// Puts the ground ones of the atoms into the set.
+fn insert_ground(set: &mut Model, atoms: &[Atom]) -> Result<(), NoMemory> {
+    for atom in atoms {
+        if all_objects(atom.args()) {
+            set.insert(*atom)?;
+        }
+    }
+    Ok(())
+}
+
+/// Adds the gaps of a formula without variables: the atoms of those lists that close nothing provable.
+fn insert_gaps(
+    alloc: Global,
+    rt: &impl Abort,
+    problem: &Problem,
+    formula: &[Atom],
+    model: &Model,
+    gaps: &mut Model,
+    limits: &mut Vec<Limit>,
+) -> Result<(), NoMemory> {
+    match lists_of(alloc, rt, problem, formula, model)? {
+        Ok(lists) => {
+            for list in &lists {
+                let atoms = list.gaps.as_slice();
+                if any_provable(alloc, rt, problem, atoms, model, limits)? == Plain::No {
+                    insert_ground(gaps, atoms)?;
+                }
+            }
+        }
+        Err(shapes) => limits.push(limit_of(alloc, formula, &shapes)?)?,
+    }
+    Ok(())
+}
+
+/// The gaps of a formula without an answer, from those of each instance of it, and the limits that questions meet.
+pub fn plain_gaps(
+    alloc: Global,
+    rt: &impl Abort,
+    problem: &mut Problem,
+    formula: &[Atom],
+    vars: u32,
+    model: &Model,
+    limits: &mut Vec<Limit>,
+) -> Result<Model, NoMemory> {
+    let mut gaps = Model::new(alloc);
+    let before = limits.len();
+    insert_limit(alloc, rt, problem, formula, vars, model, limits)?;
+    if limits.len() > before {
+        return Ok(gaps);
+    }
+    for number in 0..lists_count(problem.objects, vars) {
+        let terms = list_at(problem.objects, vars, number);
+        let instance = atoms_under(alloc, rt, &terms, formula)?;
+        insert_gaps(alloc, rt, problem, &instance, model, &mut gaps, limits)?;
+    }
+    Ok(gaps)
+}
+
+/// Has what an instance needs an answer or a gap? Of no use where a limit is met.
+fn is_open(
+    alloc: Global,
+    rt: &impl Abort,
+    problem: &Problem,
+    formula: &[Atom],
+    model: &Model,
+    limits: &mut Vec<Limit>,
+) -> Result<bool, NoMemory> {
+    let answered = has_answer(alloc, rt, problem, formula, model, limits)?;
+    if answered != Plain::No {
+        return Ok(answered == Plain::Yes);
+    }
+    let mut gaps = Model::new(alloc);
+    insert_gaps(alloc, rt, problem, formula, model, &mut gaps, limits)?;
+    Ok(!gaps.atoms().is_empty())
+}
+
+/// Does the schema with these terms add a wanted atom?
+fn adds_one(rt: &impl Abort, wanted: &[Atom], schema: &Schema, terms: &[Term]) -> bool {
+    for pattern in schema.add.as_slice() {
+        if wanted.contains(&under(rt, terms, pattern)) {
+            return true;
+        }
+    }
+    false
+}
+
+/// Adds those of the schema's instances that may be pushed.
+fn push_instances(
+    alloc: Global,
+    rt: &impl Abort,
+    request: &Request,
+    schema: &Schema,
+    entries: &mut Vec<Entry>,
+    limits: &mut Vec<Limit>,
+) -> Result<(), NoMemory> {
+    let objects = request.problem.objects;
+    let params = schema.params.min(8);
+    for number in 0..lists_count(objects, params) {
+        let terms = list_at(objects, params, number);
+        let entry = Entry::Op(OpInst::new(schema.op, &terms[..params as usize]).expect(rt, "few"));
+        if request.stack.contains(&entry) || !adds_one(rt, request.wanted, schema, &terms) {
+            continue;
+        }
+        let needs = atoms_under(alloc, rt, &terms, schema.pre.as_slice())?;
+        if is_open(alloc, rt, request.problem, &needs, request.model, limits)? {
+            entries.push(entry)?;
+        }
+    }
+    Ok(())
+}
+
+/// The entries that may be pushed, and the limits that questions meet: each instance of each operator is tried.
+pub fn plain_relevant(
+    alloc: Global,
+    rt: &impl Abort,
+    request: &Request,
+    limits: &mut Vec<Limit>,
+) -> Result<Vec<Entry>, NoMemory> {
+    let mut entries = Vec::new(alloc);
+    for schema in request.problem.schemas.as_slice() {
+        push_instances(alloc, rt, request, schema, &mut entries, limits)?;
+    }
+    Ok(entries)
+}
