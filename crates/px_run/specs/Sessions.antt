@@ -25,8 +25,8 @@ abbrev pub IsAnswerable : Problem → ℕ → Command → Type 0
 IsAnswerable problem results (Plan name goal vars) = (name < results) × All (IsAtomOf problem 0) goal × (vars ≡ 0) × (length goal ≤ 12)
 IsAnswerable problem results _ = Unit {0}
 
--- The problem is valid, has no axioms and never meets its limit of shapes, and the facts, the names and the commands are those of
--- the problem.
+-- The problem is valid and has no axioms, its preconditions are short and its limit of shapes is what a search asks for, and the
+-- facts, the names and the commands are those of the problem.
 pub record IsReady (script : ScriptValue) : Type 0 where
   pub problem : IsValid script.problem
   pub no_axioms : script.problem.axioms ≡ []
