@@ -5,7 +5,7 @@ use Rattle.px_proof.specs.Derivation.{Derivations}
 use Rattle.px_proof.specs.Shapes.{ticks_of, ShapeBefore}
 use Rattle.px_proof.specs.declared.shape.Tick.{Tick}
 use Rattle.px_question.specs.Answers.{AtMost, IsAnswer, IsFirst, all_choices_of}
-use Rattle.px_question.specs.DeterminedLaws.{few_or_limited}
+use Rattle.px_question.proofs.DeterminedLaws.{few_or_limited}
 use Rattle.px_question.specs.Limits.{AreFewBefore, AreFewShapes, IsLimited}
 use Rattle.px_question.specs.Settings.{Setting}
 use Rattle.px_terms.specs.declared.atom.Atom.{Atom}

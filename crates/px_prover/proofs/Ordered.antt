@@ -7,7 +7,7 @@ use Rattle.std.specs.List.Sorted.{IsStrictlySortedBy, IsSorted, IsPermutation}
 use Rattle.std.proofs.lemmas.List.Kept.{IsStrictlySortedBy-dedup, Contains-dedup, Contains-from_dedup}
 use Rattle.std.proofs.lemmas.List.Sorted.{Contains-permutation, IsPermutation-sym}
 use Rattle.px_question.specs.GapOrder.{computed_cmp, computed_eq}
-use Rattle.px_question.specs.GapOrderLaws.{gap_list_cmp-total}
+use Rattle.px_question.proofs.GapOrderLaws.{gap_list_cmp-total}
 use Rattle.px_question.specs.Gaps.{gap_list_cmp}
 use Rattle.px_question.specs.contracts.gap_list.GapListOrd.TheImpl.Laws as gap_list_order
 use Rattle.px_question.specs.declared.gap_list.GapList.{GapList}

@@ -1,0 +1,2 @@
+pub mod DeterminedLaws
+pub mod GapOrderLaws

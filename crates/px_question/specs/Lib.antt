@@ -3,7 +3,5 @@ pub mod Answers
 pub mod Limits
 pub mod Gaps
 pub mod GapOrder
-pub mod GapOrderLaws
 pub mod Determined
 pub mod ShapeOrder
-pub mod DeterminedLaws

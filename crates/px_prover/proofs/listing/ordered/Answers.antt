@@ -1,6 +1,6 @@
 use Rattle.std.proofs.lemmas.List.Filters.{dedup_is}
 use Rattle.px_question.specs.GapOrder.{computed_eq}
-use Rattle.px_question.specs.GapOrderLaws.{computed_eq-decides}
+use Rattle.px_question.proofs.GapOrderLaws.{computed_eq-decides}
 use Rattle.px_prover.proofs.Ordered.{gap_lists-ascend, ordered-members}
 use Rattle.px_prover.proofs.listing.ordered.Goals as goal
 

@@ -1,4 +1,4 @@
-use Rattle.px_question.specs.GapOrderLaws.{gap_lists_are_ordered as the_law}
+use Rattle.px_question.proofs.GapOrderLaws.{gap_lists_are_ordered as the_law}
 use Rattle.px_question.proofs.laws.gap_lists_are_ordered.Goals as goal
 
 pub returns : goal.returns

@@ -1,4 +1,4 @@
-use Rattle.px_question.specs.DeterminedLaws.{limits-are_one as the_law}
+use Rattle.px_question.proofs.DeterminedLaws.{limits-are_one as the_law}
 use Rattle.px_question.proofs.laws.limits_are_one.Goals as goal
 
 pub returns : goal.returns

@@ -8,7 +8,7 @@ use Rattle.px_proof.specs.declared.shape.Tick.{Tick}
 use Rattle.px_proof.specs.Shapes.{ShapeBefore, ticks_of}
 use Rattle.px_question.specs.Answers.{AtMost, all_choices_of}
 use Rattle.px_question.specs.Determined.{FewOrLimited, FirstIsOne, GapListsAreOne, LimitsAreOne}
-use Rattle.px_question.specs.GapOrderLaws.{gap_list_cmp-same, gap_list_cmp-total}
+use Rattle.px_question.proofs.GapOrderLaws.{gap_list_cmp-same, gap_list_cmp-total}
 use Rattle.px_question.specs.Gaps.{gap_list_cmp}
 use Rattle.px_proof.specs.PlaceLaws.{length-remove, other_part, slice_get-read, slice_get-within, some_same}
 use Rattle.px_question.specs.Limits.{AreFewerThan, AreFirstShapes, IsAscending, IsPartialShape}
