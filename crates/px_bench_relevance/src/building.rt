@@ -40,7 +40,7 @@ pub fn atom(pred: u32, args: &[Term]) -> Atom
     }
 }
 
-fn sequence_of(alloc: Global, atoms: &[Atom]) -> Result<Sequence<Atom>, NoMemory> {
+pub fn sequence_of(alloc: Global, atoms: &[Atom]) -> Result<Sequence<Atom>, NoMemory> {
     let mut list = Vec::new(alloc);
     list.extend_from_slice(atoms)?;
     Ok(Sequence::from_vec(list))

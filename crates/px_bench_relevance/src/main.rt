@@ -1,19 +1,25 @@
-//! Asks which entries may be pushed in a building of 200 objects and 800 facts. `bench/relevance` measures it.
+//! Asks which entries may be pushed, and which gaps a formula has, in two problems. `bench/relevance` measures it.
 //!
 //! # Calling it
 //!
-//! Each line of standard input is a question: which entries may be pushed for the robot to be in room 1, where the line is
-//! `robot`, else for a box to be there. It is answered by a line with the number of these entries, and how many questions
-//! to the prover that took.
+//! Each line of standard input is a question, and is answered by a line.
+//!
+//! - `robot` and `box`: which entries may be pushed for the robot, or for a box, to be in room 1 of a building of 200
+//!   objects and 800 facts. The answer is the number of these entries, and how many questions to the prover that took.
+//! - `pushes N`: the same for one thing to stand on another, of N things, where standing on is transitive.
+//! - `gaps N`: there, what is missing for it. The answer is the number of gaps.
 #![tactic(auto)]
 
 mod building;
+mod standing;
 
 use building::{atom, building, facts};
-use px_diff::{AskErr, relevant_measured};
-use px_fits::is_valid;
+use px_diff::{AskErr, gaps, relevant_measured};
+use px_fits::{atoms_fit, is_valid};
 use px_ops::Model;
+use px_prover::{ProveErr, prove};
 use px_terms::{Atom, NoMemory, Problem, Term};
+use standing::{first_on_second, standing};
 use std::alloc::Global;
 use std::io;
 
@@ -35,23 +41,115 @@ fn large_building(alloc: Global) -> Result<Asked, NoMemory> {
     })
 }
 
-/// What the line asks for.
-fn wanted_by(asked: &Asked, line: &str) -> Atom {
-    if line == "robot" {
-        return asked.for_robot;
-    }
-    asked.for_box
+/// What a line asks.
+#[derive(Clone, Copy)]
+enum Question {
+    Robot,
+    Box,
+    Pushes(u32),
+    Gaps(u32),
 }
 
-/// The number of entries and of questions. None where there is no answer.
-fn answer(alloc: Global, asked: &Asked, wanted: Atom) -> Option<(usize, u64)> {
-    if !is_valid(&asked.problem) {
+/// What the line asks, if it is a question.
+fn question_of(line: &str) -> Option<Question> {
+    match line {
+        "robot" => return Some(Question::Robot),
+        "box" => return Some(Question::Box),
+        _ => {}
+    }
+    let (word, number) = line.split_once(' ')?;
+    let objects = number.parse().ok()?;
+    match word {
+        "pushes" => Some(Question::Pushes(objects)),
+        "gaps" => Some(Question::Gaps(objects)),
+        _ => None,
+    }
+}
+
+/// The number of entries and of questions.
+#[derive(Clone, Copy)]
+struct Pushes {
+    entries: usize,
+    questions: u64,
+}
+
+/// What may be pushed for the atom. None where there is no answer.
+fn count_pushes(alloc: Global, problem: &Problem, model: &Model, wanted: Atom) -> Option<Pushes> {
+    if !is_valid(problem) {
         return None;
     }
-    match relevant_measured(alloc, &asked.problem, &[wanted], &[], &asked.model, &[]) {
-        Ok(measured) => Some((measured.entries.len(), measured.questions)),
+    match relevant_measured(alloc, problem, &[wanted], &[], model, &[]) {
+        Ok(measured) => Some(Pushes {
+            entries: measured.entries.len(),
+            questions: measured.questions,
+        }),
         Err(AskErr::ShapeLimit { .. }) => None,
         Err(AskErr::NoMemory) => None,
+    }
+}
+
+/// How many gaps the atom has. None where it has a proof, or where there is no answer.
+fn count_gaps(alloc: Global, problem: &Problem, model: &Model, atom: Atom) -> Option<usize> {
+    let formula = [atom];
+    if !is_valid(problem) || !atoms_fit(problem, 0, &formula) {
+        return None;
+    }
+    match prove(alloc, problem, &formula, 0, model) {
+        Err(ProveErr::Unprovable) => match gaps(alloc, problem, &formula, 0, model) {
+            Ok(found) => Some(found.len()),
+            Err(_) => None,
+        },
+        _ => None,
+    }
+}
+
+/// What may be pushed for one thing to stand on another, where nothing stands on anything.
+fn pushes_of_things(alloc: Global, objects: u32) -> Option<Pushes> {
+    match standing(alloc, objects) {
+        Ok(problem) => count_pushes(alloc, &problem, &Model::new(alloc), first_on_second()),
+        Err(NoMemory) => None,
+    }
+}
+
+/// How many gaps there are for that.
+fn gaps_of_things(alloc: Global, objects: u32) -> Option<usize> {
+    match standing(alloc, objects) {
+        Ok(problem) => count_gaps(alloc, &problem, &Model::new(alloc), first_on_second()),
+        Err(NoMemory) => None,
+    }
+}
+
+/// Prints the answer to a question about what may be pushed.
+fn print_pushes(rt: &HostRuntime, pushes: Option<Pushes>) -> io::Result<()> {
+    match pushes {
+        Some(Pushes { entries, questions }) => {
+            println!(rt; "{entries} entries, {questions} questions")
+        }
+        None => println!(rt; "no answer"),
+    }
+}
+
+/// Prints the answer to a question about gaps.
+fn print_gaps(rt: &HostRuntime, count: Option<usize>) -> io::Result<()> {
+    match count {
+        Some(count) => println!(rt; "{count} gaps"),
+        None => println!(rt; "no answer"),
+    }
+}
+
+/// Answers the line.
+fn answer(rt: &HostRuntime, asked: &Asked, line: &str) -> io::Result<()> {
+    let alloc = rt.alloc();
+    let problem = &asked.problem;
+    let model = &asked.model;
+    match question_of(line) {
+        Some(Question::Robot) => {
+            print_pushes(rt, count_pushes(alloc, problem, model, asked.for_robot))
+        }
+        Some(Question::Box) => print_pushes(rt, count_pushes(alloc, problem, model, asked.for_box)),
+        Some(Question::Pushes(objects)) => print_pushes(rt, pushes_of_things(alloc, objects)),
+        Some(Question::Gaps(objects)) => print_gaps(rt, gaps_of_things(alloc, objects)),
+        None => println!(rt; "no question"),
     }
 }
 
@@ -63,11 +161,7 @@ fn main(rt: HostRuntime) -> io::Result<()> {
     };
     for line in rt.lines(alloc) {
         let line = line?;
-        let wanted = wanted_by(&asked, line.as_str());
-        match answer(alloc, &asked, wanted) {
-            Some((entries, questions)) => println!(rt; "{entries} entries, {questions} questions")?,
-            None => println!(rt; "no answer")?,
-        }
+        answer(&rt, &asked, line.as_str())?;
     }
     Ok(())
 }

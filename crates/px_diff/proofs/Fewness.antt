@@ -8,27 +8,12 @@ use Rattle.px_base.specs.ListLaws.{All-at, AllByRecursion-at, Contains-first, Co
 use Rattle.px_terms.specs.declared.atom.Atom.{Atom}
 use Rattle.px_proof.specs.declared.shape.Tick.{Tick}
 use Rattle.px_proof.specs.Proves.{or_open}
-use Rattle.px_proof.specs.Shapes.{ShapeBefore, TickBefore}
+use Rattle.px_proof.specs.Shapes.{ShapeBefore}
+use Rattle.px_question.specs.ShapeOrder.{ShapeBefore-irrefl}
 use Rattle.px_question.specs.Limits.{AreFirstShapes, IsAscending, IsGapLimited, IsLimited, IsPartialShape}
 use Rattle.px_question.specs.Settings.{Setting, loose_gaps_in, proofs_in}
 use Rattle.px_question.specs.Limits.{AreFewerThan, AreFewGapShapes}
 use Rattle.px_diff.proofs.GapLists.{list_by}
-
-tick-itself : (tick : Tick) → TickBefore tick tick → ⊥
-tick-itself tick before = elim before [
-  | inl kind ↦ omega (arith, kind)
-  | inr rest ↦ elim rest [
-    | inl number ↦ omega (arith, number.1)
-    | inr place ↦ omega (arith, place.2)
-  ]
-]
-
-shape-itself : (shape : List Tick) → ShapeBefore shape shape → ⊥
-shape-itself [] before = before
-shape-itself (tick ∷ shape) before = elim before [
-  | inl here ↦ tick-itself tick here
-  | inr later ↦ shape-itself shape later.1
-]
 
 -- a list whose items differ is no longer than one that has them all
 no_longer : (shapes seen : List (List Tick)) → IsAscending shapes → ((shape : List Tick) → Contains shapes shape → Contains seen shape) → length shapes ≤ length seen
@@ -41,7 +26,7 @@ no_longer (x ∷ xs) seen ascending all =
     omega (arith, rest, shorter)
   where
     others : (q : List Tick) → Contains xs q → {R : Type 0} → (x ≡ q) ⊎ R → R
-    others q has (inl same) = absurd (shape-itself q (subst (λ (l : List Tick). ShapeBefore l q) same (AllByRecursion-at (ShapeBefore x) xs q ascending.0 has)))
+    others q has (inl same) = absurd (ShapeBefore-irrefl q (subst (λ (l : List Tick). ShapeBefore l q) same (AllByRecursion-at (ShapeBefore x) xs q ascending.0 has)))
     others q has (inr r) = r
 
 -- the shapes of a question whose unfinished lists are among those of another

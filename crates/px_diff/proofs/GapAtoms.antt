@@ -82,7 +82,3 @@ module _ (problem : Problem) (valid : IsValid problem) (facts : List Atom) where
       let known = ((are.members list).0 has).0 in
       All-each (IsAtomOf problem 0) list.gaps (λ atom closed.
       gaps-are_of [] (literals_of formula list.objects) known.0 atom known.1.proved (literals-are formula vars list.objects of known.1.count known.1.below) ((known.2 atom).0 closed))
-
-  pub listed-is_ground : (formula : List Atom) (vars : ℕ) (lists : List GapList) → All (IsAtomOf problem vars) formula → AreGapLists (setting_of problem facts) formula vars lists → All (λ (list : GapList). All IsGround list.gaps) lists
-  listed-is_ground formula vars lists of are = All-each (λ (list : GapList). All IsGround list.gaps) lists (λ list has k d below.
-      atom_of-is_ground problem _ (listed-are formula vars lists of are list has k d below))

@@ -50,35 +50,14 @@ inserted atom q old new is =
 pub nothing_comes : {Old Here : Type 0} → (Here → ⊥) → Old ↔ (Old ⊎ Here)
 nothing_comes never = (λ o. inl o, λ h. elim h [ inl o ↦ o | inr here ↦ absurd (never here) ])
 
--- what comes where something else holds, too
-pub with_fact : {Old Here Fact New : Type 0} → Fact → New ↔ (Old ⊎ Here) → New ↔ (Old ⊎ (Here × Fact))
-with_fact fact new = (
-  λ x. elim (new.0 x) [ inl o ↦ inl o | inr here ↦ inr (here, fact) ],
-  λ h. new.1 (elim h [ inl o ↦ inl o | inr both ↦ inr both.0 ]),
-)
-
--- those of the items that have a property: one more that has it
-pub kept_next : (P : Atom → Type 0) (item atom : Atom) {Old New Before After : Type 0} → P item → Old ↔ (Before × P atom) → New ↔ (Old ⊎ (item ≡ atom)) → After ↔ (Before ⊎ (item ≡ atom)) → New ↔ (After × P atom)
-kept_next P item atom has old new after = (
-  λ x. elim (new.0 x) [ inl o ↦ (after.1 (inl (old.0 o).0), (old.0 o).1) | inr same ↦ (after.1 (inr same), subst P same has) ],
-  λ y. new.1 (elim (after.0 y.0) [ inl b ↦ inl (old.1 (b, y.1)) | inr same ↦ inr same ]),
-)
-
--- one more that hasn't
-pub skipped_next : (P : Atom → Type 0) (item atom : Atom) {Old Before After : Type 0} → (P item → ⊥) → Old ↔ (Before × P atom) → After ↔ (Before ⊎ (item ≡ atom)) → Old ↔ (After × P atom)
-skipped_next P item atom fails old after = (
-  λ o. (after.1 (inl (old.0 o).0), (old.0 o).1),
-  λ y. elim (after.0 y.0) [ inl b ↦ old.1 (b, y.1) | inr same ↦ absurd (fails (subst P (sym same) y.1)) ],
-)
-
 -- one more of the items, mapped
 pub mapped_next : {X Y : Type 0} (f : X → Y) (xs : List X) (i : ℕ) (x : X) (made after : List Y) (y : Y) → i < length xs → x ≡ get_or xs i x → made ≡ map f (take i xs) → after ≡ made ++ y ∷ [] → y ≡ f x → after ≡ map f (take (i + 1) xs)
 mapped_next f xs i x made after y below is was put same =
     put ∙ (λ j. was j ++ same j ∷ []) ∙ sym (ap (map f) (take_next xs i x below is) ∙ map-append f (take i xs) (x ∷ []))
 
--- one item last, where something holds
-pub kept_one : {X Fact : Type 0} (one q : X) (old new : List X) {same : X} → one ≡ same → Fact → new ≡ old ++ one ∷ [] → Contains new q ↔ (Contains old q ⊎ ((same ≡ q) × Fact))
-kept_one one q old new is fact put = (
-  λ h. elim ((Contains-pushed old one q).0 (subst (λ l. Contains l q) put h)) [ inl before ↦ inl before | inr here ↦ inr (sym is ∙ here, fact) ],
+-- one item last, of which something holds
+pub kept_one : {X : Type 0} (P : X → Type 0) (one same q : X) (old new : List X) → one ≡ same → P one → new ≡ old ++ one ∷ [] → Contains new q ↔ (Contains old q ⊎ ((same ≡ q) × P q))
+kept_one P one same q old new is holds put = (
+  λ h. elim ((Contains-pushed old one q).0 (subst (λ l. Contains l q) put h)) [ inl before ↦ inl before | inr here ↦ inr (sym is ∙ here, subst P here holds) ],
   λ h. subst (λ l. Contains l q) (sym put) ((Contains-pushed old one q).1 (elim h [ inl before ↦ inl before | inr here ↦ inr (is ∙ here.0) ])),
 )

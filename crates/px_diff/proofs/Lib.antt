@@ -1,15 +1,22 @@
 mod Loops
 mod Grows
 mod Regaps
-mod GapLists
-mod GapAtoms
-mod Fewness
+pub mod GapLists
+pub mod GapAtoms
+pub mod Fewness
 mod Limits
-mod GapLemmas
-mod PartialLemmas
+pub mod GapLemmas
+pub mod PartialLemmas
 mod SchemaLemmas
+mod Choosing
+mod FormLemmas
+mod Describing
+mod Parting
+mod PartLemmas
+mod ChoiceLemmas
+mod Proving
 mod Covering
-mod Answered
+mod SameInstance
 mod Ordered
 mod Gathered
-mod Opening
+pub mod Opening

@@ -1,5 +1,6 @@
--- The entries of instances, in order and each once.
-use Rattle.std.proofs.Common.{◌≡◌, List, [], ◌∷◌, map, sym, subst}
+-- Lists in order, each item once.
+use Rattle.std.proofs.Common.{◌≡◌, Bool, List, [], ◌∷◌, map, sym, subst}
+use Rattle.std.specs.Bool.{Decides}
 use Rattle.std.specs.Prelude.{◌↔◌, Contains}
 use Rattle.std.specs.List.{AllByRecursion, dedup}
 use Rattle.std.specs.List.Sorted.{IsStrictlySortedBy, IsSorted, IsPermutation}
@@ -12,16 +13,17 @@ use Rattle.px_table.specs.declared.entry.Entry.TheVariants.{Op}
 use Rattle.px_table.specs.EntryOrder.{order_of}
 use Rattle.px_terms.specs.declared.instance.OpInst.{OpInst}
 use Rattle.px_terms.specs.Order.{instance_eq, instance_cmp}
-use Rattle.px_terms.specs.OrderLaws.{instance_eq-decides, instance_eq-equivalence, instance_cmp-total, instance_cmp-matches_eq}
+use Rattle.px_terms.specs.OrderLaws.{decides_equiv, instance_eq-decides, instance_cmp-total, instance_cmp-matches_eq}
 use Rattle.px_diff.proofs.Covering.{Contains-from_mapped}
 
--- in order, each once
-sorted_members : (old sorted new : List OpInst) → IsPermutation old sorted → new ≡ dedup instance_eq sorted → (inst : OpInst) → Contains old inst ↔ Contains new inst
-sorted_members old sorted new permuted is inst = rw is (
-  λ h. Contains-dedup instance_eq-equivalence (λ x y. (instance_eq-decides x y).0) sorted inst (Contains-permutation old sorted inst permuted h),
-  λ h. Contains-permutation sorted old inst (IsPermutation-sym old sorted permuted) (Contains-from_dedup instance_eq sorted inst h),
+-- an item is there after sorting and losing repeats exactly where it was there before
+pub sorted_members : {X : Type 0} (E : X → X → Bool) (decides : (x y : X) → Decides (E x y) (x ≡ y)) (old sorted new : List X) → IsPermutation old sorted → new ≡ dedup E sorted → (x : X) → Contains old x ↔ Contains new x
+sorted_members E decides old sorted new permuted is x = rw is (
+  λ h. Contains-dedup (decides_equiv E decides) (λ a b. (decides a b).0) sorted x (Contains-permutation old sorted x permuted h),
+  λ h. Contains-permutation sorted old x (IsPermutation-sym old sorted permuted) (Contains-from_dedup E sorted x h),
 )
 
+-- in order, each once
 sorted_ascend : (sorted new : List OpInst) → IsSorted instance_cmp sorted → new ≡ dedup instance_eq sorted → IsStrictlySortedBy instance_cmp new
 sorted_ascend sorted new ascends is = subst (IsStrictlySortedBy instance_cmp) (sym is) (IsStrictlySortedBy-dedup instance_cmp-total instance_cmp-matches_eq sorted ascends)
 
@@ -39,6 +41,6 @@ ordered-ascend sorted new entries ascends is are = subst (IsStrictlySortedBy ord
 
 pub ordered-members : (old sorted new : List OpInst) (entries : List Entry) → IsPermutation old sorted → new ≡ dedup instance_eq sorted → entries ≡ map Op new → (entry : Entry) → Contains entries entry ↔ ((inst : OpInst) × Contains old inst × (Op inst ≡ entry))
 ordered-members old sorted new entries permuted is are entry = (
-  λ h. let r = Contains-from_mapped Op new entry (subst (λ (l : List Entry). Contains l entry) are h) in (r.0, (sorted_members old sorted new permuted is r.0).1 r.1, r.2),
-  λ h. subst (λ (l : List Entry). Contains l entry) (sym are) (subst (Contains (map Op new)) h.2 (Contains-mapped Op new h.0 ((sorted_members old sorted new permuted is h.0).0 h.1))),
+  λ h. let r = Contains-from_mapped Op new entry (subst (λ (l : List Entry). Contains l entry) are h) in (r.0, (sorted_members instance_eq instance_eq-decides old sorted new permuted is r.0).1 r.1, r.2),
+  λ h. subst (λ (l : List Entry). Contains l entry) (sym are) (subst (Contains (map Op new)) h.2 (Contains-mapped Op new h.0 ((sorted_members instance_eq instance_eq-decides old sorted new permuted is h.0).0 h.1))),
 )

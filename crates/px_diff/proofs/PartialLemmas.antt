@@ -124,9 +124,6 @@ stands-closed problem partial full form none stands = (λ i. record { op = parti
     closed_args : partial.inst.args ≡ map (substitute (object_terms stands.0)) partial.inst.args
     closed_args = closed_all partial.inst.args form.terms
 
-pub closed-is_instance : (problem : Problem) (partial : PartialInstance) → IsPartialInstance problem partial → partial.vars ≡ 0 → IsInstanceOf problem partial.inst
-closed-is_instance problem partial form none = record { op = form.op; count = form.count; objects = subst (λ (n : ℕ). All (IsTermOf problem n) partial.inst.args) none form.terms }
-
 -- ---- an object for one variable
 
 three_ways : (k v : ℕ) → (k < v) ⊎ ((k ≡ v) ⊎ (v < k))

@@ -1,5 +1,5 @@
 -- Gathering the instances that may be pushed, part by part.
-use Rattle.std.specs.Prelude.{◌≡◌, ◌⊎◌, List, [], Any, Contains}
+use Rattle.std.specs.Prelude.{◌≡◌, ◌⊎◌, ◌<◌, ℕ, List, length, All, Any, Contains}
 use Rattle.px_terms.specs.declared.atom.Atom.{Atom}
 use Rattle.px_terms.specs.declared.instance.OpInst.{OpInst}
 use Rattle.px_terms.specs.declared.problem.Problem.{Problem}
@@ -23,25 +23,15 @@ pub record Gathers (problem : Problem) (tables : List Table) (wanted : List Atom
   pub all : (inst : OpInst) → IsPart inst → IsPushable problem tables wanted stack model (Op inst) → Contains new inst
   pub unlimited : (inst : OpInst) → IsPart inst → IsRelevant problem tables wanted stack (Op inst) → AreUnlimited problem (obligations_of problem tables model (Op inst))
 
--- the instance that the partial one is with the objects of the list
-abbrev pub listed_instance : PartialInstance → GapList → OpInst
-listed_instance partial list = substitute_instance (object_terms list.objects) partial.inst
+-- the objects are the problem's, one for each variable
+pub record AreObjectsFor (problem : Problem) (partial : PartialInstance) (objects : List ℕ) : Type 0 where
+  pub count : length objects ≡ partial.vars
+  pub below : All (λ n. n < problem.objects) objects
 
--- it is the instance of a list that closes nothing
-abbrev pub IsAnsweredIn : PartialInstance → List GapList → OpInst → Type 0
-IsAnsweredIn partial lists inst = OneOf lists (λ list. (list.gaps ≡ []) × (listed_instance partial list ≡ inst))
+-- the instance that the partial one is with the objects
+abbrev pub instance_by : PartialInstance → List ℕ → OpInst
+instance_by partial objects = substitute_instance (object_terms objects) partial.inst
 
--- the list's instance is relevant, and isn't among those that are answered
-abbrev pub IsUndecided : Problem → List Table → List Atom → List Entry → PartialInstance → List OpInst → GapList → Type 0
-IsUndecided problem tables wanted stack partial answered list =
-    (¬ Contains answered (listed_instance partial list)) × IsRelevant problem tables wanted stack (Op (listed_instance partial list))
-
--- a list that is undecided closes the atom
-abbrev pub IsAskedIn : Problem → List Table → List Atom → List Entry → PartialInstance → List OpInst → List GapList → Atom → Type 0
-IsAskedIn problem tables wanted stack partial answered lists atom =
-    OneOf lists (λ list. Contains list.gaps atom × IsUndecided problem tables wanted stack partial answered list)
-
--- the list's instance is relevant, and is answered or closes none of the provable atoms
-abbrev pub IsOpenList : Problem → List Table → List Atom → List Entry → PartialInstance → List OpInst → List Atom → GapList → Type 0
-IsOpenList problem tables wanted stack partial answered provable list =
-    (Contains answered (listed_instance partial list) ⊎ ¬ Any (Contains provable) list.gaps) × IsRelevant problem tables wanted stack (Op (listed_instance partial list))
+-- it is the instance of a list that closes none of the provable atoms
+abbrev pub IsOpenIn : PartialInstance → List GapList → List Atom → OpInst → Type 0
+IsOpenIn partial lists provable inst = OneOf lists (λ list. (instance_by partial list.objects ≡ inst) × ¬ Any (Contains provable) list.gaps)

@@ -1,10 +1,17 @@
+pub mod Apart
+pub mod Bindings
+pub mod Choices
 pub mod Closings
 pub mod Counting
+pub mod Described
 pub mod Entries
+pub mod Forms
+pub mod GapAnswers
 pub mod Gathering
 pub mod Instances
 pub mod Listed
 pub mod Outcomes
+pub mod Provable
 pub mod Pushes
 pub mod Questions
 pub mod Requests

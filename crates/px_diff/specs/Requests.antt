@@ -3,14 +3,12 @@ use Rattle.std.specs.Prelude.{List}
 use Rattle.px_terms.specs.declared.atom.Atom.{Atom}
 use Rattle.px_terms.specs.declared.instance.OpInst.{OpInst}
 use Rattle.px_proof.specs.declared.shape.Tick.{Tick}
-use Rattle.px_question.specs.declared.gap_list.GapList.{GapList}
 use Rattle.px_table.specs.declared.entry.Entry.{Entry}
 use Rattle.px_table.specs.declared.entry.Entry.TheVariants.{Op}
 use Rattle.px_diff.specs.Entries.{obligations_of}
-use Rattle.px_diff.specs.Gathering.{Gathers, IsAskedIn, IsOpenList, IsUndecided}
+use Rattle.px_diff.specs.Gathering.{Gathers}
 use Rattle.px_diff.specs.Pushes.{IsPushable, IsRelevant}
 use Rattle.px_diff.specs.Questions.{AreUnlimited, LimitsRelevant}
-use Rattle.px_diff.specs.declared.partial.PartialInstance.{PartialInstance}
 use Rattle.px_diff.specs.declared.request.Request.{Request}
 
 -- the instance is relevant for it
@@ -34,13 +32,3 @@ LimitsFor request = LimitsRelevant request.problem.now request.tables.now reques
 -- gathering what of the part may be pushed for it makes the new list from the old one
 abbrev pub GathersFor : Request → (OpInst → Type 0) → List OpInst → List OpInst → Type 0
 GathersFor request = Gathers request.problem.now request.tables.now request.wanted.now request.stack.now request.model.now.atoms
-
--- what `Gathering` says of gap lists, for it
-abbrev pub IsUndecidedFor : Request → PartialInstance → List OpInst → GapList → Type 0
-IsUndecidedFor request = IsUndecided request.problem.now request.tables.now request.wanted.now request.stack.now
-
-abbrev pub IsAskedFor : Request → PartialInstance → List OpInst → List GapList → Atom → Type 0
-IsAskedFor request = IsAskedIn request.problem.now request.tables.now request.wanted.now request.stack.now
-
-abbrev pub IsOpenFor : Request → PartialInstance → List OpInst → List Atom → GapList → Type 0
-IsOpenFor request = IsOpenList request.problem.now request.tables.now request.wanted.now request.stack.now

@@ -1,17 +1,22 @@
-//! One atom at a time is asked of the prover.
-ghost use Rattle.std.specs.Prelude.{◌≡◌, ◌↔◌, [], ◌∷◌, List, All, Contains, MatchBool, IfOk};
+//! Which instances of atoms have a proof. An atom with variables is one question, and only where the answer isn't that none
+//! of its instances has a proof, one of its variables is bound to each object in turn.
+ghost use Rattle.std.specs.Prelude.{◌≡◌, ◌↔◌, ◌⊎◌, ◌≤◌, ◌<◌, [], ◌∷◌, length, List, All, Contains, MatchBool, IsTrue, IfOk, OnOk};
 ghost use Rattle.px_proof.specs.declared.shape.Tick.{Tick};
-ghost use Rattle.px_question.specs.Answers.{IsProvable};
-ghost use Rattle.px_question.specs.Limits.{IsLimited};
+ghost use Rattle.px_question.specs.Answers.{IsAnswer, IsProvable};
+ghost use Rattle.px_question.specs.Limits.{AreFewShapes, IsLimited};
 ghost use Rattle.px_question.specs.Settings.{setting_of};
 ghost use Rattle.px_terms.specs.Validity.{IsValid, IsAtomOf};
+ghost use Rattle.px_diff.specs.Bindings.{IsBinding, IsInstanceUnder};
+ghost use Rattle.px_diff.specs.Forms.{IsForm, IsInstanceIn, IsStoodFor};
 ghost use Rattle.px_diff.specs.Outcomes.{IfLimit};
+ghost use Rattle.px_diff.specs.Provable.{FindsProvable, LimitsOne};
 
 use crate::ask_err::AskErr;
 use crate::asker::Asker;
+use crate::bindings::{bound, open_variable, unbound};
 use px_ops::Model;
 use px_prover::ProveErr;
-use px_terms::{Atom, NoMemory, Problem, Sequence};
+use px_terms::{Atom, NoMemory, Problem, Sequence, Term, apply};
 use std::alloc::Global;
 
 /// A copy of the atoms.
@@ -49,24 +54,114 @@ fn is_provable(
     }
 }
 
-/// Those of the atoms that have a proof.
+/// Puts the atom into the set, where it has a proof.
+fn insert_provable(
+    asker: &mut Asker,
+    found: &mut Model,
+    problem: &Problem,
+    model: &Model,
+    atom: &Atom,
+) -> Result<(), AskErr>
+    requires problem { IsValid problem.now }
+    requires atom { IsAtomOf problem.now 0 atom.now }
+    ensures found { OnOk result (FindsProvable (setting_of problem.now model.now.atoms) (λ q. atom.now ≡ q) found.old.atoms found.new.atoms) }
+    ensures limited { IfLimit result (LimitsOne (setting_of problem.now model.now.atoms) (λ q. atom.now ≡ q)) }
+{
+    if !is_provable(asker, problem, model, atom)? {
+        return Ok(());
+    }
+    found.insert(*atom)?;
+    Ok(())
+}
+
+/// Is it known by one question that no instance of the atom has a proof, and that proving none meets the limit?
+fn has_none(
+    asker: &mut Asker,
+    problem: &Problem,
+    model: &Model,
+    atom: &Atom,
+    vars: u32,
+) -> Result<bool, NoMemory>
+    requires problem { IsValid problem.now }
+    requires atom { IsAtomOf problem.now vars atom.now }
+    requires few_variables { vars ≤ 6 }
+    requires some_object { 0 < vars → 0 < problem.now.objects }
+    ensures none { IfOk result (λ none. IsTrue none → ¬ IsAnswer (setting_of problem.now model.now.atoms) (atom.now ∷ []) vars) }
+    ensures few { IfOk result (λ none. IsTrue none → AreFewShapes (setting_of problem.now model.now.atoms) (atom.now ∷ []) vars) }
+{
+    match asker.prove(problem, &[*atom], vars, model) {
+        Err(ProveErr::Unprovable) => Ok(true),
+        Ok(_) => Ok(false),
+        Err(ProveErr::ShapeLimit(_)) => Ok(false),
+        Err(ProveErr::NoMemory) => Err(NoMemory),
+    }
+}
+
+/// Puts the instances of the form, with the objects that are chosen, into the set, as far as they have a proof. Each call of
+/// itself has a variable less.
+fn insert_instances(
+    asker: &mut Asker,
+    found: &mut Model,
+    problem: &Problem,
+    model: &Model,
+    terms: &[Term],
+    form: &Atom,
+) -> Result<(), AskErr>
+    requires problem { IsValid problem.now }
+    requires form { IsAtomOf problem.now (length terms.now) form.now }
+    requires few { length terms.now ≤ 6 }
+    requires binding { IsBinding problem.now.objects terms.now }
+    ensures found { OnOk result (FindsProvable (setting_of problem.now model.now.atoms) (IsInstanceUnder problem.now.objects terms.now form.now) found.old.atoms found.new.atoms) }
+    ensures limited { IfLimit result (LimitsOne (setting_of problem.now model.now.atoms) (IsInstanceUnder problem.now.objects terms.now form.now)) }
+{
+    let here = apply(terms, form);
+    let variable = match open_variable(terms, form) {
+        Some(variable) => variable,
+        None => return insert_provable(asker, found, problem, model, &here),
+    };
+    if has_none(asker, problem, model, &here, terms.len() as u32)? {
+        return Ok(());
+    }
+    for object in 0..problem.objects {
+        let next = bound(asker.alloc, terms, variable, object)?;
+        insert_instances(asker, found, problem, model, &next, form)?;
+    }
+    Ok(())
+}
+
+/// The same with no object chosen.
+fn insert_form(
+    asker: &mut Asker,
+    found: &mut Model,
+    problem: &Problem,
+    model: &Model,
+    form: &Atom,
+) -> Result<(), AskErr>
+    requires problem { IsValid problem.now }
+    requires form { IsForm problem.now form.now }
+    ensures found { OnOk result (FindsProvable (setting_of problem.now model.now.atoms) (IsInstanceIn problem.now.objects form.now) found.old.atoms found.new.atoms) }
+    ensures limited { IfLimit result (LimitsOne (setting_of problem.now model.now.atoms) (IsInstanceIn problem.now.objects form.now)) }
+{
+    let vars = form.args().len() as u32;
+    let terms = unbound(asker.alloc, vars)?;
+    insert_instances(asker, found, problem, model, &terms, form)
+}
+
+/// The instances of the forms that have a proof.
 pub fn provable_of(
     asker: &mut Asker,
     problem: &Problem,
     model: &Model,
-    atoms: &Model,
+    forms: &[Atom],
 ) -> Result<Model, AskErr>
     requires problem { IsValid problem.now }
-    requires atoms { All (IsAtomOf problem.now 0) atoms.now.atoms }
-    ensures provable { IfOk result (λ provable. (atom : Atom) → Contains provable.atoms atom ↔ (Contains atoms.now.atoms atom × IsProvable (setting_of problem.now model.now.atoms) atom)) }
-    ensures few { IfOk result (λ provable. (atom : Atom) (shapes : List (List Tick)) → Contains atoms.now.atoms atom → IsLimited (setting_of problem.now model.now.atoms) (atom ∷ []) 0 shapes → ⊥) }
-    ensures limited { IfLimit result (λ formula shapes. (atom : Atom) × Contains atoms.now.atoms atom × (formula ≡ atom ∷ []) × IsLimited (setting_of problem.now model.now.atoms) (atom ∷ []) 0 shapes) }
+    requires forms { All (IsForm problem.now) forms.now }
+    ensures found { IfOk result (λ provable. FindsProvable (setting_of problem.now model.now.atoms) (IsStoodFor problem.now.objects forms.now) [] provable.atoms) }
+    ensures limited { IfLimit result (LimitsOne (setting_of problem.now model.now.atoms) (IsStoodFor problem.now.objects forms.now)) }
 {
     let mut provable = Model::new(asker.alloc);
-    for atom in atoms.atoms() {
-        if is_provable(asker, problem, model, atom)? {
-            provable.insert(*atom)?;
-        }
+    for form in forms {
+        insert_form(asker, &mut provable, problem, model, form)?;
     }
     Ok(provable)
 }

@@ -1,3 +1,4 @@
+//! The gaps of a formula.
 ghost use Rattle.std.specs.Prelude.{◌<◌, ◌≤◌, ◌↔◌, List, All, Contains, IfOk};
 ghost use Rattle.px_proof.specs.declared.shape.Tick.{Tick};
 ghost use Rattle.px_question.specs.Answers.{IsAnswer};
@@ -7,41 +8,15 @@ ghost use Rattle.px_terms.specs.AtomSets.{IsAtomSet};
 ghost use Rattle.px_terms.specs.Validity.{IsValid, IsAtomOf};
 ghost use Rattle.px_terms.specs.declared.atom.Atom.{Atom};
 ghost use Rattle.px_diff.specs.Outcomes.{IfLimit};
-ghost use Rattle.px_diff.specs.Listed.{AreListed};
 
 use crate::ask_err::AskErr;
 use crate::asker::Asker;
-use crate::asking::{copied, provable_of};
-use crate::closings::{closed_atoms, missing_atoms};
+use crate::asking::copied;
+use crate::gap_answer::ask_gaps;
+use crate::missing::missing_by;
 use px_ops::Model;
-use px_prover::GapErr;
-use px_question::GapList;
-use px_terms::{Atom, Problem, Sequence};
+use px_terms::{Atom, Problem};
 use std::alloc::Global;
-
-/// The gaps of the formula, whose gap lists these are.
-fn gaps_of_lists(
-    asker: &mut Asker,
-    problem: &Problem,
-    formula: &[Atom],
-    vars: u32,
-    model: &Model,
-    lists: &[GapList],
-) -> Result<Vec<Atom>, AskErr>
-    requires problem { IsValid problem.now }
-    requires formula { All (IsAtomOf problem.now vars) formula.now }
-    requires lists { AreListed (setting_of problem.now model.now.atoms) formula.now vars lists.now }
-    requires no_answer { ¬ IsAnswer (setting_of problem.now model.now.atoms) formula.now vars }
-    ensures order { IfOk result (λ gaps. IsAtomSet gaps.items) }
-    ensures exact { IfOk result (λ gaps. (atom : Atom) → Contains gaps.items atom ↔ IsGapOf (setting_of problem.now model.now.atoms) formula.now vars atom) }
-    ensures unlimited { IfOk result (λ gaps. (kept : List Atom) (shapes : List (List Tick)) → MeetsGapLimit (setting_of problem.now model.now.atoms) formula.now vars kept shapes → ⊥) }
-    ensures limited { IfLimit result (MeetsGapLimit (setting_of problem.now model.now.atoms) formula.now vars) }
-{
-    let closed = closed_atoms(asker.alloc, lists)?;
-    let provable = provable_of(asker, problem, model, &closed)?;
-    let missing = missing_atoms(asker.alloc, lists, &provable)?;
-    Ok(copied(asker.alloc, missing.atoms())?.into_vec())
-}
 
 /// All gaps of a formula without an answer, ascending, each once: the atoms that are closed as gaps in some list of gap
 /// proofs of it.
@@ -68,13 +43,7 @@ pub fn gaps(
     ensures limited { IfLimit result (MeetsGapLimit (setting_of problem.now model.now.atoms) formula.now vars) }
 {
     let mut asker = Asker::new(alloc);
-    match asker.gap_lists(problem, formula, vars, model) {
-        Ok(lists) => gaps_of_lists(&mut asker, problem, formula, vars, model, &lists),
-        Err(GapErr::ShapeLimit(shapes)) => {
-            let formula = copied(alloc, formula)?;
-            let shapes = Sequence::from_vec(shapes);
-            Err(AskErr::ShapeLimit { formula, shapes })
-        }
-        Err(GapErr::NoMemory) => Err(AskErr::NoMemory),
-    }
+    let answer = ask_gaps(&mut asker, problem, formula, vars, model)?;
+    let missing = missing_by(alloc, problem.objects, &answer.patterns, &answer.provable)?;
+    Ok(copied(alloc, missing.atoms())?.into_vec())
 }

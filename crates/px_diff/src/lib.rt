@@ -19,29 +19,42 @@
 //!   `relevant` meets it doesn't depend on the order in which it works.
 //! - Both answer `NoMemory` where there is none, of which nothing more is said.
 //! - [`relevant_measured`] is `relevant` with a number beside the entries, for benchmarks: how often the prover was asked.
-//!   Finding gaps asks it for the gap lists, and of atoms that these close whether they have a proof. No clause of the call
-//!   speaks of this number.
+//!   Finding gaps asks it for the gap patterns, and of the atoms that these close whether they have a proof. No clause of the
+//!   call speaks of this number.
 //!
 //! The definitions are in `specs/`: `Entries` (what an entry needs, does and adds, and when it is open), `Pushes` (which
 //! entries are relevant, and which may be pushed) and `Questions` (what is asked of a list of needed formulas, and where
-//! that meets the limit).
+//! that meets the limit). Laws about them for callers are in `proofs/`: `Opening` (when an operator's instance is open, and
+//! what is asked about it), `GapLemmas` (the gaps of a formula and their limit, by what one question of gaps tells of it),
+//! `Fewness` (few unfinished gap proofs exclude both limits), `GapLists`, `GapAtoms` and `PartialLemmas`.
 //!
-//! Internally `relevant` matches what operators add with the wanted atoms. A match has objects for those parameters that
-//! the atom determines, and the others stay variables. One question of gaps is asked for each match, and its lists are
-//! those of all instances. Where it meets the limit, the first variable is bound to each object in turn, and each of these
-//! narrower matches is asked in the same way. That ends where a question answers, or where no variable is left. All asking
-//! goes through one struct (`asker`), which counts.
+//! Internally one question of gaps (`gap_answer`) asks the prover for the gap patterns of a formula, and which of the atoms
+//! that they close have a proof. Atoms that differ by the names of their variables alone are asked once (`forms`), with
+//! their variables: where no instance has a proof, that is one question, else one of the variables is bound to each object
+//! in turn (`asking`). Then no gap list is written out. Objects are chosen variable by variable, and a choice is given up as
+//! soon as an atom of the pattern has a proof (`bindings`); atoms that share no variable are tried apart (`apart`). So
+//! `gaps` finds the atoms that a pattern closes together with none that is provable (`missing`), and `relevant` the objects
+//! for the formula's variables under which one does (`choices`).
+//!
+//! `relevant` matches what operators add with the wanted atoms. A match has objects for those parameters that the atom
+//! determines, and the others stay variables. One question of gaps is asked for each match. Where it meets the limit, the
+//! first variable is bound to each object in turn, and each of these narrower matches is asked in the same way. That ends
+//! where a question answers, or where no variable is left. All asking goes through one struct (`asker`), which counts.
 #![tactic(auto)]
 
+mod apart;
 mod ask_err;
 mod asker;
 mod asking;
-mod closings;
+mod bindings;
+mod choices;
 mod differences;
+mod forms;
+mod gap_answer;
 mod instances;
-mod listed;
 mod matching;
 mod measured;
+mod missing;
 mod partial;
 mod pushes;
 #[cfg(test)]

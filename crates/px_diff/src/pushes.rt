@@ -1,8 +1,9 @@
-ghost use Rattle.std.specs.Prelude.{◌≡◌, ◌↔◌, ◌++◌, ◌∷◌, [], map, All, Any, Contains, IfOk, OnOk};
+//! Which entries may be pushed where these atoms are wanted.
+ghost use Rattle.std.specs.Prelude.{◌≡◌, ◌↔◌, ◌⊎◌, ◌++◌, ◌∷◌, [], ℕ, List, map, All, Any, Contains, IfOk, OnOk};
 ghost use Rattle.std.specs.List.Sorted.{IsStrictlySortedBy};
 ghost use Rattle.px_proof.specs.declared.shape.Tick.{Tick};
 ghost use Rattle.px_question.specs.Settings.{setting_of};
-ghost use Rattle.px_question.specs.Limits.{IsGapLimited};
+ghost use Rattle.px_question.specs.Gaps.{MeetsGapLimit};
 ghost use Rattle.px_table.specs.declared.entry.Entry.{Entry};
 ghost use Rattle.px_table.specs.declared.entry.Entry.TheVariants.{Op};
 ghost use Rattle.px_table.specs.EntryOrder.{order_of};
@@ -10,26 +11,29 @@ ghost use Rattle.px_terms.specs.declared.atom.Atom.{Atom};
 ghost use Rattle.px_terms.specs.declared.instance.OpInst.{OpInst};
 ghost use Rattle.px_terms.specs.Operators.{precondition};
 ghost use Rattle.px_terms.specs.Validity.{IsValid, IsInstanceOf};
+ghost use Rattle.px_diff.specs.Closings.{OneOf};
 ghost use Rattle.px_diff.specs.Entries.{obligations_of};
+ghost use Rattle.px_diff.specs.GapAnswers.{IsGapAnswer};
+ghost use Rattle.px_diff.specs.Gathering.{AreObjectsFor, instance_by};
 ghost use Rattle.px_diff.specs.Instances.{IsCovered, IsPartialInstance, StandsFor};
-ghost use Rattle.px_diff.specs.Outcomes.{IfLimit};
+ghost use Rattle.px_diff.specs.Outcomes.{AtLimit, IfLimit};
 ghost use Rattle.px_diff.specs.Pushes.{IsRelevant, IsPushable};
 ghost use Rattle.px_diff.specs.Questions.{AreUnlimited, LimitsRelevant};
-ghost use Rattle.px_diff.specs.Requests.{AreUnlimitedFor, GathersFor, IsPushableFor, LimitsFor};
+ghost use Rattle.px_diff.specs.Requests.{AreUnlimitedFor, GathersFor, IsPushableFor, IsRelevantFor, LimitsFor};
 
 use crate::ask_err::AskErr;
 use crate::asker::Asker;
 use crate::asking::copied;
-use crate::instances::bound;
-use crate::listed::{gather_lists, keep};
+use crate::choices::choices_of;
+use crate::gap_answer::{GapAnswer, ask_gaps};
+use crate::instances::{bound, filled};
 use crate::matching::matches_of;
 use crate::measured::Measured;
 use crate::partial::PartialInstance;
 use crate::relevance::{is_relevant, schema_of};
 use crate::request::Request;
 use px_ops::Model;
-use px_proof::Shape;
-use px_prover::{GapErr, ProveErr};
+use px_prover::ProveErr;
 use px_table::{Entry, Table};
 use px_terms::{Atom, NoMemory, OpInst, Problem, Sequence, apply};
 use std::alloc::Global;
@@ -52,19 +56,27 @@ fn precondition_of(
     Ok(atoms)
 }
 
-/// Adds the instance without variables where it may be pushed, though finding its gaps meets the limit by these shapes.
+/// Puts the instance last.
+fn keep(found: &mut Vec<OpInst>, inst: &OpInst) -> Result<(), NoMemory>
+    ensures { OnOk result (found.new.items ≡ found.old.items ++ inst.now ∷ []) }
+{
+    found.extend_from_slice(&[*inst])?;
+    Ok(())
+}
+
+/// Adds the instance without variables where it may be pushed, though finding its gaps meets this limit.
 fn gather_one(
     asker: &mut Asker,
     found: &mut Vec<OpInst>,
     request: &Request,
     inst: &OpInst,
     formula: &[Atom],
-    shapes: Vec<Shape>,
+    limit: AskErr,
 ) -> Result<(), AskErr>
     requires problem { IsValid request.now.problem.now }
     requires inst { IsInstanceOf request.now.problem.now inst.now }
     requires formula { formula.now ≡ precondition request.now.problem.now inst.now }
-    requires shapes { IsGapLimited (setting_of request.now.problem.now request.now.model.now.atoms) formula.now 0 shapes.items }
+    requires limit { AtLimit limit (MeetsGapLimit (setting_of request.now.problem.now request.now.model.now.atoms) formula.now 0) }
     ensures gathers { OnOk result (GathersFor request.now (λ other. inst.now ≡ other) found.old.items found.new.items) }
     ensures limited { IfLimit result (LimitsFor request.now) }
 {
@@ -76,11 +88,7 @@ fn gather_one(
             keep(found, inst)?;
             Ok(())
         }
-        Err(ProveErr::Unprovable) => {
-            let formula = copied(asker.alloc, formula)?;
-            let shapes = Sequence::from_vec(shapes);
-            Err(AskErr::ShapeLimit { formula, shapes })
-        }
+        Err(ProveErr::Unprovable) => Err(limit),
         Err(ProveErr::ShapeLimit(shapes)) => {
             let formula = copied(asker.alloc, formula)?;
             let shapes = Sequence::from_vec(shapes);
@@ -88,6 +96,61 @@ fn gather_one(
         }
         Err(ProveErr::NoMemory) => Err(AskErr::NoMemory),
     }
+}
+
+/// Adds the instance with these objects, where it is relevant.
+fn keep_relevant(
+    found: &mut Vec<OpInst>,
+    request: &Request,
+    partial: &PartialInstance,
+    objects: &[u32],
+) -> Result<(), NoMemory>
+    requires problem { IsValid request.now.problem.now }
+    requires partial { IsPartialInstance request.now.problem.now partial.now }
+    requires objects { AreObjectsFor request.now.problem.now partial.now objects.now }
+    ensures { OnOk result ((inst : OpInst) → Contains found.new.items inst ↔ (Contains found.old.items inst ⊎ ((instance_by partial.now objects.now ≡ inst) × IsRelevantFor request.now inst))) }
+{
+    let inst = filled(partial, objects);
+    if !is_relevant(request, &inst) {
+        return Ok(());
+    }
+    keep(found, &inst)
+}
+
+/// The same with each of the choices of objects.
+fn keep_choices(
+    found: &mut Vec<OpInst>,
+    request: &Request,
+    partial: &PartialInstance,
+    choices: &[Sequence<u32>],
+) -> Result<(), NoMemory>
+    requires problem { IsValid request.now.problem.now }
+    requires partial { IsPartialInstance request.now.problem.now partial.now }
+    requires choices { All (AreObjectsFor request.now.problem.now partial.now) choices.now }
+    ensures { OnOk result ((inst : OpInst) → Contains found.new.items inst ↔ (Contains found.old.items inst ⊎ OneOf choices.now (λ (objects : List ℕ). (instance_by partial.now objects ≡ inst) × IsRelevantFor request.now inst))) }
+{
+    for objects in choices {
+        keep_relevant(found, request, partial, objects.as_slice())?;
+    }
+    Ok(())
+}
+
+/// Adds the instances that the partial one stands for and that may be pushed, where this is the answer for what it needs.
+fn gather_answer(
+    alloc: Global,
+    found: &mut Vec<OpInst>,
+    request: &Request,
+    partial: &PartialInstance,
+    answer: &GapAnswer,
+) -> Result<(), NoMemory>
+    requires problem { IsValid request.now.problem.now }
+    requires partial { IsPartialInstance request.now.problem.now partial.now }
+    requires answer { IsGapAnswer (setting_of request.now.problem.now request.now.model.now.atoms) (precondition request.now.problem.now partial.now.inst) partial.now.vars answer.now.patterns.items answer.now.provable.atoms }
+    ensures { OnOk result (GathersFor request.now (StandsFor request.now.problem.now partial.now) found.old.items found.new.items) }
+{
+    let limit = request.problem.objects;
+    let choices = choices_of(alloc, limit, &answer.patterns, &answer.provable)?;
+    keep_choices(found, request, partial, &choices)
 }
 
 /// Adds the instances that the partial one stands for and that may be pushed: by one question, where this answers all of
@@ -104,11 +167,21 @@ fn gather(
     ensures limited { IfLimit result (LimitsFor request.now) }
 {
     let formula = precondition_of(asker.alloc, request.problem, partial)?;
-    match asker.gap_lists(request.problem, &formula, partial.vars, request.model) {
-        Ok(lists) => gather_lists(asker, found, request, partial, &lists),
-        Err(GapErr::ShapeLimit(shapes)) => {
+    match ask_gaps(
+        asker,
+        request.problem,
+        &formula,
+        partial.vars,
+        request.model,
+    ) {
+        Ok(answer) => {
+            gather_answer(asker.alloc, found, request, partial, &answer)?;
+            Ok(())
+        }
+        Err(AskErr::NoMemory) => Err(AskErr::NoMemory),
+        Err(limit) => {
             if partial.vars == 0 {
-                return gather_one(asker, found, request, &partial.inst, &formula, shapes);
+                return gather_one(asker, found, request, &partial.inst, &formula, limit);
             }
             for object in 0..request.problem.objects {
                 let next = bound(partial, 0, object);
@@ -116,7 +189,6 @@ fn gather(
             }
             Ok(())
         }
-        Err(GapErr::NoMemory) => Err(AskErr::NoMemory),
     }
 }
 
@@ -177,7 +249,7 @@ fn pushable_for(asker: &mut Asker, request: &Request) -> Result<Vec<Entry>, AskE
 }
 
 /// What `relevant` answers, with the number of questions that it asks the prover. The number is measured: it begins with 0,
-/// and the clause `counted` of each of the two private methods that ask (`Asker::gap_lists` and `Asker::prove`) says that
+/// and the clause `counted` of each of the two private methods that ask (`Asker::gap_patterns` and `Asker::prove`) says that
 /// it asks one more, up to the greatest number of 64 bits. No clause of this call speaks of it.
 ///
 /// # Errors

@@ -1,6 +1,8 @@
 use crate::reference::{Limit, Mark, ask, limit_of, plain_gaps, plain_relevant};
 use crate::request::Request;
-use crate::test_problems::{atom, blocks, chain, o, opening, rooms, stacked, v};
+use crate::test_problems::{
+    atom, blocks, chain, model_of, o, opening, rooms, stacked, transitive, v,
+};
 use crate::{AskErr, gaps, relevant};
 use px_fits::{atoms_fit, is_valid};
 use px_ops::Model;
@@ -307,6 +309,56 @@ fn gaps_at_the_limit_of_one_atom(rt: HostRuntime) -> Result<(), Fail> {
         let at = is_at(alloc, &found, &at_between(alloc, &rt, shapes)?)?;
         assert!(&rt; at == (shapes < 5));
         assert!(&rt; are_gaps(&found, &[atom(&rt, 1, &[])]) == (shapes == 5));
+    }
+    Ok(())
+}
+
+/// With a transitive axiom over what operators add the plain program agrees, over two and three objects, where nothing
+/// stands on anything and where the second object stands on the first.
+#[test]
+fn a_plain_program_agrees_on_a_transitive_axiom(rt: HostRuntime) -> Result<(), Fail> {
+    let alloc = rt.alloc();
+    let wanted = [atom(&rt, 0, &[o(0), o(1)])];
+    let nothing = Model::new(alloc);
+    let one = model_of(alloc, &[atom(&rt, 0, &[o(1), o(0)])])?;
+    for objects in [2, 3] {
+        let mut problem = transitive(alloc, &rt, objects)?;
+        for model in [&nothing, &one] {
+            let request = Request {
+                problem: &problem,
+                wanted: &wanted,
+                stack: &[],
+                model,
+                tables: &[],
+            };
+            assert!(&rt; agrees_on_pushes(alloc, &rt, &request)?);
+            assert!(&rt; asks_gaps(alloc, &rt, &mut problem, &wanted, 0, model)?);
+        }
+    }
+    Ok(())
+}
+
+/// Over thirty objects each atom is a gap, and each instance that adds the wanted one may be pushed.
+#[test]
+fn gaps_and_pushes_of_a_transitive_axiom(rt: HostRuntime) -> Result<(), Fail> {
+    let alloc = rt.alloc();
+    let wanted = [atom(&rt, 0, &[o(0), o(1)])];
+    let problem = transitive(alloc, &rt, 30)?;
+    let model = Model::new(alloc);
+    match gaps_of(alloc, &rt, &problem, &wanted, 0, &model) {
+        Ok(Some(found)) => assert!(&rt; found.len() == 900),
+        _ => assert!(&rt; false),
+    }
+    let request = Request {
+        problem: &problem,
+        wanted: &wanted,
+        stack: &[],
+        model: &model,
+        tables: &[],
+    };
+    match pushes_of(alloc, &rt, &request) {
+        Ok(entries) => assert!(&rt; entries.len() == 31),
+        Err(_) => assert!(&rt; false),
     }
     Ok(())
 }

@@ -1,15 +1,20 @@
 use Rattle.std.proofs.Common.{◌≡◌, ◌<◌, ◌+◌, ℕ, List, sym, ◌∙◌, subst, inl, inr, arith}
 use Rattle.std.specs.Prelude.{All, slice_index}
+use Rattle.px_question.specs.Gaps.{MeetsGapLimit}
+use Rattle.px_question.specs.Settings.{setting_of}
+use Rattle.px_terms.specs.declared.atom.Atom.{Atom}
 use Rattle.px_terms.specs.declared.instance.OpInst.{OpInst}
 use Rattle.px_terms.specs.Validity.{IsAtomOf}
+use Rattle.px_diff.specs.GapAnswers.{IsGapAnswer}
 use Rattle.px_diff.specs.Instances.{Fills, StandsFor}
+use Rattle.px_diff.specs.Outcomes.{AtLimit}
 use Rattle.px_diff.proofs.Gathered.{gathers_less, gathers_part}
 use Rattle.px_diff.proofs.Loops.{level_or_below, on_ok}
 use Rattle.px_diff.proofs.PartialLemmas.{needs-are, stands-closed}
 use Rattle.px_diff.proofs.pushes.+gather.Goals as goal
 
-pub gap_lists-requires-clause-formula : goal.gap_lists-requires-clause-formula
-gap_lists-requires-clause-formula t c =
+pub ask_gaps-requires-clause-formula : goal.ask_gaps-requires-clause-formula
+ask_gaps-requires-clause-formula t c =
     subst (All (IsAtomOf c.args.request.now.problem.now c.args.partial.now.vars)) (sym (c.deref.ensures.value ∙ c.in_ok-formula.ensures)) (needs-are c.args.request.now.problem.now c.args.partial.now c.requires.problem c.requires.partial)
 
 pub returns-then-partial-eq0-clause-gathers : goal.returns-then-partial-eq0-clause-gathers
@@ -31,10 +36,10 @@ loop-object-preserved t c =
       | inl before ↦ inl (w.0, w.1, before)
       | inr level ↦ inr (c.bound-next.ensures.fills problem inst w.0 w.1 level)
     ])
-    c.loop-object.invariant c.in_ok-gather-in-Err-ShapeLimit.ensures.gathers
+    c.loop-object.invariant c.in_ok-gather-in-Err.ensures.gathers
 
-pub returns-in-Err-ShapeLimit-clause-gathers : goal.returns-in-Err-ShapeLimit-clause-gathers
-returns-in-Err-ShapeLimit-clause-gathers t c =
+pub returns-clause-gathers : goal.returns-clause-gathers
+returns-clause-gathers t c =
     let problem = c.args.request.now.problem.now in
     let partial = c.args.partial.now in
     gathers_less problem c.args.request.now.tables.now c.args.request.now.wanted.now c.args.request.now.stack.now c.args.request.now.model.now.atoms (λ (inst : OpInst). (objects : List ℕ) × Fills problem partial inst objects × (slice_index objects 0 < c.loop-object.object))

@@ -2,7 +2,8 @@ use Rattle.std.proofs.Common.{List, refl, sym, ◌∙◌, subst, inl}
 use Rattle.std.specs.Prelude.{All}
 use Rattle.px_proof.specs.declared.shape.Tick.{Tick}
 use Rattle.px_question.specs.Answers.{IsAnswer}
-use Rattle.px_question.specs.Limits.{IsGapLimited, IsLimited}
+use Rattle.px_question.specs.Gaps.{MeetsGapLimit}
+use Rattle.px_question.specs.Limits.{IsLimited}
 use Rattle.px_question.specs.Settings.{setting_of}
 use Rattle.px_terms.specs.declared.atom.Atom.{Atom}
 use Rattle.px_terms.specs.Validity.{IsAtomOf}
@@ -10,6 +11,7 @@ use Rattle.px_terms.specs.ValidityLaws.{precondition-is_of}
 use Rattle.px_diff.specs.Entries.{HasAnswer}
 use Rattle.px_diff.specs.Questions.{LimitsRelevant}
 use Rattle.px_diff.proofs.Gathered.{gathers_one}
+use Rattle.px_diff.proofs.Limits.{limit_weaker}
 use Rattle.px_diff.proofs.Loops.{said_yes}
 use Rattle.px_diff.proofs.Opening.{answered_unlimited, limits_finding, limits_proving, needed_by, open_one}
 use Rattle.px_diff.proofs.pushes.gather_one.Goals as goal
@@ -29,19 +31,18 @@ returns-in_ok-keep-in-Ok-clause-gathers c =
     (record { relevant = relevant; open_entry = open_one problem model inst (inl answer) })
     (answered_unlimited problem model inst answer (λ shapes limited. c.in-Ok.ensures.few shapes (subst (λ (l : List Atom). IsLimited s l 0 shapes) (sym c.requires.formula) limited)))
 
-pub returns-in_ok-formula-in-Err-Unprovable-clause-limited :
-    goal.returns-in_ok-formula-in-Err-Unprovable-clause-limited
-returns-in_ok-formula-in-Err-Unprovable-clause-limited c =
+pub returns-in-Err-Unprovable-clause-limited : goal.returns-in-Err-Unprovable-clause-limited
+returns-in-Err-Unprovable-clause-limited c =
     let problem = c.args.request.now.problem.now in
     let model = c.args.request.now.model.now.atoms in
     let inst = c.args.inst.now in
     let s = setting_of problem model in
     let relevant = said_yes c.is_relevant.result c.is_relevant.ensures c.if-not-is_relevant.false in
     let none = rw c.in-Err-Unprovable.field-0-is at c.in-Err-Unprovable.ensures.none in
-    subst (λ (l : List (List Tick)). LimitsRelevant problem c.args.request.now.tables.now c.args.request.now.wanted.now c.args.request.now.stack.now model c.in_ok-formula-in-Err-Unprovable.formula l) (sym c.from_vec-shapes.ensures)
-    (limits_finding problem c.args.request.now.tables.now c.args.request.now.wanted.now c.args.request.now.stack.now model inst c.in_ok-formula-in-Err-Unprovable.formula c.args.shapes.items relevant
-    (λ answer. none refl (subst (λ (l : List Atom). IsAnswer s l 0) (sym c.requires.formula) answer)) (c.in_ok-formula-in-Err-Unprovable.ensures ∙ c.requires.formula)
-    (subst (λ (l : List Atom). IsGapLimited s l 0 c.args.shapes.items) c.requires.formula c.requires.shapes))
+    limit_weaker (MeetsGapLimit s c.args.formula.now 0) (LimitsRelevant problem c.args.request.now.tables.now c.args.request.now.wanted.now c.args.request.now.stack.now model) c.args.limit
+    (λ kept shapes met. limits_finding problem c.args.request.now.tables.now c.args.request.now.wanted.now c.args.request.now.stack.now model inst kept shapes relevant
+    (λ answer. none refl (subst (λ (l : List Atom). IsAnswer s l 0) (sym c.requires.formula) answer))
+    (subst (λ (l : List Atom). MeetsGapLimit s l 0 kept shapes) c.requires.formula met)) c.requires.limit
 
 pub returns-in_ok-formula-in-Err-ShapeLimit-clause-limited :
     goal.returns-in_ok-formula-in-Err-ShapeLimit-clause-limited
@@ -52,6 +53,6 @@ returns-in_ok-formula-in-Err-ShapeLimit-clause-limited c =
     let s = setting_of problem model in
     let relevant = said_yes c.is_relevant.result c.is_relevant.ensures c.if-not-is_relevant.false in
     let limited = rw c.in-Err-ShapeLimit.field-0-is at c.in-Err-ShapeLimit.ensures.limited in
-    subst (λ (l : List (List Tick)). LimitsRelevant problem c.args.request.now.tables.now c.args.request.now.wanted.now c.args.request.now.stack.now model c.in_ok-formula-in-Err-ShapeLimit.formula l) (sym c.from_vec-shapes-in-Err-ShapeLimit.ensures)
+    subst (λ (l : List (List Tick)). LimitsRelevant problem c.args.request.now.tables.now c.args.request.now.wanted.now c.args.request.now.stack.now model c.in_ok-formula-in-Err-ShapeLimit.formula l) (sym c.from_vec-shapes.ensures)
     (limits_proving problem c.args.request.now.tables.now c.args.request.now.wanted.now c.args.request.now.stack.now model inst c.in_ok-formula-in-Err-ShapeLimit.formula c.in-Err-ShapeLimit.shapes.items relevant (c.in_ok-formula-in-Err-ShapeLimit.ensures ∙ c.requires.formula)
     (subst (λ (l : List Atom). IsLimited s l 0 c.in-Err-ShapeLimit.shapes.items) c.requires.formula limited))

@@ -1,0 +1,74 @@
+//! What stands on what. An operator puts one thing on another, a second one does so where the lower thing stands on a third
+//! one, and an axiom says that standing on is transitive.
+use crate::building::{atom, sequence_of};
+use px_base::Sequence;
+use px_fits::are_lits;
+use px_terms::{Atom, ClauseArena, Lit, NoMemory, Problem, Schema, Term};
+use std::alloc::Global;
+
+const ON: u32 = 0;
+
+const X: Term = Term::Var(0);
+
+const Y: Term = Term::Var(1);
+
+const Z: Term = Term::Var(2);
+
+/// The first object stands on the second.
+pub fn first_on_second() -> Atom {
+    atom(ON, &[Term::Obj(0), Term::Obj(1)])
+}
+
+/// That one thing stands on another, or that it doesn't.
+fn literal(positive: bool, upper: Term, lower: Term) -> Lit {
+    Lit {
+        positive,
+        atom: atom(ON, &[upper, lower]),
+    }
+}
+
+/// What stands on what stands on a thing stands on it.
+fn transitive(alloc: Global) -> Result<ClauseArena, NoMemory> {
+    let mut axioms = ClauseArena::new(alloc);
+    let lits = [
+        literal(true, X, Z),
+        literal(false, X, Y),
+        literal(false, Y, Z),
+    ];
+    if !are_lits(3, &lits) {
+        return Ok(axioms);
+    }
+    match axioms.push(3, &lits) {
+        Ok(_) => Ok(axioms),
+        Err(_) => Err(NoMemory),
+    }
+}
+
+/// The operator of that number, which puts one thing on another.
+fn put_on(alloc: Global, op: u32, params: u32, pre: &[Atom]) -> Result<Schema, NoMemory> {
+    Ok(Schema {
+        op,
+        params,
+        pre: sequence_of(alloc, pre)?,
+        del: sequence_of(alloc, &[])?,
+        add: sequence_of(alloc, &[atom(ON, &[X, Y])])?,
+    })
+}
+
+/// The problem, over so many things.
+pub fn standing(alloc: Global, objects: u32) -> Result<Problem, NoMemory> {
+    let mut arities = Vec::new(alloc);
+    arities.extend_from_slice(&[2])?;
+    let mut schemas = Vec::new(alloc);
+    schemas.push(put_on(alloc, 0, 2, &[])?)?;
+    schemas.push(put_on(alloc, 1, 3, &[atom(ON, &[Y, Z])])?)?;
+    Ok(Problem {
+        objects,
+        arities: Sequence::from_vec(arities),
+        axioms: transitive(alloc)?,
+        schemas: Sequence::from_vec(schemas),
+        height: 4,
+        nodes: 10000,
+        shapes: 10000,
+    })
+}

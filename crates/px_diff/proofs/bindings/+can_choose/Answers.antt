@@ -1,0 +1,58 @@
+use Rattle.std.proofs.Common.{◌≡◌, ◌∙◌, ◌<◌, List, length, set, sym, subst, inl, inr, arith}
+use Rattle.std.specs.Prelude.{slice_index}
+use Rattle.std.proofs.lemmas.Option.{slice_get_within}
+use Rattle.px_terms.specs.declared.term.Term.{Term}
+use Rattle.px_terms.specs.declared.term.Term.TheVariants.{Obj, Var}
+use Rattle.px_diff.specs.Bindings.{ArePlain, CanAvoid, IsBinding, open_count}
+use Rattle.px_diff.proofs.Choosing.{avoids-bound, bound-avoids, bound-binding, bound-plain, closed-some, count-falls, met-none, said, said_not}
+use Rattle.px_diff.proofs.Loops.{level_or_below, said_no, said_yes}
+use Rattle.px_diff.proofs.bindings.+can_choose.Goals as goal
+
+pub returns-then-meets_under : goal.returns-then-meets_under
+returns-then-meets_under t c =
+    met-none c.args.limit c.args.terms.now c.requires.binding c.args.atoms.now c.args.set.now.atoms c.requires.plain c.requires.set (said_yes c.meets_under.result c.meets_under.ensures c.if-meets_under.true)
+
+pub returns-in-None : goal.returns-in-None
+returns-in-None t c =
+    closed-some c.args.limit c.args.terms.now c.requires.binding c.args.atoms.now c.args.set.now.atoms c.requires.plain c.requires.set (said_no c.meets_under.result c.meets_under.ensures c.if-meets_under.false) c.in-None.ensures.none
+
+pub bound-requires : goal.bound-requires
+bound-requires t c = slice_get_within c.args.terms.now c.in-Some.variable (Var c.in-Some.variable) c.in-Some.ensures.variable
+
+pub can_choose-requires : goal.can_choose-requires
+can_choose-requires t c =
+    let terms = c.args.terms.now in
+    let v = c.in-Some.variable in
+    let object = c.loop-object.object in
+    let next_is : c.deref.result.now ≡ set terms v (Obj object) = c.deref.ensures.value ∙ c.in_ok-next.ensures in
+    let less : open_count c.deref.result.now < open_count terms = subst (λ (ts : List Term). open_count ts < open_count terms) (sym next_is) (count-falls terms v v object c.in-Some.ensures.variable) in (
+      omega (arith, less, c.decreases),
+      (
+        subst (λ (ts : List Term). ArePlain (length ts) c.args.atoms.now) (sym next_is) (bound-plain c.args.limit terms v c.in-Some.ensures.variable object c.args.atoms.now c.requires.plain),
+        (
+          subst (IsBinding c.args.limit) (sym next_is) (bound-binding c.args.limit terms v c.in-Some.ensures.variable object c.requires.binding c.loop-object-test.true),
+          c.requires.set,
+        ),
+      ),
+    )
+
+pub returns-then-branch : goal.returns-then-branch
+returns-then-branch t c =
+    let terms = c.args.terms.now in
+    let v = c.in-Some.variable in
+    let object = c.loop-object.object in
+    let next_is : c.deref.result.now ≡ set terms v (Obj object) = c.deref.ensures.value ∙ c.in_ok-next.ensures in
+    let can = subst (λ (ts : List Term). CanAvoid c.args.limit ts c.args.atoms.now c.args.set.now.atoms) next_is (said _ c.in_ok-can_choose.field-0 c.in_ok-can_choose.ensures c.if-branch.true) in
+    (can.0, avoids-bound c.args.limit terms c.args.atoms.now c.args.set.now.atoms v c.in-Some.ensures.variable object can.0 can.1)
+
+pub loop-object-preserved : goal.loop-object-preserved
+loop-object-preserved t c =
+    let terms = c.args.terms.now in
+    let v = c.in-Some.variable in
+    let object = c.loop-object.object in
+    let next_is : c.deref.result.now ≡ set terms v (Obj object) = c.deref.ensures.value ∙ c.in_ok-next.ensures in
+    λ values a less. elim (level_or_below (slice_index values v) object less) [
+      | inl before ↦ c.loop-object.invariant values a before
+      | inr level ↦ said_not _ c.in_ok-can_choose.field-0 c.in_ok-can_choose.ensures c.if-branch.false
+          (subst (λ (ts : List Term). CanAvoid c.args.limit ts c.args.atoms.now c.args.set.now.atoms) (sym next_is) (values, bound-avoids c.args.limit terms c.args.atoms.now c.args.set.now.atoms v c.in-Some.ensures.variable object values level a))
+    ]

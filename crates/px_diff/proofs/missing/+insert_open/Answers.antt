@@ -1,0 +1,44 @@
+use Rattle.std.proofs.Common.{◌≡◌, ◌∙◌, ◌<◌, List, length, set, sym, subst, arith}
+use Rattle.px_question.specs.Answers.{object_terms}
+use Rattle.px_terms.specs.Substitution.{substitute_atom}
+use Rattle.px_terms.specs.declared.term.Term.{Term}
+use Rattle.px_terms.specs.declared.term.Term.TheVariants.{Obj}
+use Rattle.px_diff.specs.Bindings.{ArePlain, IsBinding, IsPlain, open_count}
+use Rattle.px_diff.proofs.Choosing.{before-all, before-next, bound-binding, bound-plain, bound-plain_one, count-falls, met-none, none-open}
+use Rattle.px_diff.proofs.Describing.{then-same}
+use Rattle.px_diff.proofs.Grows.{grouped, grown}
+use Rattle.px_diff.proofs.Loops.{said_yes}
+use Rattle.px_diff.proofs.missing.+insert_open.Goals as goal
+
+pub returns-then-meets_under : goal.returns-then-meets_under
+returns-then-meets_under t c =
+    none-open c.args.limit c.args.terms.now c.args.atoms.now c.args.set.now.atoms (λ values. substitute_atom (object_terms values) c.args.target.now) c.args.found.now.atoms
+    (met-none c.args.limit c.args.terms.now c.requires.binding c.args.atoms.now c.args.set.now.atoms c.requires.plain c.requires.set (said_yes c.meets_under.result c.meets_under.ensures c.if-meets_under.true))
+
+pub insert_open-requires : goal.insert_open-requires
+insert_open-requires t c =
+    let terms = c.args.terms.now in
+    let v = c.in-Some.variable in
+    let object = c.loop-object.object in
+    let next_is : c.deref.result.now ≡ set terms v (Obj object) = c.deref.ensures.value ∙ c.in_ok-next.ensures in
+    let less : open_count c.deref.result.now < open_count terms = subst (λ (ts : List Term). open_count ts < open_count terms) (sym next_is) (count-falls terms v v object c.in-Some.ensures.some) in (
+      omega (arith, less, c.decreases),
+      (
+        subst (λ (ts : List Term). IsPlain (length ts) c.args.target.now) (sym next_is) (bound-plain_one c.args.limit terms v c.in-Some.ensures.some object c.args.target.now c.requires.target),
+        (
+          subst (λ (ts : List Term). ArePlain (length ts) c.args.atoms.now) (sym next_is) (bound-plain c.args.limit terms v c.in-Some.ensures.some object c.args.atoms.now c.requires.plain),
+          (
+            subst (IsBinding c.args.limit) (sym next_is) (bound-binding c.args.limit terms v c.in-Some.ensures.some object c.requires.binding c.loop-object-test.true),
+            c.requires.set,
+          ),
+        ),
+      ),
+    )
+
+pub loop-object-preserved : goal.loop-object-preserved
+loop-object-preserved t c = λ q.
+    grown (c.loop-object.invariant q) (c.in_ok-insert_open.ensures q) (grouped (before-next c.args.limit c.args.terms.now c.args.atoms.now c.args.set.now.atoms (λ values. substitute_atom (object_terms values) c.args.target.now) c.in-Some.variable c.in-Some.ensures.some c.loop-object.object c.deref.result.now (c.deref.ensures.value ∙ c.in_ok-next.ensures) q))
+
+pub returns : goal.returns
+returns t c = λ q.
+    then-same (c.loop-object.invariant q) (before-all c.args.limit c.args.terms.now c.args.atoms.now c.args.set.now.atoms (λ values. substitute_atom (object_terms values) c.args.target.now) c.in-Some.variable c.in-Some.ensures.some c.loop-object.object c.loop-object-test.false q)
