@@ -5,7 +5,7 @@ use Rattle.std.proofs.lemmas.List.Elements.{All-contains_itself, Contains-append
 use Rattle.std.specs.List.{AllByRecursion}
 use Rattle.px_base.specs.Answers.{both_answers}
 
-pub Contains-none : {X : Type 0} (q : X) → Contains [] q → ⊥
+pub Contains-none : {X : Type 0} (q : X) → ¬ Contains [] q
 Contains-none q (k, below, is) = absurd (omega (arith, below))
 
 pub Contains-first : {X : Type 0} (x : X) (xs : List X) → Contains (x ∷ xs) x
