@@ -1,7 +1,6 @@
 -- Grafted derivations, leaf by leaf and proof by proof.
-use Rattle.std.proofs.Common.{◌≡◌, ℕ, zero, suc, ◌+◌, ◌<◌, ◌≤◌, Bool, true, false, List, [], ◌∷◌, ◌++◌, length, map, drop, get_or, refl, sym, ap, ◌∙◌, subst, arith, append_assoc, length-append, add-one}
+use Rattle.std.proofs.Common.{◌≡◌, ℕ, zero, suc, ◌+◌, ◌<◌, ◌≤◌, Bool, true, false, List, [], ◌∷◌, ◌++◌, length, map, drop, get_or, refl, sym, ap, ◌∙◌, subst, arith, length-append, add-one}
 use borrow.Author.Tests.{eqb-true}
-use Rattle.std.proofs.Math.Seq.{drop-nil}
 use Rattle.std.specs.Prelude.{◌==◌, not, cond, All, slice_index_or}
 use Rattle.std.proofs.lemmas.List.{append-nil}
 use Rattle.std.proofs.lemmas.List.Elements.{filter-append}
@@ -79,11 +78,6 @@ drop_suc (q ∷ proofs) (suc k) p is below = drop_suc proofs k p is (omega (arit
 drop_next : (proofs : List Proof) (k : ℕ) (p : Proof) → p ≡ get_or proofs k p → k < length proofs → drop k proofs ≡ p ∷ drop (k + 1) proofs
 drop_next proofs k p is below = drop_suc proofs k p is below ∙ ap (λ n. p ∷ drop n proofs) (sym (add-one k))
 
-drop_drop : {X : Type 0} (xs : List X) (m n : ℕ) → drop n (drop m xs) ≡ drop (m + n) xs
-drop_drop xs zero n = let same : n ≡ 0 + n = omega arith in ap (λ k. drop k xs) same
-drop_drop [] (suc m) n = drop-nil n ∙ sym (drop-nil (suc m + n))
-drop_drop (x ∷ xs) (suc m) n = let same : suc (m + n) ≡ suc m + n = omega arith in drop_drop xs m n ∙ ap (λ k. drop k (x ∷ xs)) same
-
 module _ (proofs : List Proof) (k : ℕ) (p : Proof) (is : p ≡ get_or proofs k p) (below : k < length proofs) where
   -- it takes its parts, and the others theirs
   pub take_next : all_take (map derivation_of (drop k proofs)) ≡ takes (derivation_of p) + all_take (map derivation_of (drop (k + 1) proofs))
@@ -91,17 +85,6 @@ module _ (proofs : List Proof) (k : ℕ) (p : Proof) (is : p ≡ get_or proofs k
       ap (λ ps. all_take (map derivation_of ps)) (drop_next proofs k p is below)
       ∙ ap length (filter-append (λ (leaf : Leaf). leaf.column == 0) (leaves_of (derivation_of p)) (all_leaves_of (derivations (map derivation_of (drop (k + 1) proofs)))))
       ∙ length-append (first_leaves (leaves_of (derivation_of p))) (first_leaves (all_leaves_of (derivations (map derivation_of (drop (k + 1) proofs)))))
-
-  -- it is grafted next
-  pub graft_next : (shift : ℕ) (parts : List Derivation) (used : ℕ) (made whole : List Derivation) (one : Derivation) → one ≡ grafted shift (drop used parts) (derivation_of p)
-      → made ++ each_grafted shift (drop used parts) (map derivation_of (drop k proofs)) ≡ whole
-      → (made ++ one ∷ []) ++ each_grafted shift (drop (used + takes (derivation_of p)) parts) (map derivation_of (drop (k + 1) proofs)) ≡ whole
-  graft_next shift parts used made whole one grafts invariant =
-      append_assoc made (one ∷ []) (each_grafted shift (drop (used + takes (derivation_of p)) parts) (map derivation_of (drop (k + 1) proofs)))
-      ∙ ap (λ (d : Derivation). made ++ d ∷ each_grafted shift (drop (used + takes (derivation_of p)) parts) (map derivation_of (drop (k + 1) proofs))) grafts
-      ∙ ap (λ (rest : List Derivation). made ++ grafted shift (drop used parts) (derivation_of p) ∷ each_grafted shift rest (map derivation_of (drop (k + 1) proofs))) (sym (drop_drop parts used (takes (derivation_of p))))
-      ∙ ap (λ (ps : List Proof). made ++ each_grafted shift (drop used parts) (map derivation_of ps)) (sym (drop_next proofs k p is below))
-      ∙ invariant
 
 later_both : (P : Leaf → Type 0) (xs ys : List Leaf) → All P (later_leaves (xs ++ ys)) → All P (later_leaves xs) × All P (later_leaves ys)
 later_both P xs ys all =

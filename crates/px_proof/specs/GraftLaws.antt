@@ -1,12 +1,12 @@
 -- A derivation with proofs in the places of its leaves proves what it proved, and its leaves are theirs.
-use Rattle.std.specs.Prelude.{if◌then◌else◌, ◌≡◌, ◌==◌, ℕ, Bool, true, false, cond, not, List, [], ◌∷◌, ◌++◌, length, drop, slice_index_or, All, Contains}
+use Rattle.std.specs.Prelude.{if◌then◌else◌, ◌≡◌, ◌==◌, ℕ, Bool, true, false, cond, not, List, [], ◌∷◌, ◌++◌, length, map, drop, slice_index_or, All, Contains}
 use Rattle.std.specs.List.{AllZip, flat_map}
 use Rattle.std.proofs.Common.{refl, sym, ap, ◌∙◌, subst}
 use Rattle.std.proofs.Math.Seq.{drop-nil}
 use Rattle.std.proofs.lemmas.Grind.{flat_map-append}
 use Rattle.std.proofs.lemmas.List.{append-nil}
-use Rattle.std.proofs.lemmas.List.Elements.{All-nil, All-append, All-cons, Contains-append_left, Contains-append_right, filter-append}
-use Rattle.px_base.specs.ListLaws.{All-at, Contains-first, Contains-filter}
+use Rattle.std.proofs.lemmas.List.Elements.{All-nil, All-append, All-cons, All-head, All-tail, Contains-append_left, Contains-append_right, filter-append}
+use Rattle.px_base.specs.ListLaws.{All-at, Contains-first, Contains-later, Contains-filter}
 use Rattle.px_terms.specs.declared.atom.Atom.{Atom}
 use Rattle.px_terms.specs.declared.clause.Clause.{Clause}
 use Rattle.px_terms.specs.declared.clause.Lit.{Lit}
@@ -50,6 +50,18 @@ pub each_has-atoms : (R : Atom → Derivation → Type 0) (leaves : List Leaf) (
 each_has-atoms R [] parts all = tt
 each_has-atoms R (leaf ∷ leaves) [] all = all
 each_has-atoms R (leaf ∷ leaves) (part ∷ parts) all = (all.0, each_has-atoms R leaves parts all.1)
+
+-- where each leaf has what it is mapped to
+pub each_has-map : (R : Leaf → Derivation → Type 0) (f : Leaf → Derivation) (leaves : List Leaf) → ((leaf : Leaf) → Contains leaves leaf → R leaf (f leaf)) → EachHas R leaves (map f leaves)
+each_has-map R f [] each = tt
+each_has-map R f (leaf ∷ leaves) each = (each leaf (Contains-first leaf leaves), each_has-map R f leaves (λ other has. each other (Contains-later leaf leaves other has)))
+
+-- where all leaves are in column 0, as in a proof from a model, each has its part
+pub first_leaves-all : (leaves : List Leaf) → All (λ leaf. leaf.column ≡ 0) leaves → first_leaves leaves ≡ leaves
+first_leaves-all [] all = refl
+first_leaves-all (leaf ∷ leaves) all =
+    ap (λ b. cond b (leaf ∷ first_leaves leaves) (first_leaves leaves)) (ap (λ n. n == 0) (All-head (λ (l : Leaf). l.column ≡ 0) leaf leaves all))
+    ∙ ap (λ ls. leaf ∷ ls) (first_leaves-all leaves (All-tail (λ (l : Leaf). l.column ≡ 0) leaf leaves all))
 
 -- ---- a grafted derivation proves
 

@@ -1,7 +1,7 @@
 -- Derivations by one set of rules that are derivations by another.
 use Rattle.std.specs.Prelude.{◌≡◌, ◌↔◌, ℕ, Some, List, [], ◌∷◌, ◌++◌, slice_get, All, Contains}
 use Rattle.std.proofs.Common.{zero, suc}
-use Rattle.std.proofs.lemmas.List.Elements.{All-nil, All-append, Contains-append_left, Contains-append_right}
+use Rattle.std.proofs.lemmas.List.Elements.{All-nil, All-cons, All-append, Contains-append_left, Contains-append_right}
 use Rattle.px_base.specs.ListLaws.{Contains-first}
 use Rattle.px_terms.specs.declared.atom.Atom.{Atom}
 use Rattle.px_terms.specs.declared.clause.Clause.{Clause}
@@ -68,6 +68,23 @@ module _ (rules : Rules) (axioms : List Clause) (far : List Lit) where
 
 pub stays_under_longer_paths : StaysUnderLongerPaths
 stays_under_longer_paths axioms objects params atoms path far lit d = proves_longer (from_atoms (IsName objects params) atoms) axioms far path lit d
+
+-- each leaf is a fact that the rules allow
+module _ (rules : Rules) (axioms : List Clause) where
+  mutual
+    pub leaves_allowed : (path : List Lit) (lit : Lit) (d : Derivation) → Proves rules axioms path lit d → All rules.IsFact (leaves_of d)
+    leaves_allowed path lit (fact leaf) proved = All-cons rules.IsFact leaf [] proved.1 (All-nil rules.IsFact)
+    leaves_allowed path lit (ancestor i) proved = All-nil rules.IsFact
+    leaves_allowed path lit (step number theta place parts) proved = all_leaves_allowed (lit ∷ path) (parts_of proved.0.lits theta place) parts proved.2
+    leaves_allowed path lit (gap atom) proved = All-nil rules.IsFact
+    leaves_allowed path lit open_place proved = All-nil rules.IsFact
+
+    pub all_leaves_allowed : (path lits : List Lit) (ds : Derivations) → ProvesEach rules axioms path lits ds → All rules.IsFact (all_leaves_of ds)
+    all_leaves_allowed path [] none each = All-nil rules.IsFact
+    all_leaves_allowed path (lit ∷ lits) (also d ds) each =
+        All-append rules.IsFact (leaves_of d) (all_leaves_of ds) (leaves_allowed path lit d each.0) (all_leaves_allowed path lits ds each.1)
+    all_leaves_allowed path [] (also d ds) each = absurd each
+    all_leaves_allowed path (lit ∷ lits) none each = absurd each
 
 -- whatever the rules allow has only such terms
 pub record AllowsOnly (IsTerm : Term → Type 0) (rules : Rules) : Type 0 where
