@@ -1,2 +1,5 @@
 pub mod DeterminedLaws
+pub mod FewerFactsLaws
+pub mod FirstLaws
+pub mod FirstOfEachLaws
 pub mod GapOrderLaws

@@ -5,3 +5,6 @@ pub mod Gaps
 pub mod GapOrder
 pub mod Determined
 pub mod ShapeOrder
+pub mod FewerShapes
+pub mod FirstOfEach
+pub mod FewerFacts

@@ -1,5 +1,6 @@
 use crate::{
-    GapList, few_or_limited, first_is_one, gap_lists_are_one, gap_lists_are_ordered, limits_are_one,
+    GapList, few_or_limited, fewer_facts_have_no_more, first_is_of_each, first_is_one,
+    gap_lists_are_one, gap_lists_are_ordered, limits_are_one,
 };
 use px_terms::{Atom, NoMemory, Sequence, Term};
 use std::alloc::Global;
@@ -8,6 +9,8 @@ use std::rt::HostRuntime;
 #[test]
 fn laws_are_calls(_rt: HostRuntime) {
     first_is_one();
+    first_is_of_each();
+    fewer_facts_have_no_more();
     limits_are_one();
     few_or_limited();
     gap_lists_are_one();
