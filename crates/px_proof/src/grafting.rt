@@ -95,7 +95,8 @@ fn graft_leaf(leaf: &Leaf, parts: &[Proof], used: &mut usize, shift: u32) -> Res
     ensures used { OnOk result (used.new ≡ used.old + length (first_leaves (leaf.now ∷ []))) }
 {
     if leaf.column == 0 {
-        let part = parts[*used].try_copy()?;
+        let next = *used;
+        let part = parts[next].try_copy()?;
         *used += 1;
         return Ok(part);
     }
