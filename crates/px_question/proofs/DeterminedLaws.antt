@@ -5,15 +5,16 @@ use Rattle.px_base.specs.ListLaws.{All-at, AllByRecursion-at, Contains-first, Co
 use Rattle.px_base.specs.SetLaws.{same_set}
 use Rattle.px_terms.specs.declared.atom.Atom.{Atom}
 use Rattle.px_proof.specs.declared.shape.Tick.{Tick}
+use Rattle.px_proof.specs.Derivation.{Derivations}
 use Rattle.px_proof.specs.Proves.{or_open}
 use Rattle.px_proof.specs.ProvesLaws.{each_by}
 use Rattle.px_proof.specs.Shapes.{ShapeBefore, ticks_of}
-use Rattle.px_question.specs.Answers.{literals_of}
+use Rattle.px_question.specs.Answers.{IsList, literals_of}
 use Rattle.px_question.specs.Determined.{FewOrLimited, GapListsAreOne, LimitsAreOne}
 use Rattle.px_question.specs.FewerShapes.{few_firsts, fewer-among, too_few}
 use Rattle.px_question.proofs.GapOrderLaws.{gap_list_cmp-same, gap_list_cmp-total}
-use Rattle.px_question.specs.Gaps.{gap_list_cmp}
-use Rattle.px_question.specs.Limits.{AreFirstShapes, IsPartialShape}
+use Rattle.px_question.specs.Gaps.{MeetsGapLimit, StaysBelowGapLimit, gap_list_cmp}
+use Rattle.px_question.specs.Limits.{AreFewBefore, AreFewGapShapes, AreFewShapes, AreFirstShapes, IsGapLimited, IsLimited, IsPartialShape, StaysBelowLimit}
 use Rattle.px_question.specs.Settings.{Setting, loose_gaps_in, proofs_in}
 use Rattle.px_question.specs.ShapeOrder.{ShapeBefore-irrefl, ShapeBefore-trans, shape_trichotomy}
 
@@ -81,19 +82,44 @@ partial-loose s formula vars shape (unfinished, (objects, ds, is, same)) = (
   ),
 )
 
+few-proofs : (s : Setting) (formula : List Atom) (vars : ℕ) (shapes : List (List Tick)) → AreFewShapes s formula vars → IsLimited s formula vars shapes → ⊥
+few-proofs s formula vars shapes few limited =
+    let P = IsPartialShape (proofs_in s) s formula vars in
+    few_firsts P P s.limit shapes few (λ shape h. h) limited.count limited.kept
+
+few-before : (s : Setting) (formula : List Atom) (vars : ℕ) (shapes : List (List Tick)) (objects : List ℕ) (ds : Derivations) →
+    IsList (proofs_in s) s formula vars objects ds → AreFewBefore s formula vars ds → IsLimited s formula vars shapes → ⊥
+few-before s formula vars shapes objects ds is few limited =
+    too_few (λ shape. IsPartialShape (proofs_in s) s formula vars shape × ShapeBefore shape (ticks_of ds)) s.limit shapes few limited.count limited.kept.ascending
+    (λ shape has. (All-at (IsPartialShape (proofs_in s) s formula vars) shapes shape limited.kept.each has, All-at (λ kept. ShapeBefore kept (ticks_of ds)) shapes shape (limited.before objects ds is) has))
+
+few-gap_proofs : (s : Setting) (formula : List Atom) (vars : ℕ) (shapes : List (List Tick)) → AreFewGapShapes s formula vars → IsGapLimited s formula vars shapes → ⊥
+few-gap_proofs s formula vars shapes few limited =
+    let P = IsPartialShape (loose_gaps_in s) s formula vars in
+    few_firsts P P s.limit shapes few (λ shape h. h) limited.count limited.kept
+
+few-gap_shapes : (s : Setting) (formula : List Atom) (vars : ℕ) → AreFewGapShapes s formula vars → AreFewShapes s formula vars
+few-gap_shapes s formula vars few =
+    fewer-among (IsPartialShape (loose_gaps_in s) s formula vars) (IsPartialShape (proofs_in s) s formula vars) s.limit few (partial-loose s formula vars)
+
+below-limit : (s : Setting) (formula : List Atom) (vars : ℕ) (shapes : List (List Tick)) → StaysBelowLimit s formula vars → IsLimited s formula vars shapes → ⊥
+below-limit s formula vars shapes (inl (objects, ds, first, few)) limited = few-before s formula vars shapes objects ds first.finished few limited
+below-limit s formula vars shapes (inr few) limited = few-proofs s formula vars shapes few limited
+
+below-gap_limit : (s : Setting) (formula : List Atom) (vars : ℕ) (kept : List Atom) (shapes : List (List Tick)) → StaysBelowGapLimit s formula vars → MeetsGapLimit s formula vars kept shapes → ⊥
+below-gap_limit s formula vars kept shapes below (inl limited) = few-gap_proofs s formula vars shapes below.shapes limited.1
+below-gap_limit s formula vars kept shapes below (inr (atom, alone, loose, limited)) =
+    below-limit s (atom ∷ []) 0 shapes (below.atoms atom loose) (subst (λ (formula : List Atom). IsLimited s formula 0 shapes) alone limited)
+
 pub few_or_limited : FewOrLimited
 few_or_limited = record {
-  proofs = λ s formula vars shapes few limited.
-      let P = IsPartialShape (proofs_in s) s formula vars in few_firsts P P s.limit shapes few (λ shape h. h) limited.count limited.kept;
-  before = λ s formula vars shapes objects ds is few limited.
-      too_few (λ shape. IsPartialShape (proofs_in s) s formula vars shape × ShapeBefore shape (ticks_of ds)) s.limit shapes few limited.count limited.kept.ascending
-      (λ shape has. (All-at (IsPartialShape (proofs_in s) s formula vars) shapes shape limited.kept.each has, All-at (λ kept. ShapeBefore kept (ticks_of ds)) shapes shape (limited.before objects ds is) has));
-  gap_proofs = λ s formula vars shapes few limited.
-      let P = IsPartialShape (loose_gaps_in s) s formula vars in few_firsts P P s.limit shapes few (λ shape h. h) limited.count limited.kept;
-  gap_shapes = λ s formula vars few.
-      fewer-among (IsPartialShape (loose_gaps_in s) s formula vars) (IsPartialShape (proofs_in s) s formula vars) s.limit few (partial-loose s formula vars);
-  proofs_with_gaps = λ s formula vars shapes few limited.
-      few_firsts (IsPartialShape (loose_gaps_in s) s formula vars) (IsPartialShape (proofs_in s) s formula vars) s.limit shapes few (partial-loose s formula vars) limited.count limited.kept;
+  proofs = few-proofs;
+  before = few-before;
+  gap_proofs = few-gap_proofs;
+  gap_shapes = few-gap_shapes;
+  proofs_with_gaps = λ s formula vars shapes few limited. few-proofs s formula vars shapes (few-gap_shapes s formula vars few) limited;
+  below = below-limit;
+  gaps_below = below-gap_limit;
 }
 
 -- ---- gap lists

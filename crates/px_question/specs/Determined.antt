@@ -5,8 +5,8 @@ use Rattle.px_proof.specs.declared.shape.Tick.{Tick}
 use Rattle.px_proof.specs.Derivation.{Derivations}
 use Rattle.px_question.specs.declared.gap_list.GapList.{GapList}
 use Rattle.px_question.specs.Answers.{IsFirst, IsList}
-use Rattle.px_question.specs.Gaps.{AreGapLists}
-use Rattle.px_question.specs.Limits.{AreFewBefore, AreFewGapShapes, AreFewShapes, IsGapLimited, IsLimited}
+use Rattle.px_question.specs.Gaps.{AreGapLists, MeetsGapLimit, StaysBelowGapLimit}
+use Rattle.px_question.specs.Limits.{AreFewBefore, AreFewGapShapes, AreFewShapes, IsGapLimited, IsLimited, StaysBelowLimit}
 use Rattle.px_question.specs.Settings.{Setting, proofs_in}
 
 -- two first answers have one list of objects for the variables, and one list of proofs
@@ -33,3 +33,5 @@ pub record FewOrLimited : Type 0 where
   pub gap_proofs : (s : Setting) (formula : List Atom) (vars : ℕ) (shapes : List (List Tick)) → AreFewGapShapes s formula vars → IsGapLimited s formula vars shapes → ⊥
   pub gap_shapes : (s : Setting) (formula : List Atom) (vars : ℕ) → AreFewGapShapes s formula vars → AreFewShapes s formula vars
   pub proofs_with_gaps : (s : Setting) (formula : List Atom) (vars : ℕ) (shapes : List (List Tick)) → AreFewGapShapes s formula vars → IsLimited s formula vars shapes → ⊥
+  pub below : (s : Setting) (formula : List Atom) (vars : ℕ) (shapes : List (List Tick)) → StaysBelowLimit s formula vars → IsLimited s formula vars shapes → ⊥
+  pub gaps_below : (s : Setting) (formula : List Atom) (vars : ℕ) (kept : List Atom) (shapes : List (List Tick)) → StaysBelowGapLimit s formula vars → MeetsGapLimit s formula vars kept shapes → ⊥

@@ -8,3 +8,5 @@ pub mod ShapeOrder
 pub mod FewerShapes
 pub mod FirstOfEach
 pub mod FewerFacts
+pub mod Rows
+pub mod Decided

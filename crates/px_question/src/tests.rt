@@ -1,6 +1,6 @@
 use crate::{
-    GapList, few_or_limited, fewer_facts_have_no_more, first_is_of_each, first_is_one,
-    gap_lists_are_one, gap_lists_are_ordered, limits_are_one,
+    GapList, answers_make_rows, few_or_limited, fewer_facts_have_no_more, first_is_of_each,
+    first_is_one, gap_lists_are_one, gap_lists_are_ordered, limits_are_one, questions_are_decided,
 };
 use px_terms::{Atom, NoMemory, Sequence, Term};
 use std::alloc::Global;
@@ -10,9 +10,11 @@ use std::rt::HostRuntime;
 fn laws_are_calls(_rt: HostRuntime) {
     first_is_one();
     first_is_of_each();
+    answers_make_rows();
     fewer_facts_have_no_more();
     limits_are_one();
     few_or_limited();
+    questions_are_decided();
     gap_lists_are_one();
     gap_lists_are_ordered();
 }
