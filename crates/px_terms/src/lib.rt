@@ -11,7 +11,7 @@
 //!   sixty-fifth clause; a refused clause leaves it as it was.
 //! - A [`Schema`] is an operator, a [`Problem`] all that a search is about. Fields that are lists are [`Sequence`]s.
 //!   Calls of other crates that are lent a problem ask that it is valid: `IsValid` in `specs/Validity.antt`. [`is_valid`] tests
-//!   it; [`is_atom_of`], [`is_instance_of`] and [`is_term_of`] test what belongs to a problem; [`is_ground`],
+//!   it; [`is_atom_of`], [`are_atoms_of`], [`is_instance_of`] and [`is_term_of`] test what belongs to a problem; [`is_ground`],
 //!   [`are_variables_below`] and [`are_plain_below`] test the conditions of other calls. Each answers exactly.
 //! - What a plan is worth stands in `specs/`: finite interpretations (`States`), the states that an operator describes,
 //!   runs, and `Carries` (`Plans`), after Lifschitz 1987.
@@ -40,6 +40,6 @@ pub use problem::{Problem, Schema};
 pub use px_base::{NoMemory, Sequence};
 pub use term::Term;
 pub use validity::{
-    are_plain_below, are_variables_below, is_atom_of, is_ground, is_instance_of, is_term_of,
-    is_valid,
+    are_atoms_of, are_plain_below, are_variables_below, is_atom_of, is_ground, is_instance_of,
+    is_term_of, is_valid,
 };

@@ -1,8 +1,9 @@
 //! Each public call once, with memory.
 use crate::{
     ArenaErr, Atom, ClauseArena, Lit, NoMemory, OpInst, Problem, Schema, Sequence, Term, apply,
-    apply_inst, are_plain_below, are_variables_below, atoms_are_ordered, contradiction, drop_plan,
-    equal, instance_of, is_atom_of, is_ground, is_instance_of, is_valid, lit_lamp, merged_names,
+    apply_inst, are_atoms_of, are_plain_below, are_variables_below, atoms_are_ordered,
+    contradiction, drop_plan, equal, instance_of, is_atom_of, is_ground, is_instance_of, is_valid,
+    lit_lamp, merged_names,
 };
 use std::alloc::Global;
 use std::rt::HostRuntime;
@@ -100,7 +101,7 @@ fn what_belongs_to_a_problem(rt: HostRuntime) -> Result<(), NoMemory> {
     let mut problem = dropping(rt.alloc(), at)?;
     assert!(&rt; is_valid(&problem));
     assert!(&rt; is_atom_of(&problem, 1, &at));
-    assert!(&rt; !is_atom_of(&problem, 0, &at));
+    assert!(&rt; !are_atoms_of(&problem, 0, &[at]));
     assert!(&rt; !is_ground(&at) && !are_variables_below(0, at.args()));
     assert!(&rt;
         are_plain_below(

@@ -116,6 +116,13 @@ pub fn is_atom_of(problem: &Problem, vars: u64, atom: &Atom) -> bool
             .all(|term| is_term_of(problem, vars, term))
 }
 
+/// Returns whether each of the atoms is one of the problem over its objects and the first `vars` variables.
+pub fn are_atoms_of(problem: &Problem, vars: u64, atoms: &[Atom]) -> bool
+    ensures { IsTrue result ↔ All (IsAtomOf problem.now vars) atoms.now }
+{
+    atoms.iter().all(|atom| is_atom_of(problem, vars, atom))
+}
+
 /// The same of a delete pattern, in which the wild card may stand.
 fn is_pattern_of(problem: &Problem, vars: u64, atom: &Atom) -> bool
     ensures { IsTrue result ↔ IsPatternOf problem.now vars atom.now }
@@ -125,6 +132,13 @@ fn is_pattern_of(problem: &Problem, vars: u64, atom: &Atom) -> bool
             .args()
             .iter()
             .all(|term| is_pattern_term_of(problem, vars, term))
+}
+
+/// Are all atoms such patterns?
+fn are_patterns_of(problem: &Problem, vars: u64, atoms: &[Atom]) -> bool
+    ensures { IsTrue result ↔ All (IsPatternOf problem.now vars) atoms.now }
+{
+    atoms.iter().all(|atom| is_pattern_of(problem, vars, atom))
 }
 
 /// Returns whether the instance is of an operator of the problem, with an object of the problem for each parameter.
@@ -167,21 +181,9 @@ fn has_atoms_of(problem: &Problem, schema: &Schema) -> bool
         × All (IsAtomOf problem.now schema.now.params) schema.now.add) }
 {
     let vars = u64::from(schema.params);
-    schema
-        .pre
-        .as_slice()
-        .iter()
-        .all(|atom| is_atom_of(problem, vars, atom))
-        && schema
-            .del
-            .as_slice()
-            .iter()
-            .all(|atom| is_pattern_of(problem, vars, atom))
-        && schema
-            .add
-            .as_slice()
-            .iter()
-            .all(|atom| is_atom_of(problem, vars, atom))
+    are_atoms_of(problem, vars, schema.pre.as_slice())
+        && are_patterns_of(problem, vars, schema.del.as_slice())
+        && are_atoms_of(problem, vars, schema.add.as_slice())
 }
 
 /// Has the schema the number of the place, and at most eight parameters?
