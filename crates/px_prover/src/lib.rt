@@ -1,10 +1,9 @@
-//! The prover: the first proof of a formula, and what a formula lacks for one, each in an exact order and with an exact
-//! limit.
+//! The prover: the first proof of a formula, and what a formula lacks for one, each with an exact limit.
 //!
 //! # Calling it
 //!
-//! Both calls take a valid problem, a formula of the problem's atoms, how many variables it has, and a world model. Where
-//! there is a variable, the problem has an object. Both ask for objects that make each atom of the formula provable: by a
+//! All calls take a valid problem, a formula of the problem's atoms, how many variables it has, and a world model. Where
+//! there is a variable, the problem has an object. They ask for objects that make each atom of the formula provable: by a
 //! fact of the model, or by linear resolution with ancestors from the problem's axioms, within the problem's height.
 //!
 //! [`prove`] is for at most twelve variables. It answers one of these.
@@ -30,18 +29,26 @@
 //!   under these objects. All that exist are there, so the objects of an answer of the formula stand there with no atoms.
 //!   A variable that nothing binds is tried with each object: a formula without atoms has one gap list, with no atoms,
 //!   for each choice of objects for its variables. So a caller with many variables that stand in no atom, or only in
-//!   atoms that may be gaps, asks for very many lists.
+//!   atoms that may be gaps, asks for very many lists, and so does one where an axiom has variables over predicates that
+//!   operators add.
 //! - `ShapeLimit`: as many shapes of unfinished lists as the shape limit exist, whether finished ones come before them or
 //!   not. The answer has the first so many, in the order above, in which a gap comes after the axioms.
 //! - `NoMemory`, of which nothing more is said.
+//!
+//! [`gap_patterns`] has the conditions and the errors of `gap_lists`, and answers the same gap lists by patterns, which
+//! keep variables. A [`GapPattern`] has an object or a variable for each variable of the formula, and atoms. Under each
+//! choice of objects for the pattern's variables its terms and atoms are the objects and atoms of a gap list, and each gap
+//! list comes about so. No clause says how many patterns there are, or in which order. [`patterns_are_lists`] is a law for
+//! callers: the instances of the patterns, ascending, each once, are the gap lists (`AreGapLists` of `px_question`).
 //!
 //! Facts with objects outside the problem are passed over. What these words mean is said in `px_question`: trees without
 //! variables, one for each atom, and nothing of how they are found. Each answer is exact: it comes only where its meaning
 //! holds, and the answers of a call exclude each other.
 //!
 //! Internally places are closed from left to right, over variables whose bindings are undone (`px_stack`), in the order
-//! of the shapes (`px_walk`). [`prove`] stops at the first finished list. [`gap_lists`] visits the unfinished ones, and
-//! at each gathers what the finished lists one closing later give.
+//! of the shapes (`px_walk`). [`prove`] stops at the first finished list. The calls for gaps visit the unfinished ones, and
+//! at each gather what the finished lists one closing later give: `gap_lists` under all objects for the variables that are
+//! still free, `gap_patterns` one pattern for each finished list.
 #![tactic(auto)]
 
 mod attempts;
@@ -52,8 +59,13 @@ mod gap_question;
 mod gap_tests;
 mod gathering;
 mod keep;
+mod laws;
 mod listing;
 mod outcome;
+mod pattern;
+#[cfg(test)]
+mod pattern_tests;
+mod patterns;
 mod question;
 #[cfg(test)]
 mod reference;
@@ -65,6 +77,9 @@ mod tuples;
 mod walking;
 
 pub use first::prove;
+pub use laws::patterns_are_lists;
 pub use listing::gap_lists;
 pub use outcome::{Answer, GapErr, ProveErr};
+pub use pattern::GapPattern;
+pub use patterns::gap_patterns;
 pub use px_question::GapList;

@@ -1,0 +1,225 @@
+//! Gap patterns: gap lists with variables, one for each finished list of loose gap proofs.
+ghost use Rattle.std.specs.Prelude.{◌≡◌, ◌<◌, ◌≤◌, true, [], IfOk, length, All};
+ghost use Rattle.px_question.specs.Limits.{AreFewGapShapes, IsGapLimited};
+ghost use Rattle.px_question.specs.Settings.{setting_of};
+ghost use Rattle.px_terms.specs.Language.{IsVariableBelow};
+ghost use Rattle.px_terms.specs.Validity.{IsValid, IsAtomOf};
+ghost use Rattle.px_terms.specs.declared.atom.Atom.{Atom as AtomValue};
+ghost use Rattle.px_prover.specs.GapAsking.{gap_setting};
+ghost use Rattle.px_prover.specs.Outcomes.{IfPatternLimit};
+ghost use Rattle.px_prover.specs.Patterns.{AreGapPatterns, GathersPatternsOf, IsPatternBy, ends_of, place_of, renamed};
+ghost use Rattle.px_walk.specs.Pending.{variables_from};
+ghost use Rattle.px_prover.specs.Standing.{ticks_in, IsStanding};
+
+use crate::gap_question::{GapQuestion, sized};
+use crate::gathering::{atoms_under, free_of, missing_atoms, roots_of};
+use crate::keep::keep;
+use crate::outcome::GapErr;
+use crate::pattern::GapPattern;
+use px_base::{NoMemory, Sequence};
+use px_ops::Model;
+use px_stack::Stack;
+use px_terms::{Atom, Problem, Term};
+use px_walk::{Gather, Walk, walk_to_end};
+use std::alloc::Global;
+
+/// The place of the variable in the list, which has so many.
+fn place(free: &[u32], count: u32, variable: u32) -> u32
+    requires { count ≡ length free.now }
+    ensures { result ≡ place_of free.now variable }
+{
+    for place in 0..count {
+        if free[place as usize] == variable {
+            return place;
+        }
+    }
+    count
+}
+
+/// The term, in which a variable has its place in the list as its number.
+fn renamed_term(free: &[u32], count: u32, root: Term) -> Term
+    requires { count ≡ length free.now }
+    ensures { result ≡ renamed free.now root }
+{
+    match root {
+        Term::Var(variable) => Term::Var(place(free, count, variable)),
+        Term::Obj(number) => Term::Obj(number),
+        Term::Any => Term::Any,
+    }
+}
+
+/// The ends of all bindings, over the variables of the list.
+fn renamed_ends(
+    alloc: Global,
+    roots: &[Term],
+    free: &[u32],
+    count: u32,
+) -> Result<Vec<Term>, NoMemory>
+    requires { count ≡ length free.now }
+    ensures { IfOk result (λ ends. ends.items ≡ ends_of free.now roots.now) }
+{
+    let mut ends = Vec::new(alloc);
+    for root in roots {
+        let end = renamed_term(free, count, *root);
+        keep(&mut ends, end)?;
+    }
+    Ok(ends)
+}
+
+/// The pattern of a finished list whose bindings have these ends.
+fn pattern_by(
+    alloc: Global,
+    vars: u32,
+    roots: &[Term],
+    missing: &[Atom],
+    free: &[u32],
+) -> Result<GapPattern, NoMemory>
+    requires missing { All (λ (atom : AtomValue). All (IsVariableBelow (length roots.now)) atom.args) missing.now }
+    ensures { IfOk result (λ pattern. IsPatternBy vars missing.now roots.now free.now pattern) }
+{
+    // no list is as long as that
+    let count = match u32::try_from(free.len()) {
+        Ok(count) => count,
+        Err(_) => return Err(NoMemory),
+    };
+    let mut ends = renamed_ends(alloc, roots, free, count)?;
+    let atoms = atoms_under(alloc, &ends, missing)?;
+    ends.truncate(vars as usize);
+    Ok(GapPattern {
+        vars: count,
+        terms: Sequence::from_vec(ends),
+        atoms: Sequence::from_vec(atoms),
+    })
+}
+
+/// What is gathered on a walk: the patterns of the finished lists that come directly after those visited.
+#[derive(Drop)]
+struct Patterns {
+    found: Vec<GapPattern>,
+}
+
+/// Gathers the pattern of a state in which no place is open.
+fn gather_finished(
+    found: &mut Vec<GapPattern>,
+    question: &GapQuestion,
+    stack: &Stack,
+) -> Result<(), NoMemory>
+    requires stands { IsStanding true (gap_setting question.now) question.now.formula.now question.now.vars stack.now }
+    requires finished { stack.now.first ≡ 0 }
+    ensures { IfOk result (λ _. GathersPatternsOf question.now (ticks_in stack.now.choices) found.old.items found.new.items) }
+{
+    let alloc = *stack.allocator();
+    let ends = roots_of(alloc, stack.bind())?;
+    let roots = ends.as_slice();
+    let atoms = missing_atoms(question, stack)?;
+    let missing = atoms.as_slice();
+    let variables = free_of(alloc, roots, question.vars, missing)?;
+    let free = variables.as_slice();
+    let pattern = pattern_by(alloc, question.vars, roots, missing, free)?;
+    keep(found, pattern)?;
+    Ok(())
+}
+
+/// The same, where no place is open.
+fn gather_here(
+    found: &mut Vec<GapPattern>,
+    question: &GapQuestion,
+    stack: &Stack,
+) -> Result<(), NoMemory>
+    requires { IsStanding true (gap_setting question.now) question.now.formula.now question.now.vars stack.now }
+    ensures { IfOk result (λ _. GathersPatternsOf question.now (ticks_in stack.now.choices) found.old.items found.new.items) }
+{
+    if stack.first() > 0 {
+        return Ok(());
+    }
+    gather_finished(found, question, stack)
+}
+
+impl<'a> Gather<GapQuestion<'a>, Stack> for Patterns {
+    ghost use Rattle.px_prover.specs.GapAsking.{gap_setting};
+    ghost use Rattle.px_prover.specs.Patterns.{ArePatternsOf};
+
+    ghost gathered = { λ q g seen. ArePatternsOf (gap_setting q) q.formula.now q.vars seen g.found.items };
+
+    fn gather(&mut self, question: &GapQuestion<'a>, walk: &mut Stack) -> Result<(), NoMemory> {
+        let loose = question.loose();
+        let mut last = None;
+        while walk.try_after(&loose, last)? {
+            gather_here(&mut self.found, question, walk)?;
+            match walk.retract(&loose) {
+                None => return Ok(()),
+                Some(tick) => last = Some(sized(tick)),
+            }
+        }
+        Ok(())
+    }
+}
+
+/// The pattern of the formula without atoms: its variables, and no gap.
+fn without_atoms(alloc: Global, vars: u32) -> Result<GapPattern, NoMemory>
+    ensures vars_are { IfOk result (λ pattern. pattern.vars ≡ vars) }
+    ensures terms_are { IfOk result (λ pattern. pattern.terms ≡ variables_from 0 vars) }
+    ensures atoms_are { IfOk result (λ pattern. pattern.atoms ≡ []) }
+{
+    let mut terms = Vec::new(alloc);
+    for variable in 0..vars {
+        keep(&mut terms, Term::Var(variable))?;
+    }
+    Ok(GapPattern {
+        vars,
+        terms: Sequence::from_vec(terms),
+        atoms: Sequence::from_vec(Vec::new(alloc)),
+    })
+}
+
+/// The gap lists of the formula by patterns: whatever objects of the problem are chosen for a pattern's variables, its
+/// terms and its atoms are a gap list of [`gap_lists`](crate::gap_lists), with the atoms in any order, and each gap list
+/// is that of a pattern with some objects.
+///
+/// # Errors
+/// Those of `gap_lists`.
+pub fn gap_patterns(
+    alloc: Global,
+    problem: &Problem,
+    formula: &[Atom],
+    vars: u32,
+    model: &Model,
+) -> Result<Vec<GapPattern>, GapErr>
+    requires problem { IsValid problem.now }
+    requires formula { All (IsAtomOf problem.now vars) formula.now }
+    requires few_variables { vars ≤ 4096 }
+    requires some_object { 0 < vars → 0 < problem.now.objects }
+    ensures patterns { IfOk result (λ patterns. AreGapPatterns (setting_of problem.now model.now.atoms) formula.now vars patterns.items) }
+    ensures few { IfOk result (λ patterns. AreFewGapShapes (setting_of problem.now model.now.atoms) formula.now vars) }
+    ensures limited { IfPatternLimit result (IsGapLimited (setting_of problem.now model.now.atoms) formula.now vars) }
+{
+    let facts = model.atoms();
+    let mut patterns = Patterns {
+        found: Vec::new(alloc),
+    };
+    if formula.is_empty() {
+        let pattern = match without_atoms(alloc, vars) {
+            Ok(pattern) => pattern,
+            Err(NoMemory) => return Err(GapErr::NoMemory),
+        };
+        return match keep(&mut patterns.found, pattern) {
+            Ok(()) => Ok(patterns.found),
+            Err(NoMemory) => Err(GapErr::NoMemory),
+        };
+    }
+    let question = GapQuestion {
+        problem,
+        formula,
+        vars,
+        facts,
+    };
+    let mut stack = match Stack::new(alloc, formula, vars, problem.height) {
+        Ok(stack) => stack,
+        Err(NoMemory) => return Err(GapErr::NoMemory),
+    };
+    match walk_to_end(alloc, &question, &mut stack, &mut patterns, problem.shapes) {
+        Ok(None) => Ok(patterns.found),
+        Ok(Some(shapes)) => Err(GapErr::ShapeLimit(shapes)),
+        Err(NoMemory) => Err(GapErr::NoMemory),
+    }
+}
