@@ -1,5 +1,6 @@
 " Syntax of planex scripts. Copy to ~/.vim/syntax/planex.vim, and to ~/.vim/ftdetect/planex.vim the line
 "   autocmd BufRead,BufNewFile *.planex setfiletype planex
+" So that :make jumps to a refusal: set makeprg=./planex\ run\ <\ % errorformat=%f:%l:\ %m
 if exists('b:current_syntax')
   finish
 endif
@@ -21,6 +22,4 @@ highlight default link planexDeclaration Keyword
 highlight default link planexBlock Type
 highlight default link planexCommand Statement
 highlight default link planexPredicate Function
-setlocal commentstring=#\ %s
-setlocal errorformat=%f:%l:\ %m
 let b:current_syntax = 'planex'
