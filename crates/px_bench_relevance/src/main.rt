@@ -11,9 +11,8 @@ mod building;
 
 use building::{atom, building, facts};
 use px_diff::{AskErr, relevant_measured};
-use px_fits::is_valid;
 use px_ops::Model;
-use px_terms::{Atom, NoMemory, Problem, Term};
+use px_terms::{Atom, NoMemory, Problem, Term, is_valid};
 use std::alloc::Global;
 use std::io;
 
