@@ -10,13 +10,16 @@
 //!   proper, and that all its atoms are true. `IsHighest` is the greatest `i` for which some objects fit, with the first
 //!   such objects, compared parameter by parameter; `NoKernelFits` says that there are none. A parameter that stands in no
 //!   mark of the kernel has the least object with which the instance is proper.
-//! - `IsSensed` is what sensing finds in a set of atoms. It is determined ([`sensed_is_one`]; a law about the
-//!   definitions: the call does nothing).
+//! - `IsSensed` is what sensing finds in a set of atoms. It is determined ([`sensed_is_one`]).
+//! - A worked example, in `specs/WorkedDanger`, is a plan that would delete what it needs if one object stood for two: when each
+//!   of its kernels fits ([`danger_kernels`]), and what is sensed under some bindings ([`danger_sensed`]).
 //! - `specs/MatcherValue` is what contracts will see of a matcher.
+//!
+//! The three calls are laws about the definitions: they do nothing.
 #![tactic(auto)]
 
 mod laws;
 #[cfg(test)]
 mod tests;
 
-pub use laws::sensed_is_one;
+pub use laws::{danger_kernels, danger_sensed, sensed_is_one};
