@@ -25,7 +25,7 @@ first_object : List Term → ℕ
 first_object (Obj n ∷ terms) = n
 first_object terms = 0
 
-same_object : (x y : ℕ) → q (Obj y) ≡ q (Obj x) → x ≡ y
+pub same_object : (x y : ℕ) → q (Obj y) ≡ q (Obj x) → x ≡ y
 unfolding first_object
 same_object x y e = sym (ap (λ (atom : Atom). first_object atom.args) e)
 
@@ -39,10 +39,10 @@ same_deletes x = (0, q (Var 0), omega arith, refl, (λ k. 0, refl))
 
 -- ---- the marks
 
-each_mark : (P : Mark → Type 0) → P p_mark → P r_mark → P q_mark → P g_mark → All P danger_table.marks
+pub each_mark : (P : Mark → Type 0) → P p_mark → P r_mark → P q_mark → P g_mark → All P danger_table.marks
 each_mark P hp hr hq hg = All-cons P p_mark (r_mark ∷ q_mark ∷ g_mark ∷ []) hp (All-cons P r_mark (q_mark ∷ g_mark ∷ []) hr (All-cons P q_mark (g_mark ∷ []) hq (one P g_mark hg)))
 
-has_p : Contains danger_table.marks p_mark
+pub has_p : Contains danger_table.marks p_mark
 has_p = Contains-first p_mark (r_mark ∷ q_mark ∷ g_mark ∷ [])
 
 has_r : Contains danger_table.marks r_mark

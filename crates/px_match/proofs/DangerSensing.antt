@@ -22,7 +22,7 @@ ByKernel atoms i x y =
     ((i ≡ 1) × Contains atoms (p (Obj x)) × Contains atoms (q (Obj y)) × (x ≢ y))
     ⊎ (((i ≡ 2) × Contains atoms (r (Obj x)) × Contains atoms (q (Obj y))) ⊎ ((i ≡ 3) × Contains atoms (g (Obj x))))
 
-abbrev Fitting : List (ℕ × ℕ) → List Atom → ℕ → List ℕ → Type 0
+abbrev pub Fitting : List (ℕ × ℕ) → List Atom → ℕ → List ℕ → Type 0
 Fitting bound atoms i objects = (x : ℕ) × ((y : ℕ) × (objects ≡ x ∷ y ∷ []) × AreChosen bound x y × ByKernel atoms i x y)
 
 module _ (bound : List (ℕ × ℕ)) (atoms : List Atom) where
@@ -33,7 +33,7 @@ module _ (bound : List (ℕ × ℕ)) (atoms : List Atom) where
   by_number (suc (suc (suc zero))) x y fits = let found = (danger_kernels.third bound atoms x y).0 fits in (x, (y, refl, found.0, inr (inr (refl, found.1))))
   by_number (suc (suc (suc (suc k)))) x y fits = absurd (omega (arith, fits.to_goal))
 
-  fitting : (i : ℕ) (objects : List ℕ) → KernelFits danger danger_table bound atoms i objects → Fitting bound atoms i objects
+  pub fitting : (i : ℕ) (objects : List ℕ) → KernelFits danger danger_table bound atoms i objects → Fitting bound atoms i objects
   fitting i [] fits = absurd (omega (arith, fits.instantiation.count))
   fitting i (x ∷ []) fits = absurd (omega (arith, fits.instantiation.count))
   fitting i (x ∷ y ∷ []) fits = by_number i x y fits
@@ -41,7 +41,7 @@ module _ (bound : List (ℕ × ℕ)) (atoms : List Atom) where
 
 -- ---- bound parameters, and atoms that aren't there
 
-first_bound : (x y n : ℕ) → (k : ℕ) × (1 ≡ suc k) × (slice_get (x ∷ y ∷ []) k ≡ Some n) → x ≡ n
+pub first_bound : (x y n : ℕ) → (k : ℕ) × (1 ≡ suc k) × (slice_get (x ∷ y ∷ []) k ≡ Some n) → x ≡ n
 first_bound x y n (zero, is, at) = some_same x n at
 first_bound x y n (suc k, is, at) = absurd (omega (arith, is))
 
@@ -59,36 +59,36 @@ unfolding first_object
 object_of_g x y e = ap (λ (atom : Atom). first_object atom.args) e
 
 -- the pair is a parameter of these objects, and its object
-abbrev IsBound : List ℕ → ℕ × ℕ → Type 0
+abbrev pub IsBound : List ℕ → ℕ × ℕ → Type 0
 IsBound objects pair = (k : ℕ) × (pair.0 ≡ suc k) × (slice_get objects k ≡ Some pair.1)
 
 -- no atom of the list has that predicate
-lacks : (atoms : List Atom) (atom : Atom) → All (λ (other : Atom). other.pred ≢ atom.pred) atoms → Contains atoms atom → ⊥
+pub lacks : (atoms : List Atom) (atom : Atom) → All (λ (other : Atom). other.pred ≢ atom.pred) atoms → Contains atoms atom → ⊥
 lacks atoms atom others has = All-at (λ (other : Atom). other.pred ≢ atom.pred) atoms atom others has refl
 
-abbrev Differs : Atom → Atom → Type 0
+abbrev pub Differs : Atom → Atom → Type 0
 Differs atom other = other.pred ≢ atom.pred
 
-facts_lack : (atom : Atom) → 2 ≤ atom.pred → Contains danger_facts atom → ⊥
+pub facts_lack : (atom : Atom) → 2 ≤ atom.pred → Contains danger_facts atom → ⊥
 facts_lack atom high = lacks danger_facts atom
     (All-cons (Differs atom) (p (Obj a)) (q (Obj a) ∷ q (Obj b) ∷ []) (λ e. omega (arith, e, high))
     (All-cons (Differs atom) (q (Obj a)) (q (Obj b) ∷ []) (λ e. omega (arith, e, high)) (one (Differs atom) (q (Obj b)) (λ e. omega (arith, e, high)))))
 
 -- ---- the order of lists
 
-below_two : (P : ℕ → Type 0) → P 0 → P 1 → (n : ℕ) → n < 2 → P n
+pub below_two : (P : ℕ → Type 0) → P 0 → P 1 → (n : ℕ) → n < 2 → P n
 below_two P hz ho zero below = hz
 below_two P hz ho (suc zero) below = ho
 below_two P hz ho (suc (suc n)) below = absurd (omega (arith, below))
 
 -- the first list doesn't stand before the second
-abbrev NotLess : List ℕ → List ℕ → Type 0
+abbrev pub NotLess : List ℕ → List ℕ → Type 0
 NotLess xs ys = slice_cmp nat_cmp xs ys ≢ Less
 
-same_not_less : (xs ys : List ℕ) → slice_cmp nat_cmp xs ys ≡ Equal → NotLess xs ys
+pub same_not_less : (xs ys : List ℕ) → slice_cmp nat_cmp xs ys ≡ Equal → NotLess xs ys
 same_not_less xs ys e less = absurd (cc)
 
-greater_not_less : (xs ys : List ℕ) → slice_cmp nat_cmp xs ys ≡ Greater → NotLess xs ys
+pub greater_not_less : (xs ys : List ℕ) → slice_cmp nat_cmp xs ys ≡ Greater → NotLess xs ys
 greater_not_less xs ys e less = absurd (cc)
 
 -- ---- one object for both

@@ -6,3 +6,4 @@ pub mod OneTrace
 pub mod Progressing
 pub mod TracedRuns
 pub mod TurnBound
+pub mod DangerRunning

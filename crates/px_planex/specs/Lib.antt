@@ -4,3 +4,4 @@ pub mod Guards
 pub mod Progress
 pub mod Turns
 pub mod RunTraces
+pub mod WorkedRuns

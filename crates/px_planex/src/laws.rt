@@ -4,6 +4,7 @@ ghost use Rattle.px_planex.specs.Guards.{GuardNever};
 ghost use Rattle.px_planex.specs.Progress.{ActsAndGoesOn, GoalIsReached};
 ghost use Rattle.px_planex.specs.RunTraces.{RunsAreTraces};
 ghost use Rattle.px_planex.specs.Turns.{RunsAreOne, TurnsAreFew};
+ghost use Rattle.px_planex.specs.WorkedRuns.{DangerRuns};
 
 use px_world::World;
 
@@ -43,4 +44,10 @@ pub fn runs_are_traces<W: World>()
 /// A run with `D` recorded disturbances of a table of `n` steps has at most `(D + 1) * (n + 1)` turns.
 pub fn turns_are_few<W: World>()
     ensures { TurnsAreFew W.leaves }
+{}
+
+/// Three runs of the plan that one object for two would spoil: one that senses no kernel, one that takes two steps to the goal,
+/// and one in which a disturbance makes the action slip.
+pub fn danger_runs()
+    ensures { DangerRuns }
 {}
