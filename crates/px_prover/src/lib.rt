@@ -48,7 +48,7 @@
 //! Internally places are closed from left to right, over variables whose bindings are undone (`px_stack`), in the order
 //! of the shapes (`px_walk`). [`prove`] stops at the first finished list. The calls for gaps visit the unfinished ones, and
 //! at each gather what the finished lists one closing later give: `gap_lists` under all objects for the variables that are
-//! still free, `gap_patterns` one pattern for each finished list.
+//! still free, `gap_patterns` one pattern for each finished list, of which equal ones are kept once.
 #![tactic(auto)]
 
 mod attempts;

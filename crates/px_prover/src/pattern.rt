@@ -4,7 +4,7 @@ use px_terms::{Atom, Term};
 
 /// Loose gap proofs of a formula, over variables that stand for any objects of the problem: what they choose for the
 /// formula's variables, and the atoms that gaps close (Fikes and Nilsson 1971: a difference, with its variables).
-#[derive(Drop)]
+#[derive(PartialEq, Eq, PartialOrd, Ord, Drop)]
 pub struct GapPattern {
     /// How many variables it has. They are numbered from 0.
     pub vars: u32,

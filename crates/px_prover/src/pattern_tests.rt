@@ -198,7 +198,7 @@ fn patterns_are_few(rt: HostRuntime) -> Result<(), Fail> {
     for objects in [2, 10, 30] {
         let problem = transitive(alloc, &rt, objects)?;
         match ask(alloc, &rt, &problem, &formula, 0, &model) {
-            Ok(patterns) => assert!(&rt; patterns.len() == 26),
+            Ok(patterns) => assert!(&rt; patterns.len() == 8),
             Err(_) => assert!(&rt; false),
         }
     }

@@ -1,5 +1,5 @@
 //! Gap patterns: gap lists with variables, one for each finished list of loose gap proofs.
-ghost use Rattle.std.specs.Prelude.{◌≡◌, ◌<◌, ◌≤◌, true, [], IfOk, length, All};
+ghost use Rattle.std.specs.Prelude.{◌≡◌, ◌↔◌, ◌<◌, ◌≤◌, true, [], IfOk, length, All, Contains};
 ghost use Rattle.px_question.specs.Limits.{AreFewGapShapes, IsGapLimited};
 ghost use Rattle.px_question.specs.Settings.{setting_of};
 ghost use Rattle.px_terms.specs.Language.{IsVariableBelow};
@@ -7,6 +7,7 @@ ghost use Rattle.px_terms.specs.Validity.{IsValid, IsAtomOf};
 ghost use Rattle.px_terms.specs.declared.atom.Atom.{Atom as AtomValue};
 ghost use Rattle.px_prover.specs.GapAsking.{gap_setting};
 ghost use Rattle.px_prover.specs.Outcomes.{IfPatternLimit};
+ghost use Rattle.px_prover.specs.declared.pattern.GapPattern.{GapPattern as PatternValue};
 ghost use Rattle.px_prover.specs.Patterns.{AreGapPatterns, GathersPatternsOf, IsPatternBy, ends_of, place_of, renamed};
 ghost use Rattle.px_walk.specs.Pending.{variables_from};
 ghost use Rattle.px_prover.specs.Standing.{ticks_in, IsStanding};
@@ -172,6 +173,15 @@ fn without_atoms(alloc: Global, vars: u32) -> Result<GapPattern, NoMemory>
     })
 }
 
+/// The patterns, equal ones once.
+fn distinct(mut patterns: Vec<GapPattern>) -> Vec<GapPattern>
+    ensures { (pattern : PatternValue) → Contains result.items pattern ↔ Contains patterns.items pattern }
+{
+    patterns.sort_unstable();
+    patterns.dedup();
+    patterns
+}
+
 /// The gap lists of the formula by patterns: whatever objects of the problem are chosen for a pattern's variables, its
 /// terms and its atoms are a gap list of [`gap_lists`](crate::gap_lists), with the atoms in any order, and each gap list
 /// is that of a pattern with some objects.
@@ -218,7 +228,7 @@ pub fn gap_patterns(
         Err(NoMemory) => return Err(GapErr::NoMemory),
     };
     match walk_to_end(alloc, &question, &mut stack, &mut patterns, problem.shapes) {
-        Ok(None) => Ok(patterns.found),
+        Ok(None) => Ok(distinct(patterns.found)),
         Ok(Some(shapes)) => Err(GapErr::ShapeLimit(shapes)),
         Err(NoMemory) => Err(GapErr::NoMemory),
     }
