@@ -20,7 +20,8 @@ use Rattle.px_terms.specs.Substitution.{substitute_atom}
 use Rattle.px_terms.specs.Validity.{IsAtomOf, IsTermOf}
 use Rattle.px_proof.specs.Derivation.{Derivation, Derivations, fact, ancestor, step, gap, open_place, none, also, leaf_atoms, leaves_of}
 use Rattle.px_proof.specs.Literals.{complement_of, positive_of}
-use Rattle.px_proof.specs.PlaceLaws.{slice_get-read, slice_get-within, some_same}
+use Rattle.px_base.specs.Answers.{some_same}
+use Rattle.px_proof.specs.PlaceLaws.{slice_get-read, slice_get-within}
 use Rattle.px_proof.specs.Proves.{IsName, Proves, ProvesEach, from_atoms, instance_of, parts_of}
 use Rattle.px_table.specs.declared.mark.Mark.{Mark}
 use Rattle.px_table.specs.declared.table.Table.{Table}
@@ -52,7 +53,7 @@ any-decides atom (a ∷ atoms) = elim (atom_eq atom a) as (λ b. atom_eq atom a 
 
 there-decides : {A : Type 0} (same : A → A → Bool) → ((x y : A) → Decides (same x y) (x ≡ y)) → (o : Option A) (x : A) → Decides (is_there same o x) (o ≡ Some x)
 there-decides same each None x = (λ h. absurd (cc), λ h. absurd (cc))
-there-decides same each (Some y) x = Decides-like (same y x) (λ e. ap Some e) (λ e. some_same y x e) (each y x)
+there-decides same each (Some y) x = Decides-like (same y x) (λ e. ap Some e) (λ e. some_same e) (each y x)
 
 -- the second test is only asked where the first holds
 and-decides : {P Q : Type 0} (x y : Bool) → Decides x P → (P → Decides y Q) → Decides (x && y) (P × Q)
@@ -124,7 +125,7 @@ module _ (objects params : ℕ) (axioms : List Clause) where
         → (number < length axioms) × Fits path lit theta place parts (clause_at axioms number)
     used_fits path lit number theta place parts used =
         let within = slice_get-within axioms number used.0 used.1.axiom_at in
-        let same : used.0 ≡ clause_at axioms number = some_same _ _ (sym used.1.axiom_at ∙ slice_get-read axioms number (record { vars = 0; lits = [] }) within) in
+        let same : used.0 ≡ clause_at axioms number = some_same (sym used.1.axiom_at ∙ slice_get-read axioms number (record { vars = 0; lits = [] }) within) in
         (within, subst (Fits path lit theta place parts) same (used.1.terms, (used.1.choices, (used.1.literal_at, used.2))))
 
     mutual
@@ -218,7 +219,7 @@ adder-decides : (problem : Problem) (index : ℕ) (atom : Atom) (o : Option OpIn
 adder-decides problem index atom None = (λ h. absurd (cc), λ h. absurd (let e = h.1 in cc))
 adder-decides problem index atom (Some inst) =
     Decides-like (is_adder problem index atom (Some inst)) (λ e. (inst, refl, e))
-    (λ h. subst (λ (x : OpInst). slice_get (adds problem x) index ≡ Some atom) (sym (some_same inst h.0 h.1)) h.2)
+    (λ h. subst (λ (x : OpInst). slice_get (adds problem x) index ≡ Some atom) (sym (some_same h.1)) h.2)
     (there-decides atom_eq atom_eq-decides (slice_get (adds problem inst) index) atom)
 
 source-decides : (problem : Problem) (steps : List OpInst) (column index : ℕ) (atom : Atom) → Decides (is_source problem steps column index atom) (IsSource problem steps column index atom)

@@ -9,4 +9,3 @@ pub mod Layers
 pub mod Loops
 pub mod PrefixSteps
 pub mod RowSteps
-pub mod Writing

@@ -41,8 +41,8 @@ pub fn build(
     ensures carries { (atoms : List _) → Supports problem.now atoms steps.now goal.now goal_vars (rows_of support.items) → Carries problem.now atoms steps.now goal_vars goal.now }
 {
     let table_marks = marks(alloc, &support)?;
-    let table_steps = copied(alloc, steps)?;
-    let table_goal = copied(alloc, goal)?;
+    let table_steps = Sequence::from_slice(alloc, steps)?;
+    let table_goal = Sequence::from_slice(alloc, goal)?;
     Ok(Table {
         params: 0,
         steps: table_steps,
@@ -51,15 +51,6 @@ pub fn build(
         marks: table_marks,
         proofs: Sequence::from_vec(support),
     })
-}
-
-/// A copy of the items.
-fn copied<T: Copy>(alloc: Global, items: &[T]) -> Result<Sequence<T>, NoMemory>
-    ensures { IfOk result (λ copy. copy ≡ items.now) }
-{
-    let mut copies = Vec::new(alloc);
-    copies.extend_from_slice(items)?;
-    Ok(Sequence::from_vec(copies))
 }
 
 /// The marks of the rows, the first of which has number 1: their leaves in order, each once in its row. The proofs may have

@@ -59,7 +59,6 @@ mod node;
 mod prefix;
 mod proper_instance;
 mod ranges;
-mod schema;
 mod table;
 #[cfg(test)]
 mod table_tests;

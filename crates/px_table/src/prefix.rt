@@ -61,7 +61,7 @@ pub fn is_used(table: &Table, prefix: u32, parameter: u32) -> bool
     ensures { IsTrue result ↔ IsUsed table.now prefix parameter }
 {
     let steps = table.steps.as_slice();
-    let taken = steps.len().min(prefix as usize);
+    let taken = (prefix as usize).min(steps.len());
     steps_use(&steps[..taken], parameter) || marks_use(table.marks.as_slice(), prefix, parameter)
 }
 

@@ -7,10 +7,9 @@ ghost use Rattle.px_table.specs.Marks.{IsKept};
 ghost use Rattle.px_table.specs.Tables.{IsStepOf, IsTable};
 
 use crate::mark::Mark;
-use crate::schema::schema_of;
 use crate::table::Table;
 use crate::under_objects::{atom_with, instance_with};
-use px_ops::deletes;
+use px_ops::{deletes, schema_of};
 use px_terms::{Atom, OpInst, Problem};
 
 /// Is the instance of kernel `i` under the objects of `sigma` proper? It is where no step from `i` on deletes the instance of

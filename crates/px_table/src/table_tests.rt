@@ -7,7 +7,7 @@ ghost use Rattle.px_table.specs.Kernels.{IsInstantiation};
 ghost use Rattle.px_table.specs.Supports.{ProvesEachOf};
 ghost use Rattle.px_table.specs.Tables.{IsStepOf};
 
-use crate::ranges::{is_atom_of, is_step_of};
+use crate::ranges::is_step_of;
 use crate::test_problems::{atom, instance, rooms, sequence_of, two_names};
 use crate::validation::{adds_mark, row_proves};
 use crate::{
@@ -17,7 +17,7 @@ use crate::{
 };
 use px_base::Sequence;
 use px_proof::{Leaf, Proof};
-use px_terms::{Atom, OpInst, Problem, Term};
+use px_terms::{Atom, OpInst, Problem, Term, is_atom_of};
 use std::alloc::Global;
 use std::process::Abort;
 use std::rt::HostRuntime;
@@ -82,15 +82,7 @@ fn has_kernel(alloc: Global, rt: &impl Abort, table: &Table, i: u32, atoms: &[At
 fn is_instantiation(problem: &Problem, table: &Table, sigma: &[u32]) -> bool
     ensures { IsTrue result → IsInstantiation problem.now table.now sigma.now }
 {
-    if sigma.len() != table.params as usize {
-        return false;
-    }
-    for object in sigma {
-        if *object >= problem.objects {
-            return false;
-        }
-    }
-    true
+    sigma.len() == table.params as usize && sigma.iter().all(|object| *object < problem.objects)
 }
 
 const P1: Term = Term::Var(0);
