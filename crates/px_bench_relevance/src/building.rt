@@ -2,9 +2,8 @@
 ghost use Rattle.std.specs.Prelude.{◌≤◌, length};
 
 use px_base::Sequence;
-use px_fits::all_objects;
 use px_ops::Model;
-use px_terms::{Atom, ClauseArena, NoMemory, Problem, Schema, Term};
+use px_terms::{Atom, ClauseArena, NoMemory, Problem, Schema, Term, is_ground};
 use std::alloc::Global;
 
 const INROOM: u32 = 0;
@@ -120,7 +119,7 @@ fn insert(model: &mut Model, pred: u32, numbers: &[u32]) -> Result<(), NoMemory>
         }
     }
     let fact = atom(pred, &terms[..numbers.len().min(3)]);
-    if all_objects(fact.args()) {
+    if is_ground(&fact) {
         model.insert(fact)?;
     }
     Ok(())

@@ -15,10 +15,9 @@ mod standing;
 
 use building::{atom, building, facts};
 use px_diff::{AskErr, gaps, relevant_measured};
-use px_fits::{atoms_fit, is_valid};
 use px_ops::Model;
 use px_prover::{ProveErr, prove};
-use px_terms::{Atom, NoMemory, Problem, Term};
+use px_terms::{Atom, NoMemory, Problem, Term, are_atoms_of, is_valid};
 use standing::{first_on_second, standing};
 use std::alloc::Global;
 use std::io;
@@ -91,7 +90,7 @@ fn count_pushes(alloc: Global, problem: &Problem, model: &Model, wanted: Atom) -
 /// How many gaps the atom has. None where it has a proof, or where there is no answer.
 fn count_gaps(alloc: Global, problem: &Problem, model: &Model, atom: Atom) -> Option<usize> {
     let formula = [atom];
-    if !is_valid(problem) || !atoms_fit(problem, 0, &formula) {
+    if !is_valid(problem) || !are_atoms_of(problem, 0, &formula) {
         return None;
     }
     match prove(alloc, problem, &formula, 0, model) {

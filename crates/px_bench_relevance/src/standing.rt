@@ -2,8 +2,7 @@
 //! one, and an axiom says that standing on is transitive.
 use crate::building::{atom, sequence_of};
 use px_base::Sequence;
-use px_fits::are_lits;
-use px_terms::{Atom, ClauseArena, Lit, NoMemory, Problem, Schema, Term};
+use px_terms::{Atom, ClauseArena, Lit, NoMemory, Problem, Schema, Term, are_plain_below};
 use std::alloc::Global;
 
 const ON: u32 = 0;
@@ -35,7 +34,7 @@ fn transitive(alloc: Global) -> Result<ClauseArena, NoMemory> {
         literal(false, X, Y),
         literal(false, Y, Z),
     ];
-    if !are_lits(3, &lits) {
+    if !are_plain_below(3, &lits) {
         return Ok(axioms);
     }
     match axioms.push(3, &lits) {

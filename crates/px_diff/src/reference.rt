@@ -6,13 +6,12 @@ ghost use Rattle.px_question.specs.Answers.{IsAnswer};
 ghost use Rattle.px_question.specs.Settings.{setting_of};
 
 use crate::request::Request;
-use px_fits::{all_objects, are_variables_below, atoms_fit, is_valid};
 use px_ops::Model;
 use px_proof::{Shape, Tick};
 use px_prover::{Answer, GapErr, ProveErr, gap_lists, prove};
 use px_question::GapList;
 use px_table::Entry;
-use px_terms::{Atom, NoMemory, OpInst, Problem, Schema, Term, apply};
+use px_terms::{Atom, NoMemory, OpInst, Problem, Schema, Term, apply, are_atoms_of, are_variables_below, is_ground, is_valid};
 use std::alloc::Global;
 use std::process::Abort;
 
@@ -79,7 +78,7 @@ pub fn ask(
     ensures { result ≡ Err ProveErr.Unprovable → ¬ IsAnswer (setting_of problem.now model.now.atoms) formula.now vars }
 {
     assert!(rt; is_valid(problem));
-    assert!(rt; atoms_fit(problem, vars, formula) && vars <= 12);
+    assert!(rt; are_atoms_of(problem, u64::from(vars), formula) && vars <= 12);
     assert!(rt; problem.objects > 0);
     prove(alloc, problem, formula, vars, model)
 }
@@ -112,7 +111,7 @@ fn lists_of(
     formula: &[Atom],
     model: &Model,
 ) -> Result<Result<Vec<GapList>, Vec<Shape>>, NoMemory> {
-    assert!(rt; is_valid(problem) && atoms_fit(problem, 0, formula));
+    assert!(rt; is_valid(problem) && are_atoms_of(problem, 0, formula));
     match gap_lists(alloc, problem, formula, 0, model) {
         Ok(lists) => Ok(Ok(lists)),
         Err(GapErr::ShapeLimit(shapes)) => Ok(Err(shapes)),
@@ -235,7 +234,7 @@ fn any_provable(
 /// Puts the ground ones of the atoms into the set.
 fn insert_ground(set: &mut Model, atoms: &[Atom]) -> Result<(), NoMemory> {
     for atom in atoms {
-        if all_objects(atom.args()) {
+        if is_ground(atom) {
             set.insert(*atom)?;
         }
     }

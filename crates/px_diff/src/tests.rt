@@ -4,11 +4,10 @@ use crate::test_problems::{
     atom, blocks, chain, model_of, o, opening, rooms, stacked, transitive, v,
 };
 use crate::{AskErr, gaps, relevant};
-use px_fits::{atoms_fit, is_valid};
 use px_ops::Model;
 use px_prover::ProveErr;
 use px_table::Entry;
-use px_terms::{Atom, NoMemory, OpInst, Problem, Term};
+use px_terms::{Atom, NoMemory, OpInst, Problem, Term, are_atoms_of, is_valid};
 use std::alloc::Global;
 use std::process::Abort;
 use std::rt::HostRuntime;
@@ -24,7 +23,7 @@ fn gaps_of(
     model: &Model,
 ) -> Result<Option<Vec<Atom>>, AskErr> {
     assert!(rt; is_valid(problem));
-    assert!(rt; atoms_fit(problem, vars, formula) && vars <= 12);
+    assert!(rt; are_atoms_of(problem, u64::from(vars), formula) && vars <= 12);
     assert!(rt; problem.objects > 0);
     match ask(alloc, rt, problem, formula, vars, model) {
         Ok(_) => Ok(None),

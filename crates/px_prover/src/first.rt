@@ -1,6 +1,7 @@
 ghost use Rattle.std.specs.Prelude.{◌≡◌, ◌≤◌, ◌<◌, List, map as map_list, IfOk, All, false};
 ghost use Rattle.px_proof.specs.Derivation.{derivations};
 ghost use Rattle.px_proof.specs.ProofTerm.{derivation_of};
+ghost use Rattle.px_proof.specs.Range.{IsDerivationOf};
 ghost use Rattle.px_proof.specs.declared.shape.Tick.{Tick};
 ghost use Rattle.px_question.specs.Answers.{IsAnswer, IsFirst};
 ghost use Rattle.px_question.specs.Limits.{AreFewBefore, AreFewShapes, IsLimited};
@@ -44,8 +45,9 @@ fn answer(alloc: Global, question: &Question, stack: &Stack) -> Result<Answer, N
     })
 }
 
-/// The first finished proof of the formula from the facts of the model (after the prover of Fikes and Nilsson 1971). An
-/// object is needed where there is a variable.
+/// The first finished proof of the formula from the facts of the model (after the prover of Fikes and Nilsson 1971). Only
+/// objects of the problem stand in it, and its leaves are atoms of the problem. An object is needed where there is a
+/// variable.
 ///
 /// # Errors
 /// `Unprovable` where there is none, `ShapeLimit` where as many shapes of unfinished lists as the shape limit come
@@ -62,6 +64,7 @@ pub fn prove(
     requires few_variables { vars ≤ 12 }
     requires objects { 0 < vars → 0 < problem.now.objects }
     ensures first { IfOk result (λ answer. IsFirst (setting_of problem.now model.now.atoms) formula.now vars answer.objects (derivations (map_list derivation_of answer.proofs))) }
+    ensures of_problem { IfOk result (λ answer. All (IsDerivationOf problem.now 0) (map_list derivation_of answer.proofs)) }
     ensures few { IfOk result (λ answer. (shapes : List (List Tick)) → ¬ IsLimited (setting_of problem.now model.now.atoms) formula.now vars shapes) }
     ensures few_before { IfOk result (λ answer. AreFewBefore (setting_of problem.now model.now.atoms) formula.now vars (derivations (map_list derivation_of answer.proofs))) }
     ensures none { result ≡ Err ProveErr.Unprovable → ¬ IsAnswer (setting_of problem.now model.now.atoms) formula.now vars }

@@ -5,10 +5,9 @@ use crate::samples::{
 };
 use crate::{GapErr, gap_lists};
 use px_base::{NoMemory, Sequence};
-use px_fits::{atoms_fit, is_valid};
 use px_ops::Model;
 use px_question::GapList;
-use px_terms::{Atom, ClauseArena, Problem, Schema};
+use px_terms::{Atom, ClauseArena, Problem, Schema, are_atoms_of, is_valid};
 use std::alloc::Global;
 use std::process::Abort;
 use std::rt::HostRuntime;
@@ -37,7 +36,7 @@ fn ask(
     model: &Model,
 ) -> Result<Vec<GapList>, GapErr> {
     assert!(rt; is_valid(problem));
-    assert!(rt; atoms_fit(problem, vars, formula) && vars <= 4096);
+    assert!(rt; are_atoms_of(problem, u64::from(vars), formula) && vars <= 4096);
     assert!(rt; vars == 0 || problem.objects > 0);
     gap_lists(alloc, problem, formula, vars, model)
 }

@@ -12,7 +12,9 @@
 //!   ordered by their shapes: at the first place that is closed otherwise, a fact comes before an ancestor and an ancestor
 //!   before an axiom; facts come in the model's order, ancestors from the nearest, axioms by number and place. Among lists
 //!   of one shape the least objects come first, so a variable that the proofs leave free gets object 0. A leaf has column
-//!   0 and the fact's place in the model as its index.
+//!   0 and the fact's place in the model as its index. Only objects of the problem stand in the proofs, and their leaves are
+//!   atoms of the problem, whatever else the model holds. `answers_make_rows` of `px_question` leads from them to a row of a
+//!   support.
 //! - `Unprovable`: there is no finished list, and fewer unfinished ones than the shape limit.
 //! - `ShapeLimit`: as many shapes of unfinished lists as the shape limit stand before the first finished one, or exist at
 //!   all where there is none. The answer has the first so many.
@@ -80,3 +82,4 @@ pub use listing::gap_lists;
 pub use outcome::{Answer, GapErr, ProveErr};
 pub use pattern::GapPattern;
 pub use patterns::gap_patterns;
+pub use px_question::GapList;

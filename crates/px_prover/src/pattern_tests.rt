@@ -8,10 +8,9 @@ use crate::samples::{
 use crate::tuples::tuples;
 use crate::{GapErr, gap_lists, gap_patterns};
 use px_base::{NoMemory, Sequence};
-use px_fits::{atoms_fit, is_valid};
 use px_ops::Model;
 use px_question::GapList;
-use px_terms::{Atom, ClauseArena, Problem, Schema, Term};
+use px_terms::{Atom, ClauseArena, Problem, Schema, Term, are_atoms_of, is_valid};
 use std::alloc::Global;
 use std::process::Abort;
 use std::rt::HostRuntime;
@@ -27,7 +26,7 @@ fn ask(
     model: &Model,
 ) -> Result<Vec<GapPattern>, GapErr> {
     assert!(rt; is_valid(problem));
-    assert!(rt; atoms_fit(problem, vars, formula) && vars <= 4096);
+    assert!(rt; are_atoms_of(problem, u64::from(vars), formula) && vars <= 4096);
     assert!(rt; vars == 0 || problem.objects > 0);
     gap_patterns(alloc, problem, formula, vars, model)
 }
@@ -42,7 +41,7 @@ fn ask_lists(
     model: &Model,
 ) -> Result<Vec<GapList>, GapErr> {
     assert!(rt; is_valid(problem));
-    assert!(rt; atoms_fit(problem, vars, formula) && vars <= 4096);
+    assert!(rt; are_atoms_of(problem, u64::from(vars), formula) && vars <= 4096);
     assert!(rt; vars == 0 || problem.objects > 0);
     gap_lists(alloc, problem, formula, vars, model)
 }

@@ -1,10 +1,9 @@
 //! Problems, models and formulas that several tests ask about.
 
 use px_base::{NoMemory, Sequence};
-use px_fits::{all_objects, are_lits};
 use px_ops::Model;
 use px_proof::{Shape, Tick};
-use px_terms::{Atom, ClauseArena, Lit, Problem, Schema, Term};
+use px_terms::{Atom, ClauseArena, Lit, Problem, Schema, Term, are_plain_below, is_ground};
 use std::alloc::Global;
 use std::process::Abort;
 use std::test::Fail;
@@ -61,7 +60,7 @@ pub fn problem_of(
 pub fn model_of(alloc: Global, atoms: &[Atom]) -> Result<Model, NoMemory> {
     let mut model = Model::new(alloc);
     for atom in atoms {
-        if all_objects(atom.args()) {
+        if is_ground(atom) {
             model.insert(*atom)?;
         }
     }
@@ -75,7 +74,7 @@ pub fn add_axiom(
     vars: u32,
     lits: &[Lit],
 ) -> Result<(), Fail> {
-    assert!(rt; are_lits(vars, lits));
+    assert!(rt; are_plain_below(vars, lits));
     axioms.push(vars, lits)?;
     Ok(())
 }

@@ -5,10 +5,9 @@ use crate::samples::{
 };
 use crate::{Answer, ProveErr, prove};
 use px_base::NoMemory;
-use px_fits::{atoms_fit, is_valid};
 use px_ops::Model;
 use px_proof::{Proof, check};
-use px_terms::{Atom, ClauseArena, Problem, Term};
+use px_terms::{Atom, ClauseArena, Problem, Term, are_atoms_of, is_valid};
 use std::alloc::Global;
 use std::process::Abort;
 use std::rt::HostRuntime;
@@ -24,7 +23,7 @@ fn ask(
     model: &Model,
 ) -> Result<Answer, ProveErr> {
     assert!(rt; is_valid(problem));
-    assert!(rt; atoms_fit(problem, vars, formula) && vars <= 12);
+    assert!(rt; are_atoms_of(problem, u64::from(vars), formula) && vars <= 12);
     assert!(rt; vars == 0 || problem.objects > 0);
     prove(alloc, problem, formula, vars, model)
 }

@@ -3,18 +3,17 @@ use Rattle.std.specs.Prelude.{◌≡◌, ℕ, List}
 use Rattle.px_terms.specs.declared.atom.Atom.{Atom}
 use Rattle.px_proof.specs.declared.shape.Tick.{Tick}
 use Rattle.px_proof.specs.Derivation.{Derivations}
-use Rattle.px_proof.specs.Shapes.{ticks_of}
 use Rattle.px_question.specs.declared.gap_list.GapList.{GapList}
-use Rattle.px_question.specs.Answers.{IsFirst, IsList, all_choices_of}
-use Rattle.px_question.specs.Gaps.{AreGapLists}
-use Rattle.px_question.specs.Limits.{AreFewBefore, AreFewGapShapes, AreFewShapes, IsGapLimited, IsLimited}
+use Rattle.px_question.specs.Answers.{IsFirst, IsList}
+use Rattle.px_question.specs.Gaps.{AreGapLists, MeetsGapLimit, StaysBelowGapLimit}
+use Rattle.px_question.specs.Limits.{AreFewBefore, AreFewGapShapes, AreFewShapes, IsGapLimited, IsLimited, StaysBelowLimit}
 use Rattle.px_question.specs.Settings.{Setting, proofs_in}
 
--- two first answers have one shape, one list of objects for the variables, and one list of objects that the steps choose
+-- two first answers have one list of objects for the variables, and one list of proofs
 abbrev pub FirstIsOne : Type 0
 FirstIsOne =
     (s : Setting) (formula : List Atom) (vars : ℕ) (objects others : List ℕ) (ds es : Derivations) → IsFirst s formula vars objects ds → IsFirst s formula vars others es →
-    (ticks_of ds ≡ ticks_of es) × (objects ≡ others) × (all_choices_of ds ≡ all_choices_of es)
+    (objects ≡ others) × (ds ≡ es)
 
 -- a limit has one list of shapes
 pub record LimitsAreOne : Type 0 where
@@ -25,9 +24,14 @@ pub record LimitsAreOne : Type 0 where
 abbrev pub GapListsAreOne : Type 0
 GapListsAreOne = (s : Setting) (formula : List Atom) (vars : ℕ) (lists others : List GapList) → AreGapLists s formula vars lists → AreGapLists s formula vars others → lists ≡ others
 
--- where the shapes are fewer than the limit, it isn't met
+-- Where the shapes are fewer than the limit, it isn't met. The shapes of unfinished lists of proofs are among those of loose gap
+-- proofs, so where these are fewer than the limit, those are, too.
 pub record FewOrLimited : Type 0 where
   pub proofs : (s : Setting) (formula : List Atom) (vars : ℕ) (shapes : List (List Tick)) → AreFewShapes s formula vars → IsLimited s formula vars shapes → ⊥
   pub before : (s : Setting) (formula : List Atom) (vars : ℕ) (shapes : List (List Tick)) (objects : List ℕ) (ds : Derivations) →
       IsList (proofs_in s) s formula vars objects ds → AreFewBefore s formula vars ds → IsLimited s formula vars shapes → ⊥
   pub gap_proofs : (s : Setting) (formula : List Atom) (vars : ℕ) (shapes : List (List Tick)) → AreFewGapShapes s formula vars → IsGapLimited s formula vars shapes → ⊥
+  pub gap_shapes : (s : Setting) (formula : List Atom) (vars : ℕ) → AreFewGapShapes s formula vars → AreFewShapes s formula vars
+  pub proofs_with_gaps : (s : Setting) (formula : List Atom) (vars : ℕ) (shapes : List (List Tick)) → AreFewGapShapes s formula vars → IsLimited s formula vars shapes → ⊥
+  pub below : (s : Setting) (formula : List Atom) (vars : ℕ) (shapes : List (List Tick)) → StaysBelowLimit s formula vars → IsLimited s formula vars shapes → ⊥
+  pub gaps_below : (s : Setting) (formula : List Atom) (vars : ℕ) (kept : List Atom) (shapes : List (List Tick)) → StaysBelowGapLimit s formula vars → MeetsGapLimit s formula vars kept shapes → ⊥

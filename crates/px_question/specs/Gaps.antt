@@ -13,7 +13,7 @@ use Rattle.px_proof.specs.Derivation.{Derivation, Derivations, fact, ancestor, s
 use Rattle.px_proof.specs.Proves.{Rules, with_gaps}
 use Rattle.px_question.specs.declared.gap_list.GapList.{GapList}
 use Rattle.px_question.specs.Answers.{IsAnswer, IsList, IsProvable}
-use Rattle.px_question.specs.Limits.{IsGapLimited, IsLimited}
+use Rattle.px_question.specs.Limits.{AreFewGapShapes, IsGapLimited, IsLimited, StaysBelowLimit}
 use Rattle.px_question.specs.Settings.{Setting, IsAddable, loose_gaps_in, proofs_in}
 
 -- the atoms that are closed by a gap
@@ -64,3 +64,9 @@ abbrev pub MeetsGapLimit : Setting → List Atom → ℕ → List Atom → List 
 MeetsGapLimit s formula vars kept shapes =
     ((kept ≡ formula) × IsGapLimited s formula vars shapes)
     ⊎ ((atom : Atom) × (kept ≡ atom ∷ []) × IsLooseGap s formula vars atom × IsLimited s kept 0 shapes)
+
+-- Finding the gaps of the formula stays below the limit: fewer shapes of unfinished gap proofs exist, and so it is where each atom that
+-- a loose gap proof of it closes is to be proved.
+pub record StaysBelowGapLimit (s : Setting) (formula : List Atom) (vars : ℕ) : Type 0 where
+  pub shapes : AreFewGapShapes s formula vars
+  pub atoms : (atom : Atom) → IsLooseGap s formula vars atom → StaysBelowLimit s (atom ∷ []) 0

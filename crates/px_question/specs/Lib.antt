@@ -5,3 +5,8 @@ pub mod Gaps
 pub mod GapOrder
 pub mod Determined
 pub mod ShapeOrder
+pub mod FewerShapes
+pub mod FirstOfEach
+pub mod FewerFacts
+pub mod Rows
+pub mod Decided

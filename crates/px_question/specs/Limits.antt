@@ -6,7 +6,7 @@ use Rattle.px_proof.specs.declared.shape.Tick.{Tick}
 use Rattle.px_proof.specs.Derivation.{Derivations}
 use Rattle.px_proof.specs.Proves.{Rules, or_open}
 use Rattle.px_proof.specs.Shapes.{ticks_of, ShapeBefore, IsUnfinished}
-use Rattle.px_question.specs.Answers.{IsList}
+use Rattle.px_question.specs.Answers.{IsFirst, IsList}
 use Rattle.px_question.specs.Settings.{Setting, proofs_in, loose_gaps_in}
 
 -- the shape of an unfinished list: all places before the first open one are closed, and some objects make the closings
@@ -51,6 +51,11 @@ AreFewShapes s formula vars = AreFewerThan (IsPartialShape (proofs_in s) s formu
 -- fewer of them than the limit stand before the shape of the list
 abbrev pub AreFewBefore : Setting → List Atom → ℕ → Derivations → Type 0
 AreFewBefore s formula vars ds = AreFewerThan (λ shape. IsPartialShape (proofs_in s) s formula vars shape × ShapeBefore shape (ticks_of ds)) s.limit
+
+-- Proving the formula stays below the limit: fewer shapes than the limit stand before that of the first answer, or exist at all.
+abbrev pub StaysBelowLimit : Setting → List Atom → ℕ → Type 0
+StaysBelowLimit s formula vars =
+    ((objects : List ℕ) × (ds : Derivations) × IsFirst s formula vars objects ds × AreFewBefore s formula vars ds) ⊎ AreFewShapes s formula vars
 
 -- fewer shapes of unfinished lists of loose gap proofs exist than the limit
 abbrev pub AreFewGapShapes : Setting → List Atom → ℕ → Type 0

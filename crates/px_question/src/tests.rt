@@ -1,5 +1,6 @@
 use crate::{
-    GapList, few_or_limited, first_is_one, gap_lists_are_one, gap_lists_are_ordered, limits_are_one,
+    GapList, answers_make_rows, few_or_limited, fewer_facts_have_no_more, first_is_of_each,
+    first_is_one, gap_lists_are_one, gap_lists_are_ordered, limits_are_one, questions_are_decided,
 };
 use px_terms::{Atom, NoMemory, Sequence, Term};
 use std::alloc::Global;
@@ -8,8 +9,12 @@ use std::rt::HostRuntime;
 #[test]
 fn laws_are_calls(_rt: HostRuntime) {
     first_is_one();
+    first_is_of_each();
+    answers_make_rows();
+    fewer_facts_have_no_more();
     limits_are_one();
     few_or_limited();
+    questions_are_decided();
     gap_lists_are_one();
     gap_lists_are_ordered();
 }

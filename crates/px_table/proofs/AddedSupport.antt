@@ -18,13 +18,14 @@ use Rattle.px_proof.specs.declared.proof.Leaf.{Leaf}
 use Rattle.px_proof.specs.declared.proof.Proof.{Proof}
 use Rattle.px_proof.specs.declared.proof.Proof.TheVariants.{Fact}
 use Rattle.px_proof.specs.Derivation.{Derivation, fact}
+use Rattle.px_proof.specs.LayerLaws.{derivation_of-fact}
 use Rattle.px_proof.specs.ProofTerm.{derivation_of}
 use Rattle.px_proof.specs.Proves.{IsName}
 use Rattle.px_table.specs.declared.mark.Mark.{Mark}
 use Rattle.px_table.specs.Marks.{IsKept, IsNamed}
 use Rattle.px_table.specs.Supports.{IsProofOf, ProvesEachOf, Supports}
 use Rattle.px_table.specs.Tables.{AreOfProblem, IsStepOf, rows_of}
-use Rattle.px_table.proofs.GivenSupport.{IsGivenOf, derivation_of-fact, one, stays}
+use Rattle.px_table.proofs.GivenSupport.{IsGivenOf, one, stays}
 
 abbrev leaf_at : ℕ → Atom → Leaf
 leaf_at column atom = record { column = column; index = 0; atom = atom }

@@ -1,9 +1,11 @@
 -- The terms that a goal's variables get from the conclusions of its row.
 use Rattle.std.proofs.Common.{◌≡◌, ◌⊎◌, ℕ, zero, suc, ◌+◌, ◌-◌, ◌<◌, ◌≤◌, true, false, cond, List, [], ◌∷◌, ◌++◌, length, map, drop, get_or, refl, sym, ap, ◌∙◌, subst, inl, inr, arith, Some, None, add-one}
-use Rattle.std.specs.Prelude.{All, Option, Contains, nat_lt, ◌==◌}
+use Rattle.std.specs.Prelude.{All, Contains, nat_lt, ◌==◌}
 use Rattle.std.proofs.lemmas.Bool.Decides.{nat_tests}
-use Rattle.std.proofs.lemmas.List.{get_or_append_left, get_or-append_right}
+use Rattle.std.proofs.lemmas.List.{drop_all, get_or_default, get_or_append_left, get_or-append_right}
 use Rattle.std.proofs.Math.Seq.{drop-cons}
+use Rattle.std.proofs.lemmas.Slice.Zip.{AllZip-long}
+use Rattle.px_base.specs.Answers.{some_or_none}
 use Rattle.px_base.specs.ListLaws.{All-at, Contains-none, Contains-first, Contains-later, Contains-cases}
 use Rattle.px_terms.specs.declared.atom.Atom.{Atom}
 use Rattle.px_terms.specs.declared.clause.Clause.{Clause}
@@ -17,7 +19,7 @@ use Rattle.px_terms.specs.Validity.{IsAtomOf, IsTermOf}
 use Rattle.px_table.specs.Choices.{atom_by, choice_of, chosen_or_any, first_answer, term_beside, term_by}
 use Rattle.px_table.specs.Supports.{variables, variables_from}
 use Rattle.px_table.specs.Conclusions.{AreConclusions, IsConclusion}
-use Rattle.px_table.proofs.Loops.{drop_whole, read_itself, zip_at, zip_length}
+use Rattle.px_table.proofs.Loops.{zip_at}
 
 -- ---- steps of the loops
 
@@ -26,14 +28,14 @@ beside_past v [] terms = refl
 beside_past v (p ∷ patterns) terms = refl
 
 pub beside_end : (v : ℕ) (patterns terms : List Term) (k : ℕ) → length terms ≤ k → term_beside v (drop k patterns) (drop k terms) ≡ None
-beside_end v patterns terms k end = ap (term_beside v (drop k patterns)) (drop_whole terms k end) ∙ beside_past v (drop k patterns) []
+beside_end v patterns terms k end = ap (term_beside v (drop k patterns)) (drop_all k terms end) ∙ beside_past v (drop k patterns) []
 
 choice_past : (v : ℕ) (goal : List Atom) → choice_of v goal [] ≡ None
 choice_past v [] = refl
 choice_past v (g ∷ goal) = refl
 
 pub choice_end : (v : ℕ) (goal atoms : List Atom) (k : ℕ) → length atoms ≤ k → choice_of v (drop k goal) (drop k atoms) ≡ None
-choice_end v goal atoms k end = ap (choice_of v (drop k goal)) (drop_whole atoms k end) ∙ choice_past v (drop k goal)
+choice_end v goal atoms k end = ap (choice_of v (drop k goal)) (drop_all k atoms end) ∙ choice_past v (drop k goal)
 
 pub choice_step : (v : ℕ) (goal atoms : List Atom) (k : ℕ) (pattern atom : Atom) → k < length goal → k < length atoms → pattern ≡ get_or goal k pattern → atom ≡ get_or atoms k atom
     → choice_of v (drop k goal) (drop k atoms) ≡ first_answer (term_beside v pattern.args atom.args) (choice_of v (drop (suc k) goal) (drop (suc k) atoms))
@@ -76,13 +78,10 @@ module _ (terms : List Term) (v : ℕ) where
       elim (beside_only g.args) [
         | inr found ↦ ap (λ o. first_answer o (choice_of v goal (map (substitute_atom terms) goal))) found
         | inl missing ↦ ap (λ o. first_answer o (choice_of v goal (map (substitute_atom terms) goal))) missing ∙ elim (Contains-cases g goal pattern has) [
-          | inl is ↦ absurd (missing_there (beside_under g.args (subst (λ (a : Atom). Contains a.args (Var v)) (sym is) inside)) missing)
+          | inl is ↦ absurd (some_or_none (sym (beside_under g.args (subst (λ (a : Atom). Contains a.args (Var v)) (sym is) inside)) ∙ missing))
           | inr later ↦ choice_under goal pattern later inside
         ]
       ]
-    where
-      missing_there : {o : Option Term} → o ≡ Some (substitute terms (Var v)) → o ≡ None → ⊥
-      missing_there some_term no_term = cc
 
 map_alike : {X Y : Type 0} (f g : X → Y) (xs : List X) → ((x : X) → Contains xs x → f x ≡ g x) → map f xs ≡ map g xs
 map_alike f g [] same = refl
@@ -177,17 +176,14 @@ no_atom = record { pred = 0; args = [] }
 
 module _ (axioms : List Clause) (row : List Proof) (k : ℕ) (proof : Proof) (is : proof ≡ get_or row k proof) (below : k < length row) (atoms : List Atom) (concluded : AreConclusions axioms atoms row) where
   pub within_atoms : k < length atoms
-  within_atoms = let same = zip_length (IsConclusion axioms) atoms row concluded in omega (arith, below, same)
+  within_atoms = let same = AllZip-long (IsConclusion axioms) atoms row concluded in omega (arith, below, same)
 
   pub conclusion_here : IsConclusion axioms (get_or atoms k no_atom) proof
   conclusion_here = subst (IsConclusion axioms (get_or atoms k no_atom)) (sym is) (zip_at (IsConclusion axioms) atoms row k no_atom proof concluded within_atoms)
 
   pub choice_here : (v : ℕ) (goal : List Atom) (pattern : Atom) → k < length goal → pattern ≡ get_or goal k pattern
       → choice_of v (drop k goal) (drop k atoms) ≡ first_answer (term_beside v pattern.args (get_or atoms k no_atom).args) (choice_of v (drop (k + 1) goal) (drop (k + 1) atoms))
-  choice_here v goal pattern below' is' = rw (add-one k) (choice_step v goal atoms k pattern (get_or atoms k no_atom) below' within_atoms is' (read_itself atoms k no_atom within_atoms))
+  choice_here v goal pattern below' is' = rw (add-one k) (choice_step v goal atoms k pattern (get_or atoms k no_atom) below' within_atoms is' (get_or_default atoms k no_atom (get_or atoms k no_atom) within_atoms))
 
 pub atom_is : (a b : Atom) → a.pred ≡ b.pred → a.args ≡ b.args → a ≡ b
 atom_is a b p q = λ i. record { pred = p i; args = q i }
-
-pub nothing_is_some : {X G : Type 0} (x : X) → ◌≡◌ None (Some x) → G
-nothing_is_some x e = cc

@@ -1,8 +1,9 @@
 -- A list that is compared from the front with the marks of leaves.
-use Rattle.std.proofs.Common.{◌≡◌, ◌↔◌, ℕ, zero, suc, ◌+◌, ◌<◌, ◌≤◌, Bool, true, false, cond, List, [], ◌∷◌, ◌++◌, length, map, take, drop, get_or, refl, sym, ap, ◌∙◌, arith, append_assoc, Some, None}
+use Rattle.std.proofs.Common.{◌≡◌, ◌↔◌, ℕ, zero, suc, ◌+◌, ◌<◌, ◌≤◌, Bool, true, false, cond, List, [], ◌∷◌, ◌++◌, length, map, take, drop, get_or, sym, ap, ◌∙◌, arith, append_assoc, Some, None}
 use Rattle.std.specs.List.{list_any}
 use Rattle.std.proofs.Math.Seq.{drop-cons}
-use Rattle.std.proofs.lemmas.List.{take_more, take-append-drop, map-append}
+use Rattle.std.proofs.lemmas.List.{append_cancel_left, append-nil, map-append, take_more, take-append-drop}
+use Rattle.px_base.specs.Answers.{both_answers}
 use Rattle.px_proof.specs.declared.proof.Proof.{Proof}
 use Rattle.px_proof.specs.Derivation.{Derivation, derivations, leaves_of, all_leaves_of}
 use Rattle.px_proof.specs.ProofTerm.{derivation_of}
@@ -46,12 +47,9 @@ module _ (marks : List Mark) (count : ℕ) (mark : Mark) (within : count ≤ len
   behind rest new e d =
       item_behind marks count mark rest d (e ∙ ap (λ l. l ++ rest) (put_once-new mark_eq (take count marks) mark new) ∙ append_assoc (take count marks) (mark ∷ []) rest) within
 
-  never : {G : Type 0} (b : Bool) → b ≡ false → b ≡ true → G
-  never b f t = cc
-
   pub front-other : (item : Mark) → list_any (λ other. mark_eq other mark) (take count marks) ≡ false → item ≡ get_or marks count item → mark_eq item mark ≡ false
       → IsFront marks (put_once mark_eq (take count marks) mark) None
-  front-other item new is other rest e = never (mark_eq item mark) other ((mark_eq-decides item mark).1 (is ∙ (behind rest new e item).1))
+  front-other item new is other rest e = both_answers (mark_eq item mark) other ((mark_eq-decides item mark).1 (is ∙ (behind rest new e item).1))
 
   pub front-end : list_any (λ other. mark_eq other mark) (take count marks) ≡ false → length marks ≤ count → IsFront marks (put_once mark_eq (take count marks) mark) None
   front-end new end rest e = omega (arith, (behind rest new e mark).0)
@@ -75,11 +73,7 @@ marks-append row xs ys =
     ∙ map-append (mark_of row) (all_leaves_of (derivations (map derivation_of xs))) (all_leaves_of (derivations (map derivation_of ys)))
 
 one-mark : (row : ℕ) (proof : Proof) → all_marks row (proof ∷ []) ≡ map (mark_of row) (leaves_of (derivation_of proof))
-one-mark row proof = ap (map (mark_of row)) (all_leaves-row (derivation_of proof ∷ []) ∙ nil (leaves_of (derivation_of proof)))
-  where
-    nil : {A : Type 0} (xs : List A) → xs ++ [] ≡ xs
-    nil [] = refl
-    nil (x ∷ xs) = ap (λ l. x ∷ l) (nil xs)
+one-mark row proof = ap (map (mark_of row)) (all_leaves-row (derivation_of proof ∷ []) ∙ append-nil (leaves_of (derivation_of proof)))
 
 module _ (marks : List Mark) (count row : ℕ) (proofs : List Proof) (k : ℕ) (proof : Proof) (is : proof ≡ get_or proofs k proof) (below : k < length proofs)
     (at : ℕ) (front : take at marks ≡ put_each mark_eq (take count marks) (first_marks row proofs k)) where
@@ -110,10 +104,6 @@ module _ (marks : List Mark) (count row : ℕ) (proofs : List Proof) (k : ℕ) (
 
 -- ---- row by row
 
-cancel : {A : Type 0} (front xs ys : List A) → front ++ xs ≡ front ++ ys → xs ≡ ys
-cancel [] xs ys e = e
-cancel (f ∷ front) xs ys e = cancel front xs ys (let tail : front ++ xs ≡ front ++ ys = cc in tail)
-
 module _ (marks : List Mark) (rows : List (List Derivation)) (k at : ℕ) (row : List Derivation) (below : k < length rows) (is : get_or rows k row ≡ row) where
   here : marks_from (suc k) (drop k rows) ≡ row_marks (suc k) row ++ marks_from (suc (suc k)) (drop (suc k) rows)
   here = ap (marks_from (suc k)) (drop-cons rows k row below ∙ ap (λ r. r ∷ drop (suc k) rows) is)
@@ -123,22 +113,8 @@ module _ (marks : List Mark) (rows : List (List Derivation)) (k at : ℕ) (row :
   rows-next count front =
       let split : drop at marks ≡ row_marks (suc k) row ++ drop count (drop at marks) = sym (take-append-drop count (drop at marks)) ∙ ap (λ l. l ++ drop count (drop at marks)) front.1 in (
         λ rest. split ∙ ap (λ l. row_marks (suc k) row ++ l) rest ∙ sym here,
-        λ whole. cancel (row_marks (suc k) row) _ _ (sym split ∙ whole ∙ here),
+        λ whole. append_cancel_left (row_marks (suc k) row) _ _ (sym split ∙ whole ∙ here),
       )
 
   pub rows-fail : IsFront (drop at marks) (row_marks (suc k) row) None → drop at marks ≡ marks_from (suc k) (drop k rows) → ⊥
   rows-fail front whole = front (marks_from (suc (suc k)) (drop (suc k) rows)) (whole ∙ here)
-
-pub drop_twice : {A : Type 0} (xs : List A) (a b : ℕ) → drop b (drop a xs) ≡ drop (a + b) xs
-drop_twice xs zero b = ap (λ n. drop n xs) (let e : b ≡ 0 + b = omega arith in e)
-drop_twice [] (suc a) b = none b (a + b) ∙ ap (λ n. drop n []) (let e : suc (a + b) ≡ suc a + b = omega arith in e)
-  where
-    none : {A : Type 0} (b n : ℕ) → drop {A = A} b [] ≡ drop (suc n) []
-    none zero n = refl
-    none (suc b) n = refl
-drop_twice (x ∷ xs) (suc a) b = drop_twice xs a b ∙ ap (λ n. drop n (x ∷ xs)) (let e : suc (a + b) ≡ suc a + b = omega arith in e)
-
-pub length-drop_at : {A : Type 0} (xs : List A) (a : ℕ) → a ≤ length xs → a + length (drop a xs) ≡ length xs
-length-drop_at xs zero h = omega arith
-length-drop_at [] (suc a) h = absurd (omega (arith, h))
-length-drop_at (x ∷ xs) (suc a) h = let e = length-drop_at xs a (omega (arith, h)) in omega (arith, e)

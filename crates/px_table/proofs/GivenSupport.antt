@@ -1,5 +1,5 @@
 -- A goal that is given at first supports itself.
-use Rattle.std.proofs.Common.{◌≡◌, ℕ, zero, suc, List, [], ◌∷◌, map, refl, sym, ap, ◌∙◌, subst, arith, Some}
+use Rattle.std.proofs.Common.{◌≡◌, ℕ, zero, suc, List, [], ◌∷◌, map, refl, sym, ap, subst, arith, Some}
 use Rattle.std.specs.Prelude.{All, Contains}
 use Rattle.std.proofs.lemmas.List.Elements.{All-cons}
 use Rattle.px_base.specs.ListLaws.{Contains-first}
@@ -14,19 +14,13 @@ use Rattle.px_terms.specs.Validity.{HasArity, IsAtomOf, IsTermOf}
 use Rattle.px_terms.specs.ValidityLaws.{atom_of-is_ground}
 use Rattle.px_proof.specs.declared.proof.Leaf.{Leaf}
 use Rattle.px_proof.specs.declared.proof.Proof.{Proof}
-use Rattle.px_proof.specs.declared.proof.Proof.TheOpen as layer
 use Rattle.px_proof.specs.declared.proof.Proof.TheVariants.{Fact}
-use Rattle.px_proof.specs.declared.proof.Proof.TheViews.{rolls-Fact}
-use Rattle.px_proof.specs.declared.proof.Proof.TheFolds.{fold-roll-Proof}
+use Rattle.px_proof.specs.LayerLaws.{derivation_of-fact}
 use Rattle.px_proof.specs.Derivation.{Derivation, fact, leaf_atoms, leaves_of, terms_of}
-use Rattle.px_proof.specs.ProofTerm.{derivation_of, derivation_step}
 use Rattle.px_table.specs.declared.mark.Mark.{Mark}
 use Rattle.px_table.specs.Marks.{IsKept, IsNamed, step_at}
 use Rattle.px_table.specs.Supports.{IsProofOf, Supports}
 use Rattle.px_table.specs.Tables.{AreOfProblem, rows_of}
-
-pub derivation_of-fact : (leaf : Leaf) → derivation_of (Fact leaf) ≡ fact leaf
-derivation_of-fact leaf = ap derivation_of (sym (rolls-Fact leaf)) ∙ fold-roll-Proof Derivation derivation_step (layer.Fact leaf)
 
 abbrev given_leaf : Atom → Leaf
 given_leaf atom = record { column = 0; index = 0; atom = atom }

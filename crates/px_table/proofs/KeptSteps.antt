@@ -1,16 +1,15 @@
 -- A mark that is kept by the steps so far.
-use Rattle.std.proofs.Common.{◌≡◌, ◌⊎◌, ℕ, suc, ◌+◌, ◌<◌, ◌≤◌, Some, List, length, map, get_or, slice_get, sym, ap, ◌∙◌, subst, inl, inr, zero, arith}
+use Rattle.std.proofs.Common.{◌≡◌, ℕ, suc, ◌+◌, ◌<◌, ◌≤◌, Some, List, length, map, get_or, slice_get, sym, ap, ◌∙◌, subst, inl, inr, zero, arith}
 use Rattle.std.proofs.lemmas.List.{length-map}
+use Rattle.px_base.proofs.Loops.{level_or_below}
 use Rattle.px_terms.specs.declared.instance.OpInst.{OpInst}
 use Rattle.px_terms.specs.declared.problem.Problem.{Problem}
 use Rattle.px_terms.specs.Operators.{IsDeleted, schema_of}
-use Rattle.px_proof.specs.PlaceLaws.{slice_get-map, slice_get-read, slice_get-within, some_same}
+use Rattle.px_base.specs.Answers.{some_same}
+use Rattle.px_proof.specs.PlaceLaws.{slice_get-map, slice_get-read, slice_get-within}
 use Rattle.px_table.specs.declared.mark.Mark.{Mark}
 use Rattle.px_table.specs.Kernels.{atom_under, instance_under, mark_under}
 use Rattle.px_table.specs.Marks.{IsKept}
-
-below_or_here : (j i : ℕ) → j < i + 1 → (j < i) ⊎ (j ≡ i)
-below_or_here j i h = grind arith
 
 module _ (problem : Problem) (steps : List OpInst) (sigma : List ℕ) (first : ℕ) (mark : Mark) where
   -- the step deletes the mark's instance
@@ -27,12 +26,12 @@ module _ (problem : Problem) (steps : List OpInst) (sigma : List ℕ) (first : �
   -- the instance of the step at the place
   instance_at : (i : ℕ) (step inst : OpInst) → i < length steps → step ≡ get_or steps i step → slice_get (map (instance_under sigma) steps) i ≡ Some inst → instance_under sigma step ≡ inst
   instance_at i step inst below is at =
-      some_same _ _ (sym (slice_get-map (instance_under sigma) steps i step (slice_get-read steps i step below ∙ ap Some (sym is))) ∙ at)
+      some_same (sym (slice_get-map (instance_under sigma) steps i step (slice_get-read steps i step below ∙ ap Some (sym is))) ∙ at)
 
   pub kept-next : (i : ℕ) (step : OpInst) → i < length steps → step ≡ get_or steps i step → KeptBelow i
       → (first ≤ suc i → mark.column < suc i → suc i < mark.row → Deletes (instance_under sigma step) → ⊥) → KeptBelow (i + 1)
   kept-next i step below is before here = record {
-    kept = λ j inst less low column row at deleted. elim (below_or_here j i less) [
+    kept = λ j inst less low column row at deleted. elim (level_or_below j i less) [
       | inl earlier ↦ before.kept j inst earlier low column row at deleted
       | inr now ↦
           let at_i = subst (λ n. slice_get (map (instance_under sigma) steps) n ≡ Some inst) now at in

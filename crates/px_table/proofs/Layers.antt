@@ -1,5 +1,5 @@
--- One layer of a proof term, and the one atom that it can prove.
-use Rattle.std.proofs.Common.{◌≡◌, ℕ, ◌<◌, List, [], length, map, get_or, slice_get, Some, sym, ap, ◌∙◌, subst}
+-- The one atom that a step of a proof can prove.
+use Rattle.std.proofs.Common.{◌≡◌, ℕ, ◌<◌, List, [], length, get_or, slice_get, Some, sym, ap, ◌∙◌, subst}
 use Rattle.px_terms.specs.Clauses.{IsArena, ArePlainBelow}
 use Rattle.px_terms.specs.declared.atom.Atom.{Atom}
 use Rattle.px_terms.specs.declared.clause.Clause.{Clause}
@@ -8,21 +8,10 @@ use Rattle.px_terms.specs.declared.term.Term.{Term}
 use Rattle.px_terms.specs.declared.term.Term.TheVariants.{Obj, Var, Any}
 use Rattle.px_terms.specs.Language.{IsPlainBelow, IsVariableBelow}
 use Rattle.px_terms.specs.Substitution.{substitute_atom}
-use Rattle.px_proof.specs.declared.proof.Proof.{Proof}
-use Rattle.px_proof.specs.declared.proof.Proof.TheOpen as layer
-use Rattle.px_proof.specs.declared.proof.Proof.TheViews.{Step, rolls-Step}
-use Rattle.px_proof.specs.declared.proof.Proof.TheFolds.{fold-roll-Proof}
-use Rattle.px_proof.specs.Derivation.{Derivation, derivations, step}
 use Rattle.px_proof.specs.Literals.{positive_of, substitute_literal}
-use Rattle.px_proof.specs.PlaceLaws.{slice_get-map, slice_get-read, some_same}
-use Rattle.px_proof.specs.ProofTerm.{derivation_of, derivation_step}
+use Rattle.px_base.specs.Answers.{some_same}
+use Rattle.px_proof.specs.PlaceLaws.{slice_get-map, slice_get-read}
 use Rattle.px_proof.specs.Proves.{instance_of}
-
-pub derivation_of-step :
-    (clause : ℕ) (theta : List Term) (place : ℕ) (subs : List Proof) →
-    derivation_of (Step clause theta place subs) ≡ step clause theta place (derivations (map derivation_of subs))
-derivation_of-step clause theta place subs =
-    ap derivation_of (sym (rolls-Step clause theta place subs)) ∙ fold-roll-Proof Derivation derivation_step (layer.Step clause theta place subs)
 
 abbrev pub no_clause : Clause
 no_clause = record { vars = 0; lits = [] }
@@ -43,7 +32,7 @@ pub concluded : (axioms : List Clause) (number : ℕ) (theta : List Term) (place
     → lits ≡ (get_or axioms number no_clause).lits → place < length lits → slice_get axioms number ≡ Some used → slice_get (instance_of used.lits theta) place ≡ Some (positive_of atom)
     → substitute_atom theta (get_or lits place item).atom ≡ atom
 concluded axioms number theta place lits atom used item below is within at_clause at_literal =
-    let same : used ≡ get_or axioms number no_clause = some_same _ _ (sym at_clause ∙ slice_get-read axioms number no_clause below) in
+    let same : used ≡ get_or axioms number no_clause = some_same (sym at_clause ∙ slice_get-read axioms number no_clause below) in
     let lits_same : used.lits ≡ lits = ap (λ (c : Clause). c.lits) same ∙ sym is in
     let read = slice_get-map (substitute_literal theta) lits place (get_or lits place item) (slice_get-read lits place item within) in
-    ap (λ (l : Lit). l.atom) (some_same _ _ (sym read ∙ ap (λ ls. slice_get (instance_of ls theta) place) (sym lits_same) ∙ at_literal))
+    ap (λ (l : Lit). l.atom) (some_same (sym read ∙ ap (λ ls. slice_get (instance_of ls theta) place) (sym lits_same) ∙ at_literal))

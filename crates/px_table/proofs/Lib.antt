@@ -1,10 +1,11 @@
 pub mod AddedSupport
 pub mod Choosing
+pub mod DecidingLaws
 pub mod Fronts
 pub mod GivenSupport
 pub mod KeptSteps
 pub mod KernelSteps
 pub mod Layers
 pub mod Loops
+pub mod PrefixSteps
 pub mod RowSteps
-pub mod Writing

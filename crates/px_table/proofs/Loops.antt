@@ -1,34 +1,9 @@
--- Steps of loops over lists: what holds of all items so far, what was made of them, and what is left.
-use Rattle.std.proofs.Common.{◌≡◌, ◌⊎◌, ℕ, zero, suc, ◌+◌, ◌<◌, ◌≤◌, List, [], ◌∷◌, ◌++◌, length, map, take, drop, get_or, refl, sym, ap, ◌∙◌, subst, inl, inr, arith}
+-- Steps of loops over lists: what was made of the items so far, and two lists item by item.
+use Rattle.std.proofs.Common.{◌≡◌, ℕ, zero, suc, ◌+◌, ◌<◌, ◌≤◌, List, [], ◌∷◌, ◌++◌, length, map, take, drop, get_or, sym, ap, ◌∙◌, arith}
 use Rattle.std.specs.Prelude.{All}
 use Rattle.std.specs.List.{AllZip}
-use Rattle.std.proofs.lemmas.List.{get_or_default, take_more, map-append}
+use Rattle.std.proofs.lemmas.List.{get_or-map, map-append, take_all, take_more}
 use Rattle.std.proofs.lemmas.List.Elements.{All-cons}
-
-below_or_here : (j i : ℕ) → j < i + 1 → (j < i) ⊎ (j ≡ i)
-below_or_here j i h = grind arith
-
-module _ {X : Type 0} (P : X → Type 0) (xs : List X) (i : ℕ) (x : X) (is : x ≡ get_or xs i x) (below : i < length xs) where
-  pub all-next : ((k : ℕ) (d : X) → k < i → P (get_or xs k d)) → P x → (k : ℕ) (d : X) → k < i + 1 → P (get_or xs k d)
-  all-next before here k d less = elim (below_or_here k i less) [
-    | inl earlier ↦ before k d earlier
-    | inr now ↦ subst (λ n. P (get_or xs n d)) (sym now) (subst P (is ∙ sym (get_or_default xs i d x below)) here)
-  ]
-
-  pub all-fails : (P x → ⊥) → All P xs → ⊥
-  all-fails fails all = fails (subst P (sym is) (all i x below))
-
-pub take_whole : {X : Type 0} (xs : List X) (i : ℕ) → length xs ≤ i → take i xs ≡ xs
-take_whole [] zero h = refl
-take_whole [] (suc i) h = refl
-take_whole (x ∷ xs) zero h = absurd (omega (arith, h))
-take_whole (x ∷ xs) (suc i) h = ap (λ l. x ∷ l) (take_whole xs i (omega (arith, h)))
-
-pub drop_whole : {X : Type 0} (xs : List X) (i : ℕ) → length xs ≤ i → drop i xs ≡ []
-drop_whole [] zero h = refl
-drop_whole [] (suc i) h = refl
-drop_whole (x ∷ xs) zero h = absurd (omega (arith, h))
-drop_whole (x ∷ xs) (suc i) h = drop_whole xs i (omega (arith, h))
 
 -- two lists that agree so far, under a map
 pub map_next : {X Y : Type 0} (f : X → Y) (xs : List X) (ys : List Y) (i : ℕ) (d : X) (e : Y) → i < length xs → i < length ys
@@ -37,33 +12,14 @@ map_next f xs ys i d e below below' so_far here =
     ap (map f) (take_more xs i d below) ∙ map-append f (take i xs) (get_or xs i d ∷ []) ∙ ap (λ l. l ++ f (get_or xs i d) ∷ []) so_far ∙ ap (λ y. take i ys ++ y ∷ []) here ∙ sym (take_more ys i e below')
 
 pub map_all : {X Y : Type 0} (f : X → Y) (xs : List X) (ys : List Y) (i : ℕ) → length xs ≤ i → length ys ≤ i → map f (take i xs) ≡ take i ys → map f xs ≡ ys
-map_all f xs ys i long long' so_far = ap (map f) (sym (take_whole xs i long)) ∙ so_far ∙ take_whole ys i long'
+map_all f xs ys i long long' so_far = ap (map f) (sym (take_all i xs long)) ∙ so_far ∙ take_all i ys long'
 
 pub map_at : {X Y : Type 0} (f : X → Y) (xs : List X) (ys : List Y) (i : ℕ) (d : X) (e : Y) → i < length xs → map f xs ≡ ys → f (get_or xs i d) ≡ get_or ys i e
-map_at f [] ys i d e below same = absurd (omega (arith, below))
-map_at f (x ∷ xs) [] i d e below same = absurd (cc)
-map_at f (x ∷ xs) (y ∷ ys) zero d e below same = cc
-map_at f (x ∷ xs) (y ∷ ys) (suc i) d e below same =
-    let rest : map f xs ≡ ys = cc in
-    map_at f xs ys i d e (omega (arith, below)) rest
-
-pub get_map : {X Y : Type 0} (f : X → Y) (xs : List X) (i : ℕ) (d : X) (e : Y) → i < length xs → get_or (map f xs) i e ≡ f (get_or xs i d)
-get_map f [] i d e below = absurd (omega (arith, below))
-get_map f (x ∷ xs) zero d e below = refl
-get_map f (x ∷ xs) (suc i) d e below = get_map f xs i d e (omega (arith, below))
-
-pub read_itself : {X : Type 0} (xs : List X) (i : ℕ) (d : X) → i < length xs → get_or xs i d ≡ get_or xs i (get_or xs i d)
-read_itself xs i d below = get_or_default xs i d (get_or xs i d) below
+map_at f xs ys i d e below same = sym (get_or-map f xs i d e below) ∙ ap (λ l. get_or l i e) same
 
 -- ---- two lists, item by item
 
 module _ {A B : Type 0} (R : A → B → Type 0) where
-  pub zip_length : (xs : List A) (ys : List B) → AllZip R xs ys → length xs ≡ length ys
-  zip_length [] [] h = refl
-  zip_length [] (y ∷ ys) h = absurd h
-  zip_length (x ∷ xs) [] h = absurd h
-  zip_length (x ∷ xs) (y ∷ ys) h = ap suc (zip_length xs ys h.1)
-
   pub zip_at : (xs : List A) (ys : List B) (i : ℕ) (d : A) (e : B) → AllZip R xs ys → i < length xs → R (get_or xs i d) (get_or ys i e)
   zip_at [] [] i d e h below = absurd (omega (arith, below))
   zip_at [] (y ∷ ys) i d e h below = absurd h

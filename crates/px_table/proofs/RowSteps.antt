@@ -1,6 +1,6 @@
 -- Steps over the rows of a table and over the proofs of a row.
 use Rattle.std.proofs.Common.{◌≡◌, ◌↔◌, ℕ, zero, suc, ◌+◌, ◌<◌, List, [], ◌∷◌, length, map, drop, get_or, slice_get, refl, sym, ap, ◌∙◌, subst, arith, add-one, Some}
-use Rattle.std.proofs.lemmas.List.{length-map}
+use Rattle.std.proofs.lemmas.List.{get_or-map, length-map}
 use Rattle.std.proofs.lemmas.Option.{get_or_from_slice_get}
 use Rattle.px_terms.specs.declared.atom.Atom.{Atom}
 use Rattle.px_terms.specs.declared.clause.Clause.{Clause}
@@ -14,7 +14,7 @@ use Rattle.px_proof.specs.PlaceLaws.{slice_get-within}
 use Rattle.px_proof.specs.ProofTerm.{derivation_of}
 use Rattle.px_table.specs.Supports.{IsProofOf, ProvesEachOf, ProvesGoal, RowsProve}
 use Rattle.px_table.specs.Tables.{rows_of}
-use Rattle.px_table.proofs.Loops.{get_map, zip_from, zip_onto}
+use Rattle.px_table.proofs.Loops.{zip_from, zip_onto}
 
 module _ (IsTerm : Term → Type 0) (axioms : List Clause) where
   -- the proofs from one on are that one and those after it
@@ -25,7 +25,7 @@ module _ (IsTerm : Term → Type 0) (axioms : List Clause) where
       let within = slice_get-within atoms k atom at in
       let within' : k < length (map derivation_of row) = omega (arith, below, length-map row derivation_of) in
       let same_atom : get_or atoms k atom ≡ atom = get_or_from_slice_get atoms k atom atom at in
-      let same_proof : get_or (map derivation_of row) k (derivation_of proof) ≡ derivation_of proof = get_map derivation_of row k proof (derivation_of proof) below ∙ ap derivation_of (sym is) in
+      let same_proof : get_or (map derivation_of row) k (derivation_of proof) ≡ derivation_of proof = get_or-map derivation_of row k proof (derivation_of proof) below ∙ ap derivation_of (sym is) in
       rw (add-one k) (
         λ h.
             let split = zip_from (IsProofOf IsTerm axioms) atoms (map derivation_of row) k atom (derivation_of proof) within within' h in
@@ -59,7 +59,7 @@ module _ (IsTerm : Term → Type 0) (problem : Problem) (params : ℕ) (goal : L
   rows_step steps proofs k inst row is is' below below' =
       rw (add-one k)
       (first_and_rest steps (rows_of proofs) k inst (map derivation_of row) is
-      (get_map (map derivation_of) proofs k row (map derivation_of row) below' ∙ ap (map derivation_of) (sym is')) below (omega (arith, below', length-map proofs (map derivation_of))))
+      (get_or-map (map derivation_of) proofs k row (map derivation_of row) below' ∙ ap (map derivation_of) (sym is')) below (omega (arith, below', length-map proofs (map derivation_of))))
 
   last_of_all : (steps : List OpInst) (rows : List (List Derivation)) (k : ℕ) (row : List Derivation) → get_or rows k row ≡ row → k ≡ length steps → length rows ≡ suc k
       → RowsProve IsTerm problem params (drop k steps) goal goal_vars (drop k rows) ↔ ProvesGoal IsTerm problem.axioms params goal goal_vars row
@@ -76,4 +76,4 @@ module _ (IsTerm : Term → Type 0) (problem : Problem) (params : ℕ) (goal : L
       → RowsProve IsTerm problem params (drop k steps) goal goal_vars (drop k (rows_of proofs)) ↔ ProvesGoal IsTerm problem.axioms params goal goal_vars (map derivation_of row)
   rows_last steps proofs k row is end long =
       last_of_all steps (rows_of proofs) k (map derivation_of row)
-      (get_map (map derivation_of) proofs k row (map derivation_of row) (omega (arith, long)) ∙ ap (map derivation_of) (sym is)) end (length-map proofs (map derivation_of) ∙ long)
+      (get_or-map (map derivation_of) proofs k row (map derivation_of row) (omega (arith, long)) ∙ ap (map derivation_of) (sym is)) end (length-map proofs (map derivation_of) ∙ long)

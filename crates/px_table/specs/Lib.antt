@@ -1,6 +1,7 @@
 pub mod Carrying
 pub mod Choices
 pub mod Conclusions
+pub mod Deciding
 pub mod EntryLaws
 pub mod EntryOrder
 pub mod KernelLaws
@@ -10,9 +11,13 @@ pub mod Marks
 pub mod NodeLaws
 pub mod NodeValue
 pub mod Nodes
+pub mod ObjectLaws
 pub mod Once
 pub mod OnceLaws
+pub mod Prefixes
 pub mod RowLaws
+pub mod SupportClaimLaws
+pub mod SupportClaims
 pub mod SupportLaws
 pub mod SupportShapes
 pub mod Supports

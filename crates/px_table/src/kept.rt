@@ -5,7 +5,7 @@ ghost use Rattle.px_table.specs.Marks.{mark_eq, mark_of};
 ghost use Rattle.px_table.specs.Once.{put_once, put_each};
 
 use crate::mark::Mark;
-use px_base::NoMemory;
+use px_base::{NoMemory, push};
 use px_proof::Leaf;
 use px_terms::Atom;
 
@@ -25,37 +25,17 @@ pub fn leaf_mark(row: u32, leaf: &Leaf) -> Mark
 pub fn has_mark(marks: &[Mark], mark: &Mark) -> bool
     ensures { result ≡ list_any (λ other. mark_eq other mark.now) marks.now }
 {
-    for other in marks {
-        if *other == *mark {
-            return true;
-        }
-    }
-    false
-}
-
-/// Is the atom among the atoms?
-fn has_atom(atoms: &[Atom], atom: &Atom) -> bool
-    ensures { result ≡ list_any (λ other. atom_eq other atom.now) atoms.now }
-{
-    for other in atoms {
-        if *other == *atom {
-            return true;
-        }
-    }
-    false
+    marks.contains(mark)
 }
 
 /// Puts the atom last, unless it is there.
 pub fn put_atom(atoms: &mut Vec<Atom>, atom: Atom) -> Result<(), NoMemory>
     ensures { IfOk result (λ _. atoms.new.items ≡ put_once atom_eq atoms.old.items atom) }
 {
-    if has_atom(atoms, &atom) {
+    if atoms.contains(&atom) {
         return Ok(());
     }
-    match atoms.push(atom) {
-        Ok(()) => Ok(()),
-        Err(_) => Err(NoMemory),
-    }
+    push(atoms, atom)
 }
 
 /// Puts the mark last, unless it is there.
@@ -65,10 +45,7 @@ fn put_mark(marks: &mut Vec<Mark>, mark: Mark) -> Result<(), NoMemory>
     if has_mark(marks, &mark) {
         return Ok(());
     }
-    match marks.push(mark) {
-        Ok(()) => Ok(()),
-        Err(_) => Err(NoMemory),
-    }
+    push(marks, mark)
 }
 
 /// Puts the marks of the leaves last, but for those that are there.

@@ -4,7 +4,7 @@ ghost use Rattle.px_table.specs.NodeLaws.{node_eq-equivalence, node_hash-alike};
 ghost use Rattle.px_table.specs.Nodes.{node_eq, node_hash_input};
 
 use crate::entry::Entry;
-use px_base::{NoMemory, Sequence};
+use px_base::{NoMemory, Sequence, push};
 use px_ops::Model;
 use std::alloc::Global;
 use std::hash::{Hash, Hasher};
@@ -92,7 +92,7 @@ fn copy_entries(entries: &Sequence<Entry>) -> Result<Sequence<Entry>, NoMemory>
 {
     let mut copies = Vec::new(*entries.allocator());
     for entry in entries.as_slice() {
-        copies.push(entry.try_copy()?)?;
+        push(&mut copies, entry.try_copy()?)?;
     }
     Ok(Sequence::from_vec(copies))
 }

@@ -7,10 +7,9 @@ ghost use Rattle.px_table.specs.Marks.{IsKept};
 ghost use Rattle.px_table.specs.Tables.{IsStepOf, IsTable};
 
 use crate::mark::Mark;
-use crate::schema::schema_of;
 use crate::table::Table;
 use crate::under_objects::{atom_with, instance_with};
-use px_ops::deletes;
+use px_ops::{deletes, schema_of};
 use px_terms::{Atom, OpInst, Problem};
 
 /// Is the instance of kernel `i` under the objects of `sigma` proper? It is where no step from `i` on deletes the instance of
@@ -54,10 +53,10 @@ fn stands_between(first: u32, mark: &Mark, k: usize) -> bool
 }
 
 /// Is the mark's instance kept by the steps from `first` on?
-fn is_kept(problem: &Problem, table: &Table, sigma: &[u32], first: u32, mark: &Mark) -> bool
+pub fn is_kept(problem: &Problem, table: &Table, sigma: &[u32], first: u32, mark: &Mark) -> bool
     requires problem { IsValid problem.now }
     requires steps { All (IsStepOf problem.now table.now.params) table.now.steps }
-    requires sigma { IsInstantiation problem.now table.now sigma.now }
+    requires sigma { length sigma.now ≡ table.now.params }
     requires mark { IsAtomOf problem.now table.now.params mark.now.atom }
     ensures { IsTrue result ↔ IsKept problem.now (steps_under table.now sigma.now) first (mark_under sigma.now mark.now) }
 {
@@ -76,7 +75,7 @@ fn is_kept(problem: &Problem, table: &Table, sigma: &[u32], first: u32, mark: &M
 fn step_deletes(problem: &Problem, table: &Table, sigma: &[u32], step: &OpInst, atom: &Atom) -> bool
     requires problem { IsValid problem.now }
     requires step { IsStepOf problem.now table.now.params step.now }
-    requires sigma { IsInstantiation problem.now table.now sigma.now }
+    requires sigma { length sigma.now ≡ table.now.params }
     requires is_ground { IsGround atom.now }
     ensures { IsTrue result ↔ IsDeleted (spec_schema_of problem.now (instance_under sigma.now step.now)) (instance_under sigma.now step.now) atom.now }
 {

@@ -1,7 +1,7 @@
 ghost use Rattle.std.specs.Prelude.{◌≡◌, IfOk};
 
 use crate::mark::Mark;
-use px_base::{NoMemory, Sequence};
+use px_base::{NoMemory, Sequence, push};
 use px_proof::Proof;
 use px_terms::{Atom, OpInst};
 use std::marker::Model;
@@ -60,7 +60,7 @@ impl Row {
         let mut copies = Vec::new(*self.proofs.allocator());
         for proof in self.proofs() {
             let copy = proof.try_copy()?;
-            copies.push(copy)?;
+            push(&mut copies, copy)?;
         }
         Ok(Row::from_proofs(copies))
     }
@@ -114,7 +114,7 @@ fn copy_rows(rows: &Sequence<Row>) -> Result<Sequence<Row>, NoMemory>
     let mut copies = Vec::new(*rows.allocator());
     for row in rows.as_slice() {
         let copy = row.try_copy()?;
-        copies.push(copy)?;
+        push(&mut copies, copy)?;
     }
     Ok(Sequence::from_vec(copies))
 }

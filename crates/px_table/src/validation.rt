@@ -12,12 +12,11 @@ use crate::conclusions::positive;
 use crate::goal_row::goal_is_proved;
 use crate::mark::Mark;
 use crate::mark_list::marks_are_leaves;
-use crate::ranges::{is_atom_of, is_in_range};
-use crate::schema::schema_of;
+use crate::ranges::is_in_range;
 use crate::table::Table;
-use px_ops::{adds, pre};
+use px_ops::{adds, pre, schema_of};
 use px_proof::{Proof, is_tree};
-use px_terms::{OpInst, Problem};
+use px_terms::{OpInst, Problem, is_atom_of};
 
 /// Is it a table for the problem? It is where it has fewer than 4,294,967,295 steps, its other numbers are in range, its
 /// rows prove the preconditions of its steps and an instance of its goal over the problem's objects and the parameters,

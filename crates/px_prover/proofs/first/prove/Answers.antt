@@ -8,6 +8,7 @@ use Rattle.px_prover.specs.Standing.{IsAsked, ticks_in}
 use Rattle.px_prover.proofs.Answering.{asked-of}
 use Rattle.px_prover.proofs.Deciding.{decided-few, decided-unlimited, decided-none, decided-none_few, decided-none_unlimited, decided-limit}
 use Rattle.px_prover.proofs.Moves.{opening-sound, opening-standing, sound-possible}
+use Rattle.px_prover.proofs.Ranged.{answer-of_problem}
 use Rattle.px_question.specs.Answers.{IsAnswer}
 use Rattle.px_question.specs.Limits.{AreFewBefore, AreFewShapes, IsLimited}
 use Rattle.px_question.specs.Settings.{setting_of}
@@ -29,6 +30,10 @@ pub walk_to_finished-requires-clause-possible : goal.walk_to_finished-requires-c
 walk_to_finished-requires-clause-possible c =
     let asked = asked_in c.args.problem.now c.atoms.result.now c.args.model.now.atoms c.args.formula.now c.args.vars c.atoms.ensures.value c.atoms.ensures.model c.requires.problem c.requires.formula c.requires.few_variables c.requires.objects in
     sound-possible false (setting_of c.args.problem.now c.atoms.result.now) c.args.formula.now c.args.vars [] c.in-Ok.stack asked (opening-sound false (setting_of c.args.problem.now c.atoms.result.now) c.args.formula.now c.args.vars c.in-Ok.stack c.in-Ok.ensures)
+
+pub returns-in-Ok-answer-clause-of_problem : goal.returns-in-Ok-answer-clause-of_problem
+returns-in-Ok-answer-clause-of_problem c =
+    answer-of_problem c.args.problem.now c.atoms.result.now c.args.formula.now c.args.vars c.in-Ok-answer.answer.objects (map derivation_of c.in-Ok-answer.answer.proofs) c.requires.problem c.requires.formula c.in-Ok-answer.ensures
 
 pub returns-in-Ok-answer-clause-few : goal.returns-in-Ok-answer-clause-few
 returns-in-Ok-answer-clause-few c =

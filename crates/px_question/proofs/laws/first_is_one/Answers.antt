@@ -1,4 +1,4 @@
-use Rattle.px_question.proofs.DeterminedLaws.{first-is_one as the_law}
+use Rattle.px_question.proofs.FirstLaws.{first-is_one as the_law}
 use Rattle.px_question.proofs.laws.first_is_one.Goals as goal
 
 pub returns : goal.returns

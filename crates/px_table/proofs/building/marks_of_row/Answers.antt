@@ -9,7 +9,7 @@ use Rattle.px_proof.specs.ProofTerm.{derivation_of}
 use Rattle.px_table.specs.MarkLaws.{row_marks-put}
 use Rattle.px_table.specs.Marks.{mark_eq, mark_of, row_leaves}
 use Rattle.px_table.specs.Once.{put_each}
-use Rattle.px_table.proofs.Loops.{take_whole}
+use Rattle.std.proofs.lemmas.List.{take_all}
 use Rattle.px_table.proofs.building.marks_of_row.Goals as goal
 
 pub loop-proof-preserved : goal.loop-proof-preserved
@@ -22,5 +22,5 @@ loop-proof-preserved c =
 pub returns : goal.returns
 returns c =
     c.loop-proof.invariant
-    ∙ ap (λ (ps : List Proof). put_each mark_eq [] (map (mark_of c.args.number) (row_leaves (map derivation_of ps)))) (take_whole c.args.proofs.now c.loop-proof.proof-index c.loop-proof-test.false)
+    ∙ ap (λ (ps : List Proof). put_each mark_eq [] (map (mark_of c.args.number) (row_leaves (map derivation_of ps)))) (take_all c.loop-proof.proof-index c.args.proofs.now c.loop-proof-test.false)
     ∙ row_marks-put c.args.number (map derivation_of c.args.proofs.now)

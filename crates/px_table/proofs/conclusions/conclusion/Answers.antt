@@ -3,7 +3,7 @@ use Rattle.px_proof.specs.Derivation.{Derivation, leaves_of, leaf_atoms}
 use Rattle.px_proof.specs.Literals.{positive_of}
 use Rattle.px_proof.specs.ProofTerm.{derivation_of}
 use Rattle.px_proof.specs.Proves.{Proves, from_atoms, IsName}
-use Rattle.px_table.proofs.Layers.{derivation_of-step}
+use Rattle.px_proof.specs.LayerLaws.{derivation_of-step}
 use Rattle.px_table.proofs.conclusions.conclusion.Goals as goal
 
 pub returns-in-Step : goal.returns-in-Step

@@ -1,7 +1,7 @@
-use Rattle.std.proofs.Common.{◌≡◌, Some, None, sym, ◌∙◌, subst}
+use Rattle.std.proofs.Common.{◌≡◌, sym, ◌∙◌, subst}
 use Rattle.px_terms.specs.declared.atom.Atom.{Atom}
 use Rattle.px_proof.specs.Literals.{positive_of}
-use Rattle.px_proof.specs.PlaceLaws.{some_same}
+use Rattle.px_base.specs.Answers.{some_same, some_or_none}
 use Rattle.px_proof.specs.ProofTerm.{derivation_of}
 use Rattle.px_proof.specs.Proves.{IsTree}
 use Rattle.px_table.proofs.conclusions.proves_some.Goals as goal
@@ -13,15 +13,12 @@ returns-in-Some c =
           let tree = exact.0 holds in
           (c.in-Some.atom, record { proves = tree.proves; terms = tree.terms }),
       λ some_atom.
-          let same : c.in-Some.atom ≡ some_atom.0 = some_same _ _ (sym c.in-Some.is ∙ c.conclusion.ensures some_atom.0 (c.args.objects, c.args.params, some_atom.1)) in
+          let same : c.in-Some.atom ≡ some_atom.0 = some_same (sym c.in-Some.is ∙ c.conclusion.ensures some_atom.0 (c.args.objects, c.args.params, some_atom.1)) in
           exact.1 (subst (λ (a : Atom). IsTree c.args.axioms.now c.args.objects c.args.params (positive_of a) (derivation_of c.args.proof.now)) (sym same) (record { proves = some_atom.1.proves; terms = some_atom.1.terms })),
     )
-
-nothing_is_some : {X G : Type 0} (x : X) → ◌≡◌ None (Some x) → G
-nothing_is_some x e = cc
 
 pub returns-in-None : goal.returns-in-None
 returns-in-None c = (
   λ yes. cc,
-  λ some_atom. nothing_is_some some_atom.0 (sym c.in-None.is ∙ c.conclusion.ensures some_atom.0 (c.args.objects, c.args.params, some_atom.1)),
+  λ some_atom. some_or_none (sym (c.conclusion.ensures some_atom.0 (c.args.objects, c.args.params, some_atom.1)) ∙ c.in-None.is),
 )

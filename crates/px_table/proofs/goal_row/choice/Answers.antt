@@ -1,15 +1,15 @@
 use Rattle.std.proofs.Common.{◌≡◌, ◌+◌, drop, get_or, sym, ap, ◌∙◌, arith, Some, None}
 use Rattle.std.specs.Prelude.{Option}
+use Rattle.std.proofs.lemmas.Slice.Zip.{AllZip-long}
 use Rattle.px_terms.specs.declared.term.Term.{Term}
 use Rattle.px_table.specs.Choices.{choice_of, chosen_or_any, first_answer, term_beside}
 use Rattle.px_table.specs.Conclusions.{IsConclusion}
 use Rattle.px_table.proofs.Choosing.{choice_end, choice_here, conclusion_here, no_atom}
-use Rattle.px_table.proofs.Loops.{zip_length}
 use Rattle.px_table.proofs.goal_row.choice.Goals as goal
 
 pub returns-then-k-row : goal.returns-then-k-row
 returns-then-k-row c = λ atoms concluded.
-    let same = zip_length (IsConclusion c.args.axioms.now) atoms c.args.row.now concluded in
+    let same = AllZip-long (IsConclusion c.args.axioms.now) atoms c.args.row.now concluded in
     ap chosen_or_any (sym (choice_end c.args.variable c.args.goal.now atoms c.loop-k.k (omega (arith, same, c.if-k-row.true))) ∙ c.loop-k.invariant atoms concluded)
 
 pub returns-in-Some : goal.returns-in-Some

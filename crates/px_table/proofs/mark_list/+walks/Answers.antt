@@ -4,7 +4,7 @@ use Rattle.px_proof.specs.ProofTerm.{derivation_of}
 use Rattle.px_table.specs.Marks.{mark_eq, mark_of}
 use Rattle.px_table.specs.Once.{IsFront, put_each}
 use Rattle.px_table.proofs.Fronts.{walk-next, walk-fails}
-use Rattle.px_table.proofs.Layers.{derivation_of-step}
+use Rattle.px_proof.specs.LayerLaws.{derivation_of-step}
 use Rattle.px_table.proofs.mark_list.+walks.Goals as goal
 
 pub after_proof-returns-in-Step : goal.after_proof-returns-in-Step

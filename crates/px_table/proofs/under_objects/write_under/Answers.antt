@@ -1,7 +1,7 @@
 use Rattle.std.proofs.Common.{◌<◌, length, map, arith}
 use Rattle.px_terms.specs.declared.term.Term.TheVariants.{Obj}
 use Rattle.px_terms.specs.Language.{substitute}
-use Rattle.px_table.proofs.Writing.{write_next}
+use Rattle.px_terms.proofs.WriteLemmas.{write_next}
 use Rattle.px_table.proofs.under_objects.write_under.Goals as goal
 
 pub loop-i-preserved : goal.loop-i-preserved

@@ -5,7 +5,8 @@ use Rattle.px_terms.specs.declared.problem.Schema.{Schema}
 use Rattle.px_terms.specs.Operators.{adds, schema_of}
 use Rattle.px_terms.specs.OrderLaws.{atom_eq-decides}
 use Rattle.px_terms.specs.Substitution.{substitute_atom}
-use Rattle.px_proof.specs.PlaceLaws.{slice_get-within, some_same}
+use Rattle.px_base.specs.Answers.{some_same}
+use Rattle.px_proof.specs.PlaceLaws.{slice_get-within}
 use Rattle.px_table.proofs.validation.adds_mark.Goals as goal
 
 pub returns-then-index-len : goal.returns-then-index-len
@@ -13,7 +14,7 @@ returns-then-index-len c =
     let at : slice_get (adds c.args.problem.now c.args.inst.now) c.args.mark.now.index ≡ Some c.adds.result = rw c.schema_of-schema.ensures.schema at c.adds.ensures in
     let decides = atom_eq-decides c.adds.result c.args.mark.now.atom in (
       λ holds. at ∙ ap Some (decides.0 (sym c.eq.ensures ∙ holds)),
-      λ named. c.eq.ensures ∙ decides.1 (some_same _ _ (sym at ∙ named)),
+      λ named. c.eq.ensures ∙ decides.1 (some_same (sym at ∙ named)),
     )
 
 pub returns-else-index-len : goal.returns-else-index-len

@@ -1,0 +1,3 @@
+pub mod Sensing
+pub mod DangerLaws
+pub mod DangerSensing

@@ -1,0 +1,9 @@
+use crate::{danger_kernels, danger_sensed, sensed_is_one};
+use std::rt::HostRuntime;
+
+#[test]
+fn laws_are_calls(_rt: HostRuntime) {
+    sensed_is_one();
+    danger_kernels();
+    danger_sensed();
+}

@@ -1,0 +1,5 @@
+use Rattle.px_planex.proofs.DangerRunning.{danger_runs}
+use Rattle.px_planex.proofs.laws.danger_runs.Goals as goal
+
+pub returns : goal.returns
+returns c = danger_runs

@@ -1,0 +1,7 @@
+pub mod Execution
+pub mod Executors
+pub mod Guards
+pub mod Progress
+pub mod Turns
+pub mod RunTraces
+pub mod WorkedRuns

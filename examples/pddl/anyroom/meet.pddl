@@ -1,0 +1,5 @@
+(define (problem meet)
+  (:domain anyroom)
+  (:objects r1 r2 r3 - room shakey - robot b1 b2 - box)
+  (:init (in shakey r1) (in b1 r2) (in b2 r3) (door r1 r2) (door r2 r1) (door r2 r3) (door r3 r2))
+  (:goal (exists (?r - room ?b - box) (and (in shakey ?r) (in ?b ?r)))))

@@ -1,0 +1,148 @@
+"""The table of bad files: what is changed in a good pair of files, and the messages with which from-pddl refuses it."""
+
+DOMAIN = """(define (domain d)
+  (:requirements :strips :typing)
+  (:types box - thing thing)
+  (:constants c - box)
+  (:predicates (p ?x - box) (q ?x ?y))
+  (:action go
+    :parameters (?x - box)
+    :precondition (and (p ?x))
+    :effect (and (q ?x c) (not (p ?x)))))
+"""
+PROBLEM = """(define (problem one)
+  (:domain d)
+  (:objects a - box t - thing)
+  (:init (p a))
+  (:goal (and (q a c))))
+"""
+
+# Name, the text that is replaced in the domain or the problem, its replacement, and the message.
+EDITS = [
+    # The form of files
+    ('a parenthesis is missing at the end', '(not (p ?x)))))', '(not (p ?x))))', 'd:1:1: this parenthesis is never closed'),
+    ('a parenthesis is missing in a section', '(p ?x - box) (q ?x ?y))', '(p ?x - box) (q ?x ?y)',
+     'd:6:3: (:action stands inside another section: a parenthesis is missing before it'),
+    ('a section after the end', '(p a))', '(p a)))', 'p:5:3: nothing may stand after the form (define ..)'),
+    ('a parenthesis too many at the end', '(q a c))))', '(q a c)))))', 'p:5:25: a parenthesis too many'),
+    ('a word after the end', '(q a c))))', '(q a c))))\nend', 'p:6:1: end stands outside (define ..)'),
+    ('no file of a domain', '(define (domain d)', '(define (problem d)',
+     'd:1:1: a file that begins (define (domain NAME) is wanted'),
+    ('a character that no name has', '(p a))', '(p \u00e4))', "p:4:13: '\\xe4' has a character that no PDDL name has"),
+    ('a name that begins with a digit', 'a - box t', '1a - box t', 'p:3:13: a name is wanted here, not 1a'),
+    ('a hyphen without names', '(:types box', '(:types - box', 'd:3:11: a type stands between names and the next name'),
+    ('an unknown section', '(:init', '(:start', 'p:4:3: (:start is no section of a problem'),
+    ('a second section', '  (:init', '  (:objects b)\n  (:init', 'p:4:3: a second section (:objects'),
+    ('no goal', '(:goal (and (q a c)))', '', 'p:1:18: (:goal ..) with one formula is wanted'),
+    ('an action without its list', ':effect (and (q ?x c) (not (p ?x)))', ':effect',
+     'd:9:5: a form in parentheses is wanted after :effect'),
+    ('no part of an action', ':effect', ':effects', 'd:9:5: :effects is no part of an action, or a second one'),
+    # Names, types and arities
+    ('another domain', '(:domain d)', '(:domain e)', 'p:2:12: the problem is of the domain e, and not of d'),
+    ('an unknown type of an object', 't - thing', 't - thong', 'p:3:25: unknown type thong'),
+    ('an unknown type of a parameter', ':parameters (?x - box)', ':parameters (?x - crate)', 'd:7:23: unknown type crate'),
+    ('an unknown type above', 'box - thing thing', 'box - thing', 'd:3:17: unknown type thing'),
+    ('a cyclic type', 'box - thing thing', 'box - thing thing - box', 'd:3:11: the type box is below itself, or below such a type'),
+    ('a type twice', 'box - thing thing', 'box - thing thing box', 'd:3:29: the type box is declared twice'),
+    ('an object twice', 'a - box t', 'a a - box t', 'p:3:15: the object a is declared twice'),
+    ('a constant as an object', 'a - box t', 'a c - box t', 'p:3:15: the object c is declared twice'),
+    ('a predicate twice', '(q ?x ?y))', '(q ?x ?y) (P))', 'd:5:40: the predicate p is declared twice'),
+    ('an action twice', '\n  (:action go', '\n  (:action go)\n  (:action go', 'd:7:12: the action go is declared twice'),
+    ('a parameter twice', '(?x - box)\n', '(?x ?x - box)\n', 'd:7:21: the variable ?x is declared twice'),
+    ('an arity that differs', '(:init (p a))', '(:init (p a c))', 'p:4:10: p has 2 arguments here and 1 where it is declared'),
+    ('an arity that differs in an action', '(and (q ?x c)', '(and (q ?x)',
+     'd:9:18: q has 1 arguments here and 2 where it is declared'),
+    ('an unknown predicate', '(:init (p a))', '(:init (r a))', 'p:4:10: unknown predicate r'),
+    ('an unknown object', '(:init (p a))', '(:init (p b))', 'p:4:13: unknown object b'),
+    ('an object of the problem in the domain', '(q ?x c)', '(q ?x a)', 'd:9:24: unknown object a'),
+    ('an unknown variable', '(q ?x c)', '(q ?y c)', 'd:9:21: unknown variable ?y'),
+    ('a variable in the facts', '(:init (p a))', '(:init (p ?x))', 'p:4:13: unknown variable ?x'),
+    ('an object of another type', '(:init (p a))', '(:init (p t))', 'p:4:13: t is of the type thing, and p takes box here'),
+    ('a parameter of another type', '(?x - box)\n', '(?x - thing)\n', 'd:8:27: ?x is of the type thing, and p takes box here'),
+    # Features that aren't taken
+    ('a requirement', ':typing)', ':typing :adl)', 'd:2:34: not taken: the requirement :adl'),
+    ('equality as a requirement', ':typing)', ':typing :equality)', 'd:2:34: not taken: the requirement :equality'),
+    ('a negative precondition', '(and (p ?x))', '(and (not (p ?x)))', 'd:8:24: not taken: a negative condition (not ..)'),
+    ('a negative goal', '(and (q a c))', '(not (q a c))', 'p:5:10: not taken: a negative condition (not ..)'),
+    ('a disjunction', '(and (p ?x))', '(or (p ?x) (p c))', 'd:8:19: not taken: a disjunction (or ..)'),
+    ('an implication', '(and (p ?x))', '(imply (p ?x) (p c))', 'd:8:19: not taken: an implication (imply ..)'),
+    ('a universal condition', '(and (p ?x))', '(forall (?y) (p ?x))', 'd:8:19: not taken: a universal condition (forall ..)'),
+    ('an existential precondition', '(and (p ?x))', '(exists (?y) (p ?x))',
+     'd:8:19: not taken: an existential condition other than at the top of the goal (exists ..)'),
+    ('an existential condition inside a goal', '(and (q a c))', '(and (exists (?y) (q ?y c)))',
+     'p:5:15: not taken: an existential condition other than at the top of the goal (exists ..)'),
+    ('equality', '(and (p ?x))', '(and (= ?x c))', 'd:8:24: not taken: equality (= ..)'),
+    ('a conditional effect', '(and (q ?x c)', '(and (when (p c) (q ?x c))', 'd:9:18: not taken: a conditional effect (when ..)'),
+    ('an effect for all', '(and (q ?x c)', '(and (forall (?y) (q ?x ?y))', 'd:9:18: not taken: a universal condition (forall ..)'),
+    ('an effect on a number', '(and (q ?x c)', '(and (increase (cost) 1)', 'd:9:18: not taken: numbers (increase ..)'),
+    ('a number in the facts', '(:init (p a))', '(:init (p a) (= (cost) 0))', 'p:4:16: not taken: numbers (= ..)'),
+    ('functions', '  (:action go', '  (:functions (cost))\n  (:action go', 'd:6:3: not taken: numbers (:functions)'),
+    ('a metric', '  (:init', '  (:metric minimize (cost))\n  (:init', 'p:4:3: not taken: a metric'),
+    ('an axiom of PDDL', '  (:action go', '  (:derived (p ?x) (q ?x c))\n  (:action go',
+     'd:6:3: not taken: axioms of PDDL (:derived)'),
+    ('a durative action', '(:action go', '(:durative-action go', 'd:6:3: not taken: durative actions'),
+    ('a timed literal', '(:init (p a))', '(:init (at 5 (p a)))', 'p:4:10: not taken: a timed literal (at ..)'),
+    ('a union of types', 'a - box t', 'a - (either box thing) t', 'p:3:17: not taken: a type with (either'),
+    ('a negative fact', '(:init (p a))', '(:init (p a) (not (p c)))', 'p:4:16: not taken: a negative condition (not ..)'),
+    ('an empty goal', '(and (q a c))', '(and)',
+     'p:5:10: the goal is empty: each state meets it, and a goal of a script has at least one atom'),
+]
+
+
+def edited():
+    for name, old, new, wanted in EDITS:
+        if old not in DOMAIN + PROBLEM:
+            raise ValueError(f'{name}: the text {old!r} stands in neither file')
+        yield name, DOMAIN.replace(old, new, 1), PROBLEM.replace(old, new, 1), [], wanted
+
+
+def many(form, count):
+    return ' '.join(form.format(number) for number in range(count))
+
+
+def limits():
+    """A pair of files for each limit that a translation can pass, each by one."""
+    def row(name, domain, problem, wanted, options=()):
+        yield name, '(define (domain d)\n' + domain + ')\n', '(define (problem one) (:domain d)\n' + problem + ')\n', options, wanted
+
+    goal = '\n(:init) (:goal (p))'
+    yield from row('limit 1', f'(:predicates (p) ({"q" * 65}))', goal,
+                   f'd:2:19: limit 1, bytes of a name ({"q" * 65}): 65, and at most 64')
+    yield from row('limit 2', '(:predicates (p))', f'(:objects {many("o{}", 257)})' + goal,
+                   'p:2:1181: limit 2, objects: 257, and at most 256')
+    yield from row('limit 3', f'(:predicates (p) {many("(q{})", 64)})', goal, 'd:2:387: limit 3, predicates: 65, and at most 64')
+    yield from row('limit 3 by a type',
+                   f'(:types t) (:predicates (p) {many("(q{})", 63)})\n(:action a :parameters (?x - t) :effect (p))',
+                   '(:objects o - t)' + goal, 'd:1:17: limit 3, predicates, with those of types: 65, and at most 64')
+    yield from row('limit 4', f'(:predicates (p) (q {many("?x{}", 7)}))', goal,
+                   'd:2:19: limit 4, arguments of a predicate (q): 7, and at most 6')
+    yield from row('limit 7', '(:predicates (p ?x))', f'(:objects o) (:init) (:goal (exists ({many("?x{}", 13)}) '
+                   f'(and {many("(p ?x{})", 13)})))', 'p:2:22: limit 7, variables of a goal: 13, and at most 12')
+    yield from row('limit 8', '(:predicates (p))' + many('(:action a{})', 33), goal,
+                   'd:2:465: limit 8, operators: 33, and at most 32')
+    yield from row('limit 9', f'(:predicates (p))\n(:action a :parameters ({many("?x{}", 9)}))', '(:objects o)' + goal,
+                   'd:3:10: limit 9, parameters of an operator (a): 9, and at most 8')
+    for part, word, form in (('precondition', 'pre', '(q{})'), ('effect', 'add', '(q{})'), ('effect', 'delete', '(not (q{}))')):
+        yield from row(f'limit 10, {word}', f'(:predicates (p) {many("(q{})", 17)})\n(:action a :{part} (and {many(form, 17)}))',
+                       goal, f'd:3:10: limit 10, atoms of a list ({word} of a): 17, and at most 16')
+    yield from row('limit 11', '(:predicates (p) (q ?x ?y ?z))', f'(:objects {many("o{}", 8)}) (:goal (p))\n(:init (p) '
+                   + ' '.join(f'(q o{n // 64} o{n // 8 % 8} o{n % 8})' for n in range(512)) + ')',
+                   'p:3:1: limit 11, different facts: 513, and at most 512')
+    yield from row('limit 11 by unequal objects', '(:predicates (p))\n(:action a :parameters (?x ?y))',
+                   f'(:objects {many("o{}", 24)})' + goal,
+                   'p:3:1: limit 11, different facts, with those of types and unequal objects: 552, and at most 512', ['--distinct'])
+    yield from row('limit 12', f'(:predicates {many("(q{})", 17)})', f'(:init) (:goal (and {many("(q{})", 17)}))',
+                   'p:2:9: limit 12, atoms of a goal: 17, and at most 16')
+    yield from row('limit 16', '(:predicates (p))', goal, 'from-pddl: limit 16, nodes: 50001, and 1 to 50000 may be given',
+                   ['--nodes', '50001'])
+    yield from row('two limits', f'(:predicates (p) (q {many("?x{}", 7)}) (r {many("?x{}", 8)}))', goal,
+                   'd:2:19: limit 4, arguments of a predicate (q): 7, and at most 6\n'
+                   'd:2:51: limit 4, arguments of a predicate (r): 8, and at most 6')
+    yield from row('no objects', '(:predicates (p))\n(:action a :parameters (?x))', goal,
+                   'd:3:10: the problem has no objects, and a script can then have no parameters')
+
+
+def rows():
+    """Name, domain, problem, options and the messages of each row."""
+    yield from edited()
+    yield from limits()

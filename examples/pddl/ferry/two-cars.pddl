@@ -1,0 +1,5 @@
+(define (problem two-cars)
+  (:domain ferry)
+  (:objects north south - place red blue - auto)
+  (:init (at-ferry south) (at red north) (at blue north) (empty-ferry))
+  (:goal (and (at red south) (at blue south))))

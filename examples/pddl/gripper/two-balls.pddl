@@ -1,0 +1,5 @@
+(define (problem two-balls)
+  (:domain gripper)
+  (:objects kitchen hall - room ball1 ball2 - ball left right - gripper)
+  (:init (at-robby kitchen) (at ball1 kitchen) (at ball2 kitchen) (free left) (free right))
+  (:goal (and (at ball1 hall) (at ball2 hall))))

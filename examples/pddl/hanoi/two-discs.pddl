@@ -1,0 +1,7 @@
+(define (problem two-discs)
+  (:domain hanoi)
+  (:objects small large peg1 peg2 peg3)
+  (:init (smaller small large) (smaller small peg1) (smaller small peg2) (smaller small peg3)
+         (smaller large peg1) (smaller large peg2) (smaller large peg3)
+         (on small large) (on large peg1) (clear small) (clear peg2) (clear peg3))
+  (:goal (and (on large peg3) (on small large))))

@@ -1,0 +1,6 @@
+(define (problem one-truck)
+  (:domain logistics)
+  (:objects depot market harbour - location truck1 - truck parcel - package)
+  (:init (at truck1 depot) (at parcel market)
+         (road depot market) (road market depot) (road market harbour) (road harbour market))
+  (:goal (and (at parcel harbour) (at truck1 depot))))

@@ -1,0 +1,5 @@
+(define (problem bananas)
+  (:domain monkey)
+  (:objects door window middle - place)
+  (:init (monkey-at door) (box-at window) (bananas-at middle) (on-floor))
+  (:goal (and (has-bananas))))

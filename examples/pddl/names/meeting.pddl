@@ -1,0 +1,5 @@
+(define (problem Meeting)
+  (:domain names)
+  (:objects a_b a_b_2 - Big-Room A-B-2 - place)
+  (:init (at-it a-b-2) (way a-b-2 a-b) (way a-b a_b_2) (way a_b_2 a_b))
+  (:goal (and (at-it a_b) (big-room a_b_2))))

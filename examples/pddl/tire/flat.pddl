@@ -1,0 +1,5 @@
+(define (problem flat)
+  (:domain spare-tire)
+  (:objects flat spare - tire)
+  (:init (at flat axle) (at spare trunk))
+  (:goal (and (at spare axle))))
