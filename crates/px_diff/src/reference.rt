@@ -11,7 +11,10 @@ use px_proof::{Shape, Tick};
 use px_prover::{Answer, GapErr, ProveErr, gap_lists, prove};
 use px_question::GapList;
 use px_table::Entry;
-use px_terms::{Atom, NoMemory, OpInst, Problem, Schema, Term, apply, are_atoms_of, are_variables_below, is_ground, is_valid};
+use px_terms::{
+    Atom, NoMemory, OpInst, Problem, Schema, Term, apply, are_atoms_of, are_variables_below,
+    is_ground, is_valid,
+};
 use std::alloc::Global;
 use std::process::Abort;
 
