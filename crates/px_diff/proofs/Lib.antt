@@ -20,3 +20,4 @@ mod SameInstance
 mod Ordered
 mod Gathered
 pub mod Opening
+pub mod Below

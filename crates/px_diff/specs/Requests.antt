@@ -8,7 +8,7 @@ use Rattle.px_table.specs.declared.entry.Entry.TheVariants.{Op}
 use Rattle.px_diff.specs.Entries.{obligations_of}
 use Rattle.px_diff.specs.Gathering.{Gathers}
 use Rattle.px_diff.specs.Pushes.{IsPushable, IsRelevant}
-use Rattle.px_diff.specs.Questions.{AreUnlimited, LimitsRelevant}
+use Rattle.px_diff.specs.Questions.{AreBelow, AreUnlimited, LimitsRelevant}
 use Rattle.px_diff.specs.declared.request.Request.{Request}
 
 -- the instance is relevant for it
@@ -24,6 +24,12 @@ abbrev pub AreUnlimitedFor : Request → Type 0
 AreUnlimitedFor request =
     (entry : Entry) → IsRelevant request.problem.now request.tables.now request.wanted.now request.stack.now entry
     → AreUnlimited request.problem.now (obligations_of request.problem.now request.tables.now request.model.now.atoms entry)
+
+-- each question about an entry that is relevant for it stays below the limit
+abbrev pub AreBelowFor : Request → Type 0
+AreBelowFor request =
+    (entry : Entry) → IsRelevant request.problem.now request.tables.now request.wanted.now request.stack.now entry
+    → AreBelow request.problem.now (obligations_of request.problem.now request.tables.now request.model.now.atoms entry)
 
 -- a question about an entry that is relevant for it meets the limit at the formula, by these shapes
 abbrev pub LimitsFor : Request → List Atom → List (List Tick) → Type 0

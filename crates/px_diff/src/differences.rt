@@ -2,7 +2,7 @@
 ghost use Rattle.std.specs.Prelude.{◌<◌, ◌≤◌, ◌↔◌, List, All, Contains, IfOk};
 ghost use Rattle.px_proof.specs.declared.shape.Tick.{Tick};
 ghost use Rattle.px_question.specs.Answers.{IsAnswer};
-ghost use Rattle.px_question.specs.Gaps.{IsGapOf, MeetsGapLimit};
+ghost use Rattle.px_question.specs.Gaps.{IsGapOf, MeetsGapLimit, StaysBelowGapLimit};
 ghost use Rattle.px_question.specs.Settings.{setting_of};
 ghost use Rattle.px_terms.specs.AtomSets.{IsAtomSet};
 ghost use Rattle.px_terms.specs.Validity.{IsValid, IsAtomOf};
@@ -39,7 +39,8 @@ pub fn gaps(
     requires no_answer { ¬ IsAnswer (setting_of problem.now model.now.atoms) formula.now vars }
     ensures order { IfOk result (λ gaps. IsAtomSet gaps.items) }
     ensures exact { IfOk result (λ gaps. (atom : Atom) → Contains gaps.items atom ↔ IsGapOf (setting_of problem.now model.now.atoms) formula.now vars atom) }
-    ensures unlimited { IfOk result (λ gaps. (kept : List Atom) (shapes : List (List Tick)) → MeetsGapLimit (setting_of problem.now model.now.atoms) formula.now vars kept shapes → ⊥) }
+    ensures unlimited { IfOk result (λ gaps. (kept : List Atom) (shapes : List (List Tick)) → ¬ MeetsGapLimit (setting_of problem.now model.now.atoms) formula.now vars kept shapes) }
+    ensures below { IfOk result (λ gaps. StaysBelowGapLimit (setting_of problem.now model.now.atoms) formula.now vars) }
     ensures limited { IfLimit result (MeetsGapLimit (setting_of problem.now model.now.atoms) formula.now vars) }
 {
     let mut asker = Asker::new(alloc);

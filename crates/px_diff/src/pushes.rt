@@ -18,8 +18,8 @@ ghost use Rattle.px_diff.specs.Gathering.{AreObjectsFor, instance_by};
 ghost use Rattle.px_diff.specs.Instances.{IsCovered, IsPartialInstance, StandsFor};
 ghost use Rattle.px_diff.specs.Outcomes.{AtLimit, IfLimit};
 ghost use Rattle.px_diff.specs.Pushes.{IsRelevant, IsPushable};
-ghost use Rattle.px_diff.specs.Questions.{AreUnlimited, LimitsRelevant};
-ghost use Rattle.px_diff.specs.Requests.{AreUnlimitedFor, GathersFor, IsPushableFor, IsRelevantFor, LimitsFor};
+ghost use Rattle.px_diff.specs.Questions.{AreBelow, AreUnlimited, LimitsRelevant};
+ghost use Rattle.px_diff.specs.Requests.{AreBelowFor, AreUnlimitedFor, GathersFor, IsPushableFor, IsRelevantFor, LimitsFor};
 
 use crate::ask_err::AskErr;
 use crate::asker::Asker;
@@ -239,6 +239,7 @@ fn pushable_for(asker: &mut Asker, request: &Request) -> Result<Vec<Entry>, AskE
     ensures exact { IfOk result (λ entries. (entry : Entry) → Contains entries.items entry ↔ IsPushableFor request.now entry) }
     ensures order { IfOk result (λ entries. IsStrictlySortedBy order_of entries.items) }
     ensures unlimited { IfOk result (λ entries. AreUnlimitedFor request.now) }
+    ensures below { IfOk result (λ entries. AreBelowFor request.now) }
     ensures limited { IfLimit result (LimitsFor request.now) }
 {
     let matches = matches_of(asker.alloc, request.problem, request.wanted)?;
@@ -267,6 +268,7 @@ pub fn relevant_measured(
     ensures exact { IfOk result (λ measured. (entry : Entry) → Contains measured.entries.items entry ↔ IsPushable problem.now tables.now wanted.now stack.now model.now.atoms entry) }
     ensures order { IfOk result (λ measured. IsStrictlySortedBy order_of measured.entries.items) }
     ensures unlimited { IfOk result (λ measured. (entry : Entry) → IsRelevant problem.now tables.now wanted.now stack.now entry → AreUnlimited problem.now (obligations_of problem.now tables.now model.now.atoms entry)) }
+    ensures below { IfOk result (λ measured. (entry : Entry) → IsRelevant problem.now tables.now wanted.now stack.now entry → AreBelow problem.now (obligations_of problem.now tables.now model.now.atoms entry)) }
     ensures limited { IfLimit result (LimitsRelevant problem.now tables.now wanted.now stack.now model.now.atoms) }
 {
     let mut asker = Asker::new(alloc);
@@ -306,6 +308,7 @@ pub fn relevant(
     ensures exact { IfOk result (λ entries. (entry : Entry) → Contains entries.items entry ↔ IsPushable problem.now tables.now wanted.now stack.now model.now.atoms entry) }
     ensures order { IfOk result (λ entries. IsStrictlySortedBy order_of entries.items) }
     ensures unlimited { IfOk result (λ entries. (entry : Entry) → IsRelevant problem.now tables.now wanted.now stack.now entry → AreUnlimited problem.now (obligations_of problem.now tables.now model.now.atoms entry)) }
+    ensures below { IfOk result (λ entries. (entry : Entry) → IsRelevant problem.now tables.now wanted.now stack.now entry → AreBelow problem.now (obligations_of problem.now tables.now model.now.atoms entry)) }
     ensures limited { IfLimit result (LimitsRelevant problem.now tables.now wanted.now stack.now model.now.atoms) }
 {
     match relevant_measured(alloc, problem, wanted, stack, model, tables) {

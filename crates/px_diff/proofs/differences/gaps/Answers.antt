@@ -3,6 +3,7 @@ use Rattle.std.specs.Prelude.{◌↔◌, All, Contains}
 use Rattle.px_prover.specs.PatternLists.{lists_of}
 use Rattle.px_prover.specs.declared.pattern.GapPattern.{GapPattern}
 use Rattle.px_question.specs.Gaps.{IsGapOf}
+use Rattle.px_question.proofs.DecidedLaws.{questions-are_decided}
 use Rattle.px_question.specs.Settings.{setting_of}
 use Rattle.px_terms.specs.declared.atom.Atom.{Atom}
 use Rattle.px_diff.specs.Closings.{IsMissingIn}
@@ -30,3 +31,6 @@ returns-clause-exact c = λ atom.
 
 pub returns-clause-unlimited : goal.returns-clause-unlimited
 returns-clause-unlimited c = not_limited (setting_of c.args.problem.now c.args.model.now.atoms) c.args.formula.now c.args.vars c.in_ok-answer.answer.patterns.items c.in_ok-answer.answer.provable.atoms c.in_ok-answer.ensures.answer
+
+pub returns-clause-below : goal.returns-clause-below
+returns-clause-below c = questions-are_decided.gaps_below (setting_of c.args.problem.now c.args.model.now.atoms) c.args.formula.now c.args.vars (returns-clause-unlimited c)
