@@ -1,4 +1,4 @@
-//! Laws about the definitions, in every world. The calls do nothing.
+//! Laws about the definitions, whatever an edit leaves in a world. The calls do nothing.
 ghost use Rattle.px_planex.specs.Execution.{TracesAreOne};
 ghost use Rattle.px_planex.specs.Guards.{GuardNever};
 ghost use Rattle.px_planex.specs.Progress.{ActsAndGoesOn, GoalIsReached};
