@@ -1,3 +1,4 @@
+pub mod Answers
 pub mod formers
 pub mod ListLaws
 pub mod Sets

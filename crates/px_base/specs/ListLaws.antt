@@ -3,8 +3,9 @@ use Rattle.std.specs.Prelude.{◌≡◌, ◌↔◌, ◌⊎◌, Bool, cond, true,
 use Rattle.std.proofs.Common.{zero, suc, refl, sym, ap, ◌∙◌, subst, inl, inr, arith}
 use Rattle.std.proofs.lemmas.List.Elements.{All-contains_itself, Contains-append_right, Contains-append_cases}
 use Rattle.std.specs.List.{AllByRecursion}
+use Rattle.px_base.specs.Answers.{both_answers}
 
-pub Contains-none : {X : Type 0} (q : X) → Contains [] q → ⊥
+pub Contains-none : {X : Type 0} (q : X) → ¬ Contains [] q
 Contains-none q (k, below, is) = absurd (omega (arith, below))
 
 pub Contains-first : {X : Type 0} (x : X) (xs : List X) → Contains (x ∷ xs) x
@@ -33,9 +34,6 @@ All-at P xs q all one = subst P one.2 (all one.0 q one.1)
 
 pub All-each : {X : Type 0} (P : X → Type 0) (xs : List X) → ((q : X) → Contains xs q → P q) → All P xs
 All-each P xs each k d below = each (slice_index_or xs k d) (All-contains_itself xs k d below)
-
-both_answers : {G : Type 0} (b : Bool) → b ≡ false → b ≡ true → G
-both_answers b f t = cc
 
 -- a filtered list has the elements that pass
 pub Contains-filter : {X : Type 0} (p : X → Bool) (xs : List X) (q : X) → Contains (filter p xs) q ↔ (Contains xs q × (p q ≡ true))

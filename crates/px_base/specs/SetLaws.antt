@@ -1,6 +1,6 @@
 -- The laws of sets that are kept as ascending lists.
-use Rattle.std.specs.Prelude.{◌≡◌, ◌↔◌, List, [], ◌∷◌, ◌++◌, Contains}
-use Rattle.std.proofs.Common.{refl, sym, ap, ◌∙◌, subst, inl, inr}
+use Rattle.std.specs.Prelude.{◌≡◌, ◌↔◌, ◌≤◌, ◌+◌, List, [], ◌∷◌, ◌++◌, length, Contains}
+use Rattle.std.proofs.Common.{refl, sym, ap, ◌∙◌, subst, inl, inr, arith}
 use Rattle.std.proofs.lemmas.List.Elements.{Contains-append_left, Contains-append_right, Contains-append_cases}
 use Rattle.std.specs.Cmp.{IsTotalOrder, tied_itself}
 use Rattle.std.specs.List.{AllByRecursion}
@@ -25,6 +25,22 @@ module _ {K : Type 0} (R : K → K → Ordering) where
         | Equal ↦ all
         | Greater ↦ (all.0, all_with P item xs here all.1)
       ]
+
+  -- a set with one more item has at most one more
+  pub with_item-length : (item : K) (items : List K) → length (with_item R item items) ≤ length items + 1
+  unfolding with_item
+  with_item-length item [] = omega arith
+  with_item-length item (x ∷ xs) = elim (R item x) as (λ r. length (place_item r item x xs (with_item R item xs)) ≤ length (x ∷ xs) + 1) [
+    | Less ↦ omega arith
+    | Equal ↦ omega arith
+    | Greater ↦ let rest = with_item-length item xs in omega arith
+  ]
+
+  -- a set has at most as many items as the list that it is made of
+  pub set_of-length : (items : List K) → length (set_of R items) ≤ length items
+  unfolding set_of
+  set_of-length [] = omega arith
+  set_of-length (x ∷ xs) = let rest = set_of-length xs in let one = with_item-length x (set_of R xs) in omega arith
 
   -- an item that is below all others stands in front of them
   pub with_item-below : (item : K) (items : List K) → AllByRecursion (λ y. R item y ≡ Less) items → with_item R item items ≡ item ∷ items

@@ -2,20 +2,23 @@
 //!
 //! # Calling it
 //!
-//! - [`NoMemory`] is what a call answers that asked for memory and got none. `?` makes it of std's `AllocError`
-//!   and of `AllocFailed`, whose value it drops.
-//! - [`Sequence`] is a `Vec` that contracts see as the list of its items. It is made of a `Vec` by
-//!   `Sequence::from_vec` and gives it back by `into_vec`; neither takes memory. `as_slice` lends the items. Sequences are
-//!   compared, ordered and hashed as the lists of their items.
-//! - The definitions in `specs/`: sets kept as ascending lists (`Sets`), with their laws (`SetLaws`), and what is in a list
-//!   (`ListLaws`), for the crates above.
+//! - [`NoMemory`] is the error of a call that asked for memory and got none. `?` makes it from std's `AllocError`
+//!   and from `AllocFailed`, whose value it drops.
+//! - [`push`] puts an item at the end of a `Vec`, or answers `NoMemory` and leaves the list as it was.
+//! - [`Sequence`] is a `Vec` that contracts see as the list of its items. `Sequence::from_vec` makes one from a `Vec`, and
+//!   `into_vec` returns the `Vec`; neither allocates. `Sequence::from_slice` copies a slice, `try_copy` a sequence.
+//!   `as_slice` borrows the items. Sequences are compared, ordered and hashed as the lists of their items.
+//! - The definitions in `specs/`, for the crates above: sets kept as ascending lists (`Sets`), with their laws (`SetLaws`),
+//!   what is in a list (`ListLaws`), and small laws of answers (`Answers`). In `proofs/`: steps of loops over lists (`Loops`).
 #![tactic(auto)]
 
 mod compared;
 mod no_memory;
+mod pushing;
 mod sequence;
 #[cfg(test)]
 mod tests;
 
 pub use no_memory::NoMemory;
+pub use pushing::push;
 pub use sequence::Sequence;

@@ -1,7 +1,8 @@
+//! The error of a call that finds no memory.
 use std::alloc::{AllocError, AllocFailed};
 use thiserror::Error;
 
-/// There is no memory for what was asked. It is an answer of its own: nothing else is reported by it.
+/// There is no memory for what was requested. It says nothing else.
 #[derive(Debug, Drop, Error)]
 #[error("out of memory")]
 pub struct NoMemory;

@@ -1,3 +1,4 @@
+//! Lists that contracts can name.
 ghost use Rattle.std.specs.Prelude.{◌≡◌, length, IfOk};
 
 use crate::no_memory::NoMemory;
@@ -22,14 +23,14 @@ impl<T> Model for Sequence<T> {
 }
 
 impl<T> Sequence<T> {
-    /// The sequence of the items of `items`. Takes no memory.
+    /// The sequence of the items of `items`. Does not allocate.
     pub fn from_vec(items: Vec<T>) -> Sequence<T>
         ensures { result ≡ items.items }
     {
         Sequence { items }
     }
 
-    /// The items, given back. Takes no memory.
+    /// Returns the items. Does not allocate.
     pub fn into_vec(self) -> Vec<T>
         ensures { result.items ≡ self }
     {
@@ -37,19 +38,19 @@ impl<T> Sequence<T> {
         items
     }
 
-    /// The items, lent.
+    /// Borrows the items.
     pub fn as_slice(&self) -> &[T]
         ensures { result.now ≡ self.now }
     {
         &self.items
     }
 
-    /// The allocator of the items.
+    /// Returns the allocator of the items.
     pub fn allocator(&self) -> &Global {
         self.items.allocator()
     }
 
-    /// How many items there are.
+    /// Returns the number of items.
     pub fn len(&self) -> usize
         ensures { result ≡ length self.now }
     {
@@ -58,6 +59,18 @@ impl<T> Sequence<T> {
 }
 
 impl<T: Copy> Sequence<T> {
+    /// A sequence of copies of the items.
+    ///
+    /// # Errors
+    /// `NoMemory` where there is none for the copies.
+    pub fn from_slice(alloc: Global, items: &[T]) -> Result<Sequence<T>, NoMemory>
+        ensures { IfOk result (λ copy. copy ≡ items.now) }
+    {
+        let mut copies = Vec::new(alloc);
+        copies.extend_from_slice(items)?;
+        Ok(Sequence { items: copies })
+    }
+
     /// A sequence of the same items, in memory of the same allocator.
     ///
     /// # Errors
@@ -65,8 +78,6 @@ impl<T: Copy> Sequence<T> {
     pub fn try_copy(&self) -> Result<Sequence<T>, NoMemory>
         ensures { IfOk result (λ copy. copy ≡ self.now) }
     {
-        let mut items = Vec::new(*self.items.allocator());
-        items.extend_from_slice(&self.items)?;
-        Ok(Sequence { items })
+        Sequence::from_slice(*self.items.allocator(), &self.items)
     }
 }

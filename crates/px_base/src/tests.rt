@@ -1,4 +1,5 @@
-use crate::{NoMemory, Sequence};
+//! Each public call once, with memory.
+use crate::{NoMemory, Sequence, push};
 use std::collections::HashSet;
 use std::rt::HostRuntime;
 
@@ -6,12 +7,13 @@ use std::rt::HostRuntime;
 fn a_sequence_is_made_lent_copied_and_given_back(rt: HostRuntime) -> Result<(), NoMemory> {
     let mut items = Vec::new(rt.alloc());
     items.extend_from_slice(&[1u32, 2, 3])?;
+    push(&mut items, 4)?;
     let numbers = Sequence::from_vec(items);
     let copy = numbers.try_copy()?;
-    assert!(&rt; copy.as_slice() == [1, 2, 3].as_slice());
-    assert!(&rt; numbers.len() == 3);
-    assert!(&rt; numbers.len() == 3);
-    assert!(&rt; numbers.into_vec().len() == 3);
+    assert!(&rt; copy.as_slice() == [1, 2, 3, 4].as_slice());
+    assert!(&rt; Sequence::from_slice(rt.alloc(), &[1u32, 2, 3, 4])? == numbers);
+    assert!(&rt; numbers.len() == 4);
+    assert!(&rt; numbers.into_vec().len() == 4);
     Ok(())
 }
 

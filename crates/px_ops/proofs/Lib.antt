@@ -1,3 +1,4 @@
+pub mod IndexLemmas
 pub mod ModelLemmas
 pub mod OperatorLemmas
 pub mod PlaceLemmas

@@ -1,5 +1,5 @@
 -- What inserting or removing at the place of an atom makes of a model.
-use Rattle.std.proofs.Common.{◌≡◌, ◌+◌, ◌<◌, ◌≤◌, ℕ, suc, Bool, true, false, List, [], ◌∷◌, ◌++◌, length, take, drop, get_or, refl, sym, ap, ◌∙◌, subst, inl, inr, arith, add-one, append_assoc, append-nil, add-zero, get_or-drop, length-append, length-drop, length-take}
+use Rattle.std.proofs.Common.{◌≡◌, ◌+◌, ◌-◌, ◌<◌, ◌≤◌, ℕ, min, suc, Bool, true, false, List, [], ◌∷◌, ◌++◌, length, take, drop, get_or, refl, sym, ap, ◌∙◌, subst, inl, inr, arith, add-one, append_assoc, append-nil, add-zero, get_or-drop, length-append, length-drop, length-take}
 use Rattle.std.specs.Prelude.{not, filter, All, Contains, cond, is_ok, Result, Ok, Err}
 use Rattle.std.proofs.Math.Seq.{drop-cons, take-suc}
 use Rattle.std.proofs.lemmas.List.{take-append-drop}
@@ -51,14 +51,14 @@ unlike : {G : Type 0} → ◌≡◌ {A = Ordering} Less Equal → G
 unlike e = cc
 
 -- no atom is among those below it or above it
-parts_without : (atom : Atom) (before after : List Atom) → Parts atom before after → Contains (before ++ after) atom → ⊥
+parts_without : (atom : Atom) (before after : List Atom) → Parts atom before after → ¬ Contains (before ++ after) atom
 parts_without atom before after parts h =
     elim (Contains-append_cases before after atom h) [
       | inl left ↦ unlike (sym (AllByRecursion-at _ before atom parts.below left) ∙ tied_itself atom_cmp-total atom)
       | inr right ↦ unlike (sym (AllByRecursion-at _ after atom parts.above right) ∙ tied_itself atom_cmp-total atom)
     ]
 
-pub missing : (atoms : List Atom) (atom : Atom) (i : ℕ) → IsPlace atoms atom (Err i) → Contains atoms atom → ⊥
+pub missing : (atoms : List Atom) (atom : Atom) (i : ℕ) → IsPlace atoms atom (Err i) → ¬ Contains atoms atom
 missing atoms atom i place h = parts_without atom (take i atoms) (drop i atoms) place.1 (rw (take-append-drop i atoms) h)
 
 pub found_there : (atoms : List Atom) (atom : Atom) (i : ℕ) → IsPlace atoms atom (Ok i) → Contains atoms atom
@@ -143,7 +143,7 @@ place-decides atoms atom (Err i) place = (λ h. cc, λ h. absurd (missing atoms 
 pub inserted : (old new : List Atom) (atom : Atom) (i : ℕ) (ok : Bool) → IsPlace old atom (Err i) → new ≡ cond ok (insert old i atom) old → ok ≡ true → new ≡ with_atom atom old
 inserted old new atom i ok place is done = is ∙ ap (λ b. cond b (insert old i atom) old) done ∙ insert-place old atom i place
 
-pub inserted_model : (old new : List Atom) (atom : Atom) (i : ℕ) (ok : Bool) → IsPlace old atom (Err i) → new ≡ cond ok (insert old i atom) old
+inserted_model : (old new : List Atom) (atom : Atom) (i : ℕ) (ok : Bool) → IsPlace old atom (Err i) → new ≡ cond ok (insert old i atom) old
     → IsModel old → IsGround atom → length new ≤ 4294967295 → IsModel new
 inserted_model old new atom i ok place is model is_ground short =
     elim ok as (λ b. new ≡ cond b (insert old i atom) old → IsModel new) [
@@ -153,12 +153,21 @@ inserted_model old new atom i ok place is model is_ground short =
       | false ↦ λ e. rw e model
     ] is
 
-pub inserted_short : (old new : List Atom) (atom : Atom) (i : ℕ) (ok : Bool) → new ≡ cond ok (insert old i atom) old → length old < 4294967295 → length new ≤ 4294967295
+inserted_short : (old new : List Atom) (atom : Atom) (i : ℕ) (ok : Bool) → new ≡ cond ok (insert old i atom) old → length old < 4294967295 → length new ≤ 4294967295
 inserted_short old new atom i ok is short =
     elim ok as (λ b. new ≡ cond b (insert old i atom) old → length new ≤ 4294967295) [
       | true ↦ λ e. rw e (simp (length-append, length-take, length-drop) (omega arith))
       | false ↦ λ e. rw e (omega arith)
     ] is
+
+-- a model stays one when an atom is put at its place, where there is room
+pub put_model : (old new : List Atom) (atom : Atom) (i capacity : ℕ) (ok : Bool) → IsPlace old atom (Err i) → new ≡ cond ok (insert old i atom) old → IsModel old → IsGround atom
+    → 1 ≤ min capacity 4294967295 - length old → IsModel new
+put_model old new atom i capacity ok place is model is_ground room = inserted_model old new atom i ok place is model is_ground (inserted_short old new atom i ok is (omega (arith, room)))
+
+-- and when an atom is taken from its place
+pub removed_model : (old new : List Atom) (atom : Atom) (i : ℕ) → IsPlace old atom (Ok i) → new ≡ remove old i → IsModel old → IsModel new
+removed_model old new atom i place whole model = rw (whole, remove-place old atom i place) (without_atom-model old atom model)
 
 pub set_itself : (atoms : List Atom) → IsAtomSet atoms → atoms ≡ atom_set (atoms ++ [])
 set_itself atoms sorted = rw append-nil (sym (set_of-sorted atom_cmp atoms sorted))

@@ -1,3 +1,5 @@
+pub mod KeepLaws
+pub mod Keeping
 pub mod ModelLaws
 pub mod ModelValue
 pub mod Models

@@ -1,13 +1,14 @@
 //! Applying operator instances to models.
 ghost use Rattle.std.specs.Prelude.{◌≡◌, ◌+◌, ◌≤◌, ◌++◌, length, All, IfOk};
 ghost use Rattle.px_terms.specs.Language.{IsObject};
-ghost use Rattle.px_terms.specs.Operators.{atoms_of, IsResult, adds as adds_of, result_of, schema_of as spec_schema_of};
+ghost use Rattle.px_terms.specs.Operators.{atoms_of, IsResult, adds as adds_of, result_of};
 ghost use Rattle.px_terms.specs.AtomSets.{atom_set};
 ghost use Rattle.px_terms.specs.Validity.{IsSchemaWellFormed, IsValid, IsGroundInstanceOf};
-ghost use Rattle.px_ops.specs.Models.{IsInstanceOfSchema};
+ghost use Rattle.px_ops.specs.Models.{IsInstanceOfSchema, IsModel};
 
 use crate::model::Model;
 use crate::operators::adds;
+use crate::problems::schema_of;
 use px_terms::{NoMemory, OpInst, Problem, Schema};
 use std::alloc::Global;
 
@@ -25,6 +26,7 @@ pub fn apply_op(
     requires inst { IsGroundInstanceOf problem.now inst.now }
     ensures atoms { IfOk result (λ next. next.atoms ≡ result_of problem.now model.now.atoms inst.now) }
     ensures result { IfOk result (λ next. IsResult problem.now inst.now model.now.atoms next.atoms) }
+    ensures model { IfOk result (λ next. IsModel next.atoms) }
 {
     let mut next = model.copy_in(alloc)?;
     next.reserve(schema_of(problem, inst).add.len())?;
@@ -32,16 +34,18 @@ pub fn apply_op(
     Ok(next)
 }
 
-/// The same in place, where there is room for what the instance adds. Takes no memory.
+/// The same in place, where there is room for what the instance adds. Does not allocate.
 pub fn apply_in(problem: &Problem, model: &mut Model, inst: &OpInst)
     requires problem { IsValid problem.now }
     requires inst { IsGroundInstanceOf problem.now inst.now }
     requires room { length (adds_of problem.now inst.now) ≤ model.old.spare }
     ensures atoms { model.new.atoms ≡ result_of problem.now model.old.atoms inst.now }
     ensures result { IsResult problem.now inst.now model.old.atoms model.new.atoms }
+    ensures model { IsModel model.new.atoms }
     ensures spare { model.old.spare ≤ model.new.spare + length (adds_of problem.now inst.now) }
 {
     replace(problem, model, inst);
+    let _known = model.atoms();
 }
 
 /// The same by the lists of atoms.
@@ -55,18 +59,6 @@ fn replace(problem: &Problem, model: &mut Model, inst: &OpInst)
     let schema = schema_of(problem, inst);
     model.remove_deleted(schema, inst);
     add_all(schema, model, inst);
-}
-
-/// The schema of the instance's operator.
-pub(crate) fn schema_of<'a>(problem: &'a Problem, inst: &OpInst) -> &'a Schema
-    requires problem { IsValid problem.now }
-    requires inst { IsGroundInstanceOf problem.now inst.now }
-    ensures schema { result.now ≡ spec_schema_of problem.now inst.now }
-    ensures well_formed { IsSchemaWellFormed result.now }
-    ensures instance { IsInstanceOfSchema result.now inst.now }
-    ensures objects { All IsObject inst.now.args }
-{
-    &problem.schemas.as_slice()[inst.op() as usize]
 }
 
 /// Adds what the instance adds.

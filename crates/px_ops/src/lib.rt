@@ -14,16 +14,28 @@
 //! - [`apply_op`] and [`apply_in`] ask for a valid problem and a ground instance of one of its operators, over any
 //!   objects. First all that the instance deletes goes, then what it adds comes. A wild card in a delete list stands
 //!   for any object, also one that the problem hasn't.
-//! - Laws for callers are in `specs/ModelLaws`: the members of `without_atom`, and what equality says.
+//! - [`schema_of`] is the operator of an instance, [`precondition_of`] the list of all that it needs, and [`is_addable`] tells
+//!   whether some operator may add an atom.
+//! - [`AtomIndex`] numbers ground atoms from 0 in the order of their first use. Contracts see it as the list of its atoms,
+//!   each once. `intern` may find no memory for a new atom; the index is then as it was. [`keep`] does the same for
+//!   any set of `indexmap`.
+//! - Laws for callers are in `specs/ModelLaws` (the members of `without_atom`, what equality says, how many atoms a
+//!   set has) and `specs/KeepLaws` (what is kept has its number still).
 #![tactic(auto)]
 
 mod apply;
+mod atom_index;
+mod keeping;
 mod model;
 mod operators;
+mod problems;
 #[cfg(test)]
 mod tests;
 
 pub use apply::{apply_in, apply_op};
+pub use atom_index::AtomIndex;
+pub use keeping::keep;
 pub use model::Model;
 pub use operators::{adds, deletes, pre};
+pub use problems::{is_addable, precondition_of, schema_of};
 pub use px_terms::NoMemory;

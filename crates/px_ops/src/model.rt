@@ -84,6 +84,7 @@ impl Model {
     pub fn insert(&mut self, atom: Atom) -> Result<bool, NoMemory>
         requires { IsGround atom }
         ensures ok { OnOk result (self.new.atoms ≡ with_atom atom self.old.atoms) }
+        ensures model { IsModel self.new.atoms }
         ensures is_new { IfOk result (λ is_new. MatchBool is_new (¬ Contains self.old.atoms atom) (Contains self.old.atoms atom)) }
         ensures spare { self.old.spare ≤ self.new.spare + 1 }
         ensures room { 1 ≤ self.old.spare → IsOk result }
@@ -106,6 +107,7 @@ impl Model {
         requires place { IsPlace self.old.atoms atom (Err place) }
         requires room { 1 ≤ self.old.spare }
         ensures atoms { self.new.atoms ≡ with_atom atom self.old.atoms }
+        ensures model { IsModel self.new.atoms }
         ensures spare { self.old.spare ≤ self.new.spare + 1 }
     {
         match self.atoms.insert(place, atom) {
@@ -123,6 +125,7 @@ impl Model {
         ensures ok { OnOk result (more ≤ self.new.spare) }
         ensures room { more ≤ self.old.spare → IsOk result }
         ensures atoms { self.new.atoms ≡ self.old.atoms }
+        ensures model { IsModel self.new.atoms }
         ensures spare { self.old.spare ≤ self.new.spare }
         ensures err { OnErr result (self.new ≡ self.old) }
     {
@@ -139,6 +142,7 @@ impl Model {
         requires is_ground { IsGround atom }
         requires room { 1 ≤ self.old.spare }
         ensures atoms { self.new.atoms ≡ with_atom atom self.old.atoms }
+        ensures model { IsModel self.new.atoms }
         ensures is_new { MatchBool result (¬ Contains self.old.atoms atom) (Contains self.old.atoms atom) }
         ensures spare { self.old.spare ≤ self.new.spare + 1 }
     {
@@ -154,6 +158,7 @@ impl Model {
     /// Takes the atom away. True exactly where it was there; its place is then room. Takes no memory.
     pub fn remove(&mut self, atom: &Atom) -> bool
         ensures atoms { self.new.atoms ≡ without_atom atom.now self.old.atoms }
+        ensures model { IsModel self.new.atoms }
         ensures was_there { MatchBool result (Contains self.old.atoms atom.now) (¬ Contains self.old.atoms atom.now) }
         ensures spare_kept { self.old.spare ≤ self.new.spare }
         ensures spare_won { IsTrue result → self.old.spare + 1 ≤ self.new.spare }

@@ -1,8 +1,9 @@
+//! Models, steps and atom indices on small examples.
 ghost use Rattle.std.specs.Prelude.{◌≡◌, IfOk, length, slice_index_or};
 ghost use Rattle.px_terms.specs.Operators.{no_schema};
 ghost use Rattle.px_terms.specs.Validity.{IsSchemaWellFormed, IsValid};
 
-use crate::{Model, adds, apply_op, deletes, pre};
+use crate::{AtomIndex, Model, adds, apply_op, deletes, is_addable, pre, precondition_of};
 use px_terms::{Atom, ClauseArena, NoMemory, OpInst, Problem, Schema, Sequence, Term};
 use std::alloc::Global;
 use std::process::Abort;
@@ -27,14 +28,6 @@ fn models_are_sets(rt: HostRuntime) -> Result<(), NoMemory> {
     Ok(())
 }
 
-fn sequence_of<T: Copy>(alloc: Global, items: &[T]) -> Result<Sequence<T>, NoMemory>
-    ensures { IfOk result (λ made. made ≡ items.now) }
-{
-    let mut made = Vec::new(alloc);
-    made.extend_from_slice(items)?;
-    Ok(Sequence::from_vec(made))
-}
-
 /// The operator MOVE(x,y), which needs AT(x), deletes AT($) and adds AT(y).
 fn moving(alloc: Global, rt: &impl Abort) -> Result<Schema, NoMemory>
     ensures well_formed { IfOk result IsSchemaWellFormed }
@@ -46,9 +39,9 @@ fn moving(alloc: Global, rt: &impl Abort) -> Result<Schema, NoMemory>
     Ok(Schema {
         op: 0,
         params: 2,
-        pre: sequence_of(alloc, &[here])?,
-        del: sequence_of(alloc, &[any])?,
-        add: sequence_of(alloc, &[there])?,
+        pre: Sequence::from_slice(alloc, &[here])?,
+        del: Sequence::from_slice(alloc, &[any])?,
+        add: Sequence::from_slice(alloc, &[there])?,
     })
 }
 
@@ -63,9 +56,9 @@ fn moving_problem(alloc: Global, rt: &impl Abort) -> Result<Problem, NoMemory>
     let schema = Schema {
         op: 0,
         params: 2,
-        pre: sequence_of(alloc, &[here])?,
-        del: sequence_of(alloc, &[any])?,
-        add: sequence_of(alloc, &[there])?,
+        pre: Sequence::from_slice(alloc, &[here])?,
+        del: Sequence::from_slice(alloc, &[any])?,
+        add: Sequence::from_slice(alloc, &[there])?,
     };
     let mut schemas = Vec::new(alloc);
     if schemas.push(schema).is_err() {
@@ -73,7 +66,7 @@ fn moving_problem(alloc: Global, rt: &impl Abort) -> Result<Problem, NoMemory>
     }
     Ok(Problem {
         objects: 2,
-        arities: sequence_of(alloc, &[1u8])?,
+        arities: Sequence::from_slice(alloc, &[1u8])?,
         axioms: ClauseArena::new(alloc),
         schemas: Sequence::from_vec(schemas),
         height: 4,
@@ -104,5 +97,20 @@ fn a_move(rt: HostRuntime) -> Result<(), NoMemory> {
     facts.insert(start)?;
     let after = apply_op(rt.alloc(), &problem, &facts, &step)?;
     assert!(&rt; after.atoms() == [end].as_slice());
+    assert!(&rt; precondition_of(rt.alloc(), &problem, &step)?.as_slice() == [start].as_slice());
+    assert!(&rt; is_addable(&problem, &start));
+    Ok(())
+}
+
+#[test]
+fn atoms_have_the_numbers_of_their_first_use(rt: HostRuntime) -> Result<(), NoMemory> {
+    let first = Atom::new(0, &[Term::Obj(0)]).expect(&rt, "one argument");
+    let second = Atom::new(1, &[Term::Obj(1)]).expect(&rt, "one argument");
+    let mut index = AtomIndex::new(rt.alloc());
+    assert!(&rt; index.intern(&first)? == 0);
+    assert!(&rt; index.intern(&second)? == 1);
+    assert!(&rt; index.intern(&first)? == 0);
+    assert!(&rt; index.count() == 2);
+    assert!(&rt; index.atom(1) == second);
     Ok(())
 }

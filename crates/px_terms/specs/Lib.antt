@@ -5,6 +5,7 @@ pub mod DropPlan
 pub mod DropPlanLaws
 pub mod InstanceLaws
 pub mod Instances
+pub mod Lamps
 pub mod Language
 pub mod MergedNames
 pub mod MergedNamesLaws
@@ -14,6 +15,7 @@ pub mod Order
 pub mod OrderLaws
 pub mod Padding
 pub mod Plans
+pub mod SchemaLaws
 pub mod Soundness
 pub mod States
 pub mod Substitution

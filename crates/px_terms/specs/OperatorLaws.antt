@@ -1,22 +1,24 @@
--- What operator instances delete and leave, by membership.
-use Rattle.std.specs.Prelude.{◌≡◌, ◌↔◌, ◌⊎◌, ◌<◌, ℕ, Bool, true, false, not, List, [], ◌∷◌, ◌++◌, length, map, filter, All, Contains, slice_index_or}
-use Rattle.std.proofs.Common.{refl, sym, ap, subst, inl, inr, arith}
+-- What operator instances delete and leave, by membership, and how many atoms they leave.
+use Rattle.std.specs.Prelude.{◌≡◌, ◌↔◌, ◌⊎◌, ◌<◌, ◌≤◌, ◌+◌, ℕ, Bool, true, false, not, List, [], ◌∷◌, ◌++◌, length, map, filter, All, Contains, slice_index_or}
+use Rattle.std.proofs.Common.{refl, sym, ap, subst, inl, inr, arith, length-append}
+use Rattle.std.proofs.lemmas.List.Sums.{length-filter, count_by-le-length}
 use Rattle.std.proofs.lemmas.List.Elements.{All-head, All-tail, All-cons, Contains-append_left, Contains-append_right, Contains-append_cases}
 use Rattle.std.proofs.lemmas.List.Folds.{Any-from_list_any, list_any-from_Any}
 use Rattle.std.specs.Bool.{Decides}
 use Rattle.px_terms.specs.declared.atom.Atom.{Atom}
 use Rattle.px_terms.specs.declared.instance.OpInst.{OpInst}
+use Rattle.px_terms.specs.declared.problem.Problem.{Problem}
 use Rattle.px_terms.specs.declared.problem.Schema.{Schema}
 use Rattle.px_terms.specs.declared.term.Term.{Term}
 use Rattle.px_terms.specs.declared.term.Term.TheVariants.{Obj, Var, Any as WildCard}
 use Rattle.px_terms.specs.InstanceLaws.{is_instance-decides}
 use Rattle.px_terms.specs.Instances.{IsGround, IsInstance, is_instance}
 use Rattle.px_terms.specs.Language.{IsObject, IsVariableBelow, substitute}
-use Rattle.px_terms.specs.Operators.{IsDeleted, is_deleted, result_by, atoms_of}
+use Rattle.px_terms.specs.Operators.{IsDeleted, is_deleted, result_by, atoms_of, adds, result_of, schema_of}
 use Rattle.px_terms.specs.Order.{atom_cmp}
 use Rattle.px_terms.specs.OrderLaws.{atom_cmp-total, atom_cmp-same}
 use Rattle.px_base.specs.ListLaws.{Contains-filter}
-use Rattle.px_base.specs.SetLaws.{set_of-members}
+use Rattle.px_base.specs.SetLaws.{set_of-members, set_of-length}
 use Rattle.px_terms.specs.Substitution.{substitute_atom}
 
 not-true : (b : Bool) → not b ≡ true → b ≡ false
@@ -63,3 +65,15 @@ is_deleted-decides schema inst atom is_ground objects variables =
       λ h. let one = Any-from_list_any test schema.del h in (one.0, one.1, one.2, one.3, (decides one.0 one.1 one.2 one.3).0 one.4),
       λ one. list_any-from_Any test schema.del (one.0, one.1, one.2, one.3, (decides one.0 one.1 one.2 one.3).1 one.4),
     )
+
+-- a result has no more atoms than there were, and one for each that is added
+pub result_by-length : (schema : Schema) (atoms : List Atom) (inst : OpInst) → length (result_by schema atoms inst) ≤ length atoms + length (atoms_of schema.add inst)
+result_by-length schema atoms inst =
+    let kept = filter (λ atom. not (is_deleted schema inst atom)) atoms in
+    let added = atoms_of schema.add inst in
+    let all = set_of-length atom_cmp (kept ++ added) in
+    let fewer : length kept ≤ length atoms = rw length-filter (count_by-le-length (λ atom. not (is_deleted schema inst atom)) atoms) in
+    omega (arith, all, fewer, length-append kept added)
+
+pub result_of-length : (problem : Problem) (atoms : List Atom) (inst : OpInst) → length (result_of problem atoms inst) ≤ length atoms + length (adds problem inst)
+result_of-length problem atoms inst = result_by-length (schema_of problem inst) atoms inst

@@ -1,5 +1,5 @@
 -- Operator instances: what they need, delete and add, and the world models that they leave.
-use Rattle.std.specs.Prelude.{Bool, not, List, [], ◌∷◌, ◌++◌, Any, map, filter, slice_index_or, ◌↔◌, ◌⊎◌, Contains}
+use Rattle.std.specs.Prelude.{◌≡◌, ◌<◌, Bool, false, not, All, length, List, [], ◌∷◌, ◌++◌, Any, map, filter, slice_index_or, ◌↔◌, ◌⊎◌, Contains}
 use Rattle.std.specs.List.{list_any}
 use Rattle.px_terms.specs.declared.atom.Atom.{Atom}
 use Rattle.px_terms.specs.declared.instance.OpInst.{OpInst}
@@ -25,7 +25,7 @@ is_deleted schema inst atom = list_any (λ pattern. is_instance atom (substitute
 abbrev pub result_by : Schema → List Atom → OpInst → List Atom
 result_by schema atoms inst = atom_set (filter (λ atom. not (is_deleted schema inst atom)) atoms ++ atoms_of schema.add inst)
 
--- an operator that the problem hasn't
+-- in place of an operator, where there is none
 abbrev pub no_schema : Schema
 no_schema = record { op = 0; params = 0; pre = []; del = []; add = [] }
 
@@ -58,3 +58,17 @@ results_of problem atoms (inst ∷ insts) = results_of problem (result_of proble
 abbrev pub IsResult : Problem → OpInst → List Atom → List Atom → Type 0
 IsResult problem inst before after =
     (atom : Atom) → IsGround atom → Contains after atom ↔ ((Contains before atom × ¬ IsDeleted (schema_of problem inst) inst atom) ⊎ Contains (adds problem inst) atom)
+
+-- the schema is the problem's, at the place of its number
+pub record IsSchemaAt (problem : Problem) (schema : Schema) : Type 0 where
+  pub within : schema.op < length problem.schemas
+  pub here : slice_index_or problem.schemas schema.op no_schema ≡ schema
+
+-- some operator has the atom's predicate in its add list
+abbrev pub IsAddable : Problem → Atom → Type 0
+IsAddable problem atom = Any (λ schema. Any (λ added. added.pred ≡ atom.pred) schema.add) problem.schemas
+
+-- some step adds the atom, and no later one deletes it
+abbrev pub IsAdded : Problem → List OpInst → Atom → Type 0
+IsAdded problem [] atom = ⊥
+IsAdded problem (step ∷ steps) atom = (Contains (adds problem step) atom × All (λ later. deletes problem later atom ≡ false) steps) ⊎ IsAdded problem steps atom

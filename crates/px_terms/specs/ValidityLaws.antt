@@ -1,8 +1,9 @@
 -- What a valid problem says of the schema of one of its instances.
-use Rattle.std.specs.Prelude.{◌≡◌, Bool, true, false, ℕ, List, [], ◌∷◌, length, map, All}
+use Rattle.std.specs.Prelude.{◌≡◌, true, false, ℕ, List, [], ◌∷◌, length, map, All}
 use Rattle.std.proofs.Common.{refl, inl, inr, ◌∙◌, arith}
 use Rattle.std.proofs.lemmas.List.{length-map}
 use Rattle.std.proofs.lemmas.List.Elements.{All-head, All-tail, All-cons}
+use Rattle.px_base.specs.Answers.{both_answers}
 use Rattle.px_terms.specs.declared.atom.Atom.{Atom}
 use Rattle.px_terms.specs.declared.instance.OpInst.{OpInst}
 use Rattle.px_terms.specs.declared.problem.Problem.{Problem}
@@ -102,9 +103,6 @@ precondition-is_of problem inst valid is = atoms-are_of problem inst.args is.obj
 
 pub adds-are_of : (problem : Problem) (inst : OpInst) → IsValid problem → IsInstanceOf problem inst → All (IsAtomOf problem 0) (adds problem inst)
 adds-are_of problem inst valid is = atoms-are_of problem inst.args is.objects (schema_of problem inst).add (rw is.count (valid.schemas inst.op is.op).add)
-
-both_answers : {G : Type 0} (b : Bool) → b ≡ false → b ≡ true → G
-both_answers b f t = cc
 
 -- what the test of a deletion passes over isn't deleted
 pub deletes-false : (problem : Problem) (inst : OpInst) (atom : Atom) → IsValid problem → IsGroundInstanceOf problem inst → IsGround atom

@@ -60,7 +60,7 @@ impl Model for ClauseArena {
 }
 
 impl ClauseArena {
-    /// An arena without a clause. Takes no memory.
+    /// Returns an arena without clauses. Does not allocate.
     pub fn new(alloc: Global) -> ClauseArena
         ensures { result ≡ [] }
     {
@@ -69,7 +69,7 @@ impl ClauseArena {
         }
     }
 
-    /// Adds a clause as the last one, and answers its number.
+    /// Adds a clause as the last one, and returns its number.
     ///
     /// # Errors
     /// `BadLength` exactly where there is no literal or more than six; else `Full` exactly where 64 clauses are there;
@@ -89,7 +89,7 @@ impl ClauseArena {
         if number == 64 {
             return Err(ArenaErr::Full);
         }
-        let lits = match self.copied(lits) {
+        let lits = match Sequence::from_slice(*self.clauses.allocator(), lits) {
             Ok(lits) => lits,
             Err(NoMemory) => return Err(ArenaErr::NoMemory),
         };
@@ -99,16 +99,7 @@ impl ClauseArena {
         }
     }
 
-    /// A copy of the literals in the arena's memory.
-    fn copied(&self, lits: &[Lit]) -> Result<Sequence<Lit>, NoMemory>
-        ensures { IfOk result (λ copy. copy ≡ lits.now) }
-    {
-        let mut items = Vec::new(*self.clauses.allocator());
-        items.extend_from_slice(lits)?;
-        Ok(Sequence::from_vec(items))
-    }
-
-    /// How many clauses there are.
+    /// Returns the number of clauses.
     pub fn count(&self) -> u32
         ensures count { result ≡ length self.now }
         ensures most { length self.now ≤ 64 }
@@ -116,7 +107,15 @@ impl ClauseArena {
         self.clauses.len() as u32
     }
 
-    /// How many variables the clause has.
+    /// The clauses, by number.
+    pub(crate) fn clauses(&self) -> &[Clause]
+        ensures value { result.now ≡ self.now }
+        ensures arena { IsArena self.now }
+    {
+        &self.clauses
+    }
+
+    /// Returns the number of the clause's variables.
     pub fn vars(&self, clause: u32) -> u32
         requires { clause < length self.now }
         ensures value { (d : Clause) → result ≡ (slice_index_or self.now clause d).vars }
@@ -125,7 +124,7 @@ impl ClauseArena {
         self.clauses[clause as usize].vars
     }
 
-    /// The literals of the clause.
+    /// Returns the literals of the clause.
     pub fn lits(&self, clause: u32) -> &[Lit]
         requires { clause < length self.now }
         ensures value { (d : Clause) → result.now ≡ (slice_index_or self.now clause d).lits }

@@ -1,6 +1,7 @@
 //! Laws about the definitions. The calls do nothing.
 ghost use Rattle.px_terms.specs.Before.{AtomsAreOrdered};
 ghost use Rattle.px_terms.specs.DropPlan.{DropPlanFact};
+ghost use Rattle.px_terms.specs.Lamps.{ContradictionFact, LampFact};
 ghost use Rattle.px_terms.specs.MergedNames.{MergedNamesFact};
 
 /// Two objects may be one thing (Lifschitz 1987). Where they are, dropping the first by an operator that deletes its atom leaves the
@@ -13,6 +14,18 @@ pub fn merged_names()
 /// second (Lifschitz 1987).
 pub fn drop_plan()
     ensures { DropPlanFact }
+{}
+
+/// A lamp is on or off, and shines where it is on. These axioms hold in some states and fail in others. Switching the lamp on carries
+/// to "something shines", which no operator adds: it follows from the axiom. Without the axioms, or without the step, it
+/// doesn't carry there.
+pub fn lit_lamp()
+    ensures { LampFact }
+{}
+
+/// No state meets axioms that contradict each other, so under them any facts carry any steps to any goal.
+pub fn contradiction()
+    ensures { ContradictionFact }
 {}
 
 /// Terms, atoms and operator instances are ordered by number, then by arguments from the left; objects ascend by number and come

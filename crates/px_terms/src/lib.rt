@@ -10,12 +10,15 @@
 //! - A [`ClauseArena`] keeps the axioms by number. `push` refuses a clause of no literal or more than six, then a
 //!   sixty-fifth clause; a refused clause leaves it as it was.
 //! - A [`Schema`] is an operator, a [`Problem`] all that a search is about. Fields that are lists are [`Sequence`]s.
-//!   Calls of other crates that are lent a problem ask that it is valid: `IsValid` in `specs/Validity.antt`.
+//!   Calls of other crates that are lent a problem ask that it is valid: `IsValid` in `specs/Validity.antt`. [`is_valid`] tests
+//!   it; [`is_atom_of`], [`are_atoms_of`], [`is_instance_of`] and [`is_term_of`] test what belongs to a problem; [`is_ground`],
+//!   [`are_variables_below`] and [`are_plain_below`] test the conditions of other calls. Each answers exactly.
 //! - What a plan is worth stands in `specs/`: finite interpretations (`States`), the states that an operator describes,
 //!   runs, and `Carries` (`Plans`), after Lifschitz 1987.
 //! - Laws about the definitions are calls that do nothing: [`merged_names`], the worked example that two objects may be
-//!   one thing; [`drop_plan`], what a plan over them carries and what it doesn't; [`atoms_are_ordered`], the order in
-//!   words.
+//!   one thing; [`drop_plan`], what a plan over them carries and what it doesn't; [`lit_lamp`], axioms that hold in some
+//!   states and fail in others, and a goal with a variable that a plan reaches only by them; [`contradiction`], axioms that
+//!   no state meets; [`atoms_are_ordered`], the order in words.
 #![tactic(auto)]
 
 mod atom;
@@ -27,11 +30,16 @@ mod substitution;
 mod term;
 #[cfg(test)]
 mod tests;
+mod validity;
 
 pub use atom::{Atom, apply, equal, instance_of};
 pub use clause::{ArenaErr, Clause, ClauseArena, Lit};
 pub use instance::{OpInst, apply_inst};
-pub use laws::{atoms_are_ordered, drop_plan, merged_names};
+pub use laws::{atoms_are_ordered, contradiction, drop_plan, lit_lamp, merged_names};
 pub use problem::{Problem, Schema};
 pub use px_base::{NoMemory, Sequence};
 pub use term::Term;
+pub use validity::{
+    are_atoms_of, are_plain_below, are_variables_below, is_atom_of, is_ground, is_instance_of,
+    is_term_of, is_valid,
+};

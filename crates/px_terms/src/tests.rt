@@ -1,13 +1,19 @@
+//! Each public call once, with memory.
 use crate::{
-    ArenaErr, Atom, ClauseArena, Lit, OpInst, Term, apply, apply_inst, atoms_are_ordered,
-    drop_plan, equal, instance_of, merged_names,
+    ArenaErr, Atom, ClauseArena, Lit, NoMemory, OpInst, Problem, Schema, Sequence, Term, apply,
+    apply_inst, are_atoms_of, are_plain_below, are_variables_below, atoms_are_ordered,
+    contradiction, drop_plan, equal, instance_of, is_atom_of, is_ground, is_instance_of, is_valid,
+    lit_lamp, merged_names,
 };
+use std::alloc::Global;
 use std::rt::HostRuntime;
 
 #[test]
 fn the_laws_are_calls(_rt: HostRuntime) {
     merged_names();
     drop_plan();
+    lit_lamp();
+    contradiction();
     atoms_are_ordered();
 }
 
@@ -66,5 +72,51 @@ fn a_clause_is_kept_as_it_was_pushed(rt: HostRuntime) -> Result<(), ArenaErr> {
     assert!(&rt; arena.vars(0) == 2);
     assert!(&rt; arena.lits(0) == [first, second].as_slice());
     assert!(&rt; arena.lits(1) == [second].as_slice());
+    Ok(())
+}
+
+/// `DROP(x)` needs `AT(x)` and deletes it; there are two objects and no axiom.
+fn dropping(alloc: Global, at: Atom) -> Result<Problem, NoMemory> {
+    let schema = Schema {
+        op: 0,
+        params: 1,
+        pre: Sequence::from_slice(alloc, &[at])?,
+        del: Sequence::from_slice(alloc, &[at])?,
+        add: Sequence::from_vec(Vec::new(alloc)),
+    };
+    Ok(Problem {
+        objects: 2,
+        arities: Sequence::from_slice(alloc, &[1u8])?,
+        axioms: ClauseArena::new(alloc),
+        schemas: Sequence::from_vec(Vec::from_array(alloc, [schema])?),
+        height: 1,
+        nodes: 1,
+        shapes: 2,
+    })
+}
+
+#[test]
+fn what_belongs_to_a_problem(rt: HostRuntime) -> Result<(), NoMemory> {
+    let at = Atom::new(0, &[Term::Var(0)]).expect(&rt, "one argument");
+    let mut problem = dropping(rt.alloc(), at)?;
+    assert!(&rt; is_valid(&problem));
+    assert!(&rt; is_atom_of(&problem, 1, &at));
+    assert!(&rt; !are_atoms_of(&problem, 0, &[at]));
+    assert!(&rt; !is_ground(&at) && !are_variables_below(0, at.args()));
+    assert!(&rt;
+        are_plain_below(
+            1,
+            &[Lit {
+                positive: false,
+                atom: at
+            }]
+        )
+    );
+    let first = OpInst::new(0, &[Term::Obj(1)]).expect(&rt, "one argument");
+    let third = OpInst::new(0, &[Term::Obj(2)]).expect(&rt, "one argument");
+    assert!(&rt; is_instance_of(&problem, &first));
+    assert!(&rt; !is_instance_of(&problem, &third));
+    problem.objects = 0;
+    assert!(&rt; !is_valid(&problem));
     Ok(())
 }

@@ -1,0 +1,274 @@
+//! Tests of terms, atoms, operator instances and problems, each of a condition that calls have. None of them allocates.
+ghost use Rattle.std.specs.Prelude.{◌≡◌, ◌<◌, ◌≤◌, ◌↔◌, length, slice_index_or, All, EachIndex, IsTrue};
+ghost use Rattle.px_terms.specs.Clauses.{ArePlainBelow, IsArena};
+ghost use Rattle.px_terms.specs.Instances.{IsGround};
+ghost use Rattle.px_terms.specs.Language.{IsObject, IsPlainBelow, IsVariableBelow};
+ghost use Rattle.px_terms.specs.Operators.{no_schema};
+ghost use Rattle.px_terms.specs.Validity.{HasArity, IsAtomOf, IsAxiomOf, IsInstanceOf, IsPatternOf, IsPatternTermOf, IsSchemaOf, IsShort, IsTermOf, IsValid};
+
+use crate::atom::Atom;
+use crate::clause::{Clause, Lit};
+use crate::instance::OpInst;
+use crate::problem::{Problem, Schema};
+use crate::term::Term;
+
+/// Is the term an object?
+fn is_object(term: &Term) -> bool
+    ensures { IsTrue result ↔ IsObject term.now }
+{
+    match *term {
+        Term::Obj(_) => true,
+        Term::Var(_) | Term::Any => false,
+    }
+}
+
+/// Returns whether all arguments of the atom are objects.
+pub fn is_ground(atom: &Atom) -> bool
+    ensures { IsTrue result ↔ IsGround atom.now }
+{
+    atom.args().iter().all(|term| is_object(term))
+}
+
+/// If the term is a variable, is its number below the count?
+fn is_variable_below(count: usize, term: &Term) -> bool
+    ensures { IsTrue result ↔ IsVariableBelow count term.now }
+{
+    match *term {
+        Term::Var(number) => (number as usize) < count,
+        Term::Obj(_) | Term::Any => true,
+    }
+}
+
+/// Returns whether each variable among the terms has a number below the count.
+pub fn are_variables_below(count: usize, terms: &[Term]) -> bool
+    ensures { IsTrue result ↔ All (IsVariableBelow count) terms.now }
+{
+    terms.iter().all(|term| is_variable_below(count, term))
+}
+
+/// Is the term an object, or a variable whose number is below the count?
+fn is_plain_below(count: u32, term: &Term) -> bool
+    ensures { IsTrue result ↔ IsPlainBelow count term.now }
+{
+    match *term {
+        Term::Obj(_) => true,
+        Term::Var(number) => number < count,
+        Term::Any => false,
+    }
+}
+
+/// Has the literal no wild card, and variables below the count alone?
+fn is_plain_literal(count: u32, lit: &Lit) -> bool
+    ensures { IsTrue result ↔ All (IsPlainBelow count) lit.now.atom.args }
+{
+    lit.atom
+        .args()
+        .iter()
+        .all(|term| is_plain_below(count, term))
+}
+
+/// Returns whether the literals have no wild card, and each variable a number below the count, as an axiom's have.
+pub fn are_plain_below(count: u32, lits: &[Lit]) -> bool
+    ensures { IsTrue result ↔ ArePlainBelow count lits.now }
+{
+    lits.iter().all(|lit| is_plain_literal(count, lit))
+}
+
+/// Returns whether the term is an object of the problem or one of the first `vars` variables.
+pub fn is_term_of(problem: &Problem, vars: u64, term: &Term) -> bool
+    ensures { IsTrue result ↔ IsTermOf problem.now vars term.now }
+{
+    match *term {
+        Term::Obj(number) => number < problem.objects,
+        Term::Var(number) => u64::from(number) < vars,
+        Term::Any => false,
+    }
+}
+
+/// The same, or the wild card.
+fn is_pattern_term_of(problem: &Problem, vars: u64, term: &Term) -> bool
+    ensures { IsTrue result ↔ IsPatternTermOf problem.now vars term.now }
+{
+    match *term {
+        Term::Any => true,
+        Term::Obj(_) | Term::Var(_) => is_term_of(problem, vars, term),
+    }
+}
+
+/// Is the predicate the problem's, and has the atom its number of arguments?
+fn has_arity(problem: &Problem, atom: &Atom) -> bool
+    ensures { IsTrue result ↔ HasArity problem.now atom.now }
+{
+    let arities = problem.arities.as_slice();
+    let pred = atom.pred() as usize;
+    pred < arities.len() && atom.args().len() == arities[pred] as usize
+}
+
+/// Returns whether the atom is one of the problem over its objects and the first `vars` variables: it has a predicate of the
+/// problem, that predicate's number of arguments, and no wild card.
+pub fn is_atom_of(problem: &Problem, vars: u64, atom: &Atom) -> bool
+    ensures { IsTrue result ↔ IsAtomOf problem.now vars atom.now }
+{
+    has_arity(problem, atom)
+        && atom
+            .args()
+            .iter()
+            .all(|term| is_term_of(problem, vars, term))
+}
+
+/// Returns whether each of the atoms is one of the problem over its objects and the first `vars` variables.
+pub fn are_atoms_of(problem: &Problem, vars: u64, atoms: &[Atom]) -> bool
+    ensures { IsTrue result ↔ All (IsAtomOf problem.now vars) atoms.now }
+{
+    atoms.iter().all(|atom| is_atom_of(problem, vars, atom))
+}
+
+/// The same of a delete pattern, in which the wild card may stand.
+fn is_pattern_of(problem: &Problem, vars: u64, atom: &Atom) -> bool
+    ensures { IsTrue result ↔ IsPatternOf problem.now vars atom.now }
+{
+    has_arity(problem, atom)
+        && atom
+            .args()
+            .iter()
+            .all(|term| is_pattern_term_of(problem, vars, term))
+}
+
+/// Are all atoms such patterns?
+fn are_patterns_of(problem: &Problem, vars: u64, atoms: &[Atom]) -> bool
+    ensures { IsTrue result ↔ All (IsPatternOf problem.now vars) atoms.now }
+{
+    atoms.iter().all(|atom| is_pattern_of(problem, vars, atom))
+}
+
+/// Returns whether the instance is of an operator of the problem, with an object of the problem for each parameter.
+pub fn is_instance_of(problem: &Problem, inst: &OpInst) -> bool
+    ensures { IsTrue result ↔ IsInstanceOf problem.now inst.now }
+{
+    let schemas = problem.schemas.as_slice();
+    let op = inst.op() as usize;
+    op < schemas.len()
+        && inst.args().len() == schemas[op].params as usize
+        && inst.args().iter().all(|term| is_term_of(problem, 0, term))
+}
+
+/// Has the axiom at most twelve variables, and are its atoms the problem's?
+fn is_axiom_of(problem: &Problem, clause: &Clause) -> bool
+    ensures { IsTrue result ↔ IsAxiomOf problem.now clause.now }
+{
+    let vars = clause.vars;
+    vars <= 12
+        && clause
+            .lits
+            .as_slice()
+            .iter()
+            .all(|lit| is_atom_of(problem, u64::from(vars), &lit.atom))
+}
+
+/// The length that no list of a problem reaches.
+const TOO_LONG: usize = 4_294_967_295;
+
+/// Are the schema's lists short?
+fn has_short_lists(schema: &Schema) -> bool
+    ensures { IsTrue result ↔ (IsShort schema.now.pre × IsShort schema.now.del × IsShort schema.now.add) }
+{
+    schema.pre.len() < TOO_LONG && schema.del.len() < TOO_LONG && schema.add.len() < TOO_LONG
+}
+
+/// Are the schema's atoms the problem's?
+fn has_atoms_of(problem: &Problem, schema: &Schema) -> bool
+    ensures { IsTrue result ↔ (All (IsAtomOf problem.now schema.now.params) schema.now.pre × All (IsPatternOf problem.now schema.now.params) schema.now.del
+        × All (IsAtomOf problem.now schema.now.params) schema.now.add) }
+{
+    let vars = u64::from(schema.params);
+    are_atoms_of(problem, vars, schema.pre.as_slice())
+        && are_patterns_of(problem, vars, schema.del.as_slice())
+        && are_atoms_of(problem, vars, schema.add.as_slice())
+}
+
+/// Has the schema the number of the place, and at most eight parameters?
+fn is_numbered(place: usize, schema: &Schema) -> bool
+    ensures { IsTrue result ↔ ((schema.now.op ≡ place) × (schema.now.params ≤ 8)) }
+{
+    schema.op as usize == place && schema.params <= 8
+}
+
+/// Is the schema the operator at the place of the problem?
+fn is_schema_of(problem: &Problem, place: usize, schema: &Schema) -> bool
+    ensures { IsTrue result ↔ IsSchemaOf problem.now place schema.now }
+{
+    is_numbered(place, schema) && has_atoms_of(problem, schema) && has_short_lists(schema)
+}
+
+/// Is the schema at the place the operator of that number?
+fn is_schema_at(problem: &Problem, place: usize) -> bool
+    requires { place < length problem.now.schemas }
+    ensures { IsTrue result ↔ IsSchemaOf problem.now place (slice_index_or problem.now.schemas place no_schema) }
+{
+    is_schema_of(problem, place, &problem.schemas.as_slice()[place])
+}
+
+/// Is each schema the operator at its place?
+fn are_schemas_of(problem: &Problem) -> bool
+    ensures { IsTrue result ↔ EachIndex problem.now.schemas (λ k. IsSchemaOf problem.now k (slice_index_or problem.now.schemas k no_schema)) }
+{
+    for place in 0..problem.schemas.len() {
+        if !is_schema_at(problem, place) {
+            return false;
+        }
+    }
+    true
+}
+
+/// Are the axioms the problem's? Those of any arena are clauses.
+fn are_axioms_of(problem: &Problem) -> bool
+    ensures axioms { IsTrue result ↔ All (IsAxiomOf problem.now) problem.now.axioms }
+    ensures arena { IsArena problem.now.axioms }
+{
+    problem
+        .axioms
+        .clauses()
+        .iter()
+        .all(|clause| is_axiom_of(problem, clause))
+}
+
+/// Is there an object, or nothing that one could be put for?
+fn has_objects(problem: &Problem) -> bool
+    ensures { IsTrue result ↔ (problem.now.objects ≡ 0 → All (λ schema. schema.params ≡ 0) problem.now.schemas × All (λ clause. clause.vars ≡ 0) problem.now.axioms) }
+{
+    problem.objects > 0
+        || (problem
+            .schemas
+            .as_slice()
+            .iter()
+            .all(|schema| schema.params == 0)
+            && problem
+                .axioms
+                .clauses()
+                .iter()
+                .all(|clause| clause.vars == 0))
+}
+
+/// Are the problem's limits in range, and its lists short?
+fn is_limited(problem: &Problem) -> bool
+    ensures { IsTrue result ↔ ((IsShort problem.now.arities × IsShort problem.now.schemas) × ((1 ≤ problem.now.height) × (problem.now.height ≤ 8))
+        × ((1 ≤ problem.now.nodes) × (problem.now.nodes ≤ 50000)) × ((2 ≤ problem.now.shapes) × (problem.now.shapes ≤ 70000))) }
+{
+    problem.arities.len() < TOO_LONG
+        && problem.schemas.len() < TOO_LONG
+        && 1 <= problem.height
+        && problem.height <= 8
+        && 1 <= problem.nodes
+        && problem.nodes <= 50_000
+        && 2 <= problem.shapes
+        && problem.shapes <= 70_000
+}
+
+/// Returns whether the problem is valid: all its numbers are in range, its limits too, its lists are short, and there is an
+/// object where an operator has a parameter or an axiom a variable.
+pub fn is_valid(problem: &Problem) -> bool
+    ensures { IsTrue result ↔ IsValid problem.now }
+{
+    let has_axioms = are_axioms_of(problem);
+    has_axioms && are_schemas_of(problem) && is_limited(problem) && has_objects(problem)
+}
