@@ -1,5 +1,6 @@
 pub mod AddedSupport
 pub mod Choosing
+pub mod DecidingLaws
 pub mod Fronts
 pub mod GivenSupport
 pub mod KeptSteps

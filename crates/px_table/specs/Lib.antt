@@ -1,6 +1,7 @@
 pub mod Carrying
 pub mod Choices
 pub mod Conclusions
+pub mod Deciding
 pub mod EntryLaws
 pub mod EntryOrder
 pub mod KernelLaws

@@ -15,8 +15,8 @@ IsUsed table prefix v =
     Any (λ (inst : OpInst). Contains inst.args (Var v)) (take prefix table.steps) ⊎ Any (λ (mark : Mark). (mark.row ≤ prefix) × Contains mark.atom.args (Var v)) table.marks
 
 -- no step deletes the instance of a mark of the first rows whose column it comes after and whose row it comes before
-abbrev pub IsProperPrefix : Problem → Table → List ℕ → ℕ → Type 0
-IsProperPrefix problem table sigma prefix = All (λ mark. mark.row ≤ prefix → IsKept problem (steps_under table sigma) 1 (mark_under sigma mark)) table.marks
+abbrev pub IsProperPrefix : Problem → Table → ℕ → List ℕ → Type 0
+IsProperPrefix problem table prefix sigma = All (λ mark. mark.row ≤ prefix → IsKept problem (steps_under table sigma) 1 (mark_under sigma mark)) table.marks
 
 -- the number is the object of a parameter: one of the problem's where the first steps use the parameter, and 0 where they don't
 abbrev pub IsPlaced : Problem → Table → ℕ → ℕ → ℕ → Type 0
@@ -30,4 +30,4 @@ pub record IsMacro (problem : Problem) (table : Table) (prefix : ℕ) (sigma : L
   pub count : length sigma ≡ table.params
   pub used : (v : ℕ) → v < table.params → IsUsed table prefix v → slice_index sigma v < problem.objects
   pub unused : (v : ℕ) → v < table.params → ¬ IsUsed table prefix v → slice_index sigma v ≡ 0
-  pub kept : IsProperPrefix problem table sigma prefix
+  pub kept : IsProperPrefix problem table prefix sigma

@@ -99,6 +99,7 @@ module _ (problem : Problem) (atoms : List Atom) (steps : List OpInst) (goal : L
 pub supports_refuse : SupportsRefuse
 supports_refuse problem atoms steps goal goal_vars rows row leaf is = record {
   own_column = λ late supports. leaf_earlier problem atoms steps goal goal_vars rows row leaf is supports late;
+  other_index = λ start other supports. other ((leaf_named problem atoms steps goal goal_vars rows row leaf is supports).initial start);
   not_given = λ start absent supports. absent (leaf_given problem atoms steps goal goal_vars rows row leaf is supports start);
   not_added = λ inst at other supports. other (leaf_added problem atoms steps goal goal_vars rows row leaf is supports inst at);
   deleted_since = λ k inst after before at deleted supports. leaf_kept problem atoms steps goal goal_vars rows row leaf is supports k inst (omega (arith, after)) after before at deleted;

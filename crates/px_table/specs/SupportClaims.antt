@@ -37,10 +37,12 @@ pub record IsLeafOf (rows : List (List Derivation)) (row : ℕ) (leaf : Leaf) : 
   pub row_at : slice_get rows place ≡ Some proofs
   pub is_leaf : Contains (row_leaves proofs) leaf
 
--- Of these rows with this leaf no support is made: where the leaf names its own row or a later one, where it names the start and isn't
--- given, where the named step doesn't add its atom at the index, and where a step in between deletes the atom.
+-- No support has these rows with this leaf, where the leaf names its own row or a later one, where it names the initial model but has
+-- another index than 0 or isn't given, where the step that it names doesn't add its atom at the index, or where a step after that one and
+-- before the row deletes the atom.
 pub record RefusesLeaf (problem : Problem) (atoms : List Atom) (steps : List OpInst) (goal : List Atom) (goal_vars : ℕ) (rows : List (List Derivation)) (row : ℕ) (leaf : Leaf) : Type 0 where
   pub own_column : row ≤ leaf.column → ¬ Supports problem atoms steps goal goal_vars rows
+  pub other_index : leaf.column ≡ 0 → leaf.index ≢ 0 → ¬ Supports problem atoms steps goal goal_vars rows
   pub not_given : leaf.column ≡ 0 → ¬ Contains atoms leaf.atom → ¬ Supports problem atoms steps goal goal_vars rows
   pub not_added : (inst : OpInst) → step_at steps leaf.column ≡ Some inst → slice_get (adds problem inst) leaf.index ≢ Some leaf.atom → ¬ Supports problem atoms steps goal goal_vars rows
   pub deleted_since : (k : ℕ) (inst : OpInst) → leaf.column < k → k < row → step_at steps k ≡ Some inst → IsDeleted (schema_of problem inst) inst leaf.atom

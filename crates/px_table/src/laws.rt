@@ -1,4 +1,5 @@
 //! Laws about the definitions. The calls do nothing.
+ghost use Rattle.px_table.specs.Deciding.{TablesAreDecided};
 ghost use Rattle.px_table.specs.EntryOrder.{EntriesAreOrdered, MovesAreCompared};
 ghost use Rattle.px_table.specs.Kernels.{KernelsAreMarks, RowsMeetPreconditions};
 ghost use Rattle.px_table.specs.Marks.{MarksAreCompared};
@@ -38,14 +39,19 @@ pub fn rows_meet_preconditions()
 {}
 
 /// A support carries its steps to its goal whatever objects it is over, also over ones that the problem hasn't: of the
-/// problem with that many objects (Lifschitz 1987).
+/// problem with that many objects, and some number is enough (Lifschitz 1987).
 pub fn supports_carry()
     ensures { SupportsCarry }
 {}
 
-/// No support has a leaf that names its own row or a later one, that names the initial model and isn't given, that names a
-/// step which doesn't add its atom at that index, or whose atom a step deletes after the one that it names and before its
-/// row.
+/// No support has a leaf that names its own row or a later one, that names the initial model and isn't given or has an index
+/// other than 0, that names a step which doesn't add its atom at the index, or whose atom a step deletes after the one that
+/// it names and before its row.
 pub fn supports_refuse()
     ensures { SupportsRefuse }
+{}
+
+/// What isn't a table can be told by computing: the test `is_table` of `specs/Deciding.antt` is true exactly of tables.
+pub fn tables_are_decided()
+    ensures { TablesAreDecided }
 {}

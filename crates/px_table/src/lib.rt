@@ -32,6 +32,8 @@
 //!   step that doesn't add the atom, one after which the atom is deleted, or its own row ([`supports_refuse`]). Further
 //!   laws for callers are in `specs/KernelLaws`, `SupportLaws`, `SupportClaimLaws`, `Carrying`, `RowLaws`, `UnderLaws`,
 //!   `MarkLaws` and `OnceLaws`.
+//! - For definitions that have to compute, `is_table` of `specs/Deciding.antt` is a test of tables, which is true exactly of
+//!   what `IsTable` says ([`tables_are_decided`]).
 //! - [`Entry`] is what a search pushes: an operator instance, or the first steps of a learned table with an object for
 //!   each of the table's parameters. Its order is the one in which entries are tried: operators before tables, then by
 //!   number and arguments, or by number, prefix and objects (`order_of` in `specs/EntryOrder.antt`;
@@ -74,6 +76,7 @@ pub use kernel_atoms::kernel;
 pub use laws::{
     entries_are_ordered, kernels_are_marks, marks_are_compared, moves_are_compared,
     nodes_are_compared, rows_meet_preconditions, supports_carry, supports_refuse,
+    tables_are_decided,
 };
 pub use mark::Mark;
 pub use node::Node;

@@ -23,19 +23,19 @@ pub fn is_macro(problem: &Problem, table: &Table, prefix: u32, sigma: &[u32]) ->
     if prefix < 2 || prefix as usize > table.steps.len() || sigma.len() != table.params as usize {
         return false;
     }
-    are_placed(problem, table, prefix, sigma) && proper_prefix(problem, table, sigma, prefix)
+    are_placed(problem, table, prefix, sigma) && proper_prefix(problem, table, prefix, sigma)
 }
 
 /// Does no step, with the objects of `sigma` for the parameters, delete a mark of the first rows between whose column and row
 /// it stands? Marks of later rows don't count, and objects that the problem hasn't may stand in `sigma`. Takes no memory.
-pub fn proper_prefix(problem: &Problem, table: &Table, sigma: &[u32], prefix: u32) -> bool
+pub fn proper_prefix(problem: &Problem, table: &Table, prefix: u32, sigma: &[u32]) -> bool
     requires problem { IsValid problem.now }
     requires table { IsTable problem.now table.now }
     requires sigma { length sigma.now ≡ table.now.params }
-    ensures { IsTrue result ↔ IsProperPrefix problem.now table.now sigma.now prefix }
+    ensures { IsTrue result ↔ IsProperPrefix problem.now table.now prefix sigma.now }
 {
     for mark in table.marks.as_slice() {
-        if !is_kept_within(problem, table, sigma, prefix, mark) {
+        if !is_kept_within(problem, table, prefix, sigma, mark) {
             return false;
         }
     }
@@ -43,7 +43,7 @@ pub fn proper_prefix(problem: &Problem, table: &Table, sigma: &[u32], prefix: u3
 }
 
 /// Is the mark one of a later row, or kept by the steps?
-fn is_kept_within(problem: &Problem, table: &Table, sigma: &[u32], prefix: u32, mark: &Mark) -> bool
+fn is_kept_within(problem: &Problem, table: &Table, prefix: u32, sigma: &[u32], mark: &Mark) -> bool
     requires problem { IsValid problem.now }
     requires steps { All (IsStepOf problem.now table.now.params) table.now.steps }
     requires sigma { length sigma.now ≡ table.now.params }

@@ -13,7 +13,7 @@ use crate::validation::{adds_mark, row_proves};
 use crate::{
     Mark, Row, Table, build, check_table, is_macro, is_used, kernel, kernels_are_marks, marks,
     marks_are_compared, proper, proper_prefix, rows_meet_preconditions, supports_carry,
-    supports_refuse,
+    supports_refuse, tables_are_decided,
 };
 use px_base::Sequence;
 use px_proof::{Leaf, Proof};
@@ -184,8 +184,8 @@ fn first_steps_as_one_operator(rt: HostRuntime) {
     assert!(&rt; is_used(&table, 1, 0) && !is_used(&table, 1, 1) && is_used(&table, 2, 1));
     let same = [0u32, 0, 0];
     assert!(&rt; is_instantiation(&problem, &table, &same));
-    assert!(&rt; proper_prefix(&problem, &table, &same, 1));
-    assert!(&rt; !proper_prefix(&problem, &table, &same, 2));
+    assert!(&rt; proper_prefix(&problem, &table, 1, &same));
+    assert!(&rt; !proper_prefix(&problem, &table, 2, &same));
 }
 
 const ROBOT: Term = Term::Obj(0);
@@ -379,6 +379,7 @@ fn a_row_gives_its_proofs_back(rt: HostRuntime) {
 
 #[test]
 fn damaged_tables_are_refused(rt: HostRuntime) {
+    tables_are_decided();
     let problem = rooms(rt.alloc(), &rt);
     let no_variable = box_through_door(rt.alloc(), &rt, 0, R1);
     assert!(&rt; !check_table(&problem, &no_variable));
