@@ -17,7 +17,7 @@
 //!   a trace ([`runs_are_traces`]), and it has few turns ([`turns_are_few`]).
 //! - Three runs are worked out in `specs/WorkedRuns` ([`danger_runs`]).
 //! - `specs/Executors` is what contracts will see of an executor, with the room that an event may take in a world
-//!   (`places_of`) and the outcomes that leave the world as it was (`ChangesNothing`).
+//!   (`places_of`) and the outcomes that leave the world as it was (`ChangesNothing`; [`events_take_places`]).
 //!
 //! The calls are laws about the definitions: they do nothing.
 #![tactic(auto)]
@@ -29,6 +29,6 @@ mod tests;
 
 pub use event::{Event, Outcome};
 pub use laws::{
-    acts_and_goes_on, danger_runs, goal_is_reached, guard_never, runs_are_one, runs_are_traces,
-    traces_are_one, turns_are_few,
+    acts_and_goes_on, danger_runs, events_take_places, goal_is_reached, guard_never, runs_are_one,
+    runs_are_traces, traces_are_one, turns_are_few,
 };
