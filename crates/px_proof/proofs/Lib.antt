@@ -1,6 +1,7 @@
 pub mod Each
+pub mod Grafts
 pub mod Inside
-pub mod Layers
+pub mod Made
 pub mod Parts
 pub mod Steps
 pub mod Uses

@@ -7,7 +7,7 @@ use Rattle.px_terms.specs.declared.term.Term.{Term}
 use Rattle.px_terms.specs.declared.clause.Lit.{Lit}
 use Rattle.px_terms.specs.declared.clause.Clause.{Clause}
 use Rattle.px_proof.specs.Proves.{UsesClause, instance_of}
-use Rattle.px_proof.specs.PlaceLaws.{slice_get-read, slice_get-within}
+use Rattle.px_proof.specs.PlaceLaws.{some_same, slice_get-read, slice_get-within}
 
 abbrev pub no_clause : Clause
 no_clause = record { vars = 0; lits = [] }
@@ -22,11 +22,8 @@ plain_lits axioms number theta lits arena below same is =
     subst (λ n. ArePlainBelow n lits) (sym same) (subst (λ ls. ArePlainBelow (clause_at axioms number).vars ls) (sym is) (arena.each number no_clause below).plain)
 
 module _ (IsChoice : Term → Type 0) (axioms : List Clause) (lit : Lit) (number : ℕ) (theta : List Term) (place : ℕ) where
-  same_clause : (a b : Clause) → slice_get axioms number ≡ Some a → slice_get axioms number ≡ Some b → a ≡ b
-  same_clause a b at_a at_b = cc
-
   clause_is : (clause : Clause) → slice_get axioms number ≡ Some clause → clause ≡ clause_at axioms number
-  clause_is clause at = same_clause clause (clause_at axioms number) at (slice_get-read axioms number no_clause (slice_get-within axioms number clause at))
+  clause_is clause at = some_same _ _ (sym at ∙ slice_get-read axioms number no_clause (slice_get-within axioms number clause at))
 
   -- what remains to be tested where the number and the length are right
   pub uses_exact : (answer : Bool) (lits : List Lit) → number < length axioms → length theta ≡ (clause_at axioms number).vars → All IsChoice theta → lits ≡ (clause_at axioms number).lits

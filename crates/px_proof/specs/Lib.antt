@@ -1,11 +1,16 @@
 pub mod Basis
 pub mod Derivation
+pub mod GraftLaws
+pub mod Grafting
+pub mod LayerLaws
+pub mod LeafRange
 pub mod Literals
 pub mod Path
 pub mod PlaceLaws
 pub mod ProofTerm
 pub mod Proves
 pub mod ProvesLaws
+pub mod Range
 pub mod Shapes
 pub mod Soundness
 pub mod Substitution

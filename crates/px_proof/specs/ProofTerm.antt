@@ -1,4 +1,5 @@
 -- The derivation that a proof term stands for.
+use Rattle.std.specs.Prelude.{◌≡◌}
 use Rattle.px_proof.specs.declared.proof.Proof.{Proof, fold-Proof}
 use Rattle.px_proof.specs.declared.proof.Proof.TheOpen.{Proof-F, Fact, Anc, Step, Gap}
 use Rattle.px_proof.specs.Derivation.{Derivation, derivations, fact, ancestor, step, gap}
@@ -12,3 +13,7 @@ derivation_step (Gap atom) = gap atom
 
 abbrev pub derivation_of : Proof → Derivation
 derivation_of = fold-Proof Derivation derivation_step
+
+-- proof terms with the same derivation are equal
+abbrev pub DerivationsTellProofs : Type 0
+DerivationsTellProofs = (one other : Proof) → derivation_of one ≡ derivation_of other → one ≡ other

@@ -1,7 +1,7 @@
 -- What a derivation proves, and by which rules. Linear resolution with ancestors: a literal is closed by a fact, by
 -- the complement of one of the literals above it, or by an instance of a clause with the literal in it, where the
 -- complement of each other literal of the instance is proved in turn, under the literal.
-use Rattle.std.specs.Prelude.{◌≡◌, ℕ, ◌<◌, Some, List, [], ◌∷◌, map, remove, length, slice_get, All, Contains}
+use Rattle.std.specs.Prelude.{◌≡◌, ℕ, ◌<◌, Some, List, [], ◌∷◌, ◌++◌, map, remove, length, slice_get, All, Contains}
 use Rattle.px_terms.specs.declared.term.Term.{Term}
 use Rattle.px_terms.specs.declared.term.Term.TheVariants.{Obj, Var, Any}
 use Rattle.px_terms.specs.declared.atom.Atom.{Atom}
@@ -95,3 +95,11 @@ IsName objects params Any = ⊥
 pub record IsTree (axioms : List Clause) (objects params : ℕ) (lit : Lit) (d : Derivation) : Type 0 where
   pub proves : Proves (from_atoms (IsName objects params) (leaf_atoms (leaves_of d))) axioms [] lit d
   pub terms : All (IsName objects params) lit.atom.args
+
+-- what is proved under a path is proved under each path that goes on from it upwards; so what is proved under the empty
+-- path is proved under any
+abbrev pub StaysUnderLongerPaths : Type 0
+StaysUnderLongerPaths =
+    (axioms : List Clause) (objects params : ℕ) (atoms : List Atom) (path far : List Lit) (lit : Lit) (d : Derivation)
+    → Proves (from_atoms (IsName objects params) atoms) axioms path lit d
+    → Proves (from_atoms (IsName objects params) atoms) axioms (path ++ far) lit d

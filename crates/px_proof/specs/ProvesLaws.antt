@@ -1,6 +1,7 @@
 -- Derivations by one set of rules that are derivations by another.
-use Rattle.std.specs.Prelude.{◌↔◌, ℕ, List, [], ◌∷◌, All, Contains}
-use Rattle.std.proofs.lemmas.List.Elements.{All-nil, All-append, Contains-append_left, Contains-append_right}
+use Rattle.std.specs.Prelude.{◌≡◌, ◌↔◌, ℕ, Some, List, [], ◌∷◌, ◌++◌, slice_get, All, Contains}
+use Rattle.std.proofs.Common.{zero, suc}
+use Rattle.std.proofs.lemmas.List.Elements.{All-nil, All-cons, All-append, Contains-append_left, Contains-append_right}
 use Rattle.px_base.specs.ListLaws.{Contains-first}
 use Rattle.px_terms.specs.declared.atom.Atom.{Atom}
 use Rattle.px_terms.specs.declared.clause.Clause.{Clause}
@@ -9,8 +10,9 @@ use Rattle.px_terms.specs.declared.term.Term.{Term}
 use Rattle.px_proof.specs.declared.proof.Leaf.{Leaf}
 use Rattle.px_proof.specs.Basis.{over_names}
 use Rattle.px_proof.specs.Derivation.{Derivation, Derivations, fact, ancestor, step, gap, open_place, none, also, leaves_of, all_leaves_of, leaf_atoms, terms_of, all_terms_of}
+use Rattle.px_proof.specs.Literals.{complement_of}
 use Rattle.px_proof.specs.PlaceLaws.{Contains-mapped}
-use Rattle.px_proof.specs.Proves.{Rules, Proves, ProvesEach, parts_of, from_atoms, IsName}
+use Rattle.px_proof.specs.Proves.{Rules, Proves, ProvesEach, parts_of, from_atoms, IsName, StaysUnderLongerPaths}
 
 -- what the one rules allow beside facts, the others allow
 pub record Allows (old new : Rules) : Type 0 where
@@ -42,6 +44,47 @@ module _ (axioms : List Clause) (old new : Rules) (allows : Allows old new) wher
     )
     each_by path [] (also d ds) facts each = absurd each
     each_by path (lit ∷ lits) none facts each = absurd each
+
+slice_get-front : {X : Type 0} (xs ys : List X) (k : ℕ) (x : X) → slice_get xs k ≡ Some x → slice_get (xs ++ ys) k ≡ Some x
+slice_get-front [] ys k x at = absurd (cc)
+slice_get-front (y ∷ xs) ys zero x at = at
+slice_get-front (y ∷ xs) ys (suc k) x at = slice_get-front xs ys k x at
+
+-- what is proved under a path is proved under a longer one
+module _ (rules : Rules) (axioms : List Clause) (far : List Lit) where
+  mutual
+    pub proves_longer : (path : List Lit) (lit : Lit) (d : Derivation) → Proves rules axioms path lit d → Proves rules axioms (path ++ far) lit d
+    proves_longer path lit (fact leaf) proved = proved
+    proves_longer path lit (ancestor i) proved = slice_get-front path far i (complement_of lit) proved
+    proves_longer path lit (step number theta place parts) proved = (proved.0, proved.1, each_longer (lit ∷ path) (parts_of proved.0.lits theta place) parts proved.2)
+    proves_longer path lit (gap atom) proved = proved
+    proves_longer path lit open_place proved = proved
+
+    pub each_longer : (path lits : List Lit) (ds : Derivations) → ProvesEach rules axioms path lits ds → ProvesEach rules axioms (path ++ far) lits ds
+    each_longer path [] none each = tt
+    each_longer path (lit ∷ lits) (also d ds) each = (proves_longer path lit d each.0, each_longer path lits ds each.1)
+    each_longer path [] (also d ds) each = absurd each
+    each_longer path (lit ∷ lits) none each = absurd each
+
+pub stays_under_longer_paths : StaysUnderLongerPaths
+stays_under_longer_paths axioms objects params atoms path far lit d = proves_longer (from_atoms (IsName objects params) atoms) axioms far path lit d
+
+-- each leaf is a fact that the rules allow
+module _ (rules : Rules) (axioms : List Clause) where
+  mutual
+    pub leaves_allowed : (path : List Lit) (lit : Lit) (d : Derivation) → Proves rules axioms path lit d → All rules.IsFact (leaves_of d)
+    leaves_allowed path lit (fact leaf) proved = All-cons rules.IsFact leaf [] proved.1 (All-nil rules.IsFact)
+    leaves_allowed path lit (ancestor i) proved = All-nil rules.IsFact
+    leaves_allowed path lit (step number theta place parts) proved = all_leaves_allowed (lit ∷ path) (parts_of proved.0.lits theta place) parts proved.2
+    leaves_allowed path lit (gap atom) proved = All-nil rules.IsFact
+    leaves_allowed path lit open_place proved = All-nil rules.IsFact
+
+    pub all_leaves_allowed : (path lits : List Lit) (ds : Derivations) → ProvesEach rules axioms path lits ds → All rules.IsFact (all_leaves_of ds)
+    all_leaves_allowed path [] none each = All-nil rules.IsFact
+    all_leaves_allowed path (lit ∷ lits) (also d ds) each =
+        All-append rules.IsFact (leaves_of d) (all_leaves_of ds) (leaves_allowed path lit d each.0) (all_leaves_allowed path lits ds each.1)
+    all_leaves_allowed path [] (also d ds) each = absurd each
+    all_leaves_allowed path (lit ∷ lits) none each = absurd each
 
 -- whatever the rules allow has only such terms
 pub record AllowsOnly (IsTerm : Term → Type 0) (rules : Rules) : Type 0 where

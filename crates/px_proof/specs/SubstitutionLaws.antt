@@ -12,7 +12,7 @@ use Rattle.px_terms.specs.declared.clause.Lit.{Lit}
 use Rattle.px_terms.specs.declared.term.Term.{Term}
 use Rattle.px_terms.specs.declared.term.Term.TheVariants.{Obj, Var, Any}
 use Rattle.px_proof.specs.declared.proof.Leaf.{Leaf}
-use Rattle.px_proof.specs.Derivation.{Derivation, Derivations, fact, ancestor, step, gap, open_place, none, also, leaves_of, all_leaves_of, leaf_atoms}
+use Rattle.px_proof.specs.Derivation.{Derivation, Derivations, fact, ancestor, step, gap, open_place, none, also, leaves_of, all_leaves_of, leaf_atoms, skeleton, skeletons}
 use Rattle.px_proof.specs.Literals.{substitute_literal, complement_of}
 use Rattle.px_proof.specs.PlaceLaws.{slice_get-map, map-remove, Contains-mapped}
 use Rattle.px_proof.specs.Proves.{Rules, Proves, ProvesEach, instance_of, parts_of, from_atoms, from_facts, IsName}
@@ -25,17 +25,20 @@ substitute_at outer [] v = refl
 substitute_at outer (t ∷ inner) zero = refl
 substitute_at outer (t ∷ inner) (suc v) = substitute_at outer inner v
 
-substitute_twice : (outer inner : List Term) (t : Term) → substitute outer (substitute inner t) ≡ substitute (map (substitute outer) inner) t
+pub substitute_twice : (outer inner : List Term) (t : Term) → substitute outer (substitute inner t) ≡ substitute (map (substitute outer) inner) t
 substitute_twice outer inner (Obj n) = refl
 substitute_twice outer inner (Var v) = substitute_at outer inner v
 substitute_twice outer inner Any = refl
 
-terms_twice : (outer inner args : List Term) → map (substitute outer) (map (substitute inner) args) ≡ map (substitute (map (substitute outer) inner)) args
+pub terms_twice : (outer inner args : List Term) → map (substitute outer) (map (substitute inner) args) ≡ map (substitute (map (substitute outer) inner)) args
 terms_twice outer inner [] = refl
 terms_twice outer inner (t ∷ args) = rw (substitute_twice outer inner t, terms_twice outer inner args) refl
 
+pub atom_twice : (outer inner : List Term) (atom : Atom) → substitute_atom outer (substitute_atom inner atom) ≡ substitute_atom (map (substitute outer) inner) atom
+atom_twice outer inner atom = ap (λ (args : List Term). record { pred = atom.pred; args = args }) (terms_twice outer inner atom.args)
+
 pub literal_twice : (outer inner : List Term) (lit : Lit) → substitute_literal outer (substitute_literal inner lit) ≡ substitute_literal (map (substitute outer) inner) lit
-literal_twice outer inner lit = ap (λ (args : List Term). record { positive = lit.positive; atom = record { pred = lit.atom.pred; args = args } }) (terms_twice outer inner lit.atom.args)
+literal_twice outer inner lit = ap (λ (atom : Atom). record { positive = lit.positive; atom = atom }) (atom_twice outer inner lit.atom)
 
 pub instance_twice : (outer inner : List Term) (lits : List Lit) → map (substitute_literal outer) (instance_of lits inner) ≡ instance_of lits (map (substitute outer) inner)
 instance_twice outer inner [] = refl
@@ -49,6 +52,32 @@ pub parts_under : (terms theta : List Term) (lits : List Lit) (place : ℕ) → 
 parts_under terms theta lits place =
     complements_under terms (remove (instance_of lits theta) place)
     ∙ ap (map complement_of) (map-remove (substitute_literal terms) (instance_of lits theta) place ∙ ap (λ ls. remove ls place) (instance_twice terms theta lits))
+
+mutual
+  pub derivation_twice : (outer inner : List Term) (d : Derivation) → derivation_under outer (derivation_under inner d) ≡ derivation_under (map (substitute outer) inner) d
+  derivation_twice outer inner (fact leaf) = ap (λ (a : Atom). fact (record { column = leaf.column; index = leaf.index; atom = a })) (atom_twice outer inner leaf.atom)
+  derivation_twice outer inner (ancestor i) = refl
+  derivation_twice outer inner (step number theta place parts) = rw (terms_twice outer inner theta, derivations_twice outer inner parts) refl
+  derivation_twice outer inner (gap atom) = ap (λ (a : Atom). gap a) (atom_twice outer inner atom)
+  derivation_twice outer inner open_place = refl
+
+  pub derivations_twice : (outer inner : List Term) (ds : Derivations) → derivations_under outer (derivations_under inner ds) ≡ derivations_under (map (substitute outer) inner) ds
+  derivations_twice outer inner none = refl
+  derivations_twice outer inner (also d ds) = rw (derivation_twice outer inner d, derivations_twice outer inner ds) refl
+
+-- ---- the shape
+
+mutual
+  pub skeleton-under : (terms : List Term) (d : Derivation) → skeleton (derivation_under terms d) ≡ skeleton d
+  skeleton-under terms (fact leaf) = refl
+  skeleton-under terms (ancestor i) = refl
+  skeleton-under terms (step number theta place parts) = ap (λ ds. step number [] place ds) (skeletons-under terms parts)
+  skeleton-under terms (gap atom) = refl
+  skeleton-under terms open_place = refl
+
+  pub skeletons-under : (terms : List Term) (ds : Derivations) → skeletons (derivations_under terms ds) ≡ skeletons ds
+  skeletons-under terms none = refl
+  skeletons-under terms (also d ds) = rw (skeleton-under terms d, skeletons-under terms ds) refl
 
 -- ---- derivations
 

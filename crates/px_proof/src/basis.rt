@@ -1,3 +1,4 @@
+//! What proofs may stand on: facts, or objects and parameters.
 ghost use Rattle.std.specs.Prelude.{◌≡◌, ◌↔◌, IsTrue, Contains, All};
 ghost use Rattle.px_proof.specs.Basis.{rules_of};
 ghost use Rattle.px_proof.specs.Proves.{IsName};

@@ -1,3 +1,4 @@
+//! The tests that a proof term proves a literal.
 ghost use Rattle.std.specs.Prelude.{◌≡◌, ◌↔◌, ◌<◌, ◌+◌, IsTrue, Some, [], ◌∷◌, length, slice_get, All, map};
 ghost use Rattle.px_terms.specs.Clauses.{ArePlainBelow};
 ghost use Rattle.px_terms.specs.Language.{IsObject};

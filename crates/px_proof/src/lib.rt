@@ -16,6 +16,10 @@
 //!   term: a number that is out of range gives false. They take no memory.
 //! - [`higher_than`], [`leaves`], [`same_shape`] read a term. [`substitute`] replaces its variables: of what [`is_tree`]
 //!   accepts it makes what [`is_tree`] accepts, and with objects for them what [`check`] accepts.
+//! - [`graft`] puts proofs in the places of a term's leaves in column 0, one each from left to right, and raises the
+//!   columns of its other leaves: of trees it makes a tree. Where all leaves are in column 0 and the parts are facts, it
+//!   gives the leaves other columns and indices.
+//! - [`Path`] holds the literals above a place, and [`literal_at`] reads it: for walks down a term, as the tests' own.
 //! - [`complement`], [`apply_literal`], [`same_literal`] do for a literal what `px_terms` does for an atom.
 //! - Each of these calls itself once for each level of the term. A chain of 1,000 steps is tested.
 //! - What takes memory takes an allocator first, and answers `NoMemory` where there is none. `try_copy` takes it from
@@ -23,13 +27,19 @@
 //!
 //! Contracts see a term as a `Derivation` (`specs/Derivation`), by `derivation_of`. `specs/Proves` says what a
 //! derivation proves by given `Rules`: one definition for finished and unfinished proofs, with gaps or without, over
-//! objects or over parameters too. `specs/Soundness` has its soundness, `specs/ProvesLaws` and
-//! `specs/SubstitutionLaws` how derivations stay derivations under other rules and other terms, and `specs/Shapes` the
-//! order of shapes.
+//! objects or over parameters too. `specs/Soundness` has its soundness, and `specs/Shapes` the order of shapes.
+//! Laws for callers, of any rules: `specs/ProvesLaws`, `specs/SubstitutionLaws` and `specs/GraftLaws` say how derivations
+//! stay derivations under other rules and longer paths, under other terms, and with other proofs in the places of their
+//! leaves, and what the leaves are then; `specs/LeafRange` says that the leaves have what the literal and the axioms'
+//! instances have; `specs/LayerLaws` has the derivation of each form of a term. [`derivations_tell_proofs`],
+//! [`paths_may_be_longer`], [`leaves_are_of_problem`], [`shapes_stay`] and [`substitutions_compose`] are laws as calls,
+//! which do nothing.
 #![tactic(auto)]
 
 mod basis;
 mod checker;
+mod grafting;
+mod laws;
 mod literal;
 mod path;
 mod proof;
@@ -41,7 +51,13 @@ mod tests;
 mod traversal;
 
 pub use checker::{check, is_tree};
+pub use grafting::graft;
+pub use laws::{
+    derivations_tell_proofs, leaves_are_of_problem, paths_may_be_longer, shapes_stay,
+    substitutions_compose,
+};
 pub use literal::{apply_literal, complement, same_literal};
+pub use path::{Path, literal_at};
 pub use proof::{Leaf, Proof};
 pub use shape::{Shape, Tick};
 pub use substitution::substitute;

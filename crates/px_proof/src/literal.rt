@@ -1,3 +1,4 @@
+//! Literals: their complements, their variables replaced, and whether two are the same.
 ghost use Rattle.std.specs.Prelude.{◌≡◌, ◌↔◌, IsTrue, All, length};
 ghost use Rattle.px_terms.specs.Language.{IsVariableBelow};
 ghost use Rattle.px_proof.specs.Literals.{substitute_literal, complement_of};

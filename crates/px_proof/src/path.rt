@@ -1,3 +1,4 @@
+//! The literals above a place of a proof.
 ghost use Rattle.std.specs.Prelude.{◌≡◌, slice_get};
 ghost use Rattle.px_proof.specs.Path.{literals_of};
 
@@ -6,7 +7,9 @@ use px_terms::Lit;
 /// The literals above a place, the nearest first.
 #[derive(Clone, Copy)]
 pub enum Path<'a> {
+    /// There is none.
     Root,
+    /// This one, and those above it.
     Under(&'a Lit, &'a Path<'a>),
 }
 

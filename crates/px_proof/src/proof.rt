@@ -1,3 +1,4 @@
+//! Proof terms and their leaves.
 ghost use Rattle.std.specs.Prelude.{◌≡◌, IfOk};
 
 use crate::store::keep;

@@ -1,3 +1,4 @@
+//! Shapes: the choices of a proof without its terms.
 ghost use Rattle.std.specs.Prelude.{◌≡◌, IfOk};
 
 use px_base::{NoMemory, Sequence};

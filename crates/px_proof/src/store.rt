@@ -1,3 +1,4 @@
+//! A place at the end of a list, or the answer that there is none.
 ghost use Rattle.std.specs.Prelude.{◌≡◌, ◌++◌, ◌∷◌, [], IfOk};
 
 use px_base::NoMemory;

@@ -1,3 +1,4 @@
+//! Proofs with their variables replaced.
 ghost use Rattle.std.specs.Prelude.{◌≡◌, All, IfOk, length, map as map_list};
 ghost use Rattle.px_terms.specs.Language.{IsVariableBelow, substitute as substitute_term};
 ghost use Rattle.px_proof.specs.Derivation.{derivations, terms_of, all_terms_of};

@@ -1,10 +1,12 @@
+//! Tests on small proofs.
 ghost use Rattle.std.specs.Prelude.{◌≡◌, [], ◌∷◌, IfOk};
 ghost use Rattle.px_proof.specs.Derivation as derivation;
 ghost use Rattle.px_proof.specs.Derivation.{also, none};
 ghost use Rattle.px_proof.specs.ProofTerm.{derivation_of};
 
+use crate::store::keep;
 use crate::{
-    Leaf, Proof, Shape, Tick, check, higher_than, is_tree, leaves, same_shape, substitute,
+    Leaf, Proof, Shape, Tick, check, graft, higher_than, is_tree, leaves, same_shape, substitute,
 };
 use px_base::{NoMemory, Sequence};
 use px_terms::{Atom, ClauseArena, Lit, Term};
@@ -40,6 +42,16 @@ fn no(atom: Atom) -> Lit
 {
     Lit {
         positive: false,
+        atom,
+    }
+}
+
+fn leaf(column: u32, index: u32, atom: Atom) -> Leaf
+    ensures { result ≡ record { column = column; index = index; atom = atom } }
+{
+    Leaf {
+        column,
+        index,
         atom,
     }
 }
@@ -148,6 +160,46 @@ fn a_step_under_objects_and_parameters(rt: HostRuntime) -> Result<(), NoMemory> 
     let copy = made.try_copy()?;
     let facts = [of(&rt, 1, Term::Obj(5))];
     assert!(&rt; check(&arena, &facts, &yes(of(&rt, 0, Term::Obj(5))), &copy));
+    Ok(())
+}
+
+/// A step by the first clause from three facts.
+fn step_from_three(alloc: Global, a: Leaf, b: Leaf, c: Leaf) -> Result<Proof, NoMemory>
+    ensures { IfOk result (λ proof. derivation_of proof ≡ derivation.step 0 [] 0 (also (derivation.fact a) (also (derivation.fact b) (also (derivation.fact c) none)))) }
+{
+    let mut subs = Vec::new(alloc);
+    keep(&mut subs, Proof::Fact(a))?;
+    keep(&mut subs, Proof::Fact(b))?;
+    keep(&mut subs, Proof::Fact(c))?;
+    Ok(Proof::Step {
+        clause: 0,
+        theta: Sequence::from_vec(Vec::new(alloc)),
+        place: 0,
+        subs: Sequence::from_vec(subs),
+    })
+}
+
+#[test]
+fn parts_in_the_places_of_leaves(rt: HostRuntime) -> Result<(), NoMemory> {
+    let (p, q, r) = (plain(&rt, 0), plain(&rt, 1), plain(&rt, 2));
+    let (s, t) = (plain(&rt, 3), plain(&rt, 4));
+    let mut arena = ClauseArena::new(rt.alloc());
+    arena
+        .push(0, &[yes(p), no(q), no(r), no(s)])
+        .expect(&rt, "four literals");
+    arena.push(0, &[yes(s), no(t)]).expect(&rt, "two literals");
+    let proof = step_from_three(rt.alloc(), leaf(0, 0, q), leaf(2, 1, r), leaf(0, 0, s))?;
+    let mut parts = Vec::new(rt.alloc());
+    keep(&mut parts, Proof::Fact(leaf(3, 1, q)))?;
+    keep(
+        &mut parts,
+        step(rt.alloc(), 1, 0, Proof::Fact(leaf(0, 0, t)))?,
+    )?;
+    let made = graft(rt.alloc(), &proof, &parts, 4)?;
+    let wanted = [leaf(3, 1, q), leaf(6, 1, r), leaf(0, 0, t)];
+    assert!(&rt; leaves(rt.alloc(), &made)?.as_slice() == wanted.as_slice());
+    assert!(&rt; check(&arena, &[q, r, t], &yes(p), &made));
+    assert!(&rt; is_tree(&arena, 0, 0, &yes(p), &made));
     Ok(())
 }
 

@@ -1,3 +1,4 @@
+//! Walks through proof terms: how high they are, their leaves, their shapes.
 ghost use Rattle.std.specs.Prelude.{◌≡◌, ◌↔◌, ◌<◌, ◌++◌, ◌∷◌, [], IsTrue, IfOk, map};
 ghost use Rattle.px_proof.specs.Derivation.{height, greatest_height, leaves_of, all_leaves_of, skeleton, skeletons, derivations};
 ghost use Rattle.px_proof.specs.ProofTerm.{derivation_of};

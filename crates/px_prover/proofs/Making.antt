@@ -4,7 +4,7 @@ use Rattle.std.specs.Prelude.{slice_index}
 use Rattle.std.specs.List.{AllByRecursion}
 use Rattle.std.proofs.lemmas.List.{reverse-append}
 use Rattle.px_prover.specs.Building.{IsLeastAt, IsThere, built, extended, fresh_sum, parts_count}
-use Rattle.px_proof.proofs.Layers.{derivation_of-step}
+use Rattle.px_proof.specs.LayerLaws.{derivation_of-step}
 use Rattle.px_proof.specs.Derivation.{Derivation, derivations, step}
 use Rattle.px_proof.specs.PlaceLaws.{slice_get-read}
 use Rattle.px_proof.specs.ProofTerm.{derivation_of}

@@ -9,7 +9,7 @@ use Rattle.px_proof.specs.PlaceLaws.{slice_get-map, slice_get-read}
 use Rattle.px_terms.specs.Clauses.{ArePlainBelow}
 use Rattle.px_proof.proofs.Steps.{step_exact}
 use Rattle.px_proof.proofs.Uses.{no_clause, clause_at, plain_lits, uses_number, uses_length, uses_place, uses_at}
-use Rattle.px_proof.proofs.Layers.{literals_of-under}
+use Rattle.px_proof.specs.LayerLaws.{literals_of-under}
 use Rattle.px_proof.proofs.Parts.{length-parts_of}
 use Rattle.px_proof.proofs.checker.+proves.Goals as goal
 

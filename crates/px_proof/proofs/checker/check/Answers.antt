@@ -1,6 +1,6 @@
 use Rattle.std.specs.Prelude.{[]}
 use Rattle.px_terms.specs.Language.{IsObject}
-use Rattle.px_proof.proofs.Layers.{literals_of-root}
+use Rattle.px_proof.specs.LayerLaws.{literals_of-root}
 use Rattle.px_proof.specs.ProofTerm.{derivation_of}
 use Rattle.px_proof.specs.ProvesLaws.{terms_from}
 use Rattle.px_proof.specs.Soundness.{follows}

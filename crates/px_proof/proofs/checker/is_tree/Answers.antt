@@ -1,5 +1,5 @@
 use Rattle.std.specs.Prelude.{[]}
-use Rattle.px_proof.proofs.Layers.{literals_of-root}
+use Rattle.px_proof.specs.LayerLaws.{literals_of-root}
 use Rattle.px_proof.specs.Derivation.{leaves_of, leaf_atoms}
 use Rattle.px_proof.specs.ProofTerm.{derivation_of}
 use Rattle.px_proof.specs.Proves.{IsName}

@@ -1,5 +1,5 @@
 use Rattle.std.proofs.Common.{◌∙◌, sym}
-use Rattle.px_proof.proofs.Layers.{literals_of-under}
+use Rattle.px_proof.specs.LayerLaws.{literals_of-under}
 use Rattle.px_proof.specs.PlaceLaws.{slice_get-rest}
 use Rattle.px_proof.proofs.path.+literal_at.Goals as goal
 

@@ -9,7 +9,7 @@ use Rattle.px_proof.specs.ProofTerm.{derivation_of}
 use Rattle.px_proof.specs.Substitution.{derivation_under}
 use Rattle.px_proof.proofs.Inside.{terms_of_one, under_each}
 use Rattle.px_proof.specs.PlaceLaws.{All-front, All-back}
-use Rattle.px_proof.proofs.Layers.{derivation_of-step}
+use Rattle.px_proof.specs.LayerLaws.{derivation_of-step}
 use Rattle.px_proof.proofs.substitution.+substitute.Goals as goal
 
 pub substitute_all-substitute_terms-requires : goal.substitute_all-substitute_terms-requires
