@@ -7,10 +7,12 @@ use Rattle.px_terms.specs.declared.problem.Problem.{Problem}
 use Rattle.px_terms.specs.declared.problem.Schema.{Schema}
 use Rattle.px_terms.specs.declared.term.Term.{Term}
 use Rattle.px_terms.specs.declared.term.Term.TheVariants.{Obj, Var}
+use Rattle.px_terms.specs.Validity.{IsValid}
 use Rattle.px_proof.specs.declared.proof.Leaf.{Leaf}
 use Rattle.px_proof.specs.declared.proof.Proof.TheVariants.{Fact}
 use Rattle.px_table.specs.declared.mark.Mark.{Mark}
 use Rattle.px_table.specs.declared.table.Table.{Table}
+use Rattle.px_table.specs.Tables.{IsTable}
 use Rattle.px_match.specs.Matching.{Extends, IsSensed, KernelFits, KernelInstance, first_bad}
 
 -- P(x), Q(x), R(x), G(x)
@@ -86,9 +88,11 @@ danger_table = record {
 abbrev pub AreChosen : List (ℕ × ℕ) → ℕ → ℕ → Type 0
 AreChosen bound x y = (x < 2) × (y < 2) × Extends bound (x ∷ y ∷ [])
 
--- Kernel 1 fits where P(p1) and Q(p2) are true and the objects differ: else the first step would delete what the second one needs.
+-- The plan is a table of a valid problem. Kernel 1 fits where P(p1) and Q(p2) are true and the objects differ: else the first step would delete what the second one needs.
 -- Kernel 2 fits where R(p1) and Q(p2) are true, and kernel 3 where G(p1) is. There is no other.
 pub record DangerKernels : Type 0 where
+  pub valid : IsValid danger
+  pub table : IsTable danger danger_table
   pub first : (bound : List (ℕ × ℕ)) (atoms : List Atom) (x y : ℕ)
       → KernelFits danger danger_table bound atoms 1 (x ∷ y ∷ [])
       ↔ (AreChosen bound x y × (Contains atoms (p (Obj x)) × Contains atoms (q (Obj y))) × (x ≢ y))

@@ -1,6 +1,6 @@
 -- How many atoms an event may add.
-use Rattle.std.specs.Prelude.{◌≡◌, ◌⊎◌, ℕ, ◌≤◌, ◌+◌, Some, None, Option, List, length}
-use Rattle.std.proofs.Common.{refl, sym, ap, ◌∙◌, subst, inl, inr, arith}
+use Rattle.std.specs.Prelude.{◌≡◌, ℕ, ◌≤◌, ◌+◌, Some, None, Option, List, length}
+use Rattle.std.proofs.Common.{sym, ap, subst, inl, inr, arith}
 use Rattle.px_terms.specs.declared.atom.Atom.{Atom}
 use Rattle.px_terms.specs.declared.instance.OpInst.{OpInst}
 use Rattle.px_terms.specs.declared.problem.Problem.{Problem}
@@ -8,12 +8,10 @@ use Rattle.px_terms.specs.OperatorLaws.{result_of-length}
 use Rattle.px_terms.specs.Operators.{adds}
 use Rattle.px_table.specs.declared.table.Table.{Table}
 use Rattle.px_match.specs.Matching.{KernelInstance}
-use Rattle.px_planex.specs.declared.event.Event.{Event}
 use Rattle.px_planex.specs.declared.event.Event.TheVariants.{Disturb, Sense, Act}
 use Rattle.px_planex.specs.declared.event.Outcome.{Outcome}
-use Rattle.px_planex.specs.declared.event.Outcome.TheVariants.{Disturbed, Acted}
-use Rattle.px_planex.specs.Execution.{Happens, Memory, Running, remembered_step, step_of_kernel}
-use Rattle.px_planex.specs.Executors.{ChangesNothing, EditsAddOne, EventsTakePlaces, places_of}
+use Rattle.px_planex.specs.Execution.{Running, step_of_kernel}
+use Rattle.px_planex.specs.Executors.{ChangesNothing, EventsTakePlaces}
 use Rattle.px_planex.proofs.OneTrace.{ActGives, SenseGives, act_gives, disturb_gives, sense_gives}
 
 module _ {E : Type 0} (leaves : E → List Atom → List Atom) (problem : Problem) (table : Table) (bound : List (ℕ × ℕ)) where

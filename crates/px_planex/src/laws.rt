@@ -54,7 +54,7 @@ pub fn turns_are_few<W: World>()
 {}
 
 /// Three runs of the plan that one object for two would spoil: one that senses no kernel, one that takes two steps to the goal,
-/// and one in which a disturbance makes the action slip.
+/// and one in which a disturbance makes the action slip; and that an action that wasn't sensed isn't taken.
 pub fn danger_runs()
     ensures { DangerRuns }
 {}
