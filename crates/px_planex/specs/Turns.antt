@@ -18,6 +18,7 @@ pub record Recorded (E : Type 0) : Type 0 where
   pub between : Bool
   pub edits : List E
 
+-- the edits are for that turn and point
 abbrev pub is_at : {E : Type 0} → ℕ → Bool → Recorded E → Bool
 is_at turn true recorded = (recorded.turn == turn) && recorded.between
 is_at turn false recorded = (recorded.turn == turn) && not recorded.between
@@ -45,6 +46,7 @@ pub record TurnValue : Type 0 where
   pub op : Option OpInst
   pub end : TurnEnd
 
+-- a turn with this end is the last one of its run
 abbrev pub IsLastTurn : TurnEnd → Type 0
 IsLastTurn AtGoal = Unit {0}
 IsLastTurn AtNoKernel = Unit {0}
