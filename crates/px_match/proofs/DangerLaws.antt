@@ -18,6 +18,7 @@ use Rattle.px_table.specs.Kernels.{IsInstantiation, IsProper, atom_under, kernel
 use Rattle.px_table.specs.Marks.{IsKept}
 use Rattle.px_match.specs.Matching.{Extends, KernelFits}
 use Rattle.px_match.specs.WorkedDanger.{AreChosen, DangerKernels, a_schema, a_step, danger, danger_table, g, g_mark, p, p_mark, q, q_mark, r, r_mark}
+use Rattle.px_match.proofs.DangerTable.{danger-table, danger-valid}
 
 -- ---- what the first step deletes
 
@@ -147,6 +148,8 @@ module _ (x y : ℕ) where
 
 pub danger_kernels : DangerKernels
 danger_kernels = record {
+  valid = danger-valid;
+  table = danger-table;
   first = λ bound atoms x y. first_fits x y atoms bound;
   second = λ bound atoms x y. second_fits x y atoms bound;
   third = λ bound atoms x y. third_fits x y atoms bound;

@@ -1,3 +1,4 @@
 pub mod Sensing
 pub mod DangerLaws
 pub mod DangerSensing
+pub mod DangerTable

@@ -15,10 +15,12 @@ Extends bound objects = All (λ (pair : ℕ × ℕ). (k : ℕ) × (pair.0 ≡ su
 
 -- the first bound parameter that the table hasn't; its parameters are counted from 1
 abbrev pub first_bad : Table → List (ℕ × ℕ) → Option ℕ
-first_bad table bound = option_map (λ (pair : ℕ × ℕ). pair.0) (find (λ (pair : ℕ × ℕ). not (nat_le 1 pair.0 && nat_le pair.0 table.params)) bound)
+first_bad table bound =
+    option_map (λ (pair : ℕ × ℕ). pair.0) (find (λ (pair : ℕ × ℕ). not (nat_le 1 pair.0 && nat_le pair.0 table.params)) bound)
 
 -- the objects make an instance of kernel `i` that is bound as asked, proper, and true in the atoms
-pub record KernelFits (problem : Problem) (table : Table) (bound : List (ℕ × ℕ)) (atoms : List Atom) (i : ℕ) (objects : List ℕ) : Type 0 where
+pub record KernelFits (problem : Problem) (table : Table) (bound : List (ℕ × ℕ)) (atoms : List Atom)
+    (i : ℕ) (objects : List ℕ) : Type 0 where
   pub from_one : 1 ≤ i
   pub to_goal : i ≤ length table.steps + 1
   pub instantiation : IsInstantiation problem table objects

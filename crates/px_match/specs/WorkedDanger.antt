@@ -7,10 +7,12 @@ use Rattle.px_terms.specs.declared.problem.Problem.{Problem}
 use Rattle.px_terms.specs.declared.problem.Schema.{Schema}
 use Rattle.px_terms.specs.declared.term.Term.{Term}
 use Rattle.px_terms.specs.declared.term.Term.TheVariants.{Obj, Var}
+use Rattle.px_terms.specs.Validity.{IsValid}
 use Rattle.px_proof.specs.declared.proof.Leaf.{Leaf}
 use Rattle.px_proof.specs.declared.proof.Proof.TheVariants.{Fact}
 use Rattle.px_table.specs.declared.mark.Mark.{Mark}
 use Rattle.px_table.specs.declared.table.Table.{Table}
+use Rattle.px_table.specs.Tables.{IsTable}
 use Rattle.px_match.specs.Matching.{Extends, IsSensed, KernelFits, KernelInstance, first_bad}
 
 -- P(x), Q(x), R(x), G(x)
@@ -34,7 +36,15 @@ b_schema = record { op = 1; params = 2; pre = r (Var 0) ∷ q (Var 1) ∷ []; de
 
 -- two objects
 abbrev pub danger : Problem
-danger = record { objects = 2; arities = 1 ∷ 1 ∷ 1 ∷ 1 ∷ []; axioms = []; schemas = a_schema ∷ b_schema ∷ []; height = 4; nodes = 10000; shapes = 10000 }
+danger = record {
+  objects = 2;
+  arities = 1 ∷ 1 ∷ 1 ∷ 1 ∷ [];
+  axioms = [];
+  schemas = a_schema ∷ b_schema ∷ [];
+  height = 4;
+  nodes = 10000;
+  shapes = 10000;
+}
 
 abbrev pub a_step : Term → OpInst
 a_step x = record { op = 0; args = x ∷ [] }
@@ -67,20 +77,28 @@ danger_table = record {
   goal = g (Var 0) ∷ [];
   goal_vars = 0;
   marks = p_mark ∷ r_mark ∷ q_mark ∷ g_mark ∷ [];
-  proofs = (Fact (leaf_at 0 (p (Var 0))) ∷ []) ∷ (Fact (leaf_at 1 (r (Var 0))) ∷ Fact (leaf_at 0 (q (Var 1))) ∷ []) ∷ (Fact (leaf_at 2 (g (Var 0))) ∷ []) ∷ [];
+  proofs =
+      (Fact (leaf_at 0 (p (Var 0))) ∷ [])
+      ∷ (Fact (leaf_at 1 (r (Var 0))) ∷ Fact (leaf_at 0 (q (Var 1))) ∷ [])
+      ∷ (Fact (leaf_at 2 (g (Var 0))) ∷ [])
+      ∷ [];
 }
 
 -- two objects of the problem, as they are bound
 abbrev pub AreChosen : List (ℕ × ℕ) → ℕ → ℕ → Type 0
 AreChosen bound x y = (x < 2) × (y < 2) × Extends bound (x ∷ y ∷ [])
 
--- Kernel 1 fits where P(p1) and Q(p2) are true and the objects differ: else the first step would delete what the second one needs.
+-- The plan is a table of a valid problem. Kernel 1 fits where P(p1) and Q(p2) are true and the objects differ: else the first step would delete what the second one needs.
 -- Kernel 2 fits where R(p1) and Q(p2) are true, and kernel 3 where G(p1) is. There is no other.
 pub record DangerKernels : Type 0 where
+  pub valid : IsValid danger
+  pub table : IsTable danger danger_table
   pub first : (bound : List (ℕ × ℕ)) (atoms : List Atom) (x y : ℕ)
-      → KernelFits danger danger_table bound atoms 1 (x ∷ y ∷ []) ↔ (AreChosen bound x y × (Contains atoms (p (Obj x)) × Contains atoms (q (Obj y))) × (x ≢ y))
+      → KernelFits danger danger_table bound atoms 1 (x ∷ y ∷ [])
+      ↔ (AreChosen bound x y × (Contains atoms (p (Obj x)) × Contains atoms (q (Obj y))) × (x ≢ y))
   pub second : (bound : List (ℕ × ℕ)) (atoms : List Atom) (x y : ℕ)
-      → KernelFits danger danger_table bound atoms 2 (x ∷ y ∷ []) ↔ (AreChosen bound x y × (Contains atoms (r (Obj x)) × Contains atoms (q (Obj y))))
+      → KernelFits danger danger_table bound atoms 2 (x ∷ y ∷ [])
+      ↔ (AreChosen bound x y × (Contains atoms (r (Obj x)) × Contains atoms (q (Obj y))))
   pub third : (bound : List (ℕ × ℕ)) (atoms : List Atom) (x y : ℕ)
       → KernelFits danger danger_table bound atoms 3 (x ∷ y ∷ []) ↔ (AreChosen bound x y × Contains atoms (g (Obj x)))
   pub no_other : (bound : List (ℕ × ℕ)) (atoms : List Atom) (i : ℕ) (objects : List ℕ)

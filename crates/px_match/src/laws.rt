@@ -7,8 +7,8 @@ pub fn sensed_is_one()
     ensures { SensedIsOne }
 {}
 
-/// Of a plan in which the first step would delete what the second needs if one object stood for two, kernel 1 fits exactly where
-/// its marks are true of two different objects, and the later kernels where theirs are.
+/// A plan in which the first step would delete what the second needs if one object stood for two: it is a table, its kernel 1
+/// fits exactly where its marks are true of two different objects, and the later kernels where theirs are.
 pub fn danger_kernels()
     ensures { DangerKernels }
 {}

@@ -16,8 +16,9 @@ use Rattle.px_match.proofs.DangerLaws.{danger_kernels, each_mark, has_p, same_ob
 use Rattle.px_match.proofs.DangerSensing.{Differs, Fitting, IsBound, NotLess, below_two, danger_sensed, first_bound, fitting, greater_not_less, lacks, same_not_less}
 use Rattle.px_world.specs.declared.edits.AtomEdit.TheVariants.{Add, Remove}
 use Rattle.px_world.specs.Worlds.{edited}
-use Rattle.px_planex.specs.declared.event.Outcome.TheVariants.{Sensed, Goal, NoKernel}
-use Rattle.px_planex.specs.Execution.{RowHolds, Running, nothing_sensed}
+use Rattle.px_planex.specs.declared.event.Event.TheVariants.{Sense, Act}
+use Rattle.px_planex.specs.declared.event.Outcome.TheVariants.{NotSensed, Acted, Sensed, Goal, NoKernel}
+use Rattle.px_planex.specs.Execution.{Traces, RowHolds, Running, nothing_sensed}
 use Rattle.px_planex.specs.Turns.{ByActing, BySlipping, RunsTable}
 use Rattle.px_planex.specs.WorkedRuns.{DangerRuns, arrived, lost, tried}
 
@@ -214,5 +215,22 @@ slipped = (
   ),
 )
 
+unsensed : Traces edited danger danger_table chosen_a (record { atoms = danger_facts; memory = nothing_sensed })
+    (Act ∷ Sense ∷ Act ∷ Act ∷ []) (NotSensed ∷ Sensed 1 ∷ Acted ∷ NotSensed ∷ []) (at after_a None (a ∷ b ∷ []))
+unfolding with_item set_of
+unsensed = (
+  at danger_facts None [],
+  (refl, refl),
+  (
+    at danger_facts (Some (kernel 1 a b)) (a ∷ b ∷ []),
+    (kernel 1 a b, danger_sensed.next_object, refl, omega arith, refl),
+    (
+      at after_a None (a ∷ b ∷ []),
+      (kernel 1 a b, refl, row_holds a b 1 danger_facts (λ _. Contains-first (p (Obj a)) only_q) (λ e. absurd (omega (arith, e))) (omega arith), (a_step (Obj a), refl, refl)),
+      (at after_a None (a ∷ b ∷ []), (refl, refl), refl),
+    ),
+  ),
+)
+
 pub danger_runs : DangerRuns
-danger_runs = record { stuck = stuck; straight = straight; slipped = slipped }
+danger_runs = record { stuck = stuck; straight = straight; slipped = slipped; unsensed = unsensed }

@@ -48,7 +48,7 @@ module _ {E : Type 0} (leaves : E → List Atom → List Atom) (problem : Proble
       let same : acts.0 ≡ kernel = some_same acts.0 kernel (sym acts.1) in
       inr (inl (subst (λ (k : KernelInstance). RowFails table k (after_edits leaves between before.atoms)) same acts.2))
 
-  turn_in_atoms : (before between : List E) (old sensed new : Running) (turn : TurnValue) (outcome : Outcome) → Happens leaves problem table bound (disturbed_by leaves before old) Sense outcome sensed
+  pub turn_in_atoms : (before between : List E) (old sensed new : Running) (turn : TurnValue) (outcome : Outcome) → Happens leaves problem table bound (disturbed_by leaves before old) Sense outcome sensed
       → EndsTurn leaves problem table bound between sensed outcome turn new → InAtoms before between old.atoms turn new.atoms
   turn_in_atoms before between old sensed new turn Disturbed sense ends = absurd ends
   turn_in_atoms before between old sensed new turn Acted sense ends = absurd ends

@@ -3,6 +3,7 @@ pub mod Guarding
 pub mod InAtoms
 pub mod OneRun
 pub mod OneTrace
+pub mod Places
 pub mod Progressing
 pub mod TracedRuns
 pub mod TurnBound

@@ -22,13 +22,13 @@ module _ {E : Type 0} (leaves : E → List Atom → List Atom) (problem : Proble
   -- ---- sensing
 
   -- what comes of a sensing that finds this
-  abbrev SenseGives : Running → Option KernelInstance → Outcome → Running → Type 0
+  abbrev pub SenseGives : Running → Option KernelInstance → Outcome → Running → Type 0
   SenseGives old None outcome new = (outcome ≡ NoKernel) × (new ≡ forgetting old old.atoms)
   SenseGives old (Some kernel) outcome new =
       ((kernel.number ≡ length table.steps + 1) × (outcome ≡ Goal) × (new ≡ sensing old None kernel))
       ⊎ ((kernel.number ≤ length table.steps) × (outcome ≡ Sensed kernel.number) × (new ≡ sensing old (Some kernel) kernel))
 
-  sense_gives : (old new : Running) (outcome : Outcome) → Comes old Sense outcome new → (answer : Option KernelInstance) × IsSensed problem table bound old.atoms answer × SenseGives old answer outcome new
+  pub sense_gives : (old new : Running) (outcome : Outcome) → Comes old Sense outcome new → (answer : Option KernelInstance) × IsSensed problem table bound old.atoms answer × SenseGives old answer outcome new
   sense_gives old new Disturbed h = absurd h
   sense_gives old new Acted h = absurd h
   sense_gives old new Slipped h = absurd h
@@ -47,13 +47,13 @@ module _ {E : Type 0} (leaves : E → List Atom → List Atom) (problem : Proble
   -- ---- acting
 
   -- what comes of an action where this is remembered
-  abbrev ActGives : Running → Option KernelInstance → Outcome → Running → Type 0
+  abbrev pub ActGives : Running → Option KernelInstance → Outcome → Running → Type 0
   ActGives old None outcome new = (outcome ≡ NotSensed) × (new ≡ old)
   ActGives old (Some kernel) outcome new =
       (RowFails table kernel old.atoms × (outcome ≡ Slipped) × (new ≡ forgetting old old.atoms))
       ⊎ (RowHolds table kernel old.atoms × (outcome ≡ Acted) × ((inst : OpInst) × (step_of_kernel table kernel ≡ Some inst) × (new ≡ forgetting old (result_of problem old.atoms inst))))
 
-  act_gives : (old new : Running) (outcome : Outcome) → Comes old Act outcome new → ActGives old old.memory.remembered outcome new
+  pub act_gives : (old new : Running) (outcome : Outcome) → Comes old Act outcome new → ActGives old old.memory.remembered outcome new
   act_gives old new Disturbed h = absurd h
   act_gives old new Goal h = absurd h
   act_gives old new NoKernel h = absurd h
@@ -73,7 +73,7 @@ module _ {E : Type 0} (leaves : E → List Atom → List Atom) (problem : Proble
 
   -- ---- any event
 
-  disturb_gives : (edit : E) (old new : Running) (outcome : Outcome) → Comes old (Disturb edit) outcome new → (outcome ≡ Disturbed) × (new ≡ record { atoms = leaves edit old.atoms; memory = old.memory })
+  pub disturb_gives : (edit : E) (old new : Running) (outcome : Outcome) → Comes old (Disturb edit) outcome new → (outcome ≡ Disturbed) × (new ≡ record { atoms = leaves edit old.atoms; memory = old.memory })
   disturb_gives edit old new Disturbed h = (refl, h)
   disturb_gives edit old new Acted h = absurd h
   disturb_gives edit old new Slipped h = absurd h

@@ -9,7 +9,7 @@ use Rattle.px_terms.specs.OperatorLaws.{result_by-members}
 use Rattle.px_terms.specs.Operators.{adds, result_of, schema_of}
 use Rattle.px_terms.specs.Validity.{IsValid, IsAtomOf}
 use Rattle.px_terms.specs.ValidityLaws.{atom_of-is_ground, deletes-passed, instance-is_ground}
-use Rattle.px_proof.specs.PlaceLaws.{All-got, Contains-mapped}
+use Rattle.px_proof.specs.PlaceLaws.{All-got, Contains-mapped, some_same}
 use Rattle.px_table.specs.declared.mark.Mark.{Mark}
 use Rattle.px_table.specs.declared.table.Table.{Table}
 use Rattle.px_table.specs.Carrying.{contains_at}
@@ -58,7 +58,7 @@ module _ (problem : Problem) (valid : IsValid problem) (table : Table) (is_table
       | inr here ↦
           let named = IsNamed-under problem table.steps objects mark (All-at (IsNamed problem table.steps) table.marks mark is_table.named has) in
           let add = named.added (omega (arith, here)) in
-          let same : add.0 ≡ inst = let e = ap (step_at (steps_under table objects)) here in cc (e, add.1, at) in
+          let same : add.0 ≡ inst = some_same add.0 inst (sym add.1 ∙ ap (step_at (steps_under table objects)) here ∙ at) in
           let added : slice_get (adds problem inst) mark.index ≡ Some (atom_under objects mark.atom) = subst (λ (x : OpInst). slice_get (adds problem x) mark.index ≡ Some (atom_under objects mark.atom)) same add.2 in
           (result_by-members (schema_of problem inst) atoms inst (atom_under objects mark.atom)).1 (inr (contains_at (adds problem inst) mark.index (atom_under objects mark.atom) added))
     ]

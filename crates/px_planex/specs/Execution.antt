@@ -51,32 +51,34 @@ forgetting old atoms = record { atoms = atoms; memory = record { remembered = No
 abbrev pub sensing : Running → Option KernelInstance → KernelInstance → Running
 sensing old remembered kernel = record { atoms = old.atoms; memory = record { remembered = remembered; instance = kernel.objects } }
 
--- The event may have this outcome, and lead from the one to the other; `leaves` says what atoms an edit leaves. No other event has
--- an outcome.
-abbrev pub Happens : {E : Type 0} → (E → List Atom → List Atom) → Problem → Table → List (ℕ × ℕ) → Running → Event E → Outcome → Running → Type 0
-Happens leaves problem table bound old (Disturb edit) Disturbed new = new ≡ record { atoms = leaves edit old.atoms; memory = old.memory }
-Happens leaves problem table bound old Sense NoKernel new = NoKernelFits problem table bound old.atoms × (new ≡ forgetting old old.atoms)
-Happens leaves problem table bound old Sense Goal new =
-    (kernel : KernelInstance) × IsHighest problem table bound old.atoms kernel × (kernel.number ≡ length table.steps + 1) × (new ≡ sensing old None kernel)
-Happens leaves problem table bound old Sense (Sensed i) new =
-    (kernel : KernelInstance) × IsHighest problem table bound old.atoms kernel × (kernel.number ≡ i) × (i ≤ length table.steps) × (new ≡ sensing old (Some kernel) kernel)
-Happens leaves problem table bound old Act NotSensed new = (old.memory.remembered ≡ None) × (new ≡ old)
-Happens leaves problem table bound old Act Slipped new =
-    (kernel : KernelInstance) × (old.memory.remembered ≡ Some kernel) × RowFails table kernel old.atoms × (new ≡ forgetting old old.atoms)
-Happens leaves problem table bound old Act Acted new =
-    (kernel : KernelInstance) × (old.memory.remembered ≡ Some kernel) × RowHolds table kernel old.atoms
-    × ((inst : OpInst) × (step_of_kernel table kernel ≡ Some inst) × (new ≡ forgetting old (result_of problem old.atoms inst)))
-Happens leaves problem table bound old event outcome new = ⊥
+-- an executor of the table with this binding, in a world in which an edit leaves those atoms
+module _ {E : Type 0} (leaves : E → List Atom → List Atom) (problem : Problem) (table : Table) (bound : List (ℕ × ℕ)) where
+  -- the event may have this outcome, and lead from the one to the other; no other event has an outcome
+  abbrev pub Happens : Running → Event E → Outcome → Running → Type 0
+  Happens old (Disturb edit) Disturbed new = new ≡ record { atoms = leaves edit old.atoms; memory = old.memory }
+  Happens old Sense NoKernel new = NoKernelFits problem table bound old.atoms × (new ≡ forgetting old old.atoms)
+  Happens old Sense Goal new =
+      (kernel : KernelInstance) × IsHighest problem table bound old.atoms kernel × (kernel.number ≡ length table.steps + 1) × (new ≡ sensing old None kernel)
+  Happens old Sense (Sensed i) new =
+      (kernel : KernelInstance) × IsHighest problem table bound old.atoms kernel × (kernel.number ≡ i) × (i ≤ length table.steps) × (new ≡ sensing old (Some kernel) kernel)
+  Happens old Act NotSensed new = (old.memory.remembered ≡ None) × (new ≡ old)
+  Happens old Act Slipped new =
+      (kernel : KernelInstance) × (old.memory.remembered ≡ Some kernel) × RowFails table kernel old.atoms × (new ≡ forgetting old old.atoms)
+  Happens old Act Acted new =
+      (kernel : KernelInstance) × (old.memory.remembered ≡ Some kernel) × RowHolds table kernel old.atoms
+      × ((inst : OpInst) × (step_of_kernel table kernel ≡ Some inst) × (new ≡ forgetting old (result_of problem old.atoms inst)))
+  Happens old event outcome new = ⊥
 
--- these events may have these outcomes, one after the other
-abbrev pub Traces : {E : Type 0} → (E → List Atom → List Atom) → Problem → Table → List (ℕ × ℕ) → Running → List (Event E) → List Outcome → Running → Type 0
-Traces leaves problem table bound old [] [] new = new ≡ old
-Traces leaves problem table bound old [] (outcome ∷ outcomes) new = ⊥
-Traces leaves problem table bound old (event ∷ events) [] new = ⊥
-Traces leaves problem table bound old (event ∷ events) (outcome ∷ outcomes) new =
-    (mid : Running) × Happens leaves problem table bound old event outcome mid × Traces leaves problem table bound mid events outcomes new
+  -- these events may have these outcomes, one after the other
+  abbrev pub Traces : Running → List (Event E) → List Outcome → Running → Type 0
+  Traces old [] [] new = new ≡ old
+  Traces old [] (outcome ∷ outcomes) new = ⊥
+  Traces old (event ∷ events) [] new = ⊥
+  Traces old (event ∷ events) (outcome ∷ outcomes) new = (mid : Running) × Happens old event outcome mid × Traces mid events outcomes new
 
 -- what comes of a list of events is determined
 abbrev pub TracesAreOne : {E : Type 0} → (E → List Atom → List Atom) → Type 0
-TracesAreOne {E} leaves = (problem : Problem) (table : Table) (bound : List (ℕ × ℕ)) (old : Running) (events : List (Event E)) (outcomes others : List Outcome) (new later : Running)
-    → Traces leaves problem table bound old events outcomes new → Traces leaves problem table bound old events others later → (outcomes ≡ others) × (new ≡ later)
+TracesAreOne {E} leaves = (problem : Problem) (table : Table) (bound : List (ℕ × ℕ)) (old : Running) (events : List (Event E))
+    (outcomes others : List Outcome) (new later : Running)
+    → Traces leaves problem table bound old events outcomes new → Traces leaves problem table bound old events others later
+    → (outcomes ≡ others) × (new ≡ later)

@@ -1,11 +1,12 @@
 -- What contracts see of an executor, and how much room its events take.
-use Rattle.std.specs.Prelude.{ℕ, ◌≤◌, Option, Some, None, List, length}
+use Rattle.std.specs.Prelude.{◌≡◌, ℕ, ◌≤◌, ◌+◌, Option, Some, None, List, length}
+use Rattle.px_terms.specs.declared.atom.Atom.{Atom}
 use Rattle.px_terms.specs.declared.problem.Problem.{Problem}
 use Rattle.px_terms.specs.Operators.{adds}
 use Rattle.px_table.specs.declared.table.Table.{Table}
 use Rattle.px_table.specs.Kernels.{IsInstantiation}
 use Rattle.px_match.specs.Matching.{KernelInstance}
-use Rattle.px_planex.specs.Execution.{Memory, remembered_step}
+use Rattle.px_planex.specs.Execution.{Happens, Memory, Running, remembered_step}
 use Rattle.px_planex.specs.declared.event.Event.{Event}
 use Rattle.px_planex.specs.declared.event.Event.TheVariants.{Disturb, Sense, Act}
 use Rattle.px_planex.specs.declared.event.Outcome.{Outcome}
@@ -35,3 +36,13 @@ abbrev pub ChangesNothing : Outcome → Type 0
 ChangesNothing Disturbed = ⊥
 ChangesNothing Acted = ⊥
 ChangesNothing outcome = Unit {0}
+
+-- an edit leaves at most one atom more
+abbrev pub EditsAddOne : {E : Type 0} → (E → List Atom → List Atom) → Type 0
+EditsAddOne {E} leaves = (edit : E) (atoms : List Atom) → length (leaves edit atoms) ≤ length atoms + 1
+
+-- an event leaves at most so many atoms more as it may want places, and the same atoms where its outcome changes nothing
+abbrev pub EventsTakePlaces : {E : Type 0} → (E → List Atom → List Atom) → Type 0
+EventsTakePlaces {E} leaves = (problem : Problem) (table : Table) (bound : List (ℕ × ℕ)) (old new : Running) (event : Event E) (outcome : Outcome)
+    → EditsAddOne leaves → Happens leaves problem table bound old event outcome new
+    → (length new.atoms ≤ length old.atoms + places_of problem table old.memory event) × (ChangesNothing outcome → new.atoms ≡ old.atoms)

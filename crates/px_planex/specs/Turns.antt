@@ -18,6 +18,7 @@ pub record Recorded (E : Type 0) : Type 0 where
   pub between : Bool
   pub edits : List E
 
+-- the edits are for that turn and point
 abbrev pub is_at : {E : Type 0} → ℕ → Bool → Recorded E → Bool
 is_at turn true recorded = (recorded.turn == turn) && recorded.between
 is_at turn false recorded = (recorded.turn == turn) && not recorded.between
@@ -45,50 +46,55 @@ pub record TurnValue : Type 0 where
   pub op : Option OpInst
   pub end : TurnEnd
 
+-- a turn with this end is the last one of its run
 abbrev pub IsLastTurn : TurnEnd → Type 0
 IsLastTurn AtGoal = Unit {0}
 IsLastTurn AtNoKernel = Unit {0}
 IsLastTurn ByActing = ⊥
 IsLastTurn BySlipping = ⊥
 
--- what is left of the turn where its sensing had this outcome: nothing, or the edits that come between and the action
-abbrev pub EndsTurn : {E : Type 0} → (E → List Atom → List Atom) → Problem → Table → List (ℕ × ℕ) → List E → Running → Outcome → TurnValue → Running → Type 0
-EndsTurn leaves problem table bound between sensed NoKernel turn new = (turn ≡ record { kernel = 0; op = None; end = AtNoKernel }) × (new ≡ sensed)
-EndsTurn leaves problem table bound between sensed Goal turn new = (turn ≡ record { kernel = length table.steps + 1; op = None; end = AtGoal }) × (new ≡ sensed)
-EndsTurn leaves problem table bound between sensed (Sensed i) turn new =
-    ((turn ≡ record { kernel = i; op = remembered_step table sensed.memory; end = ByActing })
-    × Happens leaves problem table bound (disturbed_by leaves between sensed) Act Acted new)
-    ⊎ ((turn ≡ record { kernel = i; op = remembered_step table sensed.memory; end = BySlipping })
-    × Happens leaves problem table bound (disturbed_by leaves between sensed) Act Slipped new)
-EndsTurn leaves problem table bound between sensed outcome turn new = ⊥
+-- an executor of the table with this binding, in a world in which an edit leaves those atoms
+module _ {E : Type 0} (leaves : E → List Atom → List Atom) (problem : Problem) (table : Table) (bound : List (ℕ × ℕ)) where
+  -- what is left of the turn where its sensing had this outcome: nothing, or the edits that come between and the action
+  abbrev pub EndsTurn : List E → Running → Outcome → TurnValue → Running → Type 0
+  EndsTurn between sensed NoKernel turn new = (turn ≡ record { kernel = 0; op = None; end = AtNoKernel }) × (new ≡ sensed)
+  EndsTurn between sensed Goal turn new = (turn ≡ record { kernel = length table.steps + 1; op = None; end = AtGoal }) × (new ≡ sensed)
+  EndsTurn between sensed (Sensed i) turn new =
+      ((turn ≡ record { kernel = i; op = remembered_step table sensed.memory; end = ByActing })
+      × Happens leaves problem table bound (disturbed_by leaves between sensed) Act Acted new)
+      ⊎ ((turn ≡ record { kernel = i; op = remembered_step table sensed.memory; end = BySlipping })
+      × Happens leaves problem table bound (disturbed_by leaves between sensed) Act Slipped new)
+  EndsTurn between sensed outcome turn new = ⊥
 
--- the turn, with the edits that come before its sensing and those that come between that and its action
-abbrev pub TakesTurn : {E : Type 0} → (E → List Atom → List Atom) → Problem → Table → List (ℕ × ℕ) → List E → List E → Running → TurnValue → Running → Type 0
-TakesTurn leaves problem table bound before between old turn new =
-    (outcome : Outcome) × ((sensed : Running) × Happens leaves problem table bound (disturbed_by leaves before old) Sense outcome sensed
-    × EndsTurn leaves problem table bound between sensed outcome turn new)
+  -- the turn, with the edits that come before its sensing and those that come between that and its action
+  abbrev pub TakesTurn : List E → List E → Running → TurnValue → Running → Type 0
+  TakesTurn before between old turn new =
+      (outcome : Outcome) × ((sensed : Running) × Happens leaves problem table bound (disturbed_by leaves before old) Sense outcome sensed
+      × EndsTurn between sensed outcome turn new)
 
--- the turns from that number on, up to the first that ends the run
-abbrev pub TakesTurns : {E : Type 0} → (E → List Atom → List Atom) → Problem → Table → List (ℕ × ℕ) → List (Recorded E) → ℕ → Running → List TurnValue → Running → Type 0
-TakesTurns leaves problem table bound recorded number old [] new = ⊥
-TakesTurns leaves problem table bound recorded number old (turn ∷ turns) new =
-    (mid : Running) × TakesTurn leaves problem table bound (edits_at recorded number false) (edits_at recorded number true) old turn mid
-    × ((IsLastTurn turn.end × (turns ≡ []) × (new ≡ mid))
-    ⊎ ((¬ IsLastTurn turn.end) × TakesTurns leaves problem table bound recorded (suc number) mid turns new))
+  module _ (recorded : List (Recorded E)) where
+    -- the turns from that number on, up to the first that ends the run
+    abbrev pub TakesTurns : ℕ → Running → List TurnValue → Running → Type 0
+    TakesTurns number old [] new = ⊥
+    TakesTurns number old (turn ∷ turns) new =
+        (mid : Running) × TakesTurn (edits_at recorded number false) (edits_at recorded number true) old turn mid
+        × ((IsLastTurn turn.end × (turns ≡ []) × (new ≡ mid)) ⊎ ((¬ IsLastTurn turn.end) × TakesTurns (suc number) mid turns new))
 
--- a run of the table in a world of these atoms, with what disturbs it: its turns, from 1 on, and the atoms after it
-abbrev pub RunsTable : {E : Type 0} → (E → List Atom → List Atom) → Problem → Table → List (ℕ × ℕ) → List (Recorded E) → List Atom → List TurnValue → List Atom → Type 0
-RunsTable leaves problem table bound recorded atoms turns after =
-    (memory : Memory) × TakesTurns leaves problem table bound recorded 1 (record { atoms = atoms; memory = nothing_sensed }) turns (record { atoms = after; memory = memory })
+    -- a run in a world of these atoms, disturbed as recorded: its turns, from 1 on, and the atoms after it
+    abbrev pub RunsTable : List Atom → List TurnValue → List Atom → Type 0
+    RunsTable atoms turns after =
+        (memory : Memory) × TakesTurns 1 (record { atoms = atoms; memory = nothing_sensed }) turns (record { atoms = after; memory = memory })
 
 -- a run with D recorded disturbances of a table of n steps has at most (D + 1) * (n + 1) turns
 abbrev pub TurnsAreFew : {E : Type 0} → (E → List Atom → List Atom) → Type 0
-TurnsAreFew {E} leaves = (problem : Problem) (table : Table) (bound : List (ℕ × ℕ)) (recorded : List (Recorded E)) (atoms : List Atom) (turns : List TurnValue) (after : List Atom)
+TurnsAreFew {E} leaves = (problem : Problem) (table : Table) (bound : List (ℕ × ℕ)) (recorded : List (Recorded E))
+    (atoms : List Atom) (turns : List TurnValue) (after : List Atom)
     → IsValid problem → IsTable problem table → RunsTable leaves problem table bound recorded atoms turns after
     → length turns ≤ (length recorded + 1) * (length table.steps + 1)
 
 -- a run is determined
 abbrev pub RunsAreOne : {E : Type 0} → (E → List Atom → List Atom) → Type 0
-RunsAreOne {E} leaves = (problem : Problem) (table : Table) (bound : List (ℕ × ℕ)) (recorded : List (Recorded E)) (atoms : List Atom) (turns others : List TurnValue) (after later : List Atom)
+RunsAreOne {E} leaves = (problem : Problem) (table : Table) (bound : List (ℕ × ℕ)) (recorded : List (Recorded E))
+    (atoms : List Atom) (turns others : List TurnValue) (after later : List Atom)
     → RunsTable leaves problem table bound recorded atoms turns after → RunsTable leaves problem table bound recorded atoms others later
     → (turns ≡ others) × (after ≡ later)

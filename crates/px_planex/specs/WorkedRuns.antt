@@ -6,6 +6,9 @@ use Rattle.px_terms.specs.declared.term.Term.TheVariants.{Obj}
 use Rattle.px_match.specs.WorkedDanger.{a, b, a_step, b_step, danger, danger_facts, danger_table, g, p, q, r}
 use Rattle.px_world.specs.declared.edits.AtomEdit.TheVariants.{Add, Remove}
 use Rattle.px_world.specs.Worlds.{edited}
+use Rattle.px_planex.specs.declared.event.Event.TheVariants.{Sense, Act}
+use Rattle.px_planex.specs.declared.event.Outcome.TheVariants.{NotSensed, Sensed, Acted}
+use Rattle.px_planex.specs.Execution.{Traces, nothing_sensed}
 use Rattle.px_planex.specs.Turns.{AtGoal, AtNoKernel, ByActing, BySlipping, RunsTable, TurnEnd, TurnValue}
 
 -- the turn that senses no kernel, the one that senses the goal, and one that tries a step
@@ -29,3 +32,7 @@ pub record DangerRuns : Type 0 where
   -- P(a) goes between the first sensing and its action, which slips; and then nothing fits
   pub slipped : RunsTable edited danger danger_table ((1, a) ∷ []) (record { turn = 1; between = true; edits = Remove (p (Obj a)) ∷ [] } ∷ [])
       danger_facts (tried 1 (a_step (Obj a)) BySlipping ∷ lost ∷ []) (q (Obj a) ∷ q (Obj b) ∷ [])
+  -- an action before any sensing isn't taken, nor is a second one after a sensing
+  pub unsensed : Traces edited danger danger_table ((1, a) ∷ []) (record { atoms = danger_facts; memory = nothing_sensed })
+      (Act ∷ Sense ∷ Act ∷ Act ∷ []) (NotSensed ∷ Sensed 1 ∷ Acted ∷ NotSensed ∷ [])
+      (record { atoms = p (Obj a) ∷ q (Obj b) ∷ r (Obj a) ∷ []; memory = record { remembered = None; instance = a ∷ b ∷ [] } })

@@ -1,5 +1,6 @@
-//! Laws about the definitions, in every world. The calls do nothing.
+//! Laws about the definitions, whatever an edit leaves in a world. The calls do nothing.
 ghost use Rattle.px_planex.specs.Execution.{TracesAreOne};
+ghost use Rattle.px_planex.specs.Executors.{EventsTakePlaces};
 ghost use Rattle.px_planex.specs.Guards.{GuardNever};
 ghost use Rattle.px_planex.specs.Progress.{ActsAndGoesOn, GoalIsReached};
 ghost use Rattle.px_planex.specs.RunTraces.{RunsAreTraces};
@@ -11,6 +12,12 @@ use px_world::World;
 /// What comes of a list of events is determined.
 pub fn traces_are_one<W: World>()
     ensures { TracesAreOne W.leaves }
+{}
+
+/// Where an edit leaves at most one atom more, an event leaves at most as many more as it may want places, and the same atoms
+/// where its outcome changes nothing.
+pub fn events_take_places<W: World>()
+    ensures { EventsTakePlaces W.leaves }
 {}
 
 /// An action directly after a kernel was sensed is taken, and what is sensed then is a greater kernel.
@@ -47,7 +54,7 @@ pub fn turns_are_few<W: World>()
 {}
 
 /// Three runs of the plan that one object for two would spoil: one that senses no kernel, one that takes two steps to the goal,
-/// and one in which a disturbance makes the action slip.
+/// and one in which a disturbance makes the action slip; and that an action that wasn't sensed isn't taken.
 pub fn danger_runs()
     ensures { DangerRuns }
 {}

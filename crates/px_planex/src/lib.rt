@@ -11,13 +11,13 @@
 //!   slips if one isn't. `Traces` is a list of events with their outcomes ([`traces_are_one`]: it is determined).
 //! - `RunsTable` in `specs/Turns` is a run: turn by turn the edits that are recorded for it before the sensing, the sensing, the
 //!   edits between that and the action, and the action, up to the goal or to a sensing that finds no kernel.
-//! - The laws hold in every world that meets `px_world`'s `World` and has the problem's objects, axioms and operators. Where
-//!   nothing disturbs the world each sensed action is taken and the next kernel is greater ([`acts_and_goes_on`]), so the goal is
-//!   reached ([`goal_is_reached`]). The world refuses no step ([`guard_never`]). A run is determined ([`runs_are_one`]), it is a
-//!   trace ([`runs_are_traces`]), and it has few turns ([`turns_are_few`]).
+//! - The laws hold whatever an edit leaves in a world. Where nothing disturbs the world each sensed action is taken and the next
+//!   kernel is greater ([`acts_and_goes_on`]), so the goal is reached ([`goal_is_reached`]). A world with the problem's objects,
+//!   axioms and operators refuses no step whose row is true in it ([`guard_never`]). A run is determined ([`runs_are_one`]), it is
+//!   a trace ([`runs_are_traces`]), and it has few turns ([`turns_are_few`]).
 //! - Three runs are worked out in `specs/WorkedRuns` ([`danger_runs`]).
 //! - `specs/Executors` is what contracts will see of an executor, with the room that an event may take in a world
-//!   (`places_of`) and the outcomes that leave the world as it was (`ChangesNothing`).
+//!   (`places_of`) and the outcomes that leave the world as it was (`ChangesNothing`; [`events_take_places`]).
 //!
 //! The calls are laws about the definitions: they do nothing.
 #![tactic(auto)]
@@ -29,6 +29,6 @@ mod tests;
 
 pub use event::{Event, Outcome};
 pub use laws::{
-    acts_and_goes_on, danger_runs, goal_is_reached, guard_never, runs_are_one, runs_are_traces,
-    traces_are_one, turns_are_few,
+    acts_and_goes_on, danger_runs, events_take_places, goal_is_reached, guard_never, runs_are_one,
+    runs_are_traces, traces_are_one, turns_are_few,
 };

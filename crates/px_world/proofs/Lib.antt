@@ -1,2 +1,1 @@
 pub mod GuardLaws
-pub mod Sizes

@@ -1,6 +1,6 @@
 use Rattle.std.proofs.Common.{length, ap, arith}
 use Rattle.px_world.specs.AtomWorldValue.{AtomWorldValue}
-use Rattle.px_world.proofs.Sizes.{with_atom-length, without_atom-length}
+use Rattle.px_ops.specs.ModelLaws.{with_atom-length, without_atom-length}
 use Rattle.px_world.proofs.atom_world.AtomWorldWorld.disturb.Goals as goal
 
 pub returns-in-Add-clause-number : goal.returns-in-Add-clause-number

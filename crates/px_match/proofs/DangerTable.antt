@@ -1,0 +1,83 @@
+-- The worked plan is a table of a valid problem.
+use Rattle.std.specs.Prelude.{◌≡◌, ◌<◌, ◌&&◌, ℕ, true, List, [], ◌∷◌, All, slice_index_or}
+use Rattle.std.proofs.Common.{zero, suc, refl, sym, subst, arith}
+use Rattle.std.specs.Cmp.Lexicographic.{pointwise}
+use Rattle.std.specs.List.{list_all}
+use Rattle.std.proofs.lemmas.List.Elements.{All-cons}
+use Rattle.px_terms.specs.declared.term.Term.TheVariants.{Var}
+use Rattle.px_terms.specs.Clauses.{IsClause}
+use Rattle.px_terms.specs.MergedNamesLaws.{nothing, one}
+use Rattle.px_terms.specs.Operators.{no_schema}
+use Rattle.px_terms.specs.Validity.{IsAtomOf, IsAxiomOf, IsPatternOf, IsPatternTermOf, IsSchemaOf, IsTermOf, IsValid}
+use Rattle.px_proof.specs.Derivation.{Derivation, fact}
+use Rattle.px_proof.specs.LayerLaws.{derivation_of-fact}
+use Rattle.px_table.specs.Deciding.{is_atom_of, is_in_range, is_named, is_table, rows_prove}
+use Rattle.px_table.specs.Marks.{mark_eq, marks_from}
+use Rattle.px_table.specs.Tables.{IsTable, rows_of}
+use Rattle.px_table.proofs.DecidingLaws.{tables_are_decided}
+use Rattle.px_match.specs.WorkedDanger.{a_schema, b_schema, danger, danger_table, g, leaf_at, p, q, r}
+
+-- ---- the problem
+
+argument : (params v : ℕ) → v < params → All (IsTermOf danger params) (Var v ∷ [])
+argument params v below = one (IsTermOf danger params) (Var v) below
+
+a_is_schema : IsSchemaOf danger 0 a_schema
+a_is_schema = record {
+  number = refl;
+  params = omega arith;
+  pre = one (IsAtomOf danger 1) (p (Var 0)) ((omega arith, refl), argument 1 0 (omega arith));
+  del = one (IsPatternOf danger 1) (q (Var 0)) ((omega arith, refl), one (IsPatternTermOf danger 1) (Var 0) (omega arith));
+  add = one (IsAtomOf danger 1) (r (Var 0)) ((omega arith, refl), argument 1 0 (omega arith));
+  short = (omega arith, omega arith, omega arith);
+}
+
+b_is_schema : IsSchemaOf danger 1 b_schema
+b_is_schema = record {
+  number = refl;
+  params = omega arith;
+  pre = All-cons (IsAtomOf danger 2) (r (Var 0)) (q (Var 1) ∷ []) ((omega arith, refl), argument 2 0 (omega arith))
+      (one (IsAtomOf danger 2) (q (Var 1)) ((omega arith, refl), argument 2 1 (omega arith)));
+  del = nothing (IsPatternOf danger 2);
+  add = one (IsAtomOf danger 2) (g (Var 0)) ((omega arith, refl), argument 2 0 (omega arith));
+  short = (omega arith, omega arith, omega arith);
+}
+
+each_schema : (k : ℕ) → k < 2 → IsSchemaOf danger k (slice_index_or (a_schema ∷ b_schema ∷ []) k no_schema)
+each_schema zero below = a_is_schema
+each_schema (suc zero) below = b_is_schema
+each_schema (suc (suc k)) below = absurd (omega (arith, below))
+
+pub danger-valid : IsValid danger
+danger-valid = record {
+  schemas = each_schema;
+  axioms = nothing (IsAxiomOf danger);
+  arena = record { each = nothing IsClause; most = omega arith };
+  short = (omega arith, omega arith);
+  height = (omega arith, omega arith);
+  nodes = (omega arith, omega arith);
+  shapes = (omega arith, omega arith);
+  no_objects = λ none_there. absurd (omega (arith, none_there));
+}
+
+-- ---- the table
+
+abbrev rows : List (List Derivation)
+rows = (fact (leaf_at 0 (p (Var 0))) ∷ []) ∷ (fact (leaf_at 1 (r (Var 0))) ∷ fact (leaf_at 0 (q (Var 1))) ∷ []) ∷ (fact (leaf_at 2 (g (Var 0))) ∷ []) ∷ []
+
+rows-are : rows_of danger_table.proofs ≡ rows
+rows-are = λ i.
+    (derivation_of-fact (leaf_at 0 (p (Var 0))) i ∷ [])
+    ∷ (derivation_of-fact (leaf_at 1 (r (Var 0))) i ∷ derivation_of-fact (leaf_at 0 (q (Var 1))) i ∷ [])
+    ∷ (derivation_of-fact (leaf_at 2 (g (Var 0))) i ∷ [])
+    ∷ []
+
+test : is_table danger danger_table ≡ true
+test =
+    subst (λ (made : List (List Derivation)). (is_in_range danger danger_table && (rows_prove danger.objects danger_table.params danger.axioms danger danger_table.steps danger_table.goal made
+    && (pointwise mark_eq danger_table.marks (marks_from 1 made)
+    && (list_all (λ mark. is_atom_of danger danger_table.params mark.atom) danger_table.marks && list_all (is_named danger danger_table.steps) danger_table.marks)))) ≡ true)
+    (sym rows-are) refl
+
+pub danger-table : IsTable danger danger_table
+danger-table = (tables_are_decided danger danger_table).0 test
