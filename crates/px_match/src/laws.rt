@@ -2,7 +2,7 @@
 ghost use Rattle.px_match.specs.Matching.{SensedIsOne};
 ghost use Rattle.px_match.specs.WorkedDanger.{DangerKernels, DangerSensed};
 
-/// Sensing finds one thing.
+/// What a sensing finds is determined.
 pub fn sensed_is_one()
     ensures { SensedIsOne }
 {}

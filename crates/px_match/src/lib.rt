@@ -1,4 +1,5 @@
-//! The highest kernel of a triangle table that is true: what a sensing finds (Fikes, Hart and Nilsson 1972).
+//! The highest kernel of a triangle table with a proper instance that is true: what a sensing finds (Fikes, Hart and Nilsson
+//! 1972).
 //!
 //! There is no matcher yet. These are the definitions that it will meet, and their law.
 //!

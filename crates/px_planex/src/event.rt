@@ -16,15 +16,16 @@ pub enum Event<E> {
 pub enum Outcome {
     /// The world was changed.
     Disturbed,
-    /// The kernel of this number is the highest with a true instance. It isn't the last one, and its step is remembered.
+    /// The kernel of this number is the highest that fits: some objects that extend the binding make its instance proper and all
+    /// its atoms true. It isn't the last one, and its step is remembered.
     Sensed(u32),
     /// The remembered step was taken.
     Acted,
     /// The remembered step wasn't taken, since a mark of its row isn't true.
     Slipped,
-    /// The last kernel has a true instance: the goal is reached.
+    /// The last kernel fits: the goal is reached.
     Goal,
-    /// No kernel has a true instance.
+    /// No kernel fits.
     NoKernel,
     /// No step is remembered.
     NotSensed,

@@ -31,8 +31,8 @@ pub fn goal_is_reached<W: World>()
     ensures { GoalIsReached W.leaves }
 {}
 
-/// Where the marks of a step's row are true in a world with the problem's objects, axioms and operators, the world refuses no
-/// such step.
+/// Where the marks of a step's row are among some atoms, the step may not be refused there, by rules with the problem's objects,
+/// axioms and operators.
 pub fn guard_never()
     ensures { GuardNever }
 {}

@@ -11,9 +11,10 @@
 //!   slips if one isn't. `Traces` is a list of events with their outcomes ([`traces_are_one`]: it is determined).
 //! - `RunsTable` in `specs/Turns` is a run: turn by turn the edits that are recorded for it before the sensing, the sensing, the
 //!   edits between that and the action, and the action, up to the goal or to a sensing that finds no kernel.
-//! - The laws hold whatever an edit leaves in a world. Where nothing disturbs the world each sensed action is taken and the next
-//!   kernel is greater ([`acts_and_goes_on`]), so the goal is reached ([`goal_is_reached`]). A world with the problem's objects,
-//!   axioms and operators refuses no step whose row is true in it ([`guard_never`]). A run is determined ([`runs_are_one`]), it is
+//! - The laws are about sets of atoms, whatever an edit leaves of them; that a world is such a set is what an executor will have to
+//!   promise. Where nothing disturbs the world each sensed action is taken and the next
+//!   kernel is greater ([`acts_and_goes_on`]), so the goal is reached ([`goal_is_reached`]). By rules with the
+//!   problem's objects, axioms and operators no step may be refused whose row is true ([`guard_never`]). A run is determined ([`runs_are_one`]), it is
 //!   a trace ([`runs_are_traces`]), and it has few turns ([`turns_are_few`]).
 //! - Three runs are worked out in `specs/WorkedRuns` ([`danger_runs`]).
 //! - `specs/Executors` is what contracts will see of an executor, with the room that an event may take in a world
