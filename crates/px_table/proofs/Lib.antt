@@ -6,5 +6,6 @@ pub mod KeptSteps
 pub mod KernelSteps
 pub mod Layers
 pub mod Loops
+pub mod PrefixSteps
 pub mod RowSteps
 pub mod Writing

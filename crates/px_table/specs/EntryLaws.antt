@@ -1,4 +1,4 @@
--- The laws of entries: their order, and that `==` is equality.
+-- The laws of entries and moves: the order of entries, and that `==` is equality.
 use Rattle.std.specs.Prelude.{◌≡◌}
 use Rattle.std.proofs.Common.{refl, ap, sym, ◌∙◌}
 use Rattle.std.proofs.lemmas.Bool.Decides.{Decides-and, Decides-eqb, Decides-like}
@@ -11,7 +11,8 @@ use Rattle.px_terms.specs.OrderLaws.{instance_eq-decides}
 use Rattle.px_table.specs.contracts.entry.EntryOrd.TheImpl.Laws as entry_order
 use Rattle.px_table.specs.declared.entry.Entry.{Entry}
 use Rattle.px_table.specs.declared.entry.Entry.TheVariants.{Op, Macro}
-use Rattle.px_table.specs.EntryOrder.{entry_eq, entry_cmp, order_of, EntriesAreOrdered}
+use Rattle.px_table.specs.declared.entry.Move.TheVariants.{Push, Apply}
+use Rattle.px_table.specs.EntryOrder.{entry_eq, entry_cmp, order_of, EntriesAreOrdered, MovesAreCompared}
 
 pub entry_cmp-is : (first second : Entry) → entry_cmp first second ≡ order_of first second
 entry_cmp-is (Op a) (Op b) = refl
@@ -41,3 +42,9 @@ order_of-total = record {
 -- two that the order doesn't tell apart are the same
 pub order_of-same : (first second : Entry) → order_of first second ≡ Equal → first ≡ second
 order_of-same first second e = (entry_eq-decides first second).0 (entry_order.matches_eq-law first second ∙ (Equal-is (entry_cmp first second)).1 (entry_cmp-is first second ∙ e))
+
+pub moves_are_compared : MovesAreCompared
+moves_are_compared (Push a) (Push b) = Decides-like _ (λ e. ap Push e) (λ e. cc) (entry_eq-decides a b)
+moves_are_compared (Push a) Apply = (λ h. cc, λ h. cc)
+moves_are_compared Apply (Push b) = (λ h. cc, λ h. cc)
+moves_are_compared Apply Apply = (λ h. refl, λ h. refl)

@@ -1,4 +1,4 @@
--- Equality, order and hashes of entries, as their `==`, `cmp` and `hash` compute them, and what they say.
+-- Equality, order and hashes of entries, as their `==`, `cmp` and `hash` compute them, and what they say; equality of moves.
 use Rattle.std.specs.Prelude.{◌≡◌, Bool}
 use Rattle.std.specs.Bool.{Decides}
 use Rattle.std.specs.Ordering.{nat_cmp, ordering_then}
@@ -10,8 +10,10 @@ use Rattle.px_terms.specs.Order.{instance_cmp}
 use Rattle.px_table.specs.contracts.entry.EntryHash.TheImpl as entry_hash
 use Rattle.px_table.specs.contracts.entry.EntryOrd.TheImpl as entry_order
 use Rattle.px_table.specs.contracts.entry.EntryPartialEq.TheImpl as entry_equality
+use Rattle.px_table.specs.contracts.entry.MovePartialEq.TheImpl as move_equality
 use Rattle.px_table.specs.declared.entry.Entry.{Entry}
 use Rattle.px_table.specs.declared.entry.Entry.TheVariants.{Op, Macro}
+use Rattle.px_table.specs.declared.entry.Move.{Move}
 
 abbrev pub entry_eq : Entry → Entry → Bool
 entry_eq = (entry_equality.ghosts).eq
@@ -36,3 +38,11 @@ order_of (Macro number prefix sigma) (Macro number' prefix' sigma') =
 pub record EntriesAreOrdered : Type 0 where
   pub order : (first second : Entry) → entry_cmp first second ≡ order_of first second
   pub equality : (first second : Entry) → Decides (entry_eq first second) (first ≡ second)
+
+-- what `==` of moves computes
+abbrev pub move_eq : Move → Move → Bool
+move_eq = (move_equality.ghosts).eq
+
+-- `==` of moves is equality
+abbrev pub MovesAreCompared : Type 0
+MovesAreCompared = (first second : Move) → Decides (move_eq first second) (first ≡ second)

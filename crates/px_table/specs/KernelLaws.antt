@@ -1,6 +1,7 @@
--- Each proper instance of each kernel of a table carries the steps that are left to the goal.
+-- Which atoms a kernel has, what the marks of a row give, and why each proper instance of each kernel of a table carries the steps
+-- that are left to the goal.
 use Rattle.std.specs.Prelude.{◌≡◌, ℕ, ◌+◌, ◌-◌, ◌<◌, ◌≤◌, ◌&&◌, true, nat_le, nat_lt, Some, List, [], ◌∷◌, ◌++◌, length, map, drop, All, Contains}
-use Rattle.std.proofs.Common.{zero, suc, refl, sym, ◌∙◌, subst, arith}
+use Rattle.std.proofs.Common.{zero, suc, refl, sym, ap, ◌∙◌, subst, arith}
 use Rattle.std.proofs.lemmas.Bool.Decides.{nat_tests}
 use Rattle.std.proofs.lemmas.List.{length-map}
 use Rattle.std.proofs.lemmas.List.Elements.{All-map}
@@ -25,9 +26,9 @@ use Rattle.px_proof.specs.Soundness.{tree_follows}
 use Rattle.px_table.specs.declared.mark.Mark.{Mark}
 use Rattle.px_table.specs.declared.table.Table.{Table}
 use Rattle.px_table.specs.Carrying.{IsCarried, KernelHolds, RowHolds, carry_meets, carry_ends}
-use Rattle.px_table.specs.Kernels.{IsInstantiation, IsProper, KernelsCarry, TailCarries, atom_under, goal_under, instance_under, kernel_marks, kernel_of, kernel_under, mark_under, steps_under}
+use Rattle.px_table.specs.Kernels.{IsInstantiation, IsProper, KernelsAreMarks, KernelsCarry, RowsMeetPreconditions, TailCarries, atom_under, goal_under, instance_under, kernel_marks, kernel_of, kernel_under, mark_under, steps_under}
 use Rattle.px_table.specs.Marks.{IsKept, IsNamed, mark_of, row_leaves, step_at}
-use Rattle.px_table.specs.OnceLaws.{Contains-each_once}
+use Rattle.px_table.specs.OnceLaws.{Contains-each_once, Contains-from_each_once}
 use Rattle.px_table.specs.RowLaws.{row_of_goal, row_of_step, row_true}
 use Rattle.px_table.specs.Supports.{IsProofOf, ProvesEachOf, variables}
 use Rattle.px_table.specs.Tables.{IsTable, rows_of}
@@ -51,9 +52,24 @@ kernel-has table i mark has row column =
     (Contains-mapped (λ (m : Mark). m.atom) (kernel_marks table i) mark
     ((Contains-filter (λ (m : Mark). nat_le i m.row && nat_lt m.column i) table.marks mark).1 (has, between i mark.row mark.column row column)))
 
+tests_between : (i r c : ℕ) → nat_le i r && nat_lt c i ≡ true → (i ≤ r) × (c < i)
+tests_between i r c e = (grind (arith, nat_tests), grind (arith, nat_tests))
+
+-- an atom of a kernel is that of a mark that the kernel rests on
+pub from_kernel : (table : Table) (i : ℕ) (atom : Atom) → Contains (kernel_of table i) atom → (mark : Mark) × Contains table.marks mark × (mark.atom ≡ atom) × (i ≤ mark.row) × (mark.column < i)
+from_kernel table i atom has =
+    let once = Contains-from_each_once atom_eq (map (λ (m : Mark). m.atom) (kernel_marks table i)) atom has in
+    let from = Contains-from_map (λ (m : Mark). m.atom) (kernel_marks table i) atom once in
+    let passed = (Contains-filter (λ (m : Mark). nat_le i m.row && nat_lt m.column i) table.marks from.0).0 from.1 in
+    let between = tests_between i from.0.row from.0.column passed.1 in
+    (from.0, passed.0, from.2, between.0, between.1)
+
+pub kernels_are_marks : KernelsAreMarks
+kernels_are_marks table i atom = (from_kernel table i atom, λ m. subst (Contains (kernel_of table i)) m.2 (kernel-has table i m.0 m.1 m.3 m.4))
+
 module _ (problem : Problem) (table : Table) (is_table : IsTable problem table) (sigma : List ℕ) (given : IsInstantiation problem table sigma) where
   -- the marks with objects for the parameters
-  abbrev Instances : List Mark
+  abbrev pub Instances : List Mark
   Instances = map (mark_under sigma) table.marks
 
   -- what a proof over names proves is true with the elements of the objects
@@ -75,7 +91,8 @@ module _ (problem : Problem) (table : Table) (is_table : IsTable problem table) 
   atoms_true state is axioms r atoms row marked holds each =
       row_true (HoldsUnder state (elements_under state sigma)) (IsName problem.objects table.params) problem.axioms (sound_here state is axioms) atoms row (leaves_true state r row marked holds) each
 
-  rows_here : (r : ℕ) (inst : OpInst) (state : State) → step_at (steps_under table sigma) r ≡ Some inst → IsState state → AxiomsHold problem state → RowHolds Instances state r → All (Holds state) (precondition problem inst)
+  -- where the instances of a row's marks hold, so does the precondition of its step
+  pub rows_here : (r : ℕ) (inst : OpInst) (state : State) → step_at (steps_under table sigma) r ≡ Some inst → IsState state → AxiomsHold problem state → RowHolds Instances state r → All (Holds state) (precondition problem inst)
   rows_here zero inst state at is axioms holds = absurd (cc)
   rows_here (suc k) inst state at is axioms holds =
       let from = from_map (instance_under sigma) table.steps k inst at in
@@ -148,3 +165,10 @@ tail_carries problem table sigma (suc k) is_table given low high proper =
 
 pub kernels_carry : (problem : Problem) (table : Table) → IsTable problem table → KernelsCarry problem table
 kernels_carry problem table is_table = record { carry = λ sigma given i low high proper. tail_carries problem table sigma i is_table given low high proper }
+
+pub rows_meet_preconditions : RowsMeetPreconditions
+rows_meet_preconditions problem table sigma row inst state is_table given at is axioms marks =
+    rows_here problem table is_table sigma given row inst state at is axioms
+    (λ mark has e.
+    let from = Contains-from_map (mark_under sigma) table.marks mark has in
+    subst (λ (m : Mark). Holds state m.atom) from.2 (marks from.0 from.1 (ap (λ (m : Mark). m.row) from.2 ∙ e)))

@@ -1,20 +1,22 @@
 -- Kernels of tables: what has to hold so that the steps from one on lead to the goal (Fikes, Hart and Nilsson 1972).
-use Rattle.std.specs.Prelude.{◌≡◌, ℕ, ◌<◌, ◌≤◌, ◌+◌, ◌-◌, ◌&&◌, nat_le, nat_lt, List, ◌++◌, length, map, filter, drop, All}
+use Rattle.std.specs.Prelude.{◌≡◌, ◌↔◌, ℕ, ◌<◌, ◌≤◌, ◌+◌, ◌-◌, ◌&&◌, nat_le, nat_lt, Some, List, ◌++◌, length, map, filter, drop, All, Contains}
 use Rattle.px_terms.specs.declared.atom.Atom.{Atom}
 use Rattle.px_terms.specs.declared.instance.OpInst.{OpInst}
 use Rattle.px_terms.specs.declared.problem.Problem.{Problem}
 use Rattle.px_terms.specs.declared.term.Term.TheVariants.{Obj}
+use Rattle.px_terms.specs.Operators.{precondition}
 use Rattle.px_terms.specs.Order.{atom_eq}
 use Rattle.px_terms.specs.Plans.{Carries}
+use Rattle.px_terms.specs.States.{State, IsState, Holds, AxiomsHold}
 use Rattle.px_terms.specs.Substitution.{substitute_atom, substitute_instance}
 use Rattle.px_proof.specs.Derivation.{Derivation}
 use Rattle.px_proof.specs.Substitution.{derivation_under}
 use Rattle.px_table.specs.declared.mark.Mark.{Mark}
 use Rattle.px_table.specs.declared.table.Table.{Table}
-use Rattle.px_table.specs.Marks.{IsKept}
+use Rattle.px_table.specs.Marks.{IsKept, step_at}
 use Rattle.px_table.specs.Once.{each_once}
 use Rattle.px_table.specs.Supports.{variables}
-use Rattle.px_table.specs.Tables.{rows_of}
+use Rattle.px_table.specs.Tables.{IsTable, rows_of}
 
 -- the marks of row `i` and later whose column is before `i`
 abbrev pub kernel_marks : Table → ℕ → List Mark
@@ -64,3 +66,15 @@ TailCarries problem table sigma i = Carries problem (kernel_under table sigma i)
 -- each proper instance of each kernel carries the steps that are left to the goal
 pub record KernelsCarry (problem : Problem) (table : Table) : Type 0 where
   pub carry : (sigma : List ℕ) → IsInstantiation problem table sigma → (i : ℕ) → 1 ≤ i → i ≤ length table.steps + 1 → IsProper problem table sigma i → TailCarries problem table sigma i
+
+-- the atom is in kernel `i` just where some mark of row `i` or later, with column before `i`, has it
+abbrev pub KernelsAreMarks : Type 0
+KernelsAreMarks = (table : Table) (i : ℕ) (atom : Atom)
+    → Contains (kernel_of table i) atom ↔ ((mark : Mark) × Contains table.marks mark × (mark.atom ≡ atom) × (i ≤ mark.row) × (mark.column < i))
+
+-- Where the instances of all marks of a step's row hold in a state in which the axioms hold, so does the precondition of the step's
+-- instance.
+abbrev pub RowsMeetPreconditions : Type 0
+RowsMeetPreconditions = (problem : Problem) (table : Table) (sigma : List ℕ) (row : ℕ) (inst : OpInst) (state : State)
+    → IsTable problem table → IsInstantiation problem table sigma → step_at (steps_under table sigma) row ≡ Some inst → IsState state → AxiomsHold problem state
+    → ((mark : Mark) → Contains table.marks mark → mark.row ≡ row → Holds state (atom_under sigma mark.atom)) → All (Holds state) (precondition problem inst)

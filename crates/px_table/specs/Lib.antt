@@ -10,9 +10,13 @@ pub mod Marks
 pub mod NodeLaws
 pub mod NodeValue
 pub mod Nodes
+pub mod ObjectLaws
 pub mod Once
 pub mod OnceLaws
+pub mod Prefixes
 pub mod RowLaws
+pub mod SupportClaimLaws
+pub mod SupportClaims
 pub mod SupportLaws
 pub mod SupportShapes
 pub mod Supports

@@ -79,3 +79,11 @@ module _ {A : Type 0} (same : A → A → Bool) (decides : (x y : A) → Decides
           | inr later ↦ Contains-later x _ y ((Contains-filter (λ z. not (same x z)) (each_once same xs) y).1 (Contains-each_once xs y later, ap not other))
         ]
       ] refl
+
+-- and nothing else is in it
+pub Contains-from_each_once : {A : Type 0} (same : A → A → Bool) (xs : List A) (y : A) → Contains (each_once same xs) y → Contains xs y
+Contains-from_each_once same [] y has = has
+Contains-from_each_once same (x ∷ xs) y has = elim (Contains-cases x _ y has) [
+  | inl is ↦ subst (Contains (x ∷ xs)) is (Contains-first x xs)
+  | inr later ↦ Contains-later x xs y (Contains-from_each_once same xs y ((Contains-filter _ (each_once same xs) y).0 later).0)
+]

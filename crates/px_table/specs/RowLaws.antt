@@ -29,6 +29,17 @@ first_row r row rows leaf has =
     Contains-append_left (row_marks r row) (marks_from (suc r) rows) (mark_of r leaf)
     (Contains-each_once mark_eq mark_eq-decides (map (mark_of r) (row_leaves row)) (mark_of r leaf) (Contains-mapped (mark_of r) (row_leaves row) leaf has))
 
+-- a leaf of a row's proofs makes a mark of the row of that number
+pub leaf_marked : (first k r : ℕ) (rows : List (List Derivation)) (row : List Derivation) (leaf : Leaf) → r ≡ first + k → slice_get rows k ≡ Some row
+    → Contains (row_leaves row) leaf → Contains (marks_from first rows) (mark_of r leaf)
+leaf_marked first k r [] row leaf e at has = absurd (cc)
+leaf_marked first zero r (other ∷ rows) row leaf e at has =
+    let here : row ≡ other = cc in
+    let number : first ≡ r = omega arith in
+    subst (λ n. Contains (marks_from first (other ∷ rows)) (mark_of n leaf)) number (first_row first other rows leaf (subst (λ (ds : List Derivation). Contains (row_leaves ds) leaf) here has))
+leaf_marked first (suc k) r (other ∷ rows) row leaf e at has =
+    Contains-append_right (row_marks first other) (marks_from (suc first) rows) (mark_of r leaf) (leaf_marked (suc first) k r rows row leaf (omega arith) at has)
+
 later_row : (P : List Derivation → Type 0) (first r : ℕ) (row : List Derivation) (rows : List (List Derivation)) → HasRow P (marks_from (suc first) rows) r → HasRow P (marks_from first (row ∷ rows)) r
 later_row P first r row rows h =
     record { row = h.row; fact_of = h.fact_of; marked = λ leaf has. Contains-append_right (row_marks first row) (marks_from (suc first) rows) (mark_of r leaf) (h.marked leaf has) }

@@ -3,7 +3,7 @@ use Rattle.std.specs.Prelude.{◌≡◌, ℕ, ◌+◌, ◌<◌, Some, List, [], 
 use Rattle.std.proofs.Common.{zero, suc, refl, sym, ap, ◌∙◌, subst, inl, inr, arith}
 use Rattle.std.proofs.lemmas.List.{length-map}
 use Rattle.std.proofs.lemmas.List.Elements.{All-map, Contains-append_cases}
-use Rattle.px_base.specs.ListLaws.{All-at, All-each, Contains-none, Contains-first, Contains-later, Contains-cases, Contains-filter}
+use Rattle.px_base.specs.ListLaws.{All-at, All-each, Contains-none, Contains-first, Contains-later, Contains-cases}
 use Rattle.px_terms.specs.declared.atom.Atom.{Atom}
 use Rattle.px_terms.specs.declared.clause.Lit.{Lit}
 use Rattle.px_terms.specs.declared.instance.OpInst.{OpInst}
@@ -28,7 +28,7 @@ use Rattle.px_proof.specs.TruthLaws.{literal-under}
 use Rattle.px_table.specs.declared.mark.Mark.{Mark}
 use Rattle.px_table.specs.Carrying.{IsCarried, KernelHolds, RowHolds, carry_meets, carry_ends}
 use Rattle.px_table.specs.Marks.{IsKept, mark_eq, mark_of, marks_from, row_leaves, row_marks, step_at}
-use Rattle.px_table.specs.Once.{each_once}
+use Rattle.px_table.specs.OnceLaws.{Contains-from_each_once}
 use Rattle.px_table.specs.RowLaws.{row_of_goal, row_of_step, row_true}
 use Rattle.px_table.specs.Supports.{IsProofOf, ProvesEachOf, RowsProve, Supports}
 use Rattle.px_table.specs.Tables.{AreOfProblem, IsStepOf, IsTable, rows_of}
@@ -99,13 +99,6 @@ mutual
     | inl first ↦ leaf_terms P d leaf (All-front P (terms_of d) (all_terms_of ds) all) first
     | inr later ↦ leaves_terms P ds leaf (All-back P (terms_of d) (all_terms_of ds) all) later
   ]
-
-Contains-from_each_once : {A : Type 0} (same : _) (xs : List A) (y : A) → Contains (each_once same xs) y → Contains xs y
-Contains-from_each_once same [] y has = has
-Contains-from_each_once same (x ∷ xs) y has = elim (Contains-cases x _ y has) [
-  | inl is ↦ subst (Contains (x ∷ xs)) is (Contains-first x xs)
-  | inr later ↦ Contains-later x xs y (Contains-from_each_once same xs y ((Contains-filter _ (each_once same xs) y).0 later).0)
-]
 
 -- what holds of the atom of each leaf holds of the atom of each mark
 module _ (P : Atom → Type 0) where

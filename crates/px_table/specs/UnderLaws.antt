@@ -8,6 +8,7 @@ use Rattle.px_terms.specs.declared.instance.OpInst.{OpInst}
 use Rattle.px_terms.specs.declared.problem.Problem.{Problem}
 use Rattle.px_terms.specs.declared.term.Term.{Term}
 use Rattle.px_terms.specs.declared.term.Term.TheVariants.{Obj, Var, Any}
+use Rattle.px_terms.specs.Instances.{IsGround}
 use Rattle.px_terms.specs.Operators.{precondition, adds, schema_of}
 use Rattle.px_terms.specs.States.{State, IsState, Holds, HoldsUnder, AreValues, element_of}
 use Rattle.px_terms.specs.Substitution.{substitute_atom, substitute_instance}
@@ -17,7 +18,7 @@ use Rattle.px_proof.specs.Literals.{positive_of}
 use Rattle.px_proof.specs.PlaceLaws.{slice_get-map}
 use Rattle.px_proof.specs.SubstitutionLaws.{literal_twice}
 use Rattle.px_proof.specs.TruthLaws.{elements_of, literal-under, object-within}
-use Rattle.px_terms.specs.Language.{substitute}
+use Rattle.px_terms.specs.Language.{IsObject, substitute}
 use Rattle.px_table.specs.declared.mark.Mark.{Mark}
 use Rattle.px_table.specs.declared.table.Table.{Table}
 use Rattle.px_table.specs.Kernels.{IsInstantiation, atom_under, mark_under, instance_under}
@@ -87,6 +88,23 @@ step_under-is_of problem table sigma inst given is = record {
   count = length-map inst.args (substitute (map Obj sigma)) ∙ is.count;
   objects = All-map (IsTermOf problem 0) (substitute (map Obj sigma)) inst.args (λ k d below. term_with problem table.params sigma given.objects given.count _ (is.terms k d below));
 }
+
+-- ---- as many objects as there are parameters, whatever their numbers
+
+object_with : (problem : Problem) (params : ℕ) (sigma : List ℕ) → length sigma ≡ params → (t : Term) → IsTermOf problem params t → IsObject (substitute (map Obj sigma) t)
+object_with problem params sigma count (Obj n) h = tt
+object_with problem params sigma count (Var v) h = All-map IsObject Obj sigma (λ k d below. tt) v Any (rw length-map (omega (arith, count, h)))
+object_with problem params sigma count Any h = h
+
+-- an atom over the parameters becomes ground
+pub atom_under-is_ground : (problem : Problem) (params : ℕ) (sigma : List ℕ) (atom : Atom) → length sigma ≡ params → IsAtomOf problem params atom → IsGround (atom_under sigma atom)
+atom_under-is_ground problem params sigma atom count is =
+    All-map IsObject (substitute (map Obj sigma)) atom.args (λ k d below. object_with problem params sigma count _ (is.1 k d below))
+
+-- and a step has objects alone
+pub step_under-objects : (problem : Problem) (params : ℕ) (sigma : List ℕ) (inst : OpInst) → length sigma ≡ params → IsStepOf problem params inst → All IsObject (instance_under sigma inst).args
+step_under-objects problem params sigma inst count is =
+    All-map IsObject (substitute (map Obj sigma)) inst.args (λ k d below. object_with problem params sigma count _ (is.terms k d below))
 
 -- ---- truth
 

@@ -40,7 +40,7 @@ pub fn build(
     ensures value { IfOk result (λ table. table ≡ record { params = 0; steps = steps.now; goal = goal.now; goal_vars = goal_vars; marks = marks_from 1 (rows_of support.items); proofs = support.items }) }
     ensures carries { (atoms : List _) → Supports problem.now atoms steps.now goal.now goal_vars (rows_of support.items) → Carries problem.now atoms steps.now goal_vars goal.now }
 {
-    let marks = marks_of(alloc, &support)?;
+    let table_marks = marks(alloc, &support)?;
     let table_steps = copied(alloc, steps)?;
     let table_goal = copied(alloc, goal)?;
     Ok(Table {
@@ -48,7 +48,7 @@ pub fn build(
         steps: table_steps,
         goal: table_goal,
         goal_vars,
-        marks: Sequence::from_vec(marks),
+        marks: table_marks,
         proofs: Sequence::from_vec(support),
     })
 }
@@ -62,17 +62,21 @@ fn copied<T: Copy>(alloc: Global, items: &[T]) -> Result<Sequence<T>, NoMemory>
     Ok(Sequence::from_vec(copies))
 }
 
-/// The marks of the rows, the first of which has number 1.
-fn marks_of(alloc: Global, rows: &[Row]) -> Result<Vec<Mark>, NoMemory>
+/// The marks of the rows, the first of which has number 1: their leaves in order, each once in its row. The proofs may have
+/// parameters.
+///
+/// # Errors
+/// `NoMemory` where there is none for the list.
+pub fn marks(alloc: Global, rows: &[Row]) -> Result<Sequence<Mark>, NoMemory>
     requires { length rows.now ≤ 4294967295 }
-    ensures { IfOk result (λ marks. marks.items ≡ marks_from 1 (rows_of rows.now)) }
+    ensures { IfOk result (λ marks. marks ≡ marks_from 1 (rows_of rows.now)) }
 {
-    let mut marks = Vec::new(alloc);
+    let mut made = Vec::new(alloc);
     for (k, row) in rows.iter().enumerate() {
         let found = marks_of_row(alloc, k as u32 + 1, row.proofs())?;
-        marks.extend_from_slice(&found)?;
+        made.extend_from_slice(&found)?;
     }
-    Ok(marks)
+    Ok(Sequence::from_vec(made))
 }
 
 /// The marks of one row.

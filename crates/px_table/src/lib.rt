@@ -13,24 +13,35 @@
 //!   `specs/Supports.antt`). The call also says that a support carries its steps, whatever becomes of the memory.
 //! - [`check_table`] tells whether a table is one (`IsTable` of `specs/Tables.antt`). Its yes implies that each proper
 //!   instance of each kernel carries the steps that are left to the goal (`KernelsCarry` of `specs/Kernels.antt`).
+//! - [`marks`] makes the marks of rows, also of rows over parameters, for who makes a table otherwise.
 //! - [`kernel`] lists what has to hold so that the steps from one on lead to the goal: the atoms of the marks whose row
 //!   is at least `i` and whose column is below `i`. Any `i` will do; kernel 1 is column 0, and the one after the last
 //!   step is the goal's row.
 //! - [`proper`] tells whether, with objects for the parameters, no step from `i` on deletes what it stands between. Two
 //!   parameters may have one object. Its yes implies that this instance carries. It asks for a table, for an object of
 //!   the problem for each parameter, and for a number from 1 to one more than there are steps.
+//! - [`is_macro`] tells whether so many of a table's first steps, with these objects, may be taken as one operator
+//!   (`IsMacro` of `specs/Prefixes.antt`). [`proper_prefix`] is the part of it about deletions, and [`is_used`] tells
+//!   which parameters the steps use; a parameter that they don't use has object 0.
+//! - [`atom_with`] and [`instance_with`] put objects into an atom or a step, without memory.
 //! - "Carries" is `Carries` of `px_terms`: in each run of the steps that begins where the facts hold, each precondition
-//!   is met, and a run of all steps ends in the goal. Laws for callers are in `specs/KernelLaws`, `SupportLaws`,
-//!   `Carrying`, `RowLaws`, `UnderLaws`, `MarkLaws` and `OnceLaws`.
+//!   is met, and a run of all steps ends in the goal.
+//! - What the definitions say is proved as laws: an atom is in a kernel exactly where a mark between has it
+//!   ([`kernels_are_marks`]); where the marks of a row hold, so does its step's precondition
+//!   ([`rows_meet_preconditions`]); a support carries over whatever objects ([`supports_carry`]); and no support names a
+//!   step that doesn't add the atom, one after which the atom is deleted, or its own row ([`supports_refuse`]). Further
+//!   laws for callers are in `specs/KernelLaws`, `SupportLaws`, `SupportClaimLaws`, `Carrying`, `RowLaws`, `UnderLaws`,
+//!   `MarkLaws` and `OnceLaws`.
 //! - [`Entry`] is what a search pushes: an operator instance, or the first steps of a learned table with an object for
 //!   each of the table's parameters. Its order is the one in which entries are tried: operators before tables, then by
 //!   number and arguments, or by number, prefix and objects (`order_of` in `specs/EntryOrder.antt`;
 //!   `specs/EntryLaws.antt` has the laws). It can be a key of a map or a member of a set.
-//! - [`Move`] is a step of the search: an entry is pushed, or the top entry is applied.
+//! - [`Move`] is a step of the search: an entry is pushed, or the top entry is applied. `==` is equality
+//!   ([`moves_are_compared`]); moves have no order.
 //! - [`Node`] is a world model with a stack of entries, the top one first. Contracts see it as these two lists
 //!   (`NodeValue` in `specs/NodeValue.antt`); how much room is left in its model doesn't count. Two nodes are equal, and
 //!   are hashed alike, where these are the same (`specs/Nodes.antt`, with the laws in `specs/NodeLaws.antt`).
-//! - `try_copy` of each answers an equal value, or `NoMemory`. `check_table` and `proper` take no memory.
+//! - `try_copy` of each answers an equal value, or `NoMemory`. `check_table`, `proper` and `is_macro` take no memory.
 #![tactic(auto)]
 
 mod building;
@@ -43,6 +54,7 @@ mod laws;
 mod mark;
 mod mark_list;
 mod node;
+mod prefix;
 mod proper_instance;
 mod ranges;
 mod schema;
@@ -56,12 +68,17 @@ mod tests;
 mod under_objects;
 mod validation;
 
-pub use building::build;
+pub use building::{build, marks};
 pub use entry::{Entry, Move};
 pub use kernel_atoms::kernel;
-pub use laws::{entries_are_ordered, marks_are_compared, nodes_are_compared};
+pub use laws::{
+    entries_are_ordered, kernels_are_marks, marks_are_compared, moves_are_compared,
+    nodes_are_compared, rows_meet_preconditions, supports_carry, supports_refuse,
+};
 pub use mark::Mark;
 pub use node::Node;
+pub use prefix::{is_macro, is_used, proper_prefix};
 pub use proper_instance::proper;
 pub use table::{Row, Table};
+pub use under_objects::{atom_with, instance_with};
 pub use validation::check_table;

@@ -54,10 +54,10 @@ fn stands_between(first: u32, mark: &Mark, k: usize) -> bool
 }
 
 /// Is the mark's instance kept by the steps from `first` on?
-fn is_kept(problem: &Problem, table: &Table, sigma: &[u32], first: u32, mark: &Mark) -> bool
+pub fn is_kept(problem: &Problem, table: &Table, sigma: &[u32], first: u32, mark: &Mark) -> bool
     requires problem { IsValid problem.now }
     requires steps { All (IsStepOf problem.now table.now.params) table.now.steps }
-    requires sigma { IsInstantiation problem.now table.now sigma.now }
+    requires sigma { length sigma.now ≡ table.now.params }
     requires mark { IsAtomOf problem.now table.now.params mark.now.atom }
     ensures { IsTrue result ↔ IsKept problem.now (steps_under table.now sigma.now) first (mark_under sigma.now mark.now) }
 {
@@ -76,7 +76,7 @@ fn is_kept(problem: &Problem, table: &Table, sigma: &[u32], first: u32, mark: &M
 fn step_deletes(problem: &Problem, table: &Table, sigma: &[u32], step: &OpInst, atom: &Atom) -> bool
     requires problem { IsValid problem.now }
     requires step { IsStepOf problem.now table.now.params step.now }
-    requires sigma { IsInstantiation problem.now table.now sigma.now }
+    requires sigma { length sigma.now ≡ table.now.params }
     requires is_ground { IsGround atom.now }
     ensures { IsTrue result ↔ IsDeleted (spec_schema_of problem.now (instance_under sigma.now step.now)) (instance_under sigma.now step.now) atom.now }
 {

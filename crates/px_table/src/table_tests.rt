@@ -10,7 +10,11 @@ ghost use Rattle.px_table.specs.Tables.{IsStepOf};
 use crate::ranges::{is_atom_of, is_step_of};
 use crate::test_problems::{atom, instance, rooms, sequence_of, two_names};
 use crate::validation::{adds_mark, row_proves};
-use crate::{Mark, Row, Table, build, check_table, kernel, marks_are_compared, proper};
+use crate::{
+    Mark, Row, Table, build, check_table, is_macro, is_used, kernel, kernels_are_marks, marks,
+    marks_are_compared, proper, proper_prefix, rows_meet_preconditions, supports_carry,
+    supports_refuse,
+};
 use px_base::Sequence;
 use px_proof::{Leaf, Proof};
 use px_terms::{Atom, OpInst, Problem, Term};
@@ -129,6 +133,8 @@ fn two_steps_from(alloc: Global, rt: &impl Abort, column: u32, index: u32) -> Ta
 
 #[test]
 fn kernels_of_two_steps(rt: HostRuntime) {
+    kernels_are_marks();
+    rows_meet_preconditions();
     let table = two_steps(rt.alloc(), &rt).try_copy().expect(&rt, "memory");
     let p = atom(&rt, 0, &[P1]);
     let q = atom(&rt, 1, &[P2]);
@@ -152,6 +158,34 @@ fn two_parameters_with_one_object_are_not_proper(rt: HostRuntime) {
     let apart = [0u32, 1];
     assert!(&rt; is_instantiation(&problem, &table, &apart));
     assert!(&rt; proper(&problem, &table, &apart, 1));
+}
+
+#[test]
+fn marks_of_rows_with_parameters(rt: HostRuntime) {
+    let rows = two_rows(rt.alloc(), &rt, 2, 0);
+    assert!(&rt; rows.len() == 3);
+    let made = marks(rt.alloc(), rows.as_slice()).expect(&rt, "memory");
+    assert!(&rt; made == two_steps(rt.alloc(), &rt).marks);
+}
+
+#[test]
+fn first_steps_as_one_operator(rt: HostRuntime) {
+    let problem = two_names(rt.alloc(), &rt);
+    let mut table = two_steps(rt.alloc(), &rt);
+    table.params = 3;
+    assert!(&rt; check_table(&problem, &table));
+    assert!(&rt; is_macro(&problem, &table, 2, &[0, 1, 0]));
+    assert!(&rt; !is_macro(&problem, &table, 1, &[0, 0, 0]));
+    assert!(&rt; !is_macro(&problem, &table, 3, &[0, 1, 0]));
+    assert!(&rt; !is_macro(&problem, &table, 2, &[0, 1]));
+    assert!(&rt; !is_macro(&problem, &table, 2, &[0, 1, 1]));
+    assert!(&rt; !is_macro(&problem, &table, 2, &[0, 9, 0]));
+    assert!(&rt; !is_macro(&problem, &table, 2, &[0, 0, 0]));
+    assert!(&rt; is_used(&table, 1, 0) && !is_used(&table, 1, 1) && is_used(&table, 2, 1));
+    let same = [0u32, 0, 0];
+    assert!(&rt; is_instantiation(&problem, &table, &same));
+    assert!(&rt; proper_prefix(&problem, &table, &same, 1));
+    assert!(&rt; !proper_prefix(&problem, &table, &same, 2));
 }
 
 const ROBOT: Term = Term::Obj(0);
@@ -378,6 +412,8 @@ fn given_table(alloc: Global, rt: &impl Abort, problem: &Problem, atom: Atom) ->
 
 #[test]
 fn a_support_makes_a_table(rt: HostRuntime) {
+    supports_carry();
+    supports_refuse();
     let problem = rooms(rt.alloc(), &rt);
     let here = atom(&rt, 0, &[ROBOT, R1]);
     assert!(&rt; is_atom_of(&problem, 0, &here));

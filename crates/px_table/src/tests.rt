@@ -1,4 +1,4 @@
-use crate::{Entry, Move, Node, entries_are_ordered, nodes_are_compared};
+use crate::{Entry, Move, Node, entries_are_ordered, moves_are_compared, nodes_are_compared};
 use px_base::{NoMemory, Sequence};
 use px_ops::Model;
 use px_terms::{Atom, OpInst, Term};
@@ -31,8 +31,11 @@ fn entries_come_in_the_order_of_the_search(rt: HostRuntime) -> Result<(), NoMemo
     let long = table(rt.alloc(), 3, 0)?;
     assert!(&rt; operator(9, 9) < short);
     assert!(&rt; short < long);
+    moves_are_compared();
     let copy = Move::Push(long).try_copy()?;
     assert!(&rt; copy == Move::Push(table(rt.alloc(), 3, 0)?));
+    assert!(&rt; copy != Move::Push(short));
+    assert!(&rt; copy != Move::Apply);
     assert!(&rt; Move::Apply.try_copy()? == Move::Apply);
     Ok(())
 }

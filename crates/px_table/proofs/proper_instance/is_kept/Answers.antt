@@ -1,7 +1,5 @@
 use Rattle.std.proofs.Common.{◌≡◌, ◌<◌, length, get_or, refl, arith}
-use Rattle.px_terms.specs.ValidityLaws.{atom_of-is_ground}
-use Rattle.px_table.specs.Kernels.{atom_under}
-use Rattle.px_table.specs.UnderLaws.{atom_under-is_of}
+use Rattle.px_table.specs.UnderLaws.{atom_under-is_ground}
 use Rattle.px_table.proofs.KeptSteps.{kept-next, kept-all, kept-fails}
 use Rattle.px_table.proofs.proper_instance.is_kept.Goals as goal
 use Rattle.px_table.proofs.proper_instance.is_kept.Goals.{else-stands_between-via-then-stands_between+else-step_deletes, else-stands_between-via-else-stands_between}
@@ -9,7 +7,7 @@ use Rattle.px_table.proofs.proper_instance.is_kept.Goals.{else-stands_between-vi
 pub step_deletes-requires-clause-is_ground : goal.step_deletes-requires-clause-is_ground
 step_deletes-requires-clause-is_ground c =
     rw c.atom_with-atom.ensures
-    (atom_of-is_ground c.args.problem.now (atom_under c.args.sigma.now c.args.mark.now.atom) (atom_under-is_of c.args.problem.now c.args.table.now c.args.sigma.now c.args.mark.now.atom c.requires.sigma c.requires.mark))
+    (atom_under-is_ground c.args.problem.now c.args.table.now.params c.args.sigma.now c.args.mark.now.atom c.requires.sigma c.requires.mark)
 
 pub returns-then-step_deletes : goal.returns-then-step_deletes
 returns-then-step_deletes c =

@@ -1,7 +1,7 @@
 use Rattle.std.proofs.Common.{◌≡◌, take}
 use Rattle.px_table.specs.Marks.{marks_from}
 use Rattle.px_table.specs.Tables.{rows_of}
-use Rattle.px_table.proofs.building.marks_of.Given as goal
+use Rattle.px_table.proofs.building.marks.Given as goal
 
 abbrev pub invariant-loop-k : goal.invariant-loop-k
-invariant-loop-k l = l.marks.items ≡ marks_from 1 (rows_of (take l.k l.rows))
+invariant-loop-k l = l.made.items ≡ marks_from 1 (rows_of (take l.k l.rows))

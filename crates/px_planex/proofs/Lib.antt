@@ -1,0 +1,8 @@
+pub mod Alternating
+pub mod Guarding
+pub mod InAtoms
+pub mod OneRun
+pub mod OneTrace
+pub mod Progressing
+pub mod TracedRuns
+pub mod TurnBound

@@ -1,0 +1,6 @@
+pub mod Execution
+pub mod Executors
+pub mod Guards
+pub mod Progress
+pub mod Turns
+pub mod RunTraces

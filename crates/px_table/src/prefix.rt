@@ -1,0 +1,112 @@
+ghost use Rattle.std.specs.Prelude.{◌≡◌, ◌↔◌, ◌≤◌, All, Any, Contains, EachIndex, IsTrue, length, slice_index};
+ghost use Rattle.px_terms.specs.declared.term.Term.TheVariants.{Var};
+ghost use Rattle.px_terms.specs.Validity.{IsAtomOf, IsValid};
+ghost use Rattle.px_table.specs.Kernels.{mark_under, steps_under};
+ghost use Rattle.px_table.specs.Marks.{IsKept};
+ghost use Rattle.px_table.specs.Prefixes.{IsMacro, IsPlaced, IsProperPrefix, IsUsed};
+ghost use Rattle.px_table.specs.Tables.{IsStepOf, IsTable};
+
+use crate::mark::Mark;
+use crate::proper_instance::is_kept;
+use crate::table::Table;
+use px_terms::{OpInst, Problem, Term};
+
+/// Are they two or more of the table's first steps with objects for its parameters that a search may take as one operator
+/// (Fikes, Hart and Nilsson 1972)? They are where there is an object of the problem for each parameter that these steps or
+/// the marks of their rows use, and object 0 for each other one, and where no step deletes a mark of their rows that it
+/// stands between (`proper_prefix`). Takes no memory.
+pub fn is_macro(problem: &Problem, table: &Table, prefix: u32, sigma: &[u32]) -> bool
+    requires problem { IsValid problem.now }
+    requires table { IsTable problem.now table.now }
+    ensures { IsTrue result ↔ IsMacro problem.now table.now prefix sigma.now }
+{
+    if prefix < 2 || prefix as usize > table.steps.len() || sigma.len() != table.params as usize {
+        return false;
+    }
+    are_placed(problem, table, prefix, sigma) && proper_prefix(problem, table, sigma, prefix)
+}
+
+/// Does no step, with the objects of `sigma` for the parameters, delete a mark of the first rows between whose column and row
+/// it stands? Marks of later rows don't count, and objects that the problem hasn't may stand in `sigma`. Takes no memory.
+pub fn proper_prefix(problem: &Problem, table: &Table, sigma: &[u32], prefix: u32) -> bool
+    requires problem { IsValid problem.now }
+    requires table { IsTable problem.now table.now }
+    requires sigma { length sigma.now ≡ table.now.params }
+    ensures { IsTrue result ↔ IsProperPrefix problem.now table.now sigma.now prefix }
+{
+    for mark in table.marks.as_slice() {
+        if !is_kept_within(problem, table, sigma, prefix, mark) {
+            return false;
+        }
+    }
+    true
+}
+
+/// Is the mark one of a later row, or kept by the steps?
+fn is_kept_within(problem: &Problem, table: &Table, sigma: &[u32], prefix: u32, mark: &Mark) -> bool
+    requires problem { IsValid problem.now }
+    requires steps { All (IsStepOf problem.now table.now.params) table.now.steps }
+    requires sigma { length sigma.now ≡ table.now.params }
+    requires mark { IsAtomOf problem.now table.now.params mark.now.atom }
+    ensures { IsTrue result ↔ (mark.now.row ≤ prefix → IsKept problem.now (steps_under table.now sigma.now) 1 (mark_under sigma.now mark.now)) }
+{
+    if mark.row > prefix {
+        return true;
+    }
+    is_kept(problem, table, sigma, 1, mark)
+}
+
+/// Does the parameter occur in the first steps, or in the marks of their rows? Takes no memory.
+pub fn is_used(table: &Table, prefix: u32, parameter: u32) -> bool
+    ensures { IsTrue result ↔ IsUsed table.now prefix parameter }
+{
+    let steps = table.steps.as_slice();
+    let taken = steps.len().min(prefix as usize);
+    steps_use(&steps[..taken], parameter) || marks_use(table.marks.as_slice(), prefix, parameter)
+}
+
+/// Is the variable of that number among the terms?
+fn has_variable(terms: &[Term], number: u32) -> bool
+    ensures { IsTrue result ↔ Contains terms.now (Var number) }
+{
+    terms.contains(&Term::Var(number))
+}
+
+/// Does the parameter occur in the steps?
+fn steps_use(steps: &[OpInst], parameter: u32) -> bool
+    ensures { IsTrue result ↔ Any (λ inst. Contains inst.args (Var parameter)) steps.now }
+{
+    steps
+        .iter()
+        .any(|inst| has_variable(inst.args(), parameter))
+}
+
+/// Does it occur in the marks of the first rows?
+fn marks_use(marks: &[Mark], prefix: u32, parameter: u32) -> bool
+    ensures { IsTrue result ↔ Any (λ mark. (mark.row ≤ prefix) × Contains mark.atom.args (Var parameter)) marks.now }
+{
+    marks.iter().any(|mark| mark.row <= prefix && has_variable(mark.atom.args(), parameter))
+}
+
+/// Is the number one that the parameter may have?
+fn is_placed(problem: &Problem, table: &Table, prefix: u32, parameter: u32, number: u32) -> bool
+    ensures { IsTrue result ↔ IsPlaced problem.now table.now prefix parameter number }
+{
+    if is_used(table, prefix, parameter) {
+        return number < problem.objects;
+    }
+    number == 0
+}
+
+/// Has each parameter such a number?
+fn are_placed(problem: &Problem, table: &Table, prefix: u32, sigma: &[u32]) -> bool
+    requires { length sigma.now ≡ table.now.params }
+    ensures { IsTrue result ↔ EachIndex sigma.now (λ v. IsPlaced problem.now table.now prefix v (slice_index sigma.now v)) }
+{
+    for (parameter, number) in sigma.iter().enumerate() {
+        if !is_placed(problem, table, prefix, parameter as u32, *number) {
+            return false;
+        }
+    }
+    true
+}

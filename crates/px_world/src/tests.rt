@@ -1,0 +1,66 @@
+ghost use Rattle.std.specs.Prelude.{◌≡◌, IfOk, length, slice_index_or};
+ghost use Rattle.px_terms.specs.Operators.{no_schema};
+ghost use Rattle.px_terms.specs.Validity.{IsValid};
+
+use crate::{AtomEdit, AtomWorld, World, worked_guard};
+use px_ops::Model;
+use px_terms::{Atom, ClauseArena, NoMemory, OpInst, Problem, Schema, Sequence};
+use std::alloc::Global;
+use std::process::Abort;
+use std::rt::HostRuntime;
+
+/// The problem without objects whose operator needs OFF, deletes it and adds ON.
+fn switch_problem(alloc: Global, rt: &impl Abort) -> Result<Problem, NoMemory>
+    ensures valid { IfOk result IsValid }
+    ensures shape { IfOk result (λ p. (length p.schemas ≡ 1) × ((slice_index_or p.schemas 0 no_schema).params ≡ 0) × (length (slice_index_or p.schemas 0 no_schema).add ≡ 1)) }
+{
+    let off = Atom::new(0, &[]).expect(rt, "no arguments");
+    let on = Atom::new(1, &[]).expect(rt, "no arguments");
+    let schema = Schema {
+        op: 0,
+        params: 0,
+        pre: Sequence::from_vec(Vec::from_array(alloc, [off])?),
+        del: Sequence::from_vec(Vec::from_array(alloc, [off])?),
+        add: Sequence::from_vec(Vec::from_array(alloc, [on])?),
+    };
+    let mut schemas = Vec::new(alloc);
+    if schemas.push(schema).is_err() {
+        return Err(NoMemory);
+    }
+    Ok(Problem {
+        objects: 0,
+        arities: Sequence::from_vec(Vec::from_array(alloc, [0u8, 0u8])?),
+        axioms: ClauseArena::new(alloc),
+        schemas: Sequence::from_vec(schemas),
+        height: 4,
+        nodes: 10000,
+        shapes: 10000,
+    })
+}
+
+#[test]
+fn a_world_of_atoms(rt: HostRuntime) -> Result<(), NoMemory> {
+    let problem = switch_problem(rt.alloc(), &rt)?;
+    let off = Atom::new(0, &[]).expect(&rt, "no arguments");
+    let on = Atom::new(1, &[]).expect(&rt, "no arguments");
+    let switch = OpInst::new(0, &[]).expect(&rt, "no arguments");
+    let mut facts = Model::new(rt.alloc());
+    facts.insert(off)?;
+    let mut world = AtomWorld::new(rt.alloc(), &problem, &facts, 4)?;
+    let mut sensed = Model::new(rt.alloc());
+    sensed.reserve(facts.atoms().len())?;
+    world.sense(&mut sensed);
+    assert!(&rt; sensed == facts);
+    assert!(&rt; world.act(&switch).is_ok());
+    assert!(&rt; world.holds(&on) & !world.holds(&off));
+    assert!(&rt; world.act(&switch).is_ok());
+    world.disturb(&AtomEdit::Remove(on));
+    world.disturb(&AtomEdit::Add(off));
+    assert!(&rt; world.holds(&off) & !world.holds(&on));
+    Ok(())
+}
+
+#[test]
+fn laws_are_calls(_rt: HostRuntime) {
+    worked_guard();
+}
