@@ -1,12 +1,13 @@
 -- The domain of every building: its predicates, its axiom and its operators, by number, with their names (after Fikes, Hart and
 -- Nilsson 1972).
-use Rattle.std.specs.Prelude.{ℕ, ◌+◌, true, false, List, [], ◌∷◌, map, length, codes}
+use Rattle.std.specs.Prelude.{ℕ, ◌+◌, ◌≤◌, true, false, List, [], ◌∷◌, map, length, codes}
 use Rattle.px_terms.specs.declared.atom.Atom.{Atom}
 use Rattle.px_terms.specs.declared.clause.Clause.{Clause}
 use Rattle.px_terms.specs.declared.problem.Problem.{Problem}
 use Rattle.px_terms.specs.declared.problem.Schema.{Schema}
 use Rattle.px_terms.specs.declared.term.Term.{Term}
 use Rattle.px_terms.specs.declared.term.Term.TheVariants.{Obj, Var, Any as WildCard}
+use Rattle.px_terms.specs.Validity.{IsValid}
 
 -- ---- the predicates
 
@@ -54,10 +55,14 @@ is_box b = record { pred = 7; args = b ∷ [] }
 -- ---- the axiom
 
 -- a door that connects two rooms connects them the other way, too
+abbrev pub both_ways : Clause
+both_ways = let d = Var 0 in let x = Var 1 in let y = Var 2 in record {
+  vars = 3;
+  lits = record { positive = false; atom = connects d x y } ∷ record { positive = true; atom = connects d y x } ∷ [];
+}
+
 abbrev pub room_axioms : List Clause
-room_axioms =
-    record { vars = 3; lits = record { positive = false; atom = connects (Var 0) (Var 1) (Var 2) } ∷ record { positive = true; atom = connects (Var 0) (Var 2) (Var 1) } ∷ [] }
-    ∷ []
+room_axioms = both_ways ∷ []
 
 -- ---- the operators
 
@@ -171,3 +176,8 @@ building_problem objects height nodes shapes = record {
   nodes = nodes;
   shapes = shapes;
 }
+
+-- it is valid where there is an object and the limits are those of a valid problem
+abbrev pub BuildingsAreValid : Type 0
+BuildingsAreValid = (objects height nodes shapes : ℕ) → 1 ≤ objects → (1 ≤ height) × (height ≤ 8) → (1 ≤ nodes) × (nodes ≤ 50000) → (2 ≤ shapes) × (shapes ≤ 70000)
+    → IsValid (building_problem objects height nodes shapes)
