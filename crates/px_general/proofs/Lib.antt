@@ -1,0 +1,9 @@
+pub mod Deleting
+pub mod Instances
+pub mod Mapped
+pub mod Marked
+pub mod Numbered
+pub mod OneGeneral
+pub mod Touching
+pub mod Reading
+pub mod Renaming

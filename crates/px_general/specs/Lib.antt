@@ -1,0 +1,3 @@
+pub mod General
+pub mod Limits
+pub mod WorkedGeneral

@@ -1,0 +1,122 @@
+-- What actions and edits change in a building, and what an edit leaves of the facts.
+use Rattle.std.specs.Prelude.{ℕ, ◌==◌, Bool, true, false, Option, Some, None, List, [], ◌∷◌, map, set, slice_index, slice_index_or, if◌then◌else◌}
+use Rattle.std.proofs.Common.{zero, suc}
+use Rattle.px_terms.specs.declared.atom.Atom.{Atom}
+use Rattle.px_terms.specs.declared.instance.OpInst.{OpInst}
+use Rattle.px_terms.specs.declared.problem.Schema.{Schema}
+use Rattle.px_terms.specs.declared.term.Term.{Term}
+use Rattle.px_terms.specs.declared.term.Term.TheVariants.{Obj, Var, Any as WildCard}
+use Rattle.px_terms.specs.Operators.{result_by}
+use Rattle.px_world.specs.declared.edits.RoomEdit.{RoomEdit}
+use Rattle.px_world.specs.declared.edits.RoomEdit.TheVariants as edit
+use Rattle.px_rooms.specs.Domain.{closed, in_room, next_to, opened, robot}
+use Rattle.px_rooms.specs.States.{IsBoxAt, IsDoorAt, IsRoomAt, RoomState, Standing, a_box, a_door, a_room}
+
+-- ---- changes of a thing
+
+-- the thing of that number changed
+abbrev pub things_with : ℕ → (Standing → Standing) → List Standing → List Standing
+things_with zero change things = things
+things_with (suc k) change things = set things k (change (slice_index_or things k a_room))
+
+abbrev pub with_thing : ℕ → (Standing → Standing) → RoomState → RoomState
+with_thing number change state = record state { things = things_with number change state.things }
+
+-- a door is opened or closed
+abbrev pub turned : Bool → Standing → Standing
+turned is_open a_room = a_room
+turned is_open (a_door x y old) = a_door x y is_open
+turned is_open (a_box r beside) = a_box r beside
+
+-- a box is beside a door
+abbrev pub put_beside : ℕ → Standing → Standing
+put_beside d a_room = a_room
+put_beside d (a_door x y is_open) = a_door x y is_open
+put_beside d (a_box r beside) = a_box r (Some d)
+
+-- a box is put into a room, beside no door
+abbrev pub put_into : ℕ → Standing → Standing
+put_into r a_room = a_room
+put_into r (a_door x y is_open) = a_door x y is_open
+put_into r (a_box old beside) = a_box r None
+
+-- ---- actions
+
+-- an action, with its objects in the order of the operator's parameters
+pub data RoomAction : Type 0 where
+  going_to_box : ℕ → ℕ → RoomAction
+  going_to_door : ℕ → ℕ → ℕ → RoomAction
+  opening : ℕ → RoomAction
+  closing : ℕ → RoomAction
+  going_through : ℕ → ℕ → ℕ → RoomAction
+  pushing_to_door : ℕ → ℕ → ℕ → ℕ → RoomAction
+  pushing_through : ℕ → ℕ → ℕ → ℕ → RoomAction
+
+-- what the action changes where its precondition is true
+abbrev pub acted : RoomAction → RoomState → RoomState
+acted (going_to_box b r) state = record state { robot_beside = Some b }
+acted (going_to_door d r s) state = record state { robot_beside = Some d }
+acted (opening d) state = with_thing d (turned true) state
+acted (closing d) state = with_thing d (turned false) state
+acted (going_through d r s) state = record state { robot_room = s; robot_beside = None }
+acted (pushing_to_door b d r s) state = record (with_thing b (put_beside d) state) { robot_beside = Some b }
+acted (pushing_through b d r s) state = record (with_thing b (put_into s) state) { robot_room = s; robot_beside = Some b }
+
+-- the action of the first objects of a list, for each operator by number
+abbrev pub room_actions : List (List ℕ → RoomAction)
+room_actions =
+    (λ os. going_to_box (slice_index os 0) (slice_index os 1))
+    ∷ (λ os. going_to_door (slice_index os 0) (slice_index os 1) (slice_index os 2))
+    ∷ (λ os. opening (slice_index os 0))
+    ∷ (λ os. closing (slice_index os 0))
+    ∷ (λ os. going_through (slice_index os 0) (slice_index os 1) (slice_index os 2))
+    ∷ (λ os. pushing_to_door (slice_index os 0) (slice_index os 1) (slice_index os 2) (slice_index os 3))
+    ∷ (λ os. pushing_through (slice_index os 0) (slice_index os 1) (slice_index os 2) (slice_index os 3))
+    ∷ []
+
+-- the object's number
+abbrev pub number_of : Term → ℕ
+number_of (Obj n) = n
+number_of (Var v) = 0
+number_of WildCard = 0
+
+-- the action of a ground instance of an operator
+abbrev pub action_of : OpInst → RoomAction
+action_of inst = slice_index_or room_actions inst.op (λ os. opening 0) (map number_of inst.args)
+
+-- the state that the action leaves
+abbrev pub moved : OpInst → RoomState → RoomState
+moved inst state = acted (action_of inst) state
+
+-- ---- edits
+
+-- beside what it was, unless that is the one
+abbrev pub parted_from : ℕ → Option ℕ → Option ℕ
+parted_from b None = None
+parted_from b (Some x) = if x == b then None else Some x
+
+-- the state that an edit leaves
+abbrev pub state_edited : RoomEdit → RoomState → RoomState
+state_edited (edit.Robot r) state = record state { robot_room = r; robot_beside = None }
+state_edited (edit.Box b r) state = record (with_thing b (put_into r) state) { robot_beside = parted_from b state.robot_beside }
+state_edited (edit.Door d is_open) state = with_thing d (turned is_open) state
+
+-- its numbers name things of the kinds that are wanted
+abbrev pub IsAdmitted : RoomState → RoomEdit → Type 0
+IsAdmitted state (edit.Robot r) = IsRoomAt state.things r
+IsAdmitted state (edit.Box b r) = IsBoxAt state.things b × IsRoomAt state.things r
+IsAdmitted state (edit.Door d is_open) = IsDoorAt state.things d
+
+-- the same of the facts, as an operator that needs nothing: what it deletes, and what it adds
+abbrev pub change_of_facts : List Atom → List Atom → Schema
+change_of_facts del add = record { op = 0; params = 0; pre = []; del = del; add = add }
+
+abbrev pub edit_schema : RoomEdit → Schema
+edit_schema (edit.Robot r) = change_of_facts (in_room robot WildCard ∷ next_to robot WildCard ∷ []) (in_room robot (Obj r) ∷ [])
+edit_schema (edit.Box b r) = change_of_facts (in_room (Obj b) WildCard ∷ next_to (Obj b) WildCard ∷ next_to robot (Obj b) ∷ []) (in_room (Obj b) (Obj r) ∷ [])
+edit_schema (edit.Door d true) = change_of_facts (closed (Obj d) ∷ []) (opened (Obj d) ∷ [])
+edit_schema (edit.Door d false) = change_of_facts (opened (Obj d) ∷ []) (closed (Obj d) ∷ [])
+
+-- the facts that an edit leaves
+abbrev pub facts_edited : RoomEdit → List Atom → List Atom
+facts_edited one facts = result_by (edit_schema one) facts (record { op = 0; args = [] })

@@ -1,0 +1,5 @@
+pub mod Domain
+pub mod States
+pub mod Changes
+pub mod WorkedDomain
+pub mod WorkedBuilding

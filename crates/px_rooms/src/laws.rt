@@ -1,0 +1,22 @@
+//! Laws about the definitions. The calls do nothing.
+ghost use Rattle.px_rooms.specs.Domain.{BuildingsAreValid};
+ghost use Rattle.px_rooms.specs.WorkedBuilding.{ActionFacts, EditFacts, KindFacts, StateFacts};
+ghost use Rattle.px_rooms.specs.WorkedDomain.{DomainFacts};
+
+/// The problem of a building is valid, with whatever limits a valid problem may have.
+pub fn buildings_are_valid()
+    ensures { BuildingsAreValid }
+{}
+
+/// The domain of buildings is what these lines of a script would declare.
+pub fn worked_domain()
+    ensures { DomainFacts }
+{}
+
+/// Of a small building: its facts, each of the seven actions and the edits; and what is no building.
+pub fn worked_building()
+    ensures states { StateFacts }
+    ensures kinds { KindFacts }
+    ensures actions { ActionFacts }
+    ensures edits { EditFacts }
+{}
