@@ -344,10 +344,9 @@ fn gaps_and_pushes_of_a_transitive_axiom(rt: HostRuntime) -> Result<(), Fail> {
     let wanted = [atom(&rt, 0, &[o(0), o(1)])];
     let problem = transitive(alloc, &rt, 30)?;
     let model = Model::new(alloc);
-    match gaps_of(alloc, &rt, &problem, &wanted, 0, &model) {
-        Ok(Some(found)) => assert!(&rt; found.len() == 900),
-        _ => assert!(&rt; false),
-    }
+    let found = gaps_of(alloc, &rt, &problem, &wanted, 0, &model);
+    let all = matches!(&found, Ok(Some(gaps)) if gaps.len() == 900);
+    assert!(&rt; all);
     let request = Request {
         problem: &problem,
         wanted: &wanted,
@@ -355,9 +354,8 @@ fn gaps_and_pushes_of_a_transitive_axiom(rt: HostRuntime) -> Result<(), Fail> {
         model: &model,
         tables: &[],
     };
-    match pushes_of(alloc, &rt, &request) {
-        Ok(entries) => assert!(&rt; entries.len() == 31),
-        Err(_) => assert!(&rt; false),
-    }
+    let found = pushes_of(alloc, &rt, &request);
+    let all = matches!(&found, Ok(entries) if entries.len() == 31);
+    assert!(&rt; all);
     Ok(())
 }
