@@ -1,3 +1,4 @@
+//! Learned tables by name.
 ghost use Rattle.std.specs.Prelude.{◌≡◌, ◌↔◌, ◌<◌, ◌++◌, ◌∷◌, [], Contains, vec_len, vec_capacity, length, OnOk, OnErr, option_map};
 ghost use Rattle.px_library.specs.Libraries.{no_tables, table_named, with_table};
 
