@@ -1,0 +1,111 @@
+ghost use Rattle.std.specs.Prelude.{◌≡◌, ◌↔◌, ◌<◌, ◌++◌, ◌∷◌, [], Contains, vec_len, vec_capacity, length, OnOk, OnErr, option_map};
+ghost use Rattle.px_library.specs.Libraries.{no_tables, table_named, with_table};
+
+use px_table::Table;
+use std::alloc::Global;
+use thiserror::Error;
+
+/// How many tables a library keeps at most.
+const MOST_TABLES: usize = 32;
+
+/// Why a table isn't learned.
+#[derive(Clone, Copy, PartialEq, Eq, Debug, Error)]
+pub enum LibErr {
+    /// The name has a table.
+    #[error("the name has a table")]
+    Duplicate,
+    /// There are 32 tables.
+    #[error("there are 32 tables")]
+    Full,
+    /// Out of memory.
+    #[error("out of memory")]
+    NoMemory,
+}
+
+/// Learned tables by the numbers of their names, in the order of learning (Fikes, Hart and Nilsson 1972).
+#[derive(Drop)]
+pub struct Library {
+    names: Vec<u32>,
+    tables: Vec<Table>,
+}
+
+impl std::marker::Model for Library {
+    ghost use Rattle.std.specs.Coded.{codes};
+    ghost use Rattle.px_proof.specs.contracts.proof.Proof as term;
+    ghost use Rattle.px_library.specs.Libraries.{LibraryValue, IsLibrary};
+
+    ghost Value = { LibraryValue };
+
+    ghost coded = { Prim.hlevel (codes, term.the_row.coded) };
+
+    ghost view = { λ l. record { names = l.names.items; tables = l.tables.items } };
+
+    ghost invariant = { λ l. IsLibrary (record { names = l.names.items; tables = l.tables.items }) };
+}
+
+impl Library {
+    /// The library without a table. Takes no memory.
+    pub fn new(alloc: Global) -> Library
+        ensures { result ≡ no_tables }
+    {
+        Library {
+            names: Vec::new(alloc),
+            tables: Vec::new(alloc),
+        }
+    }
+
+    /// Puts a table last, under a new name.
+    ///
+    /// # Errors
+    /// `Duplicate` exactly where the name has a table; `Full` exactly where there are 32 tables and the name has none;
+    /// `NoMemory` where there is none for one table more. The table is then dropped, and the library is as it was.
+    pub fn learn(&mut self, name: u32, table: Table) -> Result<(), LibErr>
+        ensures duplicate { (result ≡ Err LibErr.Duplicate) ↔ Contains self.old.names name }
+        ensures full { (result ≡ Err LibErr.Full) ↔ ((¬ Contains self.old.names name) × (length self.old.tables ≡ 32)) }
+        ensures learned { OnOk result (self.new ≡ with_table self.old name table) }
+        ensures kept { OnErr result (self.new ≡ self.old) }
+    {
+        if self.names.contains(&name) {
+            return Err(LibErr::Duplicate);
+        }
+        if self.tables.len() == MOST_TABLES {
+            return Err(LibErr::Full);
+        }
+        if self.names.reserve(1).is_err() || self.tables.reserve(1).is_err() {
+            return Err(LibErr::NoMemory);
+        }
+        push_within(&mut self.names, name);
+        push_within(&mut self.tables, table);
+        Ok(())
+    }
+
+    /// The table of that name, or `None` where the name has none. Takes no memory.
+    pub fn find(&self, name: u32) -> Option<&Table>
+        ensures { option_map (λ table. table.now) result ≡ table_named self.now name }
+    {
+        for (place, one) in self.names.iter().enumerate() {
+            if *one == name {
+                return Some(&self.tables[place]);
+            }
+        }
+        None
+    }
+
+    /// The tables, in the order of learning. Takes no memory.
+    pub fn tables(&self) -> &[Table]
+        ensures { result.now ≡ self.now.tables }
+    {
+        &self.tables
+    }
+}
+
+/// Puts an item last where there is room for it.
+fn push_within<T: Drop>(items: &mut Vec<T>, item: T)
+    requires room { vec_len items.old < vec_capacity items.old }
+    ensures { items.new.items ≡ items.old.items ++ item ∷ [] }
+{
+    match items.push(item) {
+        Ok(()) => {}
+        Err(_) => unreachable!(),
+    }
+}

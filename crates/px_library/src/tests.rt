@@ -1,0 +1,34 @@
+use crate::{LibErr, Library};
+use px_table::Table;
+use px_terms::Sequence;
+use std::alloc::Global;
+use std::rt::HostRuntime;
+
+/// A table without steps, with so many parameters.
+fn table(alloc: Global, params: u32) -> Table {
+    Table {
+        params,
+        steps: Sequence::from_vec(Vec::new(alloc)),
+        goal: Sequence::from_vec(Vec::new(alloc)),
+        goal_vars: 0,
+        marks: Sequence::from_vec(Vec::new(alloc)),
+        proofs: Sequence::from_vec(Vec::new(alloc)),
+    }
+}
+
+#[test]
+fn thirty_two_tables(rt: HostRuntime) -> Result<(), LibErr> {
+    let mut library = Library::new(rt.alloc());
+    for name in 0..32u32 {
+        library.learn(name, table(rt.alloc(), name))?;
+    }
+    assert!(&rt; library.learn(7, table(rt.alloc(), 7)) == Err(LibErr::Duplicate));
+    assert!(&rt; library.learn(32, table(rt.alloc(), 32)) == Err(LibErr::Full));
+    assert!(&rt; library.tables().len() == 32);
+    assert!(&rt; library.find(32).is_none());
+    match library.find(7) {
+        Some(found) => assert!(&rt; found.params == 7),
+        None => assert!(&rt; false),
+    }
+    Ok(())
+}
