@@ -1,0 +1,7 @@
+pub mod Frontier
+pub mod MoveOrder
+pub mod MoveLaws
+pub mod Exclusion
+pub mod ByStop
+pub mod MadeOne
+pub mod Smallest

@@ -1,0 +1,7 @@
+pub mod Tasks
+pub mod Order
+pub mod Moves
+pub mod Ends
+pub mod Made
+pub mod Determined
+pub mod WorkedEnds

@@ -1,0 +1,29 @@
+//! What a search over proofs is asked, how it ends, and the table of its moves.
+//!
+//! These are definitions and their laws, for the search that will meet them. The nodes are those of the goal stack of Fikes
+//! and Nilsson 1971, with the first steps of learned tables among the entries (Fikes, Hart and Nilsson 1972).
+//!
+//! # Calling it
+//!
+//! - `specs/Tasks`: a `Task` is to reach a goal from an initial model, by the operators of a problem and by learned tables.
+//!   It says what a node needs, which moves it allows (`IsAllowed`), what they lead to (`after`), what is asked there
+//!   (`AsksAt`), and which steps moves take (`steps_of`). Entries and questions are those of `px_diff`.
+//! - `specs/Order`: lists of moves are ordered by their number, and then by the entry at the first different push. A node
+//!   stands where its least list of moves does (`specs/Moves`, for any nodes and moves).
+//! - `specs/Ends`: `IsFound`, `IsExhausted`, `IsNodeLimit` and `IsShapeLimit` are the four ends. `IsStop` is the first node
+//!   that is solved or that there is no room for; it says which questions are asked (`IsAsked`), and an end other than the
+//!   limit of shapes comes only where none of these meets that limit (`IsUnlimited`).
+//! - `specs/Made`: the table of a list of moves (`IsTableOfMoves`). Its rows have the first proofs of what each step needs, and
+//!   a learned table's rows with such proofs in the places of its initial facts; each fact names the last step before that
+//!   adds it.
+//! - A search has one end ([`ends_are_one`]), a list of moves has one table, proofs included ([`tables_are_one`]), and which
+//!   questions are asked is what the stop says ([`asked_by_stop`]; the statements are in `specs/Determined`).
+//! - [`worked_ends`] has the smallest searches.
+//! - The laws are calls that do nothing.
+#![tactic(auto)]
+
+mod laws;
+#[cfg(test)]
+mod tests;
+
+pub use laws::{asked_by_stop, ends_are_one, tables_are_one, worked_ends};
