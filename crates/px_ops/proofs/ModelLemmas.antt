@@ -51,14 +51,14 @@ unlike : {G : Type 0} → ◌≡◌ {A = Ordering} Less Equal → G
 unlike e = cc
 
 -- no atom is among those below it or above it
-parts_without : (atom : Atom) (before after : List Atom) → Parts atom before after → Contains (before ++ after) atom → ⊥
+parts_without : (atom : Atom) (before after : List Atom) → Parts atom before after → ¬ Contains (before ++ after) atom
 parts_without atom before after parts h =
     elim (Contains-append_cases before after atom h) [
       | inl left ↦ unlike (sym (AllByRecursion-at _ before atom parts.below left) ∙ tied_itself atom_cmp-total atom)
       | inr right ↦ unlike (sym (AllByRecursion-at _ after atom parts.above right) ∙ tied_itself atom_cmp-total atom)
     ]
 
-pub missing : (atoms : List Atom) (atom : Atom) (i : ℕ) → IsPlace atoms atom (Err i) → Contains atoms atom → ⊥
+pub missing : (atoms : List Atom) (atom : Atom) (i : ℕ) → IsPlace atoms atom (Err i) → ¬ Contains atoms atom
 missing atoms atom i place h = parts_without atom (take i atoms) (drop i atoms) place.1 (rw (take-append-drop i atoms) h)
 
 pub found_there : (atoms : List Atom) (atom : Atom) (i : ℕ) → IsPlace atoms atom (Ok i) → Contains atoms atom

@@ -1,5 +1,5 @@
 -- An atom of an instance's list is the schema's atom under the instance's arguments.
-use Rattle.std.proofs.Common.{◌≡◌, ◌+◌, ◌<◌, ◌≤◌, ℕ, zero, suc, Bool, true, false, List, [], ◌∷◌, length, drop, get_or, refl, sym, ap, ◌∙◌, add-one, arith}
+use Rattle.std.proofs.Common.{◌≡◌, ◌+◌, ◌<◌, ◌≤◌, ℕ, zero, suc, Bool, true, false, List, [], ◌∷◌, length, drop, get_or, refl, sym, ap, subst, ◌∙◌, add-one, arith}
 use Rattle.std.specs.Prelude.{Some, slice_get}
 use Rattle.std.specs.List.{list_any}
 use Rattle.std.specs.Option.{option_map}
@@ -7,7 +7,9 @@ use Rattle.std.proofs.lemmas.Option.{slice_get-map, slice_get_read}
 use Rattle.std.proofs.Math.Seq.{drop-cons}
 use Rattle.px_terms.specs.declared.atom.Atom.{Atom}
 use Rattle.px_terms.specs.declared.instance.OpInst.{OpInst}
-use Rattle.px_terms.specs.Operators.{atoms_of}
+use Rattle.px_terms.specs.declared.problem.Problem.{Problem}
+use Rattle.px_terms.specs.OperatorLaws.{result_of-length}
+use Rattle.px_terms.specs.Operators.{adds, atoms_of, result_of}
 use Rattle.px_terms.specs.Substitution.{substitute_atom}
 
 pub instance_at : (atoms : List Atom) (inst : OpInst) (k : ℕ) (atom : Atom) → k < length atoms → atom ≡ get_or atoms k atom
@@ -28,3 +30,10 @@ list_any-end p [] zero h = refl
 list_any-end p [] (suc i) h = refl
 list_any-end p (x ∷ xs) zero h = absurd (omega (arith, h))
 list_any-end p (x ∷ xs) (suc i) h = list_any-end p xs i (omega (arith, h))
+
+-- a result of a copy has at most as many atoms as the model and the added ones
+pub result_is_short : (problem : Problem) (inst : OpInst) (model copy room next : List Atom)
+    → next ≡ result_of problem room inst → room ≡ copy → copy ≡ model → length next ≤ length model + length (adds problem inst)
+result_is_short problem inst model copy room next is same was =
+    subst (λ atoms. length next ≤ length atoms + length (adds problem inst)) (same ∙ was)
+    (subst (λ atoms. length atoms ≤ length room + length (adds problem inst)) (sym is) (result_of-length problem room inst))

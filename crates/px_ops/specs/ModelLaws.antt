@@ -35,7 +35,7 @@ other a b = (
     | false ↦ λ _. refl
   ] refl,
 ) where
-  clash : (t : Bool) → not t ≡ true → t ≡ true → ⊥
+  clash : (t : Bool) → not t ≡ true → ¬ (t ≡ true)
   clash t f g = cc
 
 -- the members of a set without an atom are the other ones

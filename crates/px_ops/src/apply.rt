@@ -27,6 +27,7 @@ pub fn apply_op(
     ensures atoms { IfOk result (λ next. next.atoms ≡ result_of problem.now model.now.atoms inst.now) }
     ensures result { IfOk result (λ next. IsResult problem.now inst.now model.now.atoms next.atoms) }
     ensures model { IfOk result (λ next. IsModel next.atoms) }
+    ensures length { IfOk result (λ next. length next.atoms ≤ length model.now.atoms + length (adds_of problem.now inst.now)) }
 {
     let mut next = model.copy_in(alloc)?;
     next.reserve(schema_of(problem, inst).add.len())?;

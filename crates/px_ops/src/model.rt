@@ -49,6 +49,7 @@ impl Model {
     /// Takes all atoms away. Their places stay as room. Takes no memory.
     pub fn clear(&mut self)
         ensures atoms { self.new.atoms ≡ [] }
+        ensures model { IsModel self.new.atoms }
         ensures spare { self.old.spare + length self.old.atoms ≤ self.new.spare }
     {
         self.atoms.clear();
