@@ -15,7 +15,7 @@ pub enum Kind {
     Predicate,
     /// An operator schema.
     Operator,
-    /// A plan that was found, or a table that was learned.
+    /// The result of a `plan` or a `learn` command. Its name is declared also where no plan is found or no table is learned.
     Result,
 }
 

@@ -1,3 +1,4 @@
+//! Names of each kind, and texts that are names or none.
 use crate::{Kind, NameErr, Names, is_name, split_first, starts_name};
 use std::rt::HostRuntime;
 
