@@ -74,18 +74,18 @@ module _ (loose : Bool) (s : Setting) (valid : IsSetting s) (formula : List Atom
       stands-closed loose s formula vars ticks old new stands (Anc k) goal goals (complement_of above) g.next open_is rest_is is refl (rw lit_is at closes)
 
   -- and one that never does leads nowhere
-  pub ancestor-nowhere : (k : ℕ) → NeverAncestor goal.path old g k → IsFeasible loose s formula vars (ticks ++ Anc k ∷ []) → ⊥
+  pub ancestor-nowhere : (k : ℕ) → NeverAncestor goal.path old g k → ¬ IsFeasible loose s formula vars (ticks ++ Anc k ∷ [])
   ancestor-nowhere k never = go (slice_get goal.path k) refl
     where
-      go : (o : Option Lit) → slice_get goal.path k ≡ o → IsFeasible loose s formula vars (ticks ++ Anc k ∷ []) → ⊥
+      go : (o : Option Lit) → slice_get goal.path k ≡ o → ¬ IsFeasible loose s formula vars (ticks ++ Anc k ∷ [])
       go None at = none-at loose s formula vars ticks old old stands (Anc k) goal goals open_is (rw at refl)
       go (Some above) at = none-agree loose s formula vars ticks old old stands (Anc k) goal goals open_is (record { equal_to = complement_of above; parts = [] }) (rw at refl) (rw lit_is at (never above at))
 
   -- a fact with other objects leads nowhere either
-  pub fact-nowhere : IsLitIn s.objects (variables_of old.changes) goal.lit → (k : ℕ) → NeverFact s.objects s.facts old g k → IsFeasible loose s formula vars (ticks ++ Fact k ∷ []) → ⊥
+  pub fact-nowhere : IsLitIn s.objects (variables_of old.changes) goal.lit → (k : ℕ) → NeverFact s.objects s.facts old g k → ¬ IsFeasible loose s formula vars (ticks ++ Fact k ∷ [])
   fact-nowhere scope k never feasible = go (slice_get s.facts k) refl feasible
     where
-      go : (o : Option Atom) → slice_get s.facts k ≡ o → IsFeasible loose s formula vars (ticks ++ Fact k ∷ []) → ⊥
+      go : (o : Option Atom) → slice_get s.facts k ≡ o → ¬ IsFeasible loose s formula vars (ticks ++ Fact k ∷ [])
       go None at given = none-at loose s formula vars ticks old old stands (Fact k) goal goals open_is (rw at refl) given
       go (Some fact) at (p, after, (objects, enough, below, solves)) =
           let is : closing_at loose s (variables_of old.changes) goal (Fact k) ≡ Some (record { equal_to = positive_of fact; parts = [] }) = rw at refl in

@@ -54,10 +54,10 @@ module _ (loose : Bool) (s : Setting) (formula : List Atom) (vars : ℕ) (ticks 
     (g : OpenGoal) (goal : Goal) (goals : List Goal) (open_is : goals_at old.goals old.first ≡ goal ∷ goals) (rest_is : goals_at old.goals g.next ≡ goals)
     (lit_is : g.lit ≡ goal.lit) (path_is : path_at old.goals old.first ≡ goal.lit ∷ goal.path) (budget_is : g.budget ≡ goal.budget) (from place : ℕ) where
   -- a place that never does leads nowhere
-  pub axiom-nowhere : (k : ℕ) → NeverAxiom s.axioms old g from place k → (start : ℕ) → IsFrom k from place start → (p : ℕ) → start ≤ p → IsFeasible loose s formula vars (ticks ++ Step k p ∷ []) → ⊥
+  pub axiom-nowhere : (k : ℕ) → NeverAxiom s.axioms old g from place k → (start : ℕ) → IsFrom k from place start → (p : ℕ) → start ≤ p → ¬ IsFeasible loose s formula vars (ticks ++ Step k p ∷ [])
   axiom-nowhere k never start begins p after = by_axiom (slice_get s.axioms k) refl
     where
-      by_place : (clause : Clause) → slice_get s.axioms k ≡ Some clause → has_room goal clause ≡ true → (p < length clause.lits) ⊎ (length clause.lits ≤ p) → IsFeasible loose s formula vars (ticks ++ Step k p ∷ []) → ⊥
+      by_place : (clause : Clause) → slice_get s.axioms k ≡ Some clause → has_room goal clause ≡ true → (p < length clause.lits) ⊎ (length clause.lits ≤ p) → ¬ IsFeasible loose s formula vars (ticks ++ Step k p ∷ [])
       by_place clause at room (inl within) =
           none-agree loose s formula vars ticks old old stands (Step k p) goal goals open_is
           (record { equal_to = new_literal (variables_of old.changes) clause p; parts = goals_below goal (parts_of clause.lits (variables_from (variables_of old.changes) clause.vars) p) })
@@ -67,11 +67,11 @@ module _ (loose : Bool) (s : Setting) (formula : List Atom) (vars : ℕ) (ticks 
           none-at loose s formula vars ticks old old stands (Step k p) goal goals open_is
           (let none = none-past clause.lits (variables_from (variables_of old.changes) clause.vars) p past in rw (at, room, none) refl)
 
-      by_room : (clause : Clause) → slice_get s.axioms k ≡ Some clause → (b : Bool) → has_room goal clause ≡ b → IsFeasible loose s formula vars (ticks ++ Step k p ∷ []) → ⊥
+      by_room : (clause : Clause) → slice_get s.axioms k ≡ Some clause → (b : Bool) → has_room goal clause ≡ b → ¬ IsFeasible loose s formula vars (ticks ++ Step k p ∷ [])
       by_room clause at true room = by_place clause at room (less_or_not p (length clause.lits))
       by_room clause at false room = none-at loose s formula vars ticks old old stands (Step k p) goal goals open_is (step-none loose s (variables_of old.changes) goal k p clause at room)
 
-      by_axiom : (o : Option Clause) → slice_get s.axioms k ≡ o → IsFeasible loose s formula vars (ticks ++ Step k p ∷ []) → ⊥
+      by_axiom : (o : Option Clause) → slice_get s.axioms k ≡ o → ¬ IsFeasible loose s formula vars (ticks ++ Step k p ∷ [])
       by_axiom None at = none-at loose s formula vars ticks old old stands (Step k p) goal goals open_is (rw at refl)
       by_axiom (Some clause) at = by_room clause at (has_room goal clause) refl
 
@@ -85,7 +85,7 @@ module _ (loose : Bool) (s : Setting) (formula : List Atom) (vars : ℕ) (ticks 
     pub after : start ≤ p
     pub closes : ClosesByStep old new (Step k p) g clause p true
     pub stays : Stands loose s formula vars (ticks ++ Step k p ∷ []) new
-    pub before : (q : ℕ) → start ≤ q → q < p → IsFeasible loose s formula vars (ticks ++ Step k q ∷ []) → ⊥
+    pub before : (q : ℕ) → start ≤ q → q < p → ¬ IsFeasible loose s formula vars (ticks ++ Step k q ∷ [])
 
   pub axiom-first : (k : ℕ) → ComesAxiom s.axioms old g from place k new → ComesFirst k
   axiom-first k (clause, at, (start, begins, tried)) =

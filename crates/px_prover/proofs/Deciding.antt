@@ -35,17 +35,17 @@ module _ (s : Setting) (formula : List Atom) (vars : ℕ) (asked : IsAsked s for
     pub decided-few : AreFewBefore s formula vars ds
     decided-few = first-few s asked.setting formula vars asked.scope ticks ds first same-ticks
 
-    pub decided-unlimited : (shapes : List (List Tick)) → IsLimited s formula vars shapes → ⊥
+    pub decided-unlimited : (shapes : List (List Tick)) → ¬ IsLimited s formula vars shapes
     decided-unlimited shapes limited = few_or_limited.before s formula vars shapes objects ds answer.finished decided-few limited
 
   module _ (none : NoneComes (IsPossible false s formula vars) (IsFinished false s formula vars) s.limit) where
-    pub decided-none : IsAnswer s formula vars → ⊥
+    pub decided-none : ¬ IsAnswer s formula vars
     decided-none = none-unprovable s asked.setting formula vars asked.scope none
 
     pub decided-none_few : AreFewShapes s formula vars
     decided-none_few = none-few s asked.setting formula vars asked.scope none
 
-    pub decided-none_unlimited : (shapes : List (List Tick)) → IsLimited s formula vars shapes → ⊥
+    pub decided-none_unlimited : (shapes : List (List Tick)) → ¬ IsLimited s formula vars shapes
     decided-none_unlimited shapes limited = few_or_limited.proofs s formula vars shapes decided-none_few limited
 
   pub decided-limit : (shapes seen : List (List Tick)) → shapes ≡ map (shape_of false s formula vars) seen → LimitComes (IsPossible false s formula vars) (IsFinished false s formula vars) s.limit seen → IsLimited s formula vars shapes

@@ -59,7 +59,7 @@ module _ (s : Setting) (formula : List Atom) (vars : ℕ) (asked : IsAsked s for
     | inr later ↦ let r = from-mapped ts list later in (r.0, Contains-later t ts r.0 r.1, r.2)
   ]
 
-  no-atom : (atoms : List Atom) → ((atom : Atom) → Contains atoms atom → ⊥) → atoms ≡ []
+  no-atom : (atoms : List Atom) → ((atom : Atom) → ¬ Contains atoms atom) → atoms ≡ []
   no-atom [] never = refl
   no-atom (a ∷ atoms) never = absurd (never a (Contains-first a atoms))
 
@@ -91,10 +91,10 @@ module _ (s : Setting) (formula : List Atom) (vars : ℕ) (asked : IsAsked s for
   pub decided-without_few : length formula ≡ 0 → 0 < s.limit → AreFewGapShapes s formula vars
   decided-without_few empty some = record { seen = []; fewer = some; all = λ shape partial. absurd (go formula empty shape partial.1.0 partial.1.1 partial.1.2 partial.1.3 partial.0) }
     where
-      shapeless : (shape : List Tick) (ds : Derivations) → ProvesEach (or_open (loose_gaps_in s)) s.axioms [] [] ds → ticks_of ds ≡ shape → IsUnfinished shape → ⊥
+      shapeless : (shape : List Tick) (ds : Derivations) → ProvesEach (or_open (loose_gaps_in s)) s.axioms [] [] ds → ticks_of ds ≡ shape → ¬ IsUnfinished shape
       shapeless shape none each is unfinished = subst IsUnfinished (sym is) unfinished
       shapeless shape (also d ds) each is unfinished = each
 
-      go : (formula : List Atom) → length formula ≡ 0 → (shape : List Tick) (objects : List ℕ) (ds : Derivations) → IsList (or_open (loose_gaps_in s)) s formula vars objects ds → ticks_of ds ≡ shape → IsUnfinished shape → ⊥
+      go : (formula : List Atom) → length formula ≡ 0 → (shape : List Tick) (objects : List ℕ) (ds : Derivations) → IsList (or_open (loose_gaps_in s)) s formula vars objects ds → ticks_of ds ≡ shape → ¬ IsUnfinished shape
       go [] empty shape objects ds list is unfinished = shapeless shape ds list.proved is unfinished
       go (a ∷ atoms) empty shape objects ds list is unfinished = absurd (omega (arith, empty))

@@ -108,7 +108,7 @@ begins-step c p next is = record { to = to; back = back }
     back u (inr (inr (inr h))) = inr (inr (h.0, h.1, omega (arith, h.2, is)))
 
 -- nothing comes after a gap
-none-after : (u : Tick) → IsClosing u → TickBefore Gap u → ⊥
+none-after : (u : Tick) → IsClosing u → ¬ TickBefore Gap u
 none-after Open closing after = closing
 none-after (Fact j) closing (inl h) = omega (arith, h)
 none-after (Fact j) closing (inr (inl h)) = omega (arith, h.0)

@@ -87,7 +87,7 @@ module _ (loose : Bool) (s : Setting) (formula : List Atom) (vars : ℕ) where
   pub count-open : (v : StackValue) → IsStanding loose s formula vars v → open_count loose s formula vars (ticks_in v.choices) ≡ length (goals_at v.goals v.first)
   count-open v standing = ap left_of (standing-sound v standing).stands.pending
 
-  pub none-long : (ticks : List Tick) (u : Tick) (n : ℕ) (goals : List Goal) (p q : Pending) → open_after loose s n goals ticks ≡ Some p → p.goals ≡ [] → open_after loose s n goals (ticks ++ u ∷ []) ≡ Some q → ⊥
+  pub none-long : (ticks : List Tick) (u : Tick) (n : ℕ) (goals : List Goal) (p q : Pending) → open_after loose s n goals ticks ≡ Some p → p.goals ≡ [] → ¬ (open_after loose s n goals (ticks ++ u ∷ []) ≡ Some q)
   none-long [] u n [] p q now empty later = cc
   none-long [] u n (g ∷ goals) p q now empty later = let same : (g ∷ goals) ≡ p.goals = ap (λ (r : Pending). r.goals) (some_same _ _ now) in cc
   none-long (t ∷ ticks) u n [] p q now empty later = cc
@@ -95,7 +95,7 @@ module _ (loose : Bool) (s : Setting) (formula : List Atom) (vars : ℕ) where
     where
       go : (o : Option Rattle.px_walk.specs.Pending.Closing) → Rattle.px_walk.specs.Pending.closing_at loose s n g t ≡ o →
           ((closing : Rattle.px_walk.specs.Pending.Closing) → open_after loose s (n + Rattle.px_walk.specs.Pending.fresh_of s t) (closing.parts ++ goals) ticks ≡ Some p → p.goals ≡ [] →
-          open_after loose s (n + Rattle.px_walk.specs.Pending.fresh_of s t) (closing.parts ++ goals) (ticks ++ u ∷ []) ≡ Some q → ⊥) → ⊥
+          ¬ (open_after loose s (n + Rattle.px_walk.specs.Pending.fresh_of s t) (closing.parts ++ goals) (ticks ++ u ∷ []) ≡ Some q)) → ⊥
       go None is next = let none = rw is at now in cc
       go (Some closing) is next =
           next closing (sym (Rattle.px_walk.proofs.Lifting.open_after-step loose s n g goals t ticks closing is) ∙ now) empty (sym (Rattle.px_walk.proofs.Lifting.open_after-step loose s n g goals t (ticks ++ u ∷ []) closing is) ∙ later)

@@ -35,13 +35,13 @@ root-variable root variable old new root_is noted = subst (λ (t : Term). NotesR
 pub root-object : (root : Term) (n : ℕ) (old : List ℕ) → root ≡ Obj n → NotesRoot root old old
 root-object root n old root_is = record { members = λ w. (λ has. inl has, λ h. elim h [ inl before ↦ before | inr is ↦ absurd (never w is) ]) }
   where
-    never : (w : ℕ) → root ≡ Var w → ⊥
+    never : (w : ℕ) → ¬ (root ≡ Var w)
     never w is = let both : Obj n ≡ Var w = sym root_is ∙ is in cc
 
 pub root-any : (root : Term) (old : List ℕ) → root ≡ Any → NotesRoot root old old
 root-any root old root_is = record { members = λ w. (λ has. inl has, λ h. elim h [ inl before ↦ before | inr is ↦ absurd (never w is) ]) }
   where
-    never : (w : ℕ) → root ≡ Var w → ⊥
+    never : (w : ℕ) → ¬ (root ≡ Var w)
     never w is = let both : Any ≡ Var w = sym root_is ∙ is in cc
 
 pub term-variable : (term : Term) (roots : List Term) (v : ℕ) (root : Term) (old new : List ℕ) → term ≡ Var v → slice_get roots v ≡ Some root → NotesRoot root old new → NotesEnds (λ t. term ≡ t) roots old new
@@ -56,7 +56,7 @@ term-variable term roots v root old new term_is at noted = subst (λ (u : Term).
     same w is = let both : Some root ≡ Some (Var w) = sym at ∙ is in cc
 
 -- no variable is noted where the bindings of no such term end in one
-pub ends-none : (IsSuch : Term → Type 0) (roots : List Term) (old : List ℕ) → ((t : Term) (w : ℕ) → IsSuch t → EndsIn roots t w → ⊥) → NotesEnds IsSuch roots old old
+pub ends-none : (IsSuch : Term → Type 0) (roots : List Term) (old : List ℕ) → ((t : Term) (w : ℕ) → IsSuch t → ¬ EndsIn roots t w) → NotesEnds IsSuch roots old old
 ends-none IsSuch roots old none = record { members = λ w. (λ has. inl has, λ h. elim h [ inl before ↦ before | inr end ↦ absurd (none end.0 w end.1 end.2) ]) }
 
 pub term-object : (term : Term) (roots : List Term) (n : ℕ) (old : List ℕ) → term ≡ Obj n → NotesEnds (λ t. term ≡ t) roots old old

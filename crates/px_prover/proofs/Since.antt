@@ -164,7 +164,7 @@ step-since from place k start p after begins past = elim (less_same_more from k)
       | inr (inr h) ↦ absurd (omega (arith, h, is, past))
     ]
 
-past-none : {X : Type 0} (xs : List X) (k : ℕ) (x : X) → length xs ≤ k → slice_get xs k ≡ Some x → ⊥
+past-none : {X : Type 0} (xs : List X) (k : ℕ) (x : X) → length xs ≤ k → ¬ (slice_get xs k ≡ Some x)
 past-none xs k x past at = omega (arith, past, slice_get-within xs k x at)
 
 module _ (loose : Bool) (s : Setting) (formula : List Atom) (vars : ℕ) (ticks : List Tick) (old : StackValue) (goal : OpenGoal) (ready : IsReady loose s formula vars ticks old goal) where
@@ -182,7 +182,7 @@ module _ (loose : Bool) (s : Setting) (formula : List Atom) (vars : ℕ) (ticks 
 
   -- ---- facts
 
-  fact-off : (from j : ℕ) → ((i : ℕ) → from ≤ i → i < length s.facts → NeverFact s.objects s.facts old goal i) → from ≤ j → Leads (Fact j) → ⊥
+  fact-off : (from j : ℕ) → ((i : ℕ) → from ≤ i → i < length s.facts → NeverFact s.objects s.facts old goal i) → from ≤ j → ¬ Leads (Fact j)
   fact-off from j never after leads =
       fact-nowhere loose s ready.asked.setting formula vars ticks old old ready.sound.stands goal (goal_in old goal) (goals_at old.goals goal.next) open_is refl refl
       (ready-in loose s formula vars ticks old goal ready).lit j
@@ -206,7 +206,7 @@ module _ (loose : Bool) (s : Setting) (formula : List Atom) (vars : ℕ) (ticks 
     no_more = λ is_not. absurd (cc);
   }
     where
-      go : (k : ℕ) → ((j : ℕ) → from ≤ j → j < k → IsFeasible loose s formula vars (ticks ++ Fact j ∷ []) → ⊥) → (u : Tick) → ((j : ℕ) × (u ≡ Fact j) × (from ≤ j)) ⊎ IsSince (Anc 0) u → Leads u → IsSince (Fact k) u
+      go : (k : ℕ) → ((j : ℕ) → from ≤ j → j < k → ¬ IsFeasible loose s formula vars (ticks ++ Fact j ∷ [])) → (u : Tick) → ((j : ℕ) × (u ≡ Fact j) × (from ≤ j)) ⊎ IsSince (Anc 0) u → Leads u → IsSince (Fact k) u
       go k never u (inl (j, e, after)) leads = rw e (elim (less_same_more k j) [
         | inl h ↦ inr (inr (inl (refl, h)))
         | inr (inl same) ↦ inl (ap (λ (i : ℕ). Fact i) same)
@@ -229,7 +229,7 @@ module _ (loose : Bool) (s : Setting) (formula : List Atom) (vars : ℕ) (ticks 
 
   -- ---- ancestors
 
-  ancestor-off : (from j : ℕ) → ((i : ℕ) → from ≤ i → i < length (path_at old.goals goal.above) → NeverAncestor (path_at old.goals goal.above) old goal i) → from ≤ j → Leads (Anc j) → ⊥
+  ancestor-off : (from j : ℕ) → ((i : ℕ) → from ≤ i → i < length (path_at old.goals goal.above) → NeverAncestor (path_at old.goals goal.above) old goal i) → from ≤ j → ¬ Leads (Anc j)
   ancestor-off from j never after leads =
       ancestor-nowhere loose s ready.asked.setting formula vars ticks old old ready.sound.stands goal (goal_in old goal) (goals_at old.goals goal.next) open_is refl refl j
       (elim (less_same_more j (length (path_at old.goals goal.above))) [
@@ -253,7 +253,7 @@ module _ (loose : Bool) (s : Setting) (formula : List Atom) (vars : ℕ) (ticks 
     no_more = λ is_not. absurd (cc);
   }
     where
-      go : (k : ℕ) → ((j : ℕ) → from ≤ j → j < k → IsFeasible loose s formula vars (ticks ++ Anc j ∷ []) → ⊥) → (u : Tick) → ((j : ℕ) × (u ≡ Anc j) × (from ≤ j)) ⊎ IsSince (Step 0 0) u → Leads u → IsSince (Anc k) u
+      go : (k : ℕ) → ((j : ℕ) → from ≤ j → j < k → ¬ IsFeasible loose s formula vars (ticks ++ Anc j ∷ [])) → (u : Tick) → ((j : ℕ) × (u ≡ Anc j) × (from ≤ j)) ⊎ IsSince (Step 0 0) u → Leads u → IsSince (Anc k) u
       go k never u (inl (j, e, after)) leads = rw e (elim (less_same_more k j) [
         | inl h ↦ inr (inr (inl (refl, h)))
         | inr (inl same) ↦ inl (ap (λ (i : ℕ). Anc i) same)
@@ -277,7 +277,7 @@ module _ (loose : Bool) (s : Setting) (formula : List Atom) (vars : ℕ) (ticks 
 
   -- ---- axioms
 
-  axiom-off : (from place c p : ℕ) → NeverAxiom s.axioms old goal from place c → StandsAt from place c p → Leads (Step c p) → ⊥
+  axiom-off : (from place c p : ℕ) → NeverAxiom s.axioms old goal from place c → StandsAt from place c p → ¬ Leads (Step c p)
   axiom-off from place c p never at leads =
       let begin = begin-at from place c p at in
       axiom-nowhere loose s formula vars ticks old old ready.sound.stands goal (goal_in old goal) (goals_at old.goals goal.next) open_is refl refl path_is refl from place c never begin.0 begin.1 p begin.2 leads.1
@@ -296,8 +296,8 @@ module _ (loose : Bool) (s : Setting) (formula : List Atom) (vars : ℕ) (ticks 
     no_more = λ is_not. absurd (cc);
   }
     where
-      go : (k start p : ℕ) → IsFrom k from place start → ((c q : ℕ) → StandsAt from place c q → c < k → Leads (Step c q) → ⊥) →
-          ((q : ℕ) → start ≤ q → q < p → IsFeasible loose s formula vars (ticks ++ Step k q ∷ []) → ⊥) →
+      go : (k start p : ℕ) → IsFrom k from place start → ((c q : ℕ) → StandsAt from place c q → c < k → ¬ Leads (Step c q)) →
+          ((q : ℕ) → start ≤ q → q < p → ¬ IsFeasible loose s formula vars (ticks ++ Step k q ∷ [])) →
           (u : Tick) → ((c : ℕ) × (q : ℕ) × (u ≡ Step c q) × StandsAt from place c q) ⊎ IsSince Gap u → Leads u → IsSince (Step k p) u
       go k start p begins earlier before u (inl (c, q, e, at)) leads = rw e (elim (less_same_more k c) [
         | inl h ↦ inr (inr (inl (refl, h)))
@@ -341,7 +341,7 @@ module _ (loose : Bool) (s : Setting) (formula : List Atom) (vars : ℕ) (ticks 
     no_more = λ is_not. (refl, λ u since leads. off u (since-gap u since) leads);
   }
     where
-      off : (u : Tick) → u ≡ Gap → Leads u → ⊥
+      off : (u : Tick) → u ≡ Gap → ¬ Leads u
       off u e leads = none-at loose s formula vars ticks old old ready.sound.stands Gap (goal_in old goal) (goals_at old.goals goal.next) open_is (rw is refl) (rw e at leads).1
 
   pub gap-closed : (loose && goal.lit.positive && list_any (nat_eq goal.lit.atom.pred) s.added) ≡ true → (new : StackValue) (found : Bool) → ClosesBy old new Gap goal.lit goal.lit goal.next found → Tried Gap new found
@@ -361,7 +361,7 @@ module _ (loose : Bool) (s : Setting) (formula : List Atom) (vars : ℕ) (ticks 
     no_more = λ is_not. (closes.unchanged refl, λ u since leads. off u (since-gap u since) leads);
   }
     where
-      off : (u : Tick) → u ≡ Gap → Leads u → ⊥
+      off : (u : Tick) → u ≡ Gap → ¬ Leads u
       off u e leads =
           let closing : closing_at loose s (variables_of old.changes) (goal_in old goal) Gap ≡ Some (record { equal_to = goal.lit; parts = [] }) = rw is refl in
           none-closed loose s formula vars ticks old new ready.sound.stands Gap (goal_in old goal) (goals_at old.goals goal.next) goal.lit goal.next open_is refl closing refl closes (rw e at leads).1

@@ -52,11 +52,11 @@ module _ (loose : Bool) (s : Setting) (formula : List Atom) (vars : ℕ) (ticks 
     matched = matched-push loose s formula vars (variables_of old.changes) goal goals ticks old.changes tick now stands.matched new.changes closing is agree;
   }
 
-  pub none-at : closing_at loose s (variables_of old.changes) goal tick ≡ None → IsFeasible loose s formula vars (ticks ++ tick ∷ []) → ⊥
+  pub none-at : closing_at loose s (variables_of old.changes) goal tick ≡ None → ¬ IsFeasible loose s formula vars (ticks ++ tick ∷ [])
   none-at is = infeasible-none loose s formula vars (variables_of old.changes) goal goals ticks old.changes tick now stands.matched is
 
   pub none-agree : (closing : Closing) → closing_at loose s (variables_of old.changes) goal tick ≡ Some closing →
-      ((tau : List Term) → Fits tau old.changes → substitute_literal tau goal.lit ≡ substitute_literal tau closing.equal_to → ⊥) → IsFeasible loose s formula vars (ticks ++ tick ∷ []) → ⊥
+      ((tau : List Term) → Fits tau old.changes → ¬ (substitute_literal tau goal.lit ≡ substitute_literal tau closing.equal_to)) → ¬ IsFeasible loose s formula vars (ticks ++ tick ∷ [])
   none-agree closing is never = infeasible-clash loose s formula vars (variables_of old.changes) goal goals ticks old.changes tick now stands.matched closing is never
 
 -- the same for a step
@@ -81,7 +81,7 @@ module _ (loose : Bool) (s : Setting) (formula : List Atom) (vars : ℕ) (ticks 
       (closes.is_match.variables refl ∙ ap (λ k. variables_of old.changes + k) (sym fresh))
       parts
 
-  pub none-stepped : ClosesByStep old new (Step number place) g clause place false → IsFeasible loose s formula vars (ticks ++ Step number place ∷ []) → ⊥
+  pub none-stepped : ClosesByStep old new (Step number place) g clause place false → ¬ IsFeasible loose s formula vars (ticks ++ Step number place ∷ [])
   none-stepped closes =
       none-agree loose s formula vars ticks old new stands (Step number place) goal goals open_is
       (record { equal_to = new_literal (variables_of old.changes) clause place; parts = goals_below goal (parts_of clause.lits (variables_from (variables_of old.changes) clause.vars) place) })

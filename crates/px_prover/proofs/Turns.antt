@@ -30,5 +30,5 @@ module _ (loose : Bool) (s : Setting) (formula : List Atom) (vars : ℕ) (ticks 
       }
 
   -- one that fails shows that no list goes on by the tick
-  pub none-closed : ClosesBy old new tick goal.lit lit next false → IsFeasible loose s formula vars (ticks ++ tick ∷ []) → ⊥
+  pub none-closed : ClosesBy old new tick goal.lit lit next false → ¬ IsFeasible loose s formula vars (ticks ++ tick ∷ [])
   none-closed closes = infeasible-clash loose s formula vars (variables_of old.changes) goal goals ticks old.changes tick now stands.matched (record { equal_to = lit; parts = [] }) is (closes.is_match.never refl)

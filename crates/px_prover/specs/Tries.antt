@@ -39,7 +39,7 @@ pub record TriesAmong (Counts : Tick → Type 0) (loose : Bool) (s : Setting) (f
   pub least : found ≡ true →
       (tick : Tick) × Counts tick × IsLonger loose s formula vars ticks old tick new
       × ((u : Tick) → Counts u → IsPossible loose s formula vars (ticks ++ u ∷ []) → IsSince tick u)
-  pub no_more : found ≡ false → (new ≡ old) × ((u : Tick) → Counts u → IsPossible loose s formula vars (ticks ++ u ∷ []) → ⊥)
+  pub no_more : found ≡ false → (new ≡ old) × ((u : Tick) → Counts u → ¬ IsPossible loose s formula vars (ticks ++ u ∷ []))
 
 -- the same for a question
 abbrev pub IsReadyIn : Question → StackValue → OpenGoal → Type 0

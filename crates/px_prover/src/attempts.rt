@@ -1,3 +1,4 @@
+//! Closing the first open place by the least tick after a given one: by facts, ancestors, axioms and gaps in turn.
 ghost use Rattle.std.specs.Prelude.{◌≡◌, IfOk, nat_eq};
 ghost use Rattle.std.specs.List.{list_any};
 ghost use Rattle.px_question.specs.Settings.{added_by};

@@ -1,3 +1,4 @@
+//! The proofs of an answer, built from the choices of a state in which no place is open.
 ghost use Rattle.std.specs.Prelude.{◌≡◌, ◌+◌, ◌-◌, ◌≤◌, ◌<◌, ◌∷◌, IfOk, take, drop, reverse, length, map as map_list, slice_get};
 ghost use Rattle.std.specs.List.{AllByRecursion};
 ghost use Rattle.px_proof.specs.Derivation.{derivations, step as step_of};

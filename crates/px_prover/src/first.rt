@@ -1,3 +1,4 @@
+//! The first proof of a formula.
 ghost use Rattle.std.specs.Prelude.{◌≡◌, ◌≤◌, ◌<◌, List, map as map_list, IfOk, All, false};
 ghost use Rattle.px_proof.specs.Derivation.{derivations};
 ghost use Rattle.px_proof.specs.ProofTerm.{derivation_of};

@@ -1,3 +1,4 @@
+//! Questions with gaps, whose walk visits unfinished lists only.
 ghost use Rattle.std.specs.Prelude.{◌≡◌, true};
 ghost use Rattle.px_prover.specs.Passed.{IsSmall};
 

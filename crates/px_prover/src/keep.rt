@@ -1,3 +1,4 @@
+//! An item is put last, where there is memory.
 ghost use Rattle.std.specs.Prelude.{◌≡◌, ◌++◌, ◌∷◌, [], IfOk};
 
 use px_base::NoMemory;

@@ -1,3 +1,4 @@
+//! The gap lists of a formula.
 ghost use Rattle.std.specs.Prelude.{◌≤◌, ◌<◌, ◌↔◌, IfOk, All, Contains};
 ghost use Rattle.std.specs.List.Sorted.{IsStrictlySortedBy};
 ghost use Rattle.px_question.specs.Gaps.{AreGapLists, gap_list_cmp};

@@ -1,3 +1,4 @@
+//! What the prover answers, and why it doesn't.
 use px_base::{NoMemory, Sequence};
 use px_proof::{Proof, Shape};
 use std::fmt;

@@ -1,3 +1,4 @@
+//! What is asked of the prover.
 use px_terms::{Atom, Problem};
 
 /// What is asked: a formula over so many variables, of a problem and the facts of a model.

@@ -1,3 +1,4 @@
+//! All lists of so many objects.
 ghost use Rattle.std.specs.Prelude.{◌≡◌, ◌++◌, ◌∷◌, [], IfOk};
 ghost use Rattle.px_prover.specs.Tuples.{longer_by, all_longer_by, tuples_of};
 

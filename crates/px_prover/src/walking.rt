@@ -1,3 +1,4 @@
+//! The prover's state as a walk over unfinished lists.
 ghost use Rattle.std.specs.Prelude.{◌≡◌, ◌≤◌, ◌++◌, ◌∷◌, [], IfOk, length, replicate};
 ghost use Rattle.px_stack.specs.Arena.{goals_at, AreOlder};
 

@@ -171,11 +171,11 @@ abbrev HasFirst : Setting → List Atom → ℕ → Type 0
 HasFirst s formula vars = (objects : List ℕ) × (ds : Derivations) × IsFirst s formula vars objects ds
 
 -- a formula has a first answer or none
-first_or_none : (s : Setting) (formula : List Atom) (vars : ℕ) → HasFirst s formula vars ⊎ (IsAnswer s formula vars → ⊥)
+first_or_none : (s : Setting) (formula : List Atom) (vars : ℕ) → HasFirst s formula vars ⊎ (¬ IsAnswer s formula vars)
 first_or_none s formula vars = go (listed-lists (proofs_in s) s formula vars (finite-proofs s))
   where
-    go : Listed (IsOne (proofs_in s) s formula vars) → HasFirst s formula vars ⊎ (IsAnswer s formula vars → ⊥)
-    go listed = elim listed.items as (λ cs. cs ≡ listed.items → HasFirst s formula vars ⊎ (IsAnswer s formula vars → ⊥)) [
+    go : Listed (IsOne (proofs_in s) s formula vars) → HasFirst s formula vars ⊎ (¬ IsAnswer s formula vars)
+    go listed = elim listed.items as (λ cs. cs ≡ listed.items → HasFirst s formula vars ⊎ (¬ IsAnswer s formula vars)) [
       | [] ↦ λ are. inr (λ answer. let c : Candidate = record { objects = answer.0; proofs = answer.1 } in Contains-none c (subst (λ (cs : List Candidate). Contains cs c) (sym are) (listed.all c answer.2)))
       | c ∷ cs ↦ λ are.
           let least = earliest c cs in
@@ -213,13 +213,13 @@ limited-before s formula vars objects ds answer shapes count firsts = record {
   ];
 }
 
-limited-none : (s : Setting) (formula : List Atom) (vars : ℕ) → (IsAnswer s formula vars → ⊥) → (shapes : List (List Tick)) → length shapes ≡ s.limit → AreFirstShapes (IsPartialShape (proofs_in s) s formula vars) shapes → IsLimited s formula vars shapes
+limited-none : (s : Setting) (formula : List Atom) (vars : ℕ) → ¬ IsAnswer s formula vars → (shapes : List (List Tick)) → length shapes ≡ s.limit → AreFirstShapes (IsPartialShape (proofs_in s) s formula vars) shapes → IsLimited s formula vars shapes
 limited-none s formula vars no_answer shapes count firsts = record { count = count; kept = firsts; before = λ objects ds is. absurd (no_answer (objects, ds, is)) }
 
 proofs_decided : (s : Setting) (formula : List Atom) (vars : ℕ) →
     ((shapes : List (List Tick)) × IsLimited s formula vars shapes)
     ⊎ ((objects : List ℕ) × (ds : Derivations) × IsFirst s formula vars objects ds × AreFewBefore s formula vars ds)
-    ⊎ ((IsAnswer s formula vars → ⊥) × AreFewShapes s formula vars)
+    ⊎ ((¬ IsAnswer s formula vars) × AreFewShapes s formula vars)
 proofs_decided s formula vars =
     let shapes = listed-shapes (proofs_in s) s formula vars (finite-proofs s) in
     elim (first_or_none s formula vars) [
@@ -240,13 +240,13 @@ gap_shapes_decided s formula vars = elim (few_or_firsts (IsPartialShape (loose_g
   | inr met ↦ inl (met.0, record { count = met.1; kept = met.2 })
 ]
 
-stays_below : (s : Setting) (formula : List Atom) (vars : ℕ) → ((shapes : List (List Tick)) → IsLimited s formula vars shapes → ⊥) → StaysBelowLimit s formula vars
+stays_below : (s : Setting) (formula : List Atom) (vars : ℕ) → ((shapes : List (List Tick)) → ¬ IsLimited s formula vars shapes) → StaysBelowLimit s formula vars
 stays_below s formula vars never_met = elim (proofs_decided s formula vars) [
   | inl met ↦ absurd (never_met met.0 met.1)
   | inr below ↦ elim below [ inl first ↦ inl first | inr few ↦ inr few.1 ]
 ]
 
-gaps_stay_below : (s : Setting) (formula : List Atom) (vars : ℕ) → ((kept : List Atom) (shapes : List (List Tick)) → MeetsGapLimit s formula vars kept shapes → ⊥) → StaysBelowGapLimit s formula vars
+gaps_stay_below : (s : Setting) (formula : List Atom) (vars : ℕ) → ((kept : List Atom) (shapes : List (List Tick)) → ¬ MeetsGapLimit s formula vars kept shapes) → StaysBelowGapLimit s formula vars
 gaps_stay_below s formula vars never_met = record {
   shapes = elim (gap_shapes_decided s formula vars) [ inl met ↦ absurd (never_met formula met.0 (inl (refl, met.1))) | inr few ↦ few ];
   atoms = λ atom loose. stays_below s (atom ∷ []) 0 (λ shapes limited. never_met (atom ∷ []) shapes (inr (atom, refl, loose, limited)));

@@ -21,7 +21,7 @@ use Rattle.px_question.specs.ShapeOrder.{ShapeBefore-irrefl, ShapeBefore-trans, 
 -- ---- limits
 
 -- a shape of the kind that stands before the first one isn't there
-first_least : (P : List Tick → Type 0) (x y : List Tick) (ys : List (List Tick)) → P x → AreFirstShapes P (y ∷ ys) → ShapeBefore x y → ⊥
+first_least : (P : List Tick → Type 0) (x y : List Tick) (ys : List (List Tick)) → P x → AreFirstShapes P (y ∷ ys) → ¬ ShapeBefore x y
 first_least P x y ys holds are before = elim (are.first x holds) [
   | inl has ↦ elim (Contains-cases y ys x has) [
     | inl is ↦ ShapeBefore-irrefl x (subst (ShapeBefore x) is before)
@@ -82,18 +82,18 @@ partial-loose s formula vars shape (unfinished, (objects, ds, is, same)) = (
   ),
 )
 
-few-proofs : (s : Setting) (formula : List Atom) (vars : ℕ) (shapes : List (List Tick)) → AreFewShapes s formula vars → IsLimited s formula vars shapes → ⊥
+few-proofs : (s : Setting) (formula : List Atom) (vars : ℕ) (shapes : List (List Tick)) → AreFewShapes s formula vars → ¬ IsLimited s formula vars shapes
 few-proofs s formula vars shapes few limited =
     let P = IsPartialShape (proofs_in s) s formula vars in
     few_firsts P P s.limit shapes few (λ shape h. h) limited.count limited.kept
 
 few-before : (s : Setting) (formula : List Atom) (vars : ℕ) (shapes : List (List Tick)) (objects : List ℕ) (ds : Derivations) →
-    IsList (proofs_in s) s formula vars objects ds → AreFewBefore s formula vars ds → IsLimited s formula vars shapes → ⊥
+    IsList (proofs_in s) s formula vars objects ds → AreFewBefore s formula vars ds → ¬ IsLimited s formula vars shapes
 few-before s formula vars shapes objects ds is few limited =
     too_few (λ shape. IsPartialShape (proofs_in s) s formula vars shape × ShapeBefore shape (ticks_of ds)) s.limit shapes few limited.count limited.kept.ascending
     (λ shape has. (All-at (IsPartialShape (proofs_in s) s formula vars) shapes shape limited.kept.each has, All-at (λ kept. ShapeBefore kept (ticks_of ds)) shapes shape (limited.before objects ds is) has))
 
-few-gap_proofs : (s : Setting) (formula : List Atom) (vars : ℕ) (shapes : List (List Tick)) → AreFewGapShapes s formula vars → IsGapLimited s formula vars shapes → ⊥
+few-gap_proofs : (s : Setting) (formula : List Atom) (vars : ℕ) (shapes : List (List Tick)) → AreFewGapShapes s formula vars → ¬ IsGapLimited s formula vars shapes
 few-gap_proofs s formula vars shapes few limited =
     let P = IsPartialShape (loose_gaps_in s) s formula vars in
     few_firsts P P s.limit shapes few (λ shape h. h) limited.count limited.kept
@@ -102,11 +102,11 @@ few-gap_shapes : (s : Setting) (formula : List Atom) (vars : ℕ) → AreFewGapS
 few-gap_shapes s formula vars few =
     fewer-among (IsPartialShape (loose_gaps_in s) s formula vars) (IsPartialShape (proofs_in s) s formula vars) s.limit few (partial-loose s formula vars)
 
-below-limit : (s : Setting) (formula : List Atom) (vars : ℕ) (shapes : List (List Tick)) → StaysBelowLimit s formula vars → IsLimited s formula vars shapes → ⊥
+below-limit : (s : Setting) (formula : List Atom) (vars : ℕ) (shapes : List (List Tick)) → StaysBelowLimit s formula vars → ¬ IsLimited s formula vars shapes
 below-limit s formula vars shapes (inl (objects, ds, first, few)) limited = few-before s formula vars shapes objects ds first.finished few limited
 below-limit s formula vars shapes (inr few) limited = few-proofs s formula vars shapes few limited
 
-below-gap_limit : (s : Setting) (formula : List Atom) (vars : ℕ) (kept : List Atom) (shapes : List (List Tick)) → StaysBelowGapLimit s formula vars → MeetsGapLimit s formula vars kept shapes → ⊥
+below-gap_limit : (s : Setting) (formula : List Atom) (vars : ℕ) (kept : List Atom) (shapes : List (List Tick)) → StaysBelowGapLimit s formula vars → ¬ MeetsGapLimit s formula vars kept shapes
 below-gap_limit s formula vars kept shapes below (inl limited) = few-gap_proofs s formula vars shapes below.shapes limited.1
 below-gap_limit s formula vars kept shapes below (inr (atom, alone, loose, limited)) =
     below-limit s (atom ∷ []) 0 shapes (below.atoms atom loose) (subst (λ (formula : List Atom). IsLimited s formula 0 shapes) alone limited)

@@ -13,12 +13,12 @@ pub record Listed {X : Type 0} (P : X → Type 0) : Type 0 where
   pub each : (x : X) → Contains items x → P x
 
 abbrev pub Decided : Type 0 → Type 0
-Decided A = A ⊎ (A → ⊥)
+Decided A = A ⊎ (¬ A)
 
 pub listed-by : {X : Type 0} (P Q : X → Type 0) → ((x : X) → P x → Q x) → ((x : X) → Q x → P x) → Listed P → Listed Q
 listed-by P Q to from known = record { items = known.items; all = λ x h. known.all x (from x h); each = λ x has. to x (known.each x has) }
 
-pub listed-none : {X : Type 0} (P : X → Type 0) → ((x : X) → P x → ⊥) → Listed P
+pub listed-none : {X : Type 0} (P : X → Type 0) → ((x : X) → ¬ P x) → Listed P
 listed-none P never = record { items = []; all = λ x h. absurd (never x h); each = λ x has. absurd (Contains-none x has) }
 
 pub listed-one : {X : Type 0} (a : X) → Listed (λ x. a ≡ x)

@@ -135,7 +135,7 @@ listed-terms objects n =
 
 -- ---- derivations
 
-no_height : (d : Derivation) → height d ≤ 0 → ⊥
+no_height : (d : Derivation) → ¬ (height d ≤ 0)
 no_height (fact leaf) low = omega (arith, low)
 no_height (ancestor i) low = omega (arith, low)
 no_height (step number theta place parts) low = omega (arith, low)

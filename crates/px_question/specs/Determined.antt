@@ -27,11 +27,11 @@ GapListsAreOne = (s : Setting) (formula : List Atom) (vars : ℕ) (lists others 
 -- Where the shapes are fewer than the limit, it isn't met. The shapes of unfinished lists of proofs are among those of loose gap
 -- proofs, so where these are fewer than the limit, those are, too.
 pub record FewOrLimited : Type 0 where
-  pub proofs : (s : Setting) (formula : List Atom) (vars : ℕ) (shapes : List (List Tick)) → AreFewShapes s formula vars → IsLimited s formula vars shapes → ⊥
+  pub proofs : (s : Setting) (formula : List Atom) (vars : ℕ) (shapes : List (List Tick)) → AreFewShapes s formula vars → ¬ IsLimited s formula vars shapes
   pub before : (s : Setting) (formula : List Atom) (vars : ℕ) (shapes : List (List Tick)) (objects : List ℕ) (ds : Derivations) →
-      IsList (proofs_in s) s formula vars objects ds → AreFewBefore s formula vars ds → IsLimited s formula vars shapes → ⊥
-  pub gap_proofs : (s : Setting) (formula : List Atom) (vars : ℕ) (shapes : List (List Tick)) → AreFewGapShapes s formula vars → IsGapLimited s formula vars shapes → ⊥
+      IsList (proofs_in s) s formula vars objects ds → AreFewBefore s formula vars ds → ¬ IsLimited s formula vars shapes
+  pub gap_proofs : (s : Setting) (formula : List Atom) (vars : ℕ) (shapes : List (List Tick)) → AreFewGapShapes s formula vars → ¬ IsGapLimited s formula vars shapes
   pub gap_shapes : (s : Setting) (formula : List Atom) (vars : ℕ) → AreFewGapShapes s formula vars → AreFewShapes s formula vars
-  pub proofs_with_gaps : (s : Setting) (formula : List Atom) (vars : ℕ) (shapes : List (List Tick)) → AreFewGapShapes s formula vars → IsLimited s formula vars shapes → ⊥
-  pub below : (s : Setting) (formula : List Atom) (vars : ℕ) (shapes : List (List Tick)) → StaysBelowLimit s formula vars → IsLimited s formula vars shapes → ⊥
-  pub gaps_below : (s : Setting) (formula : List Atom) (vars : ℕ) (kept : List Atom) (shapes : List (List Tick)) → StaysBelowGapLimit s formula vars → MeetsGapLimit s formula vars kept shapes → ⊥
+  pub proofs_with_gaps : (s : Setting) (formula : List Atom) (vars : ℕ) (shapes : List (List Tick)) → AreFewGapShapes s formula vars → ¬ IsLimited s formula vars shapes
+  pub below : (s : Setting) (formula : List Atom) (vars : ℕ) (shapes : List (List Tick)) → StaysBelowLimit s formula vars → ¬ IsLimited s formula vars shapes
+  pub gaps_below : (s : Setting) (formula : List Atom) (vars : ℕ) (kept : List Atom) (shapes : List (List Tick)) → StaysBelowGapLimit s formula vars → ¬ MeetsGapLimit s formula vars kept shapes

@@ -30,11 +30,11 @@ no_more (x ∷ xs) seen up within =
     ]
 
 -- shapes of the kind that are fewer than the number don't have so many different ones among them
-pub too_few : (P : List Tick → Type 0) (count : ℕ) (shapes : List (List Tick)) → AreFewerThan P count → length shapes ≡ count → IsAscending shapes → ((shape : List Tick) → Contains shapes shape → P shape) → ⊥
+pub too_few : (P : List Tick → Type 0) (count : ℕ) (shapes : List (List Tick)) → AreFewerThan P count → length shapes ≡ count → IsAscending shapes → ¬ ((shape : List Tick) → Contains shapes shape → P shape)
 too_few P count shapes few long up each = omega (arith, few.fewer, long, no_more shapes few.seen up (λ shape has. few.all shape (each shape has)))
 
 -- the same where the shapes are the first ones of a kind that is among theirs
-pub few_firsts : (P Q : List Tick → Type 0) (count : ℕ) (shapes : List (List Tick)) → AreFewerThan P count → ((shape : List Tick) → Q shape → P shape) → length shapes ≡ count → AreFirstShapes Q shapes → ⊥
+pub few_firsts : (P Q : List Tick → Type 0) (count : ℕ) (shapes : List (List Tick)) → AreFewerThan P count → ((shape : List Tick) → Q shape → P shape) → length shapes ≡ count → ¬ AreFirstShapes Q shapes
 few_firsts P Q count shapes few among long firsts = too_few P count shapes few long firsts.ascending (λ shape has. among shape (All-at Q shapes shape firsts.each has))
 
 -- a kind among those that are fewer than the number is fewer, too

@@ -31,12 +31,12 @@ abbrev mutual
 
 -- gap proofs: a gap closes an atom that some operator adds and that isn't provable
 abbrev pub gaps_in : Setting → Rules
-gaps_in s = with_gaps (λ atom. IsAddable s atom × (IsProvable s atom → ⊥)) (proofs_in s)
+gaps_in s = with_gaps (λ atom. IsAddable s atom × (¬ IsProvable s atom)) (proofs_in s)
 
 -- the formula has no answer, and in some list of gap proofs of it a gap closes the atom
 abbrev pub IsGapOf : Setting → List Atom → ℕ → Atom → Type 0
 IsGapOf s formula vars atom =
-    (IsAnswer s formula vars → ⊥)
+    (¬ IsAnswer s formula vars)
     × ((objects : List ℕ) × (ds : Derivations) × IsList (gaps_in s) s formula vars objects ds × Contains (all_gaps_of ds) atom)
 
 -- under these objects, a gap closes exactly these atoms in some list of loose gap proofs

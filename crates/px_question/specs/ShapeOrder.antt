@@ -10,7 +10,7 @@ trichotomy zero (suc n) = inl (omega arith)
 trichotomy (suc m) zero = inr (inr (omega arith))
 trichotomy (suc m) (suc n) = elim (trichotomy m n) [ inl h ↦ inl (omega (arith, h)) | inr h ↦ elim h [ inl e ↦ inr (inl (ap suc e)) | inr g ↦ inr (inr (omega (arith, g))) ] ]
 
-pub TickBefore-irrefl : (a : Tick) → TickBefore a a → ⊥
+pub TickBefore-irrefl : (a : Tick) → ¬ TickBefore a a
 TickBefore-irrefl a (inl h) = omega (arith, h)
 TickBefore-irrefl a (inr (inl h)) = omega (arith, h.1)
 TickBefore-irrefl a (inr (inr h)) = omega (arith, h.2)
@@ -68,7 +68,7 @@ shape_trichotomy (t ∷ a) (u ∷ b) = by_tick (tick_trichotomy t u) (shape_tric
     by_tick (inr (inl e)) rest = by_rest e rest
     by_tick (inr (inr h)) rest = inr (inr (inl h))
 
-pub ShapeBefore-irrefl : (a : List Tick) → ShapeBefore a a → ⊥
+pub ShapeBefore-irrefl : (a : List Tick) → ¬ ShapeBefore a a
 ShapeBefore-irrefl [] h = h
 ShapeBefore-irrefl (t ∷ a) (inl h) = TickBefore-irrefl t h
 ShapeBefore-irrefl (t ∷ a) (inr h) = ShapeBefore-irrefl a h.1

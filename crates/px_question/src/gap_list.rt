@@ -1,3 +1,4 @@
+//! Gap lists, and how they are compared.
 use px_terms::{Atom, Sequence};
 
 /// Objects for the variables of a formula, and the atoms that a list of gap proofs of it then closes by gaps (Fikes

@@ -1,3 +1,4 @@
+//! Laws about the definitions, each as the contract of a call that does nothing.
 ghost use Rattle.px_question.specs.GapOrder.{GapListsAreOrdered};
 ghost use Rattle.px_question.specs.Decided.{QuestionsAreDecided};
 ghost use Rattle.px_question.specs.Determined.{FewOrLimited, FirstIsOne, GapListsAreOne, LimitsAreOne};

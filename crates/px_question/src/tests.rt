@@ -1,3 +1,4 @@
+//! The laws are called, and gap lists are compared.
 use crate::{
     GapList, answers_make_rows, few_or_limited, fewer_facts_have_no_more, first_is_of_each,
     first_is_one, gap_lists_are_one, gap_lists_are_ordered, limits_are_one, questions_are_decided,

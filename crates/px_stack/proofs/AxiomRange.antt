@@ -21,7 +21,7 @@ with_room number clause goal from old new found room tried = record {
   no_more = λ is_not. let none = tried.no_more is_not in (none.0, λ j after within has. none.1 j after within);
 }
 
-pub without_room : (number : ℕ) (clause : Clause) (goal : OpenGoal) (from : ℕ) (old : StackValue) → (HasRoom goal clause.lits → ⊥) → TriesClause number clause goal from old old false
+pub without_room : (number : ℕ) (clause : Clause) (goal : OpenGoal) (from : ℕ) (old : StackValue) → ¬ HasRoom goal clause.lits → TriesClause number clause goal from old old false
 without_room number clause goal from old no_room = record {
   least = λ is_found. absurd (cc);
   no_more = λ is_not. (refl, λ j after within has. absurd (no_room has));
@@ -31,13 +31,13 @@ without_room number clause goal from old no_room = record {
 same_start : (number from place a b : ℕ) → IsFrom number from place a → IsFrom number from place b → a ≡ b
 same_start number from place a b h k = go (decide number from)
   where
-    decide : (m n : ℕ) → (m ≡ n) ⊎ (m ≡ n → ⊥)
+    decide : (m n : ℕ) → (m ≡ n) ⊎ (¬ (m ≡ n))
     decide zero zero = inl refl
     decide zero (suc n) = inr (λ e. omega (arith, e))
     decide (suc m) zero = inr (λ e. omega (arith, e))
     decide (suc m) (suc n) = elim (decide m n) [ inl e ↦ inl (ap suc e) | inr other ↦ inr (λ e. other (omega (arith, e))) ]
 
-    go : (number ≡ from) ⊎ (number ≡ from → ⊥) → a ≡ b
+    go : (number ≡ from) ⊎ (¬ (number ≡ from)) → a ≡ b
     go (inl e) = h.here e ∙ sym (k.here e)
     go (inr other) = h.later other ∙ sym (k.later other)
 

@@ -32,7 +32,7 @@ not_found old new a b same never = record {
 }
 
 -- literals of different signs are never equal
-pub other_sign : (changes : List Change) (a b : Lit) → (a.positive ≡ b.positive → ⊥) → IsMatch changes changes a b false
+pub other_sign : (changes : List Change) (a b : Lit) → ¬ (a.positive ≡ b.positive) → IsMatch changes changes a b false
 other_sign changes a b differ = record {
   agree = λ is_found. absurd (cc);
   grows = λ is_found. absurd (cc);

@@ -17,7 +17,7 @@ abbrev pub without : {X : Type 0} → ℕ → ℕ → List X → List X
 without k place [] = []
 without k place (x ∷ xs) = cond (nat_eq k place) xs (x ∷ without (suc k) place xs)
 
-differ : (m n : ℕ) → (m ≡ n → ⊥) → nat_eq m n ≡ false
+differ : (m n : ℕ) → ¬ (m ≡ n) → nat_eq m n ≡ false
 differ m n other = grind (arith, other)
 
 without-past : {X : Type 0} (xs : List X) (k place : ℕ) → place < k → without k place xs ≡ xs
@@ -68,7 +68,7 @@ parts-pass lits theta place k d within is =
     let e : nat_eq k place ≡ true = rw is (grind arith) in
     rw (drop-instance lits theta k d within, e) (ap (map complement_of) (sym (without-past (drop (suc k) (instance_of lits theta)) (suc k) place (omega (arith, is)))))
 
-pub parts-take : (lits : List Lit) (theta : List Term) (place k : ℕ) (d : Lit) → k < length lits → (k ≡ place → ⊥) →
+pub parts-take : (lits : List Lit) (theta : List Term) (place k : ℕ) (d : Lit) → k < length lits → ¬ (k ≡ place) →
     parts_from lits theta place k ≡ complement_of (substitute_literal theta (get_or lits k d)) ∷ parts_from lits theta place (suc k)
 parts-take lits theta place k d within other = rw (drop-instance lits theta k d within, differ k place other) refl
 
@@ -126,7 +126,7 @@ module _ (start : List OpenGoal) (lits : List Lit) (theta : List Term) (place at
           opened = rw (parts-pass lits theta place k d within is, ← after) are.opened;
         })
 
-    pub opened-take : (k_now : ℕ) (arena_now : List OpenGoal) (front_now : ℕ) (lit : Lit) → k_now ≡ k → (k ≡ place → ⊥) → at ≤ length start →
+    pub opened-take : (k_now : ℕ) (arena_now : List OpenGoal) (front_now : ℕ) (lit : Lit) → k_now ≡ k → ¬ (k ≡ place) → at ≤ length start →
         lit ≡ complement_of (substitute_literal theta (get_or lits k d)) → arena_now ≡ arena ++ record { lit = lit; above = at; next = front; budget = budget } ∷ [] → front_now ≡ suc (length arena) →
         AreOpened start lits theta place at next budget arena_now front_now k_now
     opened-take k_now arena_now front_now lit k_is other at_older lit_is arena_is front_is =

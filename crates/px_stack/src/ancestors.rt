@@ -1,3 +1,4 @@
+//! Closing a place by the complement of a literal above it.
 ghost use Rattle.std.specs.Prelude.{◌≡◌, ◌<◌, ◌≤◌, IfOk, All, length};
 ghost use Rattle.px_unify.specs.Changes.{variables_of};
 ghost use Rattle.px_stack.specs.Arena.{path_at, AreOlder};

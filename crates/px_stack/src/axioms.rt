@@ -1,3 +1,4 @@
+//! Closing a place by an axiom, where the height leaves room.
 ghost use Rattle.std.specs.Prelude.{◌≡◌, ◌↔◌, ◌+◌, ◌<◌, ◌≤◌, IfOk, IsTrue, All, length};
 ghost use Rattle.px_unify.specs.Changes.{variables_of};
 ghost use Rattle.px_stack.specs.Parts.{IsLitBelow};

@@ -1,3 +1,4 @@
+//! Closing a place by a gap.
 ghost use Rattle.std.specs.Prelude.{◌≡◌, IfOk};
 ghost use Rattle.px_unify.specs.Changes.{variables_of};
 ghost use Rattle.px_stack.specs.Parts.{IsLitBelow};

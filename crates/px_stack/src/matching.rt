@@ -1,3 +1,4 @@
+//! Two literals are made equal, or the bindings stay.
 ghost use Rattle.std.specs.Prelude.{All};
 ghost use Rattle.px_terms.specs.Language.{IsPlainBelow};
 ghost use Rattle.px_unify.specs.Changes.{variables_of};

@@ -1,3 +1,4 @@
+//! The state: open goals, and the choices that closed others.
 use crate::matching::matches;
 use crate::parts::{open_formula, push_parts, variables_after};
 use crate::stepping::matches_fresh;

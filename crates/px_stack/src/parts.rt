@@ -1,3 +1,4 @@
+//! The goals that a formula or a use of a clause opens.
 ghost use Rattle.std.specs.Prelude.{◌≡◌, ◌+◌, ◌-◌, ◌≤◌, ◌++◌, ◌∷◌, [], ℕ, List, Some, IfOk, All, length, suc, take, map};
 ghost use Rattle.px_terms.specs.Language.{IsVariableBelow};
 ghost use Rattle.px_terms.specs.declared.clause.Lit.{Lit as LitValue};

@@ -1,3 +1,4 @@
+//! Closing a place by one clause, at the first of its literals that does.
 ghost use Rattle.std.specs.Prelude.{◌≡◌, ◌+◌, ◌<◌, ◌≤◌, IfOk, All, length};
 ghost use Rattle.px_terms.specs.Clauses.{ArePlainBelow};
 ghost use Rattle.px_unify.specs.Changes.{variables_of};

@@ -1,3 +1,4 @@
+//! A literal is made equal to one over new variables, or the bindings stay.
 ghost use Rattle.std.specs.Prelude.{◌≡◌, ◌+◌, ◌≤◌, IfOk};
 ghost use Rattle.px_unify.specs.Changes.{variables_of};
 ghost use Rattle.px_stack.specs.Parts.{IsLitBelow};

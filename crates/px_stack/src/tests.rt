@@ -1,3 +1,4 @@
+//! A fact, an ancestor, an axiom and a gap each close a place; some are taken back.
 ghost use Rattle.std.specs.Prelude.{◌≡◌, [], ◌∷◌};
 
 use crate::{OpenGoal, Stack, close_by_gap, try_ancestors, try_axioms, try_facts};

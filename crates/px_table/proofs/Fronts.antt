@@ -116,5 +116,5 @@ module _ (marks : List Mark) (rows : List (List Derivation)) (k at : ℕ) (row :
         λ whole. append_cancel_left (row_marks (suc k) row) _ _ (sym split ∙ whole ∙ here),
       )
 
-  pub rows-fail : IsFront (drop at marks) (row_marks (suc k) row) None → drop at marks ≡ marks_from (suc k) (drop k rows) → ⊥
+  pub rows-fail : IsFront (drop at marks) (row_marks (suc k) row) None → ¬ (drop at marks ≡ marks_from (suc k) (drop k rows))
   rows-fail front whole = front (marks_from (suc (suc k)) (drop (suc k) rows)) (whole ∙ here)

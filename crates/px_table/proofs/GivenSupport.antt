@@ -48,7 +48,7 @@ given_proof problem atom objects =
 abbrev given_mark : Atom → Mark
 given_mark atom = record { atom = atom; row = 1; column = 0; index = 0 }
 
-no_step : (k : ℕ) (inst : OpInst) → step_at [] k ≡ Some inst → ⊥
+no_step : (k : ℕ) (inst : OpInst) → ¬ (step_at [] k ≡ Some inst)
 no_step zero inst at = absurd (cc)
 no_step (suc k) inst at = absurd (cc)
 

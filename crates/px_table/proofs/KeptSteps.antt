@@ -18,7 +18,7 @@ module _ (problem : Problem) (steps : List OpInst) (sigma : List ℕ) (first : �
 
   -- none of the first steps deletes the mark's instance, where it stands between
   pub record KeptBelow (i : ℕ) : Type 0 where
-    pub kept : (j : ℕ) (inst : OpInst) → j < i → first ≤ suc j → mark.column < suc j → suc j < mark.row → slice_get (map (instance_under sigma) steps) j ≡ Some inst → Deletes inst → ⊥
+    pub kept : (j : ℕ) (inst : OpInst) → j < i → first ≤ suc j → mark.column < suc j → suc j < mark.row → slice_get (map (instance_under sigma) steps) j ≡ Some inst → ¬ Deletes inst
 
   pub kept-start : KeptBelow 0
   kept-start = record { kept = λ j inst below. absurd (omega (arith, below)) }
@@ -29,7 +29,7 @@ module _ (problem : Problem) (steps : List OpInst) (sigma : List ℕ) (first : �
       some_same (sym (slice_get-map (instance_under sigma) steps i step (slice_get-read steps i step below ∙ ap Some (sym is))) ∙ at)
 
   pub kept-next : (i : ℕ) (step : OpInst) → i < length steps → step ≡ get_or steps i step → KeptBelow i
-      → (first ≤ suc i → mark.column < suc i → suc i < mark.row → Deletes (instance_under sigma step) → ⊥) → KeptBelow (i + 1)
+      → (first ≤ suc i → mark.column < suc i → suc i < mark.row → ¬ Deletes (instance_under sigma step)) → KeptBelow (i + 1)
   kept-next i step below is before here = record {
     kept = λ j inst less low column row at deleted. elim (level_or_below j i less) [
       | inl earlier ↦ before.kept j inst earlier low column row at deleted
@@ -47,6 +47,6 @@ module _ (problem : Problem) (steps : List OpInst) (sigma : List ℕ) (first : �
       all.kept j inst (omega (arith, within, length-map steps (instance_under sigma))) low column row at deleted
 
   pub kept-fails : (i : ℕ) (step : OpInst) → i < length steps → step ≡ get_or steps i step → first ≤ suc i → mark.column < suc i → suc i < mark.row → Deletes (instance_under sigma step)
-      → IsKept problem (map (instance_under sigma) steps) first (mark_under sigma mark) → ⊥
+      → ¬ IsKept problem (map (instance_under sigma) steps) first (mark_under sigma mark)
   kept-fails i step below is low column row deleted kept =
       kept (suc i) (instance_under sigma step) low column row (slice_get-map (instance_under sigma) steps i step (slice_get-read steps i step below ∙ ap Some (sym is))) deleted

@@ -76,7 +76,7 @@ module _ (problem : Problem) (atoms : List Atom) (steps : List OpInst) (goal : L
   leaf_named : IsNamed problem steps (mark_of row leaf)
   leaf_named = All-at (IsNamed problem steps) (marks_from 1 rows) (mark_of row leaf) supports.named leaf_mark
 
-  leaf_earlier : row ≤ leaf.column → ⊥
+  leaf_earlier : ¬ (row ≤ leaf.column)
   leaf_earlier late = let earlier : leaf.column < row = leaf_named.earlier in omega (arith, late, earlier)
 
   leaf_given : leaf.column ≡ 0 → Contains atoms leaf.atom

@@ -1,3 +1,4 @@
+//! The atoms that proofs prove.
 ghost use Rattle.std.specs.Prelude.{◌≡◌, ◌↔◌, ℕ, Some, All, IsTrue};
 ghost use Rattle.px_terms.specs.declared.atom.Atom.{Atom};
 ghost use Rattle.px_terms.specs.declared.clause.Clause.{Clause};

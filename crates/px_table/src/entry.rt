@@ -1,3 +1,4 @@
+//! What stands on the stack of a search, and its order.
 ghost use Rattle.std.specs.Prelude.{◌≡◌, IfOk};
 
 use px_base::{NoMemory, Sequence};

@@ -1,3 +1,4 @@
+//! The row of the goal: its proofs prove the goal's atoms under one choice of terms for its variables.
 ghost use Rattle.std.specs.Prelude.{◌≡◌, ◌↔◌, ◌+◌, List, All, IsTrue, map};
 ghost use Rattle.px_terms.specs.declared.atom.Atom.{Atom};
 ghost use Rattle.px_terms.specs.Validity.{IsAtomOf};

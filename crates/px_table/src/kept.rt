@@ -1,3 +1,4 @@
+//! Marks of leaves, and lists that keep each thing once.
 ghost use Rattle.std.specs.Prelude.{◌≡◌, IfOk, map};
 ghost use Rattle.std.specs.List.{list_any};
 ghost use Rattle.px_terms.specs.Order.{atom_eq};

@@ -1,3 +1,4 @@
+//! Kernels: what the steps from a given one on rest on.
 ghost use Rattle.std.specs.Prelude.{◌≡◌, ◌&&◌, IfOk, cond, nat_le, nat_lt};
 ghost use Rattle.px_terms.specs.Order.{atom_eq};
 ghost use Rattle.px_table.specs.Kernels.{kernel_of};

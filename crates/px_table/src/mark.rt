@@ -1,3 +1,4 @@
+//! Marks: the facts that the rows of a table rest on.
 use px_terms::Atom;
 
 /// A fact that a row of a triangle table rests on, with where it comes from (Fikes, Hart and Nilsson 1972). In what

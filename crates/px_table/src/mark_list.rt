@@ -1,3 +1,4 @@
+//! Are the marks of a table the leaves of its rows, each once in its row?
 ghost use Rattle.std.specs.Prelude.{◌≡◌, ◌↔◌, ◌<◌, ◌≤◌, [], ◌∷◌, IsTrue, length, map, take, drop};
 ghost use Rattle.px_proof.specs.Derivation.{derivations, leaves_of, all_leaves_of};
 ghost use Rattle.px_proof.specs.ProofTerm.{derivation_of};

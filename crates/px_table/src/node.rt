@@ -1,3 +1,4 @@
+//! States of a search.
 ghost use Rattle.std.specs.Prelude.{◌≡◌, IfOk};
 ghost use Rattle.std.specs.Cmp.{partial_equiv_from_equiv};
 ghost use Rattle.px_table.specs.NodeLaws.{node_eq-equivalence, node_hash-alike};

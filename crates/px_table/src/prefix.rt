@@ -1,3 +1,4 @@
+//! The first steps of a table, taken as one operator.
 ghost use Rattle.std.specs.Prelude.{◌≡◌, ◌↔◌, ◌≤◌, All, Any, Contains, EachIndex, IsTrue, length, slice_index};
 ghost use Rattle.px_terms.specs.declared.term.Term.TheVariants.{Var};
 ghost use Rattle.px_terms.specs.Validity.{IsAtomOf, IsValid};

@@ -1,3 +1,4 @@
+//! Proper instances of kernels.
 ghost use Rattle.std.specs.Prelude.{◌≡◌, ◌↔◌, ◌<◌, ◌≤◌, ◌+◌, All, IsTrue, length};
 ghost use Rattle.px_terms.specs.Instances.{IsGround};
 ghost use Rattle.px_terms.specs.Operators.{IsDeleted, schema_of as spec_schema_of};

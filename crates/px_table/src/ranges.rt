@@ -1,3 +1,4 @@
+//! Are the numbers of a table in range?
 ghost use Rattle.std.specs.Prelude.{◌≡◌, ◌↔◌, ◌+◌, ◌<◌, All, IsTrue};
 ghost use Rattle.px_table.specs.Tables.{IsInRange, IsStepOf};
 

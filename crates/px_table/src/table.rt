@@ -1,3 +1,4 @@
+//! Triangle tables and their rows.
 ghost use Rattle.std.specs.Prelude.{◌≡◌, IfOk};
 
 use crate::mark::Mark;

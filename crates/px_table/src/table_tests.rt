@@ -1,3 +1,4 @@
+//! Tables that are accepted or refused, with their kernels, proper instances and first steps.
 ghost use Rattle.std.specs.Prelude.{◌≡◌, ◌∷◌, [], IsTrue, Some, map, slice_get};
 ghost use Rattle.px_terms.specs.Operators.{adds as adds_of, precondition};
 ghost use Rattle.px_terms.specs.Validity.{IsAtomOf, IsValid};

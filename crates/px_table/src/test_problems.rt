@@ -1,3 +1,4 @@
+//! Two problems for the tests: two operators over two names, and a box that is pushed through a door.
 ghost use Rattle.px_terms.specs.Validity.{IsValid};
 
 use px_base::Sequence;

@@ -1,3 +1,4 @@
+//! The order of entries, and the equality of nodes.
 use crate::{Entry, Move, Node, entries_are_ordered, moves_are_compared, nodes_are_compared};
 use px_base::{NoMemory, Sequence};
 use px_ops::Model;

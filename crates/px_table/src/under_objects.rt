@@ -1,3 +1,4 @@
+//! Atoms and operator instances, with objects for parameters.
 ghost use Rattle.std.specs.Prelude.{◌≡◌, ◌≤◌, ◌++◌, All, map, drop, length};
 ghost use Rattle.px_terms.specs.declared.term.Term.TheVariants.{Obj};
 ghost use Rattle.px_terms.specs.Language.{IsVariableBelow, substitute};

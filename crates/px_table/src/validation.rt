@@ -1,3 +1,4 @@
+//! Is it a triangle table for the problem?
 ghost use Rattle.std.specs.Prelude.{◌≡◌, ◌↔◌, ◌+◌, ◌<◌, ◌≤◌, Some, All, IsTrue, length, map, slice_get};
 ghost use Rattle.px_terms.specs.Operators.{adds as adds_of, precondition};
 ghost use Rattle.px_terms.specs.Validity.{IsAtomOf, IsValid};

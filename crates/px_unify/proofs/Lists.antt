@@ -82,7 +82,7 @@ some-fits changes solvable =
     (found.0, found.2)
 
 -- after unifying, some substitution that fitted before makes the atoms equal
-pub never-clash : (start now : List Change) (Condition : List Term → Type 0) → HasSolutions now → NarrowedBy start now Condition → NoneFits start Condition → ⊥
+pub never-clash : (start now : List Change) (Condition : List Term → Type 0) → HasSolutions now → NarrowedBy start now Condition → ¬ NoneFits start Condition
 never-clash start now Condition solvable narrowed never =
     let found = some-fits now solvable in
     let both = (narrowed found.0).0 found.1 in

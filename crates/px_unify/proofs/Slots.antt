@@ -112,7 +112,7 @@ module _ (sigma : List Term) where
   fits-before : (slots : Slots) (w : ℕ) (to : Term) → slice_get slots w ≡ Some None → FitsSlots sigma (set slots w (Some to)) → FitsSlots sigma slots
   fits-before slots w to unbound fits v term at = fits v term (slice_get-set_other slots w v (Some to) (Some term) (λ same. absurd (not_here same)) at)
     where
-      not_here : v ≡ w → ⊥
+      not_here : ¬ (v ≡ w)
       not_here same = let there = rw same at at in cc
 
   changes_from : (changes : List Change) (slots : Slots) → WellBound slots changes → FitsSlots sigma (slots_after slots changes) → FitsSlots sigma slots × Fits sigma changes

@@ -186,7 +186,7 @@ number_same e = cc
 
 module _ (changes : List Change) (solvable : HasSolutions changes) where
   -- a variable that is not bound has not always the value of an object
-  root_differs : (m w : ℕ) → IsUnbound changes w → ((sigma : List Term) → Fits sigma changes → Obj m ≡ substitute sigma (Var w)) → ⊥
+  root_differs : (m w : ℕ) → IsUnbound changes w → ¬ ((sigma : List Term) → Fits sigma changes → Obj m ≡ substitute sigma (Var w))
   root_differs m w unbound same =
       let count = variables_of changes in
       let found = solvable (replicate count (Obj (suc m))) (length-replicate count (Obj (suc m))) in

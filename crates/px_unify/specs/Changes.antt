@@ -63,7 +63,7 @@ NarrowedBy old new Condition = (sigma : List Term) → Fits sigma new ↔ (Fits 
 
 -- no substitution that fits meets the condition
 abbrev pub NoneFits : List Change → (List Term → Type 0) → Type 0
-NoneFits changes Condition = (sigma : List Term) → Fits sigma changes → Condition sigma → ⊥
+NoneFits changes Condition = (sigma : List Term) → Fits sigma changes → ¬ Condition sigma
 
 -- whatever terms the unbound variables have, some substitution fits with them
 abbrev pub HasSolutions : List Change → Type 0

@@ -1,3 +1,4 @@
+//! Variables and their bindings, which can be taken back, and the unification of two atoms.
 ghost use Rattle.std.specs.Prelude.{◌≡◌, ◌+◌, ◌<◌, ◌≤◌, ◌↔◌, [], ◌++◌, ◌∷◌, ◌-◌, length, take, replicate, All, OnOk, OnErr, IfOk, IsErr};
 ghost use Rattle.px_terms.specs.Language.{IsPlainBelow, substitute};
 ghost use Rattle.px_terms.specs.declared.term.Term.{Term};

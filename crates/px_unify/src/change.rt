@@ -1,3 +1,4 @@
+//! What is done to variables and their bindings, and why a change isn't made.
 use px_terms::Term;
 use thiserror::Error;
 

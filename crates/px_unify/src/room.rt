@@ -1,3 +1,4 @@
+//! Room for variables and for their bindings.
 ghost use Rattle.std.specs.Prelude.{◌≡◌, ◌+◌, ◌*◌, ◌≤◌, ◌++◌, OnOk, OnErr, None, replicate, vec_len, vec_capacity};
 ghost use Rattle.px_unify.specs.declared.change.Change.TheVariants.{Fresh};
 

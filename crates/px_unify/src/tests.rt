@@ -1,3 +1,4 @@
+//! Clashes, chains of bindings, and the most variables.
 use crate::{Bind, BindErr, MOST_VARIABLES, unify};
 use px_terms::{Atom, Term};
 use std::rt::HostRuntime;

@@ -32,12 +32,12 @@ module _ (loose : Bool) (s : Setting) (formula : List Atom) (vars last : ℕ) (g
 
   -- where they never agree, or the tick is none for this goal, no list goes on by the tick
   pub infeasible-clash : (closing : Closing) → closing_at loose s last goal tick ≡ Some closing →
-      ((tau : List Term) → Fits tau changes → LitsAgree tau closing → ⊥) → IsFeasible loose s formula vars (ticks ++ tick ∷ []) → ⊥
+      ((tau : List Term) → Fits tau changes → ¬ LitsAgree tau closing) → ¬ IsFeasible loose s formula vars (ticks ++ tick ∷ [])
   infeasible-clash closing is never (p, after, (objects, enough, below, solves)) =
       let both = (solves-push loose s tick goal goals last (object_terms objects) ticks vars (goals_of s formula) now).0 solves in
       never (object_terms objects) ((matched (object_terms objects)).1 both.0) (rw is at both.1)
 
-  pub infeasible-none : closing_at loose s last goal tick ≡ None → IsFeasible loose s formula vars (ticks ++ tick ∷ []) → ⊥
+  pub infeasible-none : closing_at loose s last goal tick ≡ None → ¬ IsFeasible loose s formula vars (ticks ++ tick ∷ [])
   infeasible-none is (p, after, (objects, enough, below, solves)) =
       rw is at ((solves-push loose s tick goal goals last (object_terms objects) ticks vars (goals_of s formula) now).0 solves).1
 

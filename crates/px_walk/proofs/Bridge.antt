@@ -29,7 +29,7 @@ use Rattle.px_walk.proofs.Scoping.{solves-front, goals-over}
 use Rattle.px_walk.proofs.Trees.{objects-below}
 
 -- a derivation without open places closes each place
-module _ (rules : Rules) (axioms : List Clause) (no_open : rules.IsOpen → ⊥) where
+module _ (rules : Rules) (axioms : List Clause) (no_open : ¬ rules.IsOpen) where
   mutual
     closings_of : (path : List Lit) (lit : Lit) (p : Derivation) → Proves rules axioms path lit p → AllByRecursion IsClosing (ticks p)
     closings_of path lit (fact leaf) proved = (tt, tt)
@@ -68,7 +68,7 @@ choices_in : (loose : Bool) (s : Setting) (t : Term) → (rules_for loose s).IsC
 choices_in false s t h = h
 choices_in true s t h = h
 
-never_open : (loose : Bool) (s : Setting) → (rules_for loose s).IsOpen → ⊥
+never_open : (loose : Bool) (s : Setting) → ¬ (rules_for loose s).IsOpen
 never_open false s h = h
 never_open true s h = h
 
@@ -114,7 +114,7 @@ module _ (loose : Bool) (s : Setting) (valid : IsSetting s) (formula : List Atom
 
   -- the shapes of unfinished lists are those of possible lists of ticks that are not finished
   pub partial-from : (shape : List Tick) → IsPartialShape (rules_for loose s) s formula vars shape →
-      (ticks : List Tick) × (shape ≡ shape_of loose s formula vars ticks) × IsPossible loose s formula vars ticks × (IsFinished loose s formula vars ticks → ⊥)
+      (ticks : List Tick) × (shape ≡ shape_of loose s formula vars ticks) × IsPossible loose s formula vars ticks × (¬ IsFinished loose s formula vars ticks)
   partial-from shape (unfinished, (objects, ps, is, ticks_are)) =
       let pad = padded shape unfinished in
       let solved = solves-list loose s valid formula vars scoped objects ps is in
@@ -145,19 +145,19 @@ module _ (loose : Bool) (s : Setting) (valid : IsSetting s) (formula : List Atom
         λ finished. let zero_left : open_count loose s formula vars pad.front ≡ 0 = finished in omega (arith, zero_left, left, pad.some_open),
       )
 
-  pub partial-to : (shape ticks : List Tick) → shape ≡ shape_of loose s formula vars ticks → IsPossible loose s formula vars ticks → (IsFinished loose s formula vars ticks → ⊥) → IsPartialShape (rules_for loose s) s formula vars shape
+  pub partial-to : (shape ticks : List Tick) → shape ≡ shape_of loose s formula vars ticks → IsPossible loose s formula vars ticks → ¬ IsFinished loose s formula vars ticks → IsPartialShape (rules_for loose s) s formula vars shape
   partial-to shape ticks shape_is possible unfinished =
       let made = list-of ticks possible.1 in (
         rw shape_is (padded-unfinished ticks (open_count loose s formula vars ticks) (above (open_count loose s formula vars ticks) unfinished) possible.0),
         (made.0, made.1, made.2, made.3 ∙ sym shape_is),
       )
     where
-      above : (k : ℕ) → (k ≡ 0 → ⊥) → 0 < k
+      above : (k : ℕ) → ¬ (k ≡ 0) → 0 < k
       above zero other = absurd (other refl)
       above (suc k) other = omega arith
 
   pub partial-possible : (shape : List Tick) → IsPartialShape (rules_for loose s) s formula vars shape ↔
-      ((ticks : List Tick) × (shape ≡ shape_of loose s formula vars ticks) × IsPossible loose s formula vars ticks × (IsFinished loose s formula vars ticks → ⊥))
+      ((ticks : List Tick) × (shape ≡ shape_of loose s formula vars ticks) × IsPossible loose s formula vars ticks × (¬ IsFinished loose s formula vars ticks))
   partial-possible shape = (partial-from shape, λ h. partial-to shape h.0 h.1 h.2 h.3)
 
   -- where no place is open, the proofs are finished ones

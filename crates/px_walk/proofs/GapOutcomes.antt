@@ -15,7 +15,7 @@ use Rattle.px_proof.specs.PlaceLaws.{Contains-mapped}
 use Rattle.px_walk.proofs.Bridge.{partial-from}
 use Rattle.px_walk.proofs.Outcomes.{first_shapes}
 
-pub above-zero : (k : ℕ) → (k ≡ 0 → ⊥) → 0 < k
+pub above-zero : (k : ℕ) → ¬ (k ≡ 0) → 0 < k
 above-zero zero other = absurd (other refl)
 above-zero (suc k) other = omega arith
 
@@ -29,7 +29,7 @@ module _ (s : Setting) (valid : IsSetting s) (formula : List Atom) (vars : ℕ) 
     count = length-map seen (shape_of true s formula vars) ∙ limit.count;
     kept = first_shapes true s valid formula vars scoped seen limit.ascending
         (all-weaker Goes (IsPossible true s formula vars) seen (λ x h. h.0) limit.possible)
-        (all-weaker Goes (λ x. IsFinished true s formula vars x → ⊥) seen (λ x h finished. let zero_left : open_count true s formula vars x ≡ 0 = finished in omega (arith, zero_left, h.1)) limit.possible)
+        (all-weaker Goes (λ x. ¬ IsFinished true s formula vars x) seen (λ x h finished. let zero_left : open_count true s formula vars x ≡ 0 = finished in omega (arith, zero_left, h.1)) limit.possible)
         (λ other possible unfinished. limit.first other (possible, above-zero (open_count true s formula vars other) unfinished));
   }
 

@@ -102,10 +102,10 @@ module _ (s : Setting) (valid : IsSetting s) (formula : List Atom) (vars : ℕ) 
   child-of some front tick possible = (possible-front true s formula vars front tick [] some possible, goes_on true s formula vars front tick [] possible)
 
   -- where the formula has an atom, no list is finished before its first tick
-  start-open : 0 < length formula → IsFinished true s formula vars [] → ⊥
+  start-open : 0 < length formula → ¬ IsFinished true s formula vars []
   start-open some finished = go formula some finished
     where
-      go : (atoms : List Atom) → 0 < length atoms → length (goals_of s atoms) ≡ 0 → ⊥
+      go : (atoms : List Atom) → 0 < length atoms → ¬ (length (goals_of s atoms) ≡ 0)
       go [] some empty = omega (arith, some)
       go (a ∷ atoms) some empty = omega (arith, empty)
 
@@ -122,16 +122,16 @@ module _ (s : Setting) (valid : IsSetting s) (formula : List Atom) (vars : ℕ) 
           (h.0, h.1, covers h.0 (child-of some h.0 h.1 here.0), here)
 
   -- without atoms, the one list of ticks is empty
-  pub none-gathered : length formula ≡ 0 → (objects : List ℕ) (gaps : List Atom) → IsGapList s formula vars objects gaps ↔ ((length objects ≡ vars) × All (λ n. n < s.objects) objects × ((atom : Atom) → Contains gaps atom → ⊥))
+  pub none-gathered : length formula ≡ 0 → (objects : List ℕ) (gaps : List Atom) → IsGapList s formula vars objects gaps ↔ ((length objects ≡ vars) × All (λ n. n < s.objects) objects × ((atom : Atom) → ¬ Contains gaps atom))
   none-gathered empty objects gaps = no_atoms formula empty objects gaps
     where
-      no_atoms : (formula : List Atom) → length formula ≡ 0 → (objects : List ℕ) (gaps : List Atom) → IsGapList s formula vars objects gaps ↔ ((length objects ≡ vars) × All (λ n. n < s.objects) objects × ((atom : Atom) → Contains gaps atom → ⊥))
+      no_atoms : (formula : List Atom) → length formula ≡ 0 → (objects : List ℕ) (gaps : List Atom) → IsGapList s formula vars objects gaps ↔ ((length objects ≡ vars) × All (λ n. n < s.objects) objects × ((atom : Atom) → ¬ Contains gaps atom))
       no_atoms [] empty objects gaps = (
         λ is. (is.1.count, is.1.below, λ atom has. nothing is.0 is.1.proved atom ((is.2 atom).0 has)),
         λ h. (none, record { count = h.0; below = h.1; proved = tt; low = omega arith }, λ atom. (λ has. absurd (h.2 atom has), λ has. absurd (Contains-none atom has))),
       )
         where
-          nothing : (ds : Derivations) → ProvesEach (loose_gaps_in s) s.axioms [] [] ds → (atom : Atom) → Contains (all_gaps_of ds) atom → ⊥
+          nothing : (ds : Derivations) → ProvesEach (loose_gaps_in s) s.axioms [] [] ds → (atom : Atom) → ¬ Contains (all_gaps_of ds) atom
           nothing none each atom has = Contains-none atom has
           nothing (also d ds) each atom has = each
       no_atoms (a ∷ atoms) empty objects gaps = absurd (omega (arith, empty))

@@ -15,7 +15,7 @@ remains-start (t ∷ ticks) (tick ∷ more) (inr h) = inr (h.0, remains-start ti
 
 -- where none is left at the end, what remains differs by a later tick before it
 pub remains-retract : (ticks : List Tick) (tick : Tick) (last : Option Tick) (other : List Tick) →
-    ((u : Tick) (more : List Tick) → other ≡ (ticks ++ tick ∷ []) ++ u ∷ more → IsAfter last u → ⊥) → Remains (ticks ++ tick ∷ []) last other → Remains ticks (Some tick) other
+    ((u : Tick) (more : List Tick) → other ≡ (ticks ++ tick ∷ []) ++ u ∷ more → ¬ IsAfter last u) → Remains (ticks ++ tick ∷ []) last other → Remains ticks (Some tick) other
 remains-retract [] tick last [] none remains = remains
 remains-retract [] tick last (u ∷ other) none (inl h) = h
 remains-retract [] tick last (u ∷ []) none (inr h) = absurd h.1
@@ -26,7 +26,7 @@ remains-retract (t ∷ ticks) tick last (u ∷ other) none (inr h) =
     inr (h.0, remains-retract ticks tick last other (λ v more e. none v more (rw (h.0, e) refl)) h.1)
 
 -- nothing remains at the empty list where no tick is left
-pub remains-none : (last : Option Tick) (other : List Tick) → ((u : Tick) (more : List Tick) → other ≡ u ∷ more → IsAfter last u → ⊥) → Remains [] last other → ⊥
+pub remains-none : (last : Option Tick) (other : List Tick) → ((u : Tick) (more : List Tick) → other ≡ u ∷ more → ¬ IsAfter last u) → ¬ Remains [] last other
 remains-none last [] none remains = remains
 remains-none last (u ∷ more) none remains = none u more refl remains
 
@@ -65,7 +65,7 @@ module _ (P : List Tick → Type 0) (shorter : IsPrefixClosed P) (start : List T
 
   module _ (ticks : List Tick) (last : Option Tick) (way : IsOnTheWay P start ticks last) where
     -- no list goes on from here by a tick that is left, if no single tick does
-    none_longer : ((u : Tick) → IsAfter last u → P (ticks ++ u ∷ []) → ⊥) → (other : List Tick) → P other → (u : Tick) (more : List Tick) → other ≡ ticks ++ u ∷ more → IsAfter last u → ⊥
+    none_longer : ((u : Tick) → IsAfter last u → ¬ P (ticks ++ u ∷ [])) → (other : List Tick) → P other → (u : Tick) (more : List Tick) → other ≡ ticks ++ u ∷ more → ¬ IsAfter last u
     none_longer none other holds u more is after = none u after (shorter ticks u more (rw is at holds))
 
     pub onward-next : (tick : Tick) → P (ticks ++ tick ∷ []) → IsAfter last tick → ((u : Tick) → IsAfter last u → P (ticks ++ u ∷ []) → (tick ≡ u) ⊎ TickBefore tick u) → IsNext P start (ticks ++ tick ∷ [])
@@ -75,12 +75,12 @@ module _ (P : List Tick → Type 0) (shorter : IsPrefixClosed P) (start : List T
       least = λ other holds_other before. remains-least ticks tick last other (λ u more is after_u. least u after_u (shorter ticks u more (rw is at holds_other))) (way.rest other holds_other before);
     }
 
-    pub onward-none : ticks ≡ [] → ((u : Tick) → IsAfter last u → P (ticks ++ u ∷ []) → ⊥) → NoneAfter P start
+    pub onward-none : ticks ≡ [] → ((u : Tick) → IsAfter last u → ¬ P (ticks ++ u ∷ [])) → NoneAfter P start
     onward-none empty none other holds before =
         remains-none last other (λ u more is. none_longer none other holds u more (rw empty is)) (rw empty at (way.rest other holds before))
 
   pub onward-retract : (ticks longer : List Tick) (tick : Tick) (last : Option Tick) → longer ≡ ticks ++ tick ∷ [] → IsOnTheWay P start longer last →
-      ((u : Tick) → IsAfter last u → P (longer ++ u ∷ []) → ⊥) → IsOnTheWay P start ticks (Some tick)
+      ((u : Tick) → IsAfter last u → ¬ P (longer ++ u ∷ [])) → IsOnTheWay P start ticks (Some tick)
   onward-retract ticks longer tick last is way none = record {
     place = place-shorter start ticks tick last (rw is at way.place);
     rest = λ other holds before. remains-retract ticks tick last other

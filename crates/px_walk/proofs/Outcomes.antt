@@ -21,8 +21,8 @@ use Rattle.px_walk.proofs.Ordering.{shape_trichotomy}
 use Rattle.px_walk.proofs.Padding.{shape-before, unshape, finished-shape}
 
 -- a list among unfinished ones is not finished
-pub not_seen : {X : Type 0} (F : X → Type 0) (x : X) (seen : List X) → Contains seen x → AllByRecursion (λ y. F y → ⊥) seen → F x → ⊥
-not_seen F x seen is_in unfinished = All-contains (λ y. F y → ⊥) seen x (All-from_recursion (λ y. F y → ⊥) seen unfinished) is_in
+pub not_seen : {X : Type 0} (F : X → Type 0) (x : X) (seen : List X) → Contains seen x → AllByRecursion (λ y. ¬ F y) seen → ¬ F x
+not_seen F x seen is_in unfinished = All-contains (λ y. ¬ F y) seen x (All-from_recursion (λ y. ¬ F y) seen unfinished) is_in
 
 module _ (loose : Bool) (s : Setting) (valid : IsSetting s) (formula : List Atom) (vars : ℕ) (scoped : AllByRecursion (IsAtomIn s.objects vars) formula) where
   -- the shapes of the lists that were seen
@@ -40,14 +40,14 @@ module _ (loose : Bool) (s : Setting) (valid : IsSetting s) (formula : List Atom
   shapes-ascend [] possible up = tt
   shapes-ascend (ticks ∷ seen) possible up = (shapes-after ticks seen possible.1 up.0, shapes-ascend seen possible.1 up.1)
 
-  shapes-partial : (seen : List (List Tick)) → AllByRecursion (IsPossible loose s formula vars) seen → AllByRecursion (λ ticks. IsFinished loose s formula vars ticks → ⊥) seen →
+  shapes-partial : (seen : List (List Tick)) → AllByRecursion (IsPossible loose s formula vars) seen → AllByRecursion (λ ticks. ¬ IsFinished loose s formula vars ticks) seen →
       AllByRecursion (IsPartialShape (rules_for loose s) s formula vars) (map (shape_of loose s formula vars) seen)
   shapes-partial [] possible unfinished = tt
   shapes-partial (ticks ∷ seen) possible unfinished = (partial-to loose s valid formula vars scoped (shape_of loose s formula vars ticks) ticks refl possible.0 unfinished.0, shapes-partial seen possible.1 unfinished.1)
 
   -- the first lists that are seen give the first shapes
-  pub first_shapes : (seen : List (List Tick)) → IsAscending seen → AllByRecursion (IsPossible loose s formula vars) seen → AllByRecursion (λ ticks. IsFinished loose s formula vars ticks → ⊥) seen →
-      ((other : List Tick) → IsPossible loose s formula vars other → (IsFinished loose s formula vars other → ⊥) → Contains seen other ⊎ AllByRecursion (λ ticks. ShapeBefore ticks other) seen) →
+  pub first_shapes : (seen : List (List Tick)) → IsAscending seen → AllByRecursion (IsPossible loose s formula vars) seen → AllByRecursion (λ ticks. ¬ IsFinished loose s formula vars ticks) seen →
+      ((other : List Tick) → IsPossible loose s formula vars other → ¬ IsFinished loose s formula vars other → Contains seen other ⊎ AllByRecursion (λ ticks. ShapeBefore ticks other) seen) →
       AreFirstShapes (IsPartialShape (rules_for loose s) s formula vars) (map (shape_of loose s formula vars) seen)
   first_shapes seen up possible unfinished first = record {
     ascending = shapes-ascend seen possible up;
@@ -86,7 +86,7 @@ module _ (s : Setting) (valid : IsSetting s) (formula : List Atom) (vars : ℕ) 
       go others qs other (inr (inl e)) possible = inr (ticks_are ∙ e, least (others ++ all_choices_of qs) (rw e possible.2) (same_count others qs other e))
       go others qs other (inr (inr h)) possible = absurd (not_seen (IsFinished false s formula vars) (ticks_of qs) first.few.0 (first.few.2.covers (ticks_of qs) possible.0 h) first.few.2.unfinished possible.1)
 
-  pub none-unprovable : NoneComes (IsPossible false s formula vars) (IsFinished false s formula vars) s.limit → IsAnswer s formula vars → ⊥
+  pub none-unprovable : NoneComes (IsPossible false s formula vars) (IsFinished false s formula vars) s.limit → ¬ IsAnswer s formula vars
   none-unprovable ends (objects, ps, is) =
       let possible = finished-possible false s valid formula vars scoped objects ps is in
       not_seen (IsFinished false s formula vars) (ticks_of ps) ends.few.0 (ends.few.4 (ticks_of ps) possible.0) ends.few.3 possible.1

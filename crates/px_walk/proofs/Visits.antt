@@ -23,19 +23,19 @@ module _ (P F : List Tick → Type 0) where
   pub seen-start : AreSeen P F [] []
   seen-start = record { ascending = tt; possible = tt; unfinished = tt; before = tt; covers = λ other holds before. absurd (none other before) }
     where
-      none : (other : List Tick) → ShapeBefore other [] → ⊥
+      none : (other : List Tick) → ¬ ShapeBefore other []
       none [] h = h
       none (t ∷ other) h = h
 
-  module _ (seen : List (List Tick)) (here : List Tick) (are : AreSeen P F seen here) (possible : P here) (open_here : F here → ⊥) where
+  module _ (seen : List (List Tick)) (here : List Tick) (are : AreSeen P F seen here) (possible : P here) (open_here : ¬ F here) where
     up : IsAscending (seen ++ here ∷ [])
     up = ascending-push seen here are.ascending are.before
 
     all_possible : AllByRecursion P (seen ++ here ∷ [])
     all_possible = all-push P seen here are.possible possible
 
-    all_open : AllByRecursion (λ ticks. F ticks → ⊥) (seen ++ here ∷ [])
-    all_open = all-push (λ ticks. F ticks → ⊥) seen here are.unfinished open_here
+    all_open : AllByRecursion (λ ticks. ¬ F ticks) (seen ++ here ∷ [])
+    all_open = all-push (λ ticks. ¬ F ticks) seen here are.unfinished open_here
 
     -- a possible list has been seen, or stands after this one
     seen_or_after : (other : List Tick) → P other → Contains (seen ++ here ∷ []) other ⊎ ShapeBefore here other
@@ -55,7 +55,7 @@ module _ (P F : List Tick → Type 0) where
       covers = λ other holds before. go other before (seen_or_after other holds) (is.least other holds);
     }
       where
-        not_least : (other : List Tick) → ShapeBefore other next → (next ≡ other) ⊎ ShapeBefore next other → ⊥
+        not_least : (other : List Tick) → ShapeBefore other next → ¬ ((next ≡ other) ⊎ ShapeBefore next other)
         not_least other before (inl e) = ShapeBefore-irrefl other (rw e at before)
         not_least other before (inr h) = ShapeBefore-irrefl other (ShapeBefore-trans other next other before h)
 

@@ -22,7 +22,7 @@ pub record IsNext (P : List Tick → Type 0) (ticks next : List Tick) : Type 0 w
   pub least : (other : List Tick) → P other → ShapeBefore ticks other → (next ≡ other) ⊎ ShapeBefore next other
 
 abbrev pub NoneAfter : (List Tick → Type 0) → List Tick → Type 0
-NoneAfter P ticks = (other : List Tick) → P other → ShapeBefore ticks other → ⊥
+NoneAfter P ticks = (other : List Tick) → P other → ¬ ShapeBefore ticks other
 
 -- a list has the property only where each shorter one has it
 abbrev pub IsPrefixClosed : (List Tick → Type 0) → Type 0
@@ -31,7 +31,7 @@ IsPrefixClosed P = (ticks : List Tick) (tick : Tick) (more : List Tick) → P (t
 -- the first open place is closed by the least tick after the last one that was tried; or there is none, and nothing changes
 pub record TriesAfter (P : List Tick → Type 0) (old new : List Tick) (last : Option Tick) (found : Bool) : Type 0 where
   pub least : found ≡ true → (tick : Tick) × (new ≡ old ++ tick ∷ []) × IsAfter last tick × P new × ((u : Tick) → IsAfter last u → P (old ++ u ∷ []) → (tick ≡ u) ⊎ TickBefore tick u)
-  pub no_more : found ≡ false → (new ≡ old) × ((u : Tick) → IsAfter last u → P (old ++ u ∷ []) → ⊥)
+  pub no_more : found ≡ false → (new ≡ old) × ((u : Tick) → IsAfter last u → ¬ P (old ++ u ∷ []))
 
 -- the walk has left the part behind a place, which began with the last tick that was tried there
 abbrev pub IsAt : List Tick → List Tick → Option Tick → Type 0

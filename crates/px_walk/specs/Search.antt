@@ -9,7 +9,7 @@ use Rattle.px_question.specs.Limits.{IsAscending}
 pub record AreSeen (P F : List Tick → Type 0) (seen : List (List Tick)) (end : List Tick) : Type 0 where
   pub ascending : IsAscending seen
   pub possible : AllByRecursion P seen
-  pub unfinished : AllByRecursion (λ ticks. F ticks → ⊥) seen
+  pub unfinished : AllByRecursion (λ ticks. ¬ F ticks) seen
   pub before : AllByRecursion (λ ticks. ShapeBefore ticks end) seen
   pub covers : (other : List Tick) → P other → ShapeBefore other end → Contains seen other
 
@@ -21,14 +21,14 @@ pub record ComesFirst (P F : List Tick → Type 0) (limit : ℕ) (ticks : List T
 
 -- there is none, and fewer unfinished lists than the limit
 pub record NoneComes (P F : List Tick → Type 0) (limit : ℕ) : Type 0 where
-  pub few : (seen : List (List Tick)) × (length seen < limit) × IsAscending seen × AllByRecursion (λ ticks. F ticks → ⊥) seen × ((other : List Tick) → P other → Contains seen other)
+  pub few : (seen : List (List Tick)) × (length seen < limit) × IsAscending seen × AllByRecursion (λ ticks. ¬ F ticks) seen × ((other : List Tick) → P other → Contains seen other)
 
 -- as many unfinished lists as the limit come before any other
 pub record LimitComes (P F : List Tick → Type 0) (limit : ℕ) (seen : List (List Tick)) : Type 0 where
   pub count : length seen ≡ limit
   pub ascending : IsAscending seen
   pub possible : AllByRecursion P seen
-  pub unfinished : AllByRecursion (λ ticks. F ticks → ⊥) seen
+  pub unfinished : AllByRecursion (λ ticks. ¬ F ticks) seen
   pub first : (other : List Tick) → P other → Contains seen other ⊎ AllByRecursion (λ ticks. ShapeBefore ticks other) seen
 
 -- all lists have been seen, in order, and they are fewer than the limit

@@ -1,3 +1,4 @@
+//! The ways in which a walk ends.
 use px_proof::Shape;
 
 /// How a walk ends.

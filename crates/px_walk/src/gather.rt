@@ -1,3 +1,4 @@
+//! Walking to the last list, and gathering at each.
 ghost use Rattle.std.specs.Prelude.{◌≡◌, ◌<◌, ◌≤◌, ◌+◌, ◌++◌, ◌∷◌, [], length, map, List, IfOk, IfSome, IfNone, OnOk};
 ghost use Rattle.px_proof.specs.declared.shape.Tick.{Tick};
 ghost use Rattle.px_walk.specs.Search.{AreAll, LimitComes};

@@ -1,3 +1,4 @@
+//! Going on to the next list, and walking to the first finished proof.
 ghost use Rattle.std.specs.Prelude.{◌≡◌, ◌<◌, ◌≤◌, ◌+◌, ◌++◌, ◌∷◌, [], true, false, length, map, List, IfOk, OnOk};
 ghost use Rattle.px_proof.specs.declared.shape.Tick.{Tick};
 ghost use Rattle.px_walk.specs.Ends.{MatchEnd};

@@ -1,3 +1,4 @@
+//! A walk over one list, which ends in each way and is gathered from.
 ghost use Rattle.std.specs.Prelude.{◌≡◌, ◌∷◌, [], length, true};
 ghost use Rattle.px_proof.specs.declared.shape.Tick.TheVariants.{Open};
 ghost use Rattle.px_walk.specs.OneList.{IsStart, start-shorter};

@@ -1,3 +1,4 @@
+//! Walks: what a state must do to be walked over.
 ghost use Rattle.std.specs.Prelude.{◌≡◌, ◌++◌, ◌∷◌, [], ◌<◌, ◌≤◌, ◌+◌, ◌↔◌, true, false, length, IfOk, OnOk, IfSome, IfNone, IsTrue};
 ghost use Rattle.px_walk.specs.Order.{TriesAfter};
 

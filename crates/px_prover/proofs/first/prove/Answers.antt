@@ -38,7 +38,7 @@ returns-in-Ok-answer-clause-of_problem c =
 pub returns-in-Ok-answer-clause-few : goal.returns-in-Ok-answer-clause-few
 returns-in-Ok-answer-clause-few c =
     let asked = asked_in c.args.problem.now c.atoms.result.now c.args.model.now.atoms c.args.formula.now c.args.vars c.atoms.ensures.value c.atoms.ensures.model c.requires.problem c.requires.formula c.requires.few_variables c.requires.objects in
-    subst (λ (xs : List Atom). (shapes : List (List Tick)) → IsLimited (setting_of c.args.problem.now xs) c.args.formula.now c.args.vars shapes → ⊥) c.atoms.ensures.value
+    subst (λ (xs : List Atom). (shapes : List (List Tick)) → ¬ IsLimited (setting_of c.args.problem.now xs) c.args.formula.now c.args.vars shapes) c.atoms.ensures.value
     (decided-unlimited (setting_of c.args.problem.now c.atoms.result.now) c.args.formula.now c.args.vars asked (ticks_in c.walk_to_finished.new.walk.choices) (rw c.in-Ok-Found.field-0-is at c.in-Ok-Found.ensures.end) c.in-Ok-answer.answer.objects (derivations (map derivation_of c.in-Ok-answer.answer.proofs)) c.in-Ok-answer.ensures)
 
 pub returns-in-Ok-answer-clause-few_before : goal.returns-in-Ok-answer-clause-few_before
@@ -50,13 +50,13 @@ returns-in-Ok-answer-clause-few_before c =
 pub returns-in-Ok-NoMore-clause-none : goal.returns-in-Ok-NoMore-clause-none
 returns-in-Ok-NoMore-clause-none c =
     let asked = asked_in c.args.problem.now c.atoms.result.now c.args.model.now.atoms c.args.formula.now c.args.vars c.atoms.ensures.value c.atoms.ensures.model c.requires.problem c.requires.formula c.requires.few_variables c.requires.objects in
-    λ is. subst (λ (xs : List Atom). IsAnswer (setting_of c.args.problem.now xs) c.args.formula.now c.args.vars → ⊥) c.atoms.ensures.value
+    λ is. subst (λ (xs : List Atom). ¬ IsAnswer (setting_of c.args.problem.now xs) c.args.formula.now c.args.vars) c.atoms.ensures.value
     (decided-none (setting_of c.args.problem.now c.atoms.result.now) c.args.formula.now c.args.vars asked (rw c.in-Ok-NoMore.field-0-is at c.in-Ok-NoMore.ensures.end))
 
 pub returns-in-Ok-NoMore-clause-none_few : goal.returns-in-Ok-NoMore-clause-none_few
 returns-in-Ok-NoMore-clause-none_few c =
     let asked = asked_in c.args.problem.now c.atoms.result.now c.args.model.now.atoms c.args.formula.now c.args.vars c.atoms.ensures.value c.atoms.ensures.model c.requires.problem c.requires.formula c.requires.few_variables c.requires.objects in
-    λ is. subst (λ (xs : List Atom). (shapes : List (List Tick)) → IsLimited (setting_of c.args.problem.now xs) c.args.formula.now c.args.vars shapes → ⊥) c.atoms.ensures.value
+    λ is. subst (λ (xs : List Atom). (shapes : List (List Tick)) → ¬ IsLimited (setting_of c.args.problem.now xs) c.args.formula.now c.args.vars shapes) c.atoms.ensures.value
     (decided-none_unlimited (setting_of c.args.problem.now c.atoms.result.now) c.args.formula.now c.args.vars asked (rw c.in-Ok-NoMore.field-0-is at c.in-Ok-NoMore.ensures.end))
 
 pub returns-in-Ok-NoMore-clause-few_shapes : goal.returns-in-Ok-NoMore-clause-few_shapes
