@@ -1,3 +1,4 @@
+//! Gap lists on small examples, compared with the plain listing, with a limit that is met and just not met.
 use crate::reference::{added_preds, are_shapes, lists, pairs, partial_shapes};
 use crate::samples::{
     add_axiom, are_open_boxes, atom, box_in_first_room, model_of, no, o, opening, problem_of,

@@ -1,3 +1,4 @@
+//! First proofs on small examples, compared with the plain listing, with limits of shapes and heights that are met and just not met.
 use crate::reference::{Mark, are_shapes, first_finished, lists, partial_shapes};
 use crate::samples::{
     add_axiom, are_open_boxes, atom, box_in_first_room, model_of, no, o, opening, problem_of,
