@@ -6,6 +6,7 @@ use Rattle.std.proofs.lemmas.List.Elements.{All-append, All-cons, All-nil}
 use Rattle.px_base.specs.ListLaws.{All-at, All-each}
 use Rattle.px_terms.specs.declared.atom.Atom.{Atom}
 use Rattle.px_terms.specs.declared.problem.Problem.{Problem}
+use Rattle.px_terms.specs.AtomSets.{IsAtomSet}
 use Rattle.px_table.specs.declared.table.Table.{Table}
 use Rattle.px_table.specs.KernelLaws.{kernels_carry}
 use Rattle.px_table.specs.Kernels.{KernelsCarry}
@@ -19,11 +20,12 @@ use Rattle.px_script.specs.Commands as command
 use Rattle.px_session.specs.Determined.{SessionsAreKept}
 use Rattle.px_session.specs.Lawful.{IsLearned, Lawful, Notes, TellsFacts, TellsLearning, TellsRun, TellsSearch, TellsShow, recorded_for}
 use Rattle.px_session.specs.Sessions.{Edit, IsLearnedTable, IsPlanTable, IsSession, SessionState, of_atoms, of_rooms, opening}
+use Rattle.px_session.proofs.Ascending.{run-set}
 use Rattle.px_session.proofs.OneLearning.{plan-right}
 use Rattle.px_session.proofs.Shapes.{general-alike, general-low, general-short}
 
-opened : (problem : Problem) (facts : List Atom) → IsSession problem (opening facts)
-opened problem facts = record { plans = All-nil (IsPlanTable problem); learned = All-nil (IsLearnedTable problem); few = omega arith }
+opened : (problem : Problem) (facts : List Atom) → IsAtomSet facts → IsSession problem (opening facts)
+opened problem facts set = record { atoms = set; plans = All-nil (IsPlanTable problem); learned = All-nil (IsLearnedTable problem); few = omega arith }
 
 same-state : (problem : Problem) (old new : SessionState) → IsSession problem old → new ≡ old → IsSession problem new
 same-state problem old new is same = subst (IsSession problem) (sym same) is
@@ -44,6 +46,7 @@ learned-kept problem old session name source params steps new is =
     let narrow : ¬ IsTooWide is.plan = λ wide. is.allowed TooWide (short, low, wide) in
     subst (IsSession problem) (sym is.learned)
     (record {
+      atoms = session.atoms;
       plans = session.plans;
       learned = one-more (IsLearnedTable problem) old.learned.tables is.general session.learned
           (record { table = is.generalises.table; short = general-short is.plan is.general alike short; low = general-low is.plan is.general alike low });
@@ -53,7 +56,7 @@ learned-kept problem old session name source params steps new is =
 search-kept : (task : Task) (name : ℕ) (old : SessionState) → IsSession task.problem old → (answer : Reply) (new : SessionState)
     → TellsSearch task name old answer new → IsSession task.problem new
 search-kept task name old session (reply.Plan given count steps) new is =
-    subst (IsSession task.problem) (sym is.1.stored) (record { plans = one-more (IsPlanTable task.problem) old.plans.tables is.1.made session.plans is.1.plan; learned = session.learned; few = session.few })
+    subst (IsSession task.problem) (sym is.1.stored) (record { atoms = session.atoms; plans = one-more (IsPlanTable task.problem) old.plans.tables is.1.made session.plans is.1.plan; learned = session.learned; few = session.few })
 search-kept task name old session (reply.Exhausted given) new is = same-state task.problem old new session is.2
 search-kept task name old session (reply.NodeLimit given nodes moves) new is = same-state task.problem old new session is.2
 search-kept task name old session (reply.ShapeLimit given node formula shapes) new is = same-state task.problem old new session is.2
@@ -73,14 +76,15 @@ module _ (problem : Problem) (old : SessionState) (session : IsSession problem o
   show-kept name answer new is = absurd is
 
   notes-kept : (one : Recorded Edit) (answer : Reply) (new : SessionState) → Notes old one answer new → IsSession problem new
-  notes-kept one (reply.Noted count) new is = subst (IsSession problem) (sym is.1) (record { plans = session.plans; learned = session.learned; few = session.few })
+  notes-kept one (reply.Noted count) new is = subst (IsSession problem) (sym is.1) (record { atoms = session.atoms; plans = session.plans; learned = session.learned; few = session.few })
   notes-kept one answer new is = absurd is
 
   run-kept : (name : ℕ) (bound : List (ℕ × ℕ)) (answer : Reply) (new : SessionState) → TellsRun problem old name bound answer new
       → IsSession problem new
   run-kept name bound (reply.Unknown given) new is = same-state problem old new session is.2
   run-kept name bound (reply.UnknownParam param) new is = same-state problem old new session is.same
-  run-kept name bound (reply.Ran given told) new is = subst (IsSession problem) (sym is.1.changed) (record { plans = session.plans; learned = session.learned; few = session.few })
+  run-kept name bound (reply.Ran given told) new is = subst (IsSession problem) (sym is.1.changed)
+      (record { atoms = run-set problem is.1.table bound old.recorded old.atoms is.1.turns is.1.after is.1.runs session.atoms; plans = session.plans; learned = session.learned; few = session.few })
   run-kept name bound answer new is = absurd is
 
   facts-kept : (answer : Reply) (new : SessionState) → TellsFacts old answer new → IsSession problem new

@@ -3,6 +3,7 @@ pub mod OneLearning
 pub mod OneRunning
 pub mod OneReply
 pub mod Shapes
+pub mod Ascending
 pub mod Kept
 pub mod OneTranscript
 pub mod Lifted

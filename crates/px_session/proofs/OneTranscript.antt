@@ -7,6 +7,7 @@ use Rattle.std.proofs.lemmas.List.Sums.{sum_by-cons}
 use Rattle.px_names.specs.Lists.{NameLists}
 use Rattle.px_terms.specs.declared.atom.Atom.{Atom}
 use Rattle.px_terms.specs.declared.problem.Problem.{Problem}
+use Rattle.px_terms.specs.AtomSets.{IsAtomSet}
 use Rattle.px_terms.specs.Validity.{IsValid}
 use Rattle.px_proof.specs.declared.shape.Tick.{Tick}
 use Rattle.px_table.specs.declared.node.Node.{Node}
@@ -30,10 +31,10 @@ use Rattle.px_session.proofs.OneReply.{lawful_is_one}
 -- ---- the replies
 
 module _ (problem : Problem) (valid : IsValid problem) where
-  answers-one : (old : SessionState) → IsSession problem old
-      → (commands : List Command) (answers others : List Reply) (last later : SessionState)
-      → AreAnswers problem old commands answers last → AreAnswers problem old commands others later → AllZip SameReply answers others
-  answers-one old session [] [] [] last later p q = tt
+  answers-one : (old : SessionState) → IsSession problem old → (commands : List Command) (answers others : List Reply) (last later : SessionState)
+      → AreAnswers problem old commands answers last → AreAnswers problem old commands others later
+      → AllZip SameReply answers others × (last ≡ later)
+  answers-one old session [] [] [] last later p q = (tt, p ∙ sym q)
   answers-one old session [] [] (b ∷ bs) last later p q = absurd q
   answers-one old session [] (a ∷ answers) others last later p q = absurd p
   answers-one old session (c ∷ commands) [] others last later p q = absurd p
@@ -41,12 +42,15 @@ module _ (problem : Problem) (valid : IsValid problem) where
   answers-one old session (c ∷ commands) (a ∷ answers) (b ∷ others) last later p q =
       let same = lawful_is_one.replies problem old c a b p.0 q.0 valid session p.1 q.1 in
       let next = sessions_are_kept.kept problem old c b q.0 session q.1 in
-      (same.0, answers-one q.0 next commands answers others last later (subst (λ (s : SessionState). AreAnswers problem s commands answers last) same.1 p.2) q.2)
+      let here = subst (λ (s : SessionState). AreAnswers problem s commands answers last) same.1 p.2 in
+      let rest = answers-one q.0 next commands answers others last later here q.2 in
+      ((same.0, rest.0), rest.1)
 
-script-one : (script : ScriptValue) (answers others : List Reply) → IsValid script.problem → AreAnswersTo script answers
-    → AreAnswersTo script others → AllZip SameReply answers others
-script-one script answers others valid p q =
-    answers-one script.problem valid (opening script.facts) (sessions_are_kept.opened script.problem script.facts) script.commands answers others p.last q.last p.lawful q.lawful
+script-one : (script : ScriptValue) (answers others : List Reply) → IsValid script.problem → IsAtomSet script.facts
+    → (one : AreAnswersTo script answers) (other : AreAnswersTo script others) → AllZip SameReply answers others × (one.last ≡ other.last)
+script-one script answers others valid set one other =
+    let session = sessions_are_kept.opened script.problem script.facts set in
+    answers-one script.problem valid (opening script.facts) session script.commands answers others one.last other.last one.lawful other.lawful
 
 -- ---- what is made of them
 
@@ -96,8 +100,16 @@ summary-line-one rooms seed commands answers others same =
 
 -- ---- from the bytes
 
-valid-script : (bytes : List ℕ) (script : ScriptValue) → IsScript bytes script → IsValid script.problem
-valid-script bytes script is = (in-range bytes script is).problem.valid
+abbrev IsSettled : ScriptValue → Type 0
+IsSettled script = IsValid script.problem × IsAtomSet script.facts
+
+settled-script : (bytes : List ℕ) (script : ScriptValue) → IsScript bytes script → IsSettled script
+settled-script bytes script is = let range = in-range bytes script is in (range.problem.valid, range.facts.fact_set)
+
+-- replies to what is one script
+settled-one : (one other : ScriptValue) (answers others : List Reply) → one ≡ other → IsSettled other → AreAnswersTo one answers → AreAnswersTo other others → AllZip SameReply answers others
+settled-one one other answers others same settled p q =
+    (script-one other answers others settled.0 settled.1 (subst (λ (s : ScriptValue). AreAnswersTo s answers) same p) q).0
 
 same-script : (bytes : List ℕ) (one other : ScriptValue) → IsScript bytes one → IsScript bytes other → one ≡ other
 same-script bytes one other p q = (reads-one-way bytes).one_content one other p q
@@ -105,13 +117,14 @@ same-script bytes one other p q = (reads-one-way bytes).one_content one other p 
 transcript-one : (bytes text other : List ℕ) → Transcript bytes text → Transcript bytes other → text ≡ other
 transcript-one bytes text other p q =
     let script = same-script bytes p.script q.script p.spelt q.spelt in
-    let same = script-one q.script p.answers q.answers (valid-script bytes q.script q.spelt) (subst (λ (s : ScriptValue). AreAnswersTo s p.answers) script p.lawful) q.lawful in
+    let same = settled-one p.script q.script p.answers q.answers script (settled-script bytes q.script q.spelt) p.lawful q.lawful in
     p.text_is ∙ ap (λ (s : ScriptValue). texts s.names p.answers) script ∙ texts-one q.script.names p.answers q.answers same ∙ sym q.text_is
 
 summary-one : (rooms seed : ℕ) (text other : List ℕ) → Summary rooms seed text → Summary rooms seed other → text ≡ other
 summary-one rooms seed text other p q =
     let script = same-script (demo_script rooms seed) p.script q.script p.spelt q.spelt in
-    let same = script-one q.script p.answers q.answers (valid-script (demo_script rooms seed) q.script q.spelt) (subst (λ (s : ScriptValue). AreAnswersTo s p.answers) script p.lawful) q.lawful in
+    let settled = settled-script (demo_script rooms seed) q.script q.spelt in
+    let same = settled-one p.script q.script p.answers q.answers script settled p.lawful q.lawful in
     p.text_is ∙ ap (λ (s : ScriptValue). summary_line rooms seed (length s.commands) p.answers) script
     ∙ summary-line-one rooms seed (length q.script.commands) p.answers q.answers same ∙ sym q.text_is
 

@@ -4,6 +4,7 @@ use Rattle.std.specs.List.{AllZip}
 use Rattle.px_names.specs.Lists.{NameLists}
 use Rattle.px_terms.specs.declared.atom.Atom.{Atom}
 use Rattle.px_terms.specs.declared.problem.Problem.{Problem}
+use Rattle.px_terms.specs.AtomSets.{IsAtomSet}
 use Rattle.px_terms.specs.Validity.{IsValid}
 use Rattle.px_proof.specs.declared.shape.Tick.{Tick}
 use Rattle.px_table.specs.declared.node.Node.{Node}
@@ -45,16 +46,16 @@ pub record LawfulIsOne : Type 0 where
 -- The opening state is one of a session, and each lawful reply leaves one. Of the tables that a session has, each proper instance of each
 -- kernel carries the steps that are left to the goal.
 pub record SessionsAreKept : Type 0 where
-  pub opened : (problem : Problem) (facts : List Atom) → IsSession problem (opening facts)
+  pub opened : (problem : Problem) (facts : List Atom) → IsAtomSet facts → IsSession problem (opening facts)
   pub kept : (problem : Problem) (old : SessionState) (command : Command) (answer : Reply) (new : SessionState)
       → IsSession problem old → Lawful problem old command answer new → IsSession problem new
   pub carry : (problem : Problem) (state : SessionState) → IsSession problem state
       → All (KernelsCarry problem) (state.plans.tables ++ state.learned.tables)
 
--- A script has one list of lawful replies, but for questions at limits of shapes, and the state after them is one; so its text is one.
+-- A script has one list of lawful replies, but for questions at limits of shapes; the state after them is one, and so is the text.
 pub record AnswersAreOne : Type 0 where
-  pub answers : (script : ScriptValue) (answers others : List Reply) → IsValid script.problem → AreAnswersTo script answers
-      → AreAnswersTo script others → AllZip SameReply answers others
+  pub answers : (script : ScriptValue) (answers others : List Reply) → IsValid script.problem → IsAtomSet script.facts
+      → (one : AreAnswersTo script answers) (other : AreAnswersTo script others) → AllZip SameReply answers others × (one.last ≡ other.last)
   pub texts : (names : NameLists) (answers others : List Reply) → AllZip SameReply answers others → texts names answers ≡ texts names others
 
 -- The text is determined by the bytes, and the line of the demo by its two numbers.

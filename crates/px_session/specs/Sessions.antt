@@ -2,6 +2,7 @@
 use Rattle.std.specs.Prelude.{◌≡◌, ◌≤◌, ℕ, Option, Some, None, List, [], length, All}
 use Rattle.px_terms.specs.declared.atom.Atom.{Atom}
 use Rattle.px_terms.specs.declared.problem.Problem.{Problem}
+use Rattle.px_terms.specs.AtomSets.{IsAtomSet}
 use Rattle.px_table.specs.declared.table.Table.{Table}
 use Rattle.px_table.specs.Kernels.{IsProper}
 use Rattle.px_table.specs.Tables.{IsTable}
@@ -59,8 +60,9 @@ pub record IsLearnedTable (problem : Problem) (learned : Table) : Type 0 where
   pub short : ¬ IsTooLong learned
   pub low : ¬ IsTooDeep learned
 
--- the tables are as those of plans and learned ones, of which there are at most 32
+-- the world's atoms are a set, and the tables are as those of plans and learned ones, of which there are at most 32
 pub record IsSession (problem : Problem) (state : SessionState) : Type 0 where
+  pub atoms : IsAtomSet state.atoms
   pub plans : All (IsPlanTable problem) state.plans.tables
   pub learned : All (IsLearnedTable problem) state.learned.tables
   pub few : length state.learned.tables ≤ 32
