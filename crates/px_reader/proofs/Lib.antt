@@ -1,10 +1,12 @@
 pub mod TokenLemmas
 pub mod Parameters
-pub mod FaultTests
+pub mod AtomTests
+pub mod Variables
 pub mod Seen
-pub mod Objects
+pub mod Bound
 pub mod Facts
-pub mod LimitLemmas
+pub mod Right
+pub mod Building
 pub mod LineLemmas
 pub mod LineSteps
 pub mod Outcomes

@@ -26,13 +26,17 @@ text-fails text (Refused refused) utf8 fails = inr (utf8, fails)
 text-fails text NoMemory utf8 fails = tt
 
 -- after lines without a fault an open block is the first
-pub left-open : (n : ℕ) (d : Declared) (lines : List (List ℕ)) (last : Declared) (block : OpenBlock) → PassAll n d lines last → last.block ≡ Some block → FailsIn n d lines block.line (record { code = 10; limit = 0 })
+pub left-open : (n : ℕ) (d : Declared) (lines : List (List ℕ)) (last : Declared) (block : OpenBlock) → PassAll n d lines last
+    → last.block ≡ Some block → FailsIn n d lines block.line (record { code = 10; limit = 0 })
 left-open n d [] last block same opened = (block, ap (λ e. e.block) (sym same) ∙ opened, refl, refl)
-left-open n d (line ∷ lines) last block passes opened = inr (passes.0, passes.1, left-open (n + 1) passes.0 lines last block passes.2 opened)
+left-open n d (line ∷ lines) last block passes opened
+    = inr (passes.0, passes.1, left-open (n + 1) passes.0 lines last block passes.2 opened)
 
 -- the lines of a text by its parts
-pub parts-lines : (parts : List (Bor (List ℕ))) (text : List ℕ) → map (λ part. part.now) parts ≡ slice_split (λ b. b == 10) (without_mark text) → characters_of parts ≡ lines_of text
-parts-lines parts text is = sym (map-map (λ line. chars (without_return line)) (λ part. part.now) parts) ∙ ap (map (λ line. chars (without_return line))) is
+pub parts-lines : (parts : List (Bor (List ℕ))) (text : List ℕ)
+    → map (λ part. part.now) parts ≡ slice_split (λ b. b == 10) (without_mark text) → characters_of parts ≡ lines_of text
+parts-lines parts text is = sym (map-map (λ line. chars (without_return line)) (λ part. part.now) parts)
+    ∙ ap (map (λ line. chars (without_return line))) is
 
 unmarked-short : (text : List ℕ) → length (without_mark text) ≤ length text
 unmarked-short text = by_test (bytes_eq (take 3 text) mark)
@@ -40,9 +44,11 @@ unmarked-short text = by_test (bytes_eq (take 3 text) mark)
     (λ e. rw e omega arith)
 
 -- there is at most one line more than there are bytes
-pub few-parts : (parts : List (Bor (List ℕ))) (text : List ℕ) → map (λ part. part.now) parts ≡ slice_split (λ b. b == 10) (without_mark text) → length parts ≤ length text + 1
+pub few-parts : (parts : List (Bor (List ℕ))) (text : List ℕ)
+    → map (λ part. part.now) parts ≡ slice_split (λ b. b == 10) (without_mark text) → length parts ≤ length text + 1
 few-parts parts text is =
-    let lengths : length parts ≡ count_by (λ b. b == 10) (without_mark text) + 1 = sym (length-map parts (λ part. part.now)) ∙ ap length is ∙ length-slice_split (λ b. b == 10) (without_mark text) in
+    let lengths : length parts ≡ count_by (λ b. b == 10) (without_mark text) + 1 = sym (length-map parts (λ part. part.now))
+    ∙ ap length is ∙ length-slice_split (λ b. b == 10) (without_mark text) in
     omega (arith, lengths, count_by-le-length (λ b. b == 10) (without_mark text), unmarked-short text)
 
 pub err-carried : {A : Type 0} (r : Result A ScriptErr) (P : ScriptErr → Type 0) (x : ScriptErr) → IsErrAnd r (λ e. e ≡ x) → P x → IfErr r P
@@ -57,14 +63,17 @@ module _ (bytes : List ℕ) where
   error-read (Refused refused) fault value is = absurd (law.not_both is.last refused.line (refusal_told refused) is.spells fault)
   error-read NoMemory fault value is = refl
 
-  error-named : (error : ScriptErr) → HasFirstFault bytes error → (line : ℕ) (refusal : Refusal) → FirstFault bytes line refusal → NamesFault error line refusal
+  error-named : (error : ScriptErr) → HasFirstFault bytes error → (line : ℕ) (refusal : Refusal) → FirstFault bytes line refusal
+      → NamesFault error line refusal
   error-named (Refused refused) fault line refusal first = law.one_fault refused.line line (refusal_told refused) refusal fault first
   error-named NoMemory fault line refusal first = tt
 
-  pub all-scripts : (r : Result Script ScriptErr) → IfOk r (λ s. IsScript bytes (content s)) → IfErr r (HasFirstFault bytes) → (value : ScriptValue) → IsScript bytes value → IsRead r value
+  pub all-scripts : (r : Result Script ScriptErr) → IfOk r (λ s. IsScript bytes (content s)) → IfErr r (HasFirstFault bytes)
+      → (value : ScriptValue) → IsScript bytes value → IsRead r value
   all-scripts (Ok s) script fault value is = law.one_content (content s) value script is
   all-scripts (Err error) script fault value is = error-read error fault value is
 
-  pub all-faults : (r : Result Script ScriptErr) → IfOk r (λ s. IsScript bytes (content s)) → IfErr r (HasFirstFault bytes) → (line : ℕ) (refusal : Refusal) → FirstFault bytes line refusal → IsRefused r line refusal
+  pub all-faults : (r : Result Script ScriptErr) → IfOk r (λ s. IsScript bytes (content s)) → IfErr r (HasFirstFault bytes)
+      → (line : ℕ) (refusal : Refusal) → FirstFault bytes line refusal → IsRefused r line refusal
   all-faults (Ok s) script fault line refusal first = law.not_both script.last line refusal script.spells first
   all-faults (Err error) script fault line refusal first = error-named error fault line refusal first

@@ -10,8 +10,8 @@ use Rattle.std.specs.Result.{OkIff}
 use Rattle.std.proofs.lemmas.Fmt.{decimal_by_steps, decimal-digits_value, decimal_digit, parse-decimal}
 use Rattle.std.proofs.lemmas.Slice.Eq.{bytes_eq-Decides}
 use Rattle.std.proofs.lemmas.Str.Parse.{parse_plain}
-use Rattle.px_script.specs.Statements.{is_parameter_number, parameter_name}
-use Rattle.px_script.specs.Parsing.{parameter_if, parameter_of}
+use Rattle.px_script.specs.Items.{is_parameter_number, parameter_name}
+use Rattle.px_script.proofs.Parsing.{parameter_if, parameter_of}
 use Rattle.px_script.proofs.Fronts.{by_test}
 use Rattle.px_script.proofs.Firsts.{and_both}
 use Rattle.px_script.proofs.Numbers.{own}
@@ -26,12 +26,17 @@ first-kept (d ∷ ds) es some = refl
 
 decimal-begins : (n : ℕ) → n < 2 ^ 64 → BeginsAbove n (decimal n)
 decimal-begins = decimal_by_steps BeginsAbove (λ n small. (omega arith, λ some. omega (arith, some)))
-    (λ n ds large is. (omega (arith, length-append ds ((48 + n % 10) ∷ []), is.0), λ some. let tenth : 0 < n / 10 = omega (arith, large) in rw (first-kept ds ((48 + n % 10) ∷ []) is.0) (is.1 tenth)))
+    (λ n ds large is. (
+      omega (arith, length-append ds ((48 + n % 10) ∷ []), is.0),
+      λ some. let tenth : 0 < n / 10
+          = omega (arith, large) in rw (first-kept ds ((48 + n % 10) ∷ []) is.0) (is.1 tenth),
+    ))
 
 pub no-parameter : (w : List ℕ) (k : ℕ) → (0 < k → k < 10000 → w ≡ parameter_name k → ⊥) → parameter_if w k ≡ None
 no-parameter w k not = by_test (bytes_eq w (parameter_name k))
     (λ e. by_test (is_parameter_number k)
-    (λ f. let both = and_both (nat_lt 0 k) (nat_lt k 10000) f in elim (not (ltb-true 0 k both.0) (ltb-true k 10000 both.1) ((bytes_eq-Decides w (parameter_name k)).0 e)) [ ])
+    (λ f. let both = and_both (nat_lt 0 k) (nat_lt k 10000) f in elim
+    (not (ltb-true 0 k both.0) (ltb-true k 10000 both.1) ((bytes_eq-Decides w (parameter_name k)).0 e)) [ ])
     (λ f. rw (e, f) refl))
     (λ e. rw e refl)
 
@@ -51,7 +56,8 @@ no-digit w ds is low = sym (no-parameter w _ (λ above below e.
     omega (arith, high, low)))
 
 -- where no number to 9999 is read
-pub no-number : {E : Type 0} (w ds : List ℕ) (r : Result ℕ E) → w ≡ 112 ∷ ds → ParsesUnsigned 32 10 ds r → ((n : ℕ) → r ≡ Ok n → n ≤ 9999 → ⊥) → None ≡ parameter_of w
+pub no-number : {E : Type 0} (w ds : List ℕ) (r : Result ℕ E) → w ≡ 112 ∷ ds → ParsesUnsigned 32 10 ds r
+    → ((n : ℕ) → r ≡ Ok n → n ≤ 9999 → ⊥) → None ≡ parameter_of w
 no-number w ds r is parses none = sym (no-parameter w _ (λ above below e.
     let same : ds ≡ decimal _ = tails 112 112 ds _ (sym is ∙ e) in
     none _ (parse-decimal 32 _ ds r (omega (arith, below)) (omega (arith, below)) same parses) (omega (arith, below))))
@@ -63,16 +69,21 @@ parameter-is w k is above below =
     rw (same, good) refl
 
 -- with the letter and a number
-pub a-number : {E : Type 0} (w ds : List ℕ) (r : Result ℕ E) (n : ℕ) → w ≡ 112 ∷ ds → ParsesUnsigned 32 10 ds r → r ≡ Ok n → n ≤ 9999 → get_or ds 0 0 ≢ 48 → get_or ds 0 0 ≢ 43
+pub a-number : {E : Type 0} (w ds : List ℕ) (r : Result ℕ E) (n : ℕ) → w ≡ 112 ∷ ds → ParsesUnsigned 32 10 ds r → r ≡ Ok n → n ≤ 9999
+    → get_or ds 0 0 ≢ 48 → get_or ds 0 0 ≢ 43
     → Some n ≡ parameter_of w
 a-number w ds r n is parses ok small no_zero no_sign =
-    let P : Result ℕ _ → Type 0 = λ t. OkIff t ((all_ascii_digits ds ≡ true) × (0 < length ds) × (digits_value 10 ds < 2 ^ 32)) (digits_value 10 ds) in
+    let P : Result ℕ _ → Type 0 = λ t. OkIff t ((all_ascii_digits ds ≡ true) × (0 < length ds) × (digits_value 10 ds < 2 ^ 32))
+    (digits_value 10 ds) in
     let read = subst P ok (parse_plain own 32 ds r parses no_sign) in
     let value : n ≡ digits_value 10 ds = read.1 in
-    let text : decimal (digits_value 10 ds) ≡ ds = decimal-digits_value own ds read.0.0 read.0.1 (λ e. absurd (no_zero e)) (omega (arith, read.0.2)) in
+    let text : decimal (digits_value 10 ds) ≡ ds
+    = decimal-digits_value own ds read.0.0 read.0.1 (λ e. absurd (no_zero e)) (omega (arith, read.0.2)) in
     let above : 0 < digits_value 10 ds = elim (cases_lt 0 (digits_value 10 ds)) [
       | inl some ↦ some
-      | inr none ↦ (let zero : digits_value 10 ds ≡ 0 = omega (arith, none) in absurd (no_zero (ap (λ t. get_or t 0 0) (sym text ∙ ap decimal zero ∙ decimal_digit 0 (omega arith)))))
+      | inr none ↦ (let zero : digits_value 10 ds ≡ 0
+          = omega (arith, none) in absurd (no_zero (ap (λ t. get_or t 0 0) (sym text ∙ ap decimal zero ∙ decimal_digit 0 (omega arith)))))
     ] in
     let named : w ≡ parameter_name (digits_value 10 ds) = is ∙ ap (λ t. 112 ∷ t) (sym text) in
-    ap Some value ∙ parameter-is w (digits_value 10 ds) named above (omega (arith, value, small)) ∙ ap (λ t. parameter_if w (digits_value 10 (drop 1 t))) (sym is)
+    ap Some value ∙ parameter-is w (digits_value 10 ds) named above (omega (arith, value, small))
+    ∙ ap (λ t. parameter_if w (digits_value 10 (drop 1 t))) (sym is)

@@ -1,10 +1,10 @@
--- Names that were seen, as a set of texts.
+-- Names, and other keys, that were seen, as a set.
 use Rattle.std.proofs.Common.{◌≡◌, ℕ, ◌+◌, ◌<◌, Bool, true, false, List, [], ◌∷◌, ◌++◌, map, take, drop, length, get_or, refl, sym, ap, ◌∙◌, append_assoc}
-use Rattle.std.specs.Prelude.{◌||◌, not}
+use Rattle.std.specs.Prelude.{◌||◌, ◌==◌, not, nat_lt}
 use Rattle.std.specs.BTreeMap.{is_at}
 use Rattle.std.specs.BTreeSet.{insert_key}
 use Rattle.std.specs.Cmp.Lexicographic.{slice_cmp}
-use Rattle.std.specs.List.{list_any}
+use Rattle.std.specs.List.{list_any, filter}
 use Rattle.std.specs.Ordering.{nat_cmp, is_eq, match_ordering}
 use Rattle.std.specs.Str.{bytes_eq}
 use Rattle.std.specs.declared.cmp.Ordering.{Ordering}
@@ -13,22 +13,16 @@ use Rattle.std.proofs.lemmas.List.Folds.{list_any-append}
 use Rattle.std.proofs.lemmas.Map.Text.{is_eq-slice_cmp}
 use Rattle.std.proofs.lemmas.Slice.Eq.{bytes_eq-Decides}
 use Rattle.px_names.specs.Lists.{has_name}
-use Rattle.px_script.specs.Faults.{repeats}
+use Rattle.px_script.specs.Causes.{repeats}
 use Rattle.px_script.proofs.Twice.{repeats-cons}
-use Rattle.px_reader.specs.StatementViews.{text_of}
 use Rattle.std.proofs.lemmas.List.{map-append, take_more, drop_more}
 use denote.Ref.{Bor}
 
 abbrev pub text_cmp : Bor (List ℕ) → Bor (List ℕ) → Ordering
 text_cmp a b = slice_cmp nat_cmp a.now b.now
 
--- the text is among those that were seen
-abbrev pub is_seen : List ℕ → List (Bor (List ℕ)) → Bool
-is_seen text keys = list_any (λ k. bytes_eq text k.now) keys
-
-pub seen-contains : (q : Bor (List ℕ)) (keys : List (Bor (List ℕ))) → list_any (is_at (text_cmp q)) keys ≡ is_seen q.now keys
-seen-contains q [] = refl
-seen-contains q (k ∷ keys) = rw (is_eq-slice_cmp q.now k.now, seen-contains q keys) refl
+pub texts-same : (a b : Bor (List ℕ)) → is_eq (text_cmp a b) ≡ bytes_eq a.now b.now
+texts-same a b = is_eq-slice_cmp a.now b.now
 
 or_same : (a r : Bool) → (a || r) ≡ (a || (a || r))
 or_same true r = refl
@@ -40,7 +34,7 @@ or_comm true false = refl
 or_comm false true = refl
 or_comm false false = refl
 
-or_false : (a : Bool) → (a || false) ≡ a
+pub or_false : (a : Bool) → (a || false) ≡ a
 or_false true = refl
 or_false false = refl
 
@@ -49,18 +43,6 @@ or_swap true true r = refl
 or_swap true false r = refl
 or_swap false true r = refl
 or_swap false false r = refl
-
-same-text : (a b : Bor (List ℕ)) → text_cmp a b ≡ Equal → a.now ≡ b.now
-same-text a b e = (bytes_eq-Decides a.now b.now).0 (sym (is_eq-slice_cmp a.now b.now) ∙ ap is_eq e)
-
-pub seen-insert : (text : List ℕ) (key : Bor (List ℕ)) (keys : List (Bor (List ℕ))) → is_seen text (insert_key text_cmp keys key) ≡ (bytes_eq text key.now || is_seen text keys)
-seen-insert text key [] = refl
-seen-insert text key (k ∷ keys) = elim (text_cmp key k) as (λ o. text_cmp key k ≡ o →
-    is_seen text (match_ordering o (key ∷ k ∷ keys) (k ∷ keys) (k ∷ insert_key text_cmp keys key)) ≡ (bytes_eq text key.now || (bytes_eq text k.now || is_seen text keys))) [
-      | Less ↦ λ e. refl
-      | Equal ↦ λ e. rw (same-text key k e) (or_same (bytes_eq text k.now) (is_seen text keys))
-      | Greater ↦ λ e. rw (seen-insert text key keys) (or_swap (bytes_eq text key.now) (bytes_eq text k.now) (is_seen text keys))
-    ] refl
 
 -- the next name is one of the others, is one before it in the list, or is neither
 module _ (others done : List (List ℕ)) (n : List ℕ) (rest : List (List ℕ)) where
@@ -77,46 +59,78 @@ module _ (others done : List (List ℕ)) (n : List ℕ) (rest : List (List ℕ))
       by_other true f = repeats-cons (others ++ done) n rest ∙ rw f refl
       by_other false f = repeats-cons (others ++ done) n rest ∙ rw f refl
 
-  pub repeats-later : has_name n others ≡ false → has_name n done ≡ false → repeats (others ++ done) (n ∷ rest) ≡ repeats (others ++ (done ++ n ∷ [])) rest
+  pub repeats-later : has_name n others ≡ false → has_name n done ≡ false
+      → repeats (others ++ done) (n ∷ rest) ≡ repeats (others ++ (done ++ n ∷ [])) rest
   repeats-later e f = repeats-cons (others ++ done) n rest ∙ rw (both, e, f, append_assoc) refl
 
--- the names up to a place, with the one there
-pub names-taken : (names : List (Bor (List ℕ))) (i : ℕ) (d : Bor (List ℕ)) → i < length names → map text_of (take (i + 1) names) ≡ map text_of (take i names) ++ (get_or names i d).now ∷ []
-names-taken names i d below = ap (map text_of) (take_more names i d below) ∙ map-append text_of (take i names) (get_or names i d ∷ [])
+-- keys of an order that are the same where their names are
+module _ {K : Type 0} (cmp : K → K → Ordering) (text : K → List ℕ) (same : (a b : K) → is_eq (cmp a b) ≡ bytes_eq (text a) (text b)) where
+  -- the name is among those that were seen
+  abbrev pub is_seen : List ℕ → List K → Bool
+  is_seen name keys = list_any (λ k. bytes_eq name (text k)) keys
 
-module _ (others : List (List ℕ)) (names : List (Bor (List ℕ))) (i : ℕ) (d : Bor (List ℕ)) (below : i < length names) (keys : List (Bor (List ℕ)))
-    (whole : repeats others (map text_of names) ≡ repeats (others ++ map text_of (take i names)) (map text_of (drop i names)))
-    (seen : (text : List ℕ) → is_seen text keys ≡ has_name text (map text_of (take i names))) where
-  abbrev done : List (List ℕ)
-  done = map text_of (take i names)
+  pub seen-contains : (q : K) (keys : List K) → list_any (is_at (cmp q)) keys ≡ is_seen (text q) keys
+  seen-contains q [] = refl
+  seen-contains q (k ∷ keys) = rw (same q k, seen-contains q keys) refl
 
-  abbrev rest : List (List ℕ)
-  rest = map text_of (drop (i + 1) names)
+  same-text : (a b : K) → cmp a b ≡ Equal → text a ≡ text b
+  same-text a b e = (bytes_eq-Decides (text a) (text b)).0 (sym (same a b) ∙ ap is_eq e)
 
-  step : repeats others (map text_of names) ≡ repeats (others ++ done) ((get_or names i d).now ∷ rest)
-  step = whole ∙ ap (λ t. repeats (others ++ done) (map text_of t)) (drop_more names i d below)
+  pub seen-insert : (name : List ℕ) (key : K) (keys : List K)
+      → is_seen name (insert_key cmp keys key) ≡ (bytes_eq name (text key) || is_seen name keys)
+  seen-insert name key [] = refl
+  seen-insert name key (k ∷ keys) = elim (cmp key k) as (λ o. cmp key k ≡ o →
+      is_seen name (match_ordering o (key ∷ k ∷ keys) (k ∷ keys) (k ∷ insert_key cmp keys key))
+      ≡ (bytes_eq name (text key) || (bytes_eq name (text k) || is_seen name keys))) [
+        | Less ↦ λ e. refl
+        | Equal ↦ λ e. rw (same-text key k e) (or_same (bytes_eq name (text k)) (is_seen name keys))
+        | Greater ↦ λ e. rw (seen-insert name key keys) (or_swap (bytes_eq name (text key)) (bytes_eq name (text k)) (is_seen name keys))
+      ] refl
 
-  is_done : has_name (get_or names i d).now done ≡ list_any (is_at (text_cmp (get_or names i d))) keys
-  is_done = sym (seen (get_or names i d).now) ∙ sym (seen-contains (get_or names i d) keys)
+  -- items up to a place, with the one there, and the keys that were seen so far
+  module _ {I : Type 0} (key : I → K) (others : List (List ℕ)) (items : List I) (i : ℕ) (d : I) (below : i < length items)
+      (keys : List K) where
+    abbrev name_of : I → List ℕ
+    name_of x = text (key x)
 
-  pub found-other : has_name (get_or names i d).now others ≡ true → true ≡ repeats others (map text_of names)
-  found-other e = sym (step ∙ repeats-other others done (get_or names i d).now rest e)
+    abbrev done : List (List ℕ)
+    done = map name_of (take i items)
 
-  pub found-seen : list_any (is_at (text_cmp (get_or names i d))) keys ≡ true → true ≡ repeats others (map text_of names)
-  found-seen e = sym (step ∙ repeats-done others done (get_or names i d).now rest (is_done ∙ e))
+    abbrev rest : List (List ℕ)
+    rest = map name_of (drop (i + 1) items)
 
-  taken : map text_of (take (i + 1) names) ≡ done ++ (get_or names i d).now ∷ []
-  taken = names-taken names i d below
+    abbrev next : I
+    next = get_or items i d
 
-  pub none-found : has_name (get_or names i d).now others ≡ false → list_any (is_at (text_cmp (get_or names i d))) keys ≡ false
-      → repeats others (map text_of names) ≡ repeats (others ++ map text_of (take (i + 1) names)) rest
-  none-found e f = step ∙ repeats-later others done (get_or names i d).now rest e (is_done ∙ f) ∙ ap (λ t. repeats (others ++ t) rest) (sym taken)
+    module _ (whole : repeats others (map name_of items) ≡ repeats (others ++ done) (map name_of (drop i items)))
+        (seen : (name : List ℕ) → is_seen name keys ≡ has_name name done) where
+      step : repeats others (map name_of items) ≡ repeats (others ++ done) (name_of next ∷ rest)
+      step = whole ∙ ap (λ t. repeats (others ++ done) (map name_of t)) (drop_more items i d below)
 
-  pub one-more : (new : List (Bor (List ℕ))) → new ≡ insert_key text_cmp keys (get_or names i d) → (text : List ℕ) → is_seen text new ≡ has_name text (map text_of (take (i + 1) names))
-  one-more new is text =
-      ap (is_seen text) is ∙ seen-insert text (get_or names i d) keys ∙ ap (λ b. bytes_eq text (get_or names i d).now || b) (seen text)
-      ∙ or_comm (bytes_eq text (get_or names i d).now) (has_name text done)
-      ∙ sym (ap (has_name text) taken ∙ list_any-append (bytes_eq text) done ((get_or names i d).now ∷ []) ∙ ap (λ b. has_name text done || b) (or_false (bytes_eq text (get_or names i d).now)))
+      is_done : has_name (name_of next) done ≡ list_any (is_at (cmp (key next))) keys
+      is_done = sym (seen (name_of next)) ∙ sym (seen-contains (key next) keys)
+
+      taken : map name_of (take (i + 1) items) ≡ done ++ name_of next ∷ []
+      taken = ap (map name_of) (take_more items i d below) ∙ map-append name_of (take i items) (next ∷ [])
+
+      pub found-other : has_name (name_of next) others ≡ true → true ≡ repeats others (map name_of items)
+      found-other e = sym (step ∙ repeats-other others done (name_of next) rest e)
+
+      pub found-seen : list_any (is_at (cmp (key next))) keys ≡ true → true ≡ repeats others (map name_of items)
+      found-seen e = sym (step ∙ repeats-done others done (name_of next) rest (is_done ∙ e))
+
+      pub none-found : has_name (name_of next) others ≡ false → list_any (is_at (cmp (key next))) keys ≡ false
+          → repeats others (map name_of items) ≡ repeats (others ++ map name_of (take (i + 1) items)) rest
+      none-found e f = step ∙ repeats-later others done (name_of next) rest e (is_done ∙ f)
+          ∙ ap (λ t. repeats (others ++ t) rest) (sym taken)
+
+      pub one-more : (new : List K) → new ≡ insert_key cmp keys (key next) → (name : List ℕ)
+          → is_seen name new ≡ has_name name (map name_of (take (i + 1) items))
+      one-more new is name =
+          ap (is_seen name) is ∙ seen-insert name (key next) keys ∙ ap (λ b. bytes_eq name (name_of next) || b) (seen name)
+          ∙ or_comm (bytes_eq name (name_of next)) (has_name name done)
+          ∙ sym (ap (has_name name) taken ∙ list_any-append (bytes_eq name) done (name_of next ∷ [])
+          ∙ ap (λ b. has_name name done || b) (or_false (bytes_eq name (name_of next))))
 
 -- a test of the opposite
 pub negated : (r b : Bool) → r ≡ not b → r ≡ true → b ≡ false
@@ -126,3 +140,11 @@ negated r false e t = refl
 pub affirmed : (r b : Bool) → r ≡ not b → r ≡ false → b ≡ true
 affirmed r true e f = refl
 affirmed r false e f = let no : true ≡ false = sym e ∙ f in cc
+
+-- one name repeats where it is one of the others
+pub one_repeats : (others : List (List ℕ)) (n : List ℕ) → repeats others (n ∷ []) ≡ has_name n others
+one_repeats others n = repeats-cons others n [] ∙ or_false (has_name n others)
+
+-- the same among the groups of a line
+pub group_repeats : (others : List (List ℕ)) (n : List ℕ) (b : Bool) → ((repeats others (n ∷ []) || false) || b) ≡ (has_name n others || b)
+group_repeats others n b = rw (one_repeats others n, or_false (has_name n others)) refl

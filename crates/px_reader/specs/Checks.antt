@@ -1,54 +1,47 @@
--- Tests of the code's statements.
-use Rattle.std.specs.Prelude.{Bool, false, not, List, [], length}
+-- Tests of the code's statements, and of what it has of them.
+use Rattle.std.specs.Prelude.{◌≤◌, ℕ, Bool, List, All, length, not, nat_lt, if◌then◌else◌, fold, Option}
 use Rattle.std.specs.List.{list_any}
-use Rattle.px_script.specs.Declarations.{Declared}
-use Rattle.px_script.specs.Faults.{is_anything, is_known_argument, too_many, grown}
-use Rattle.px_script.specs.Stages.{stage_now, is_built}
-use Rattle.px_script.specs.Statements as spec
-use Rattle.px_reader.specs.StatementViews.{argument_view, statement_view}
-use Rattle.px_reader.specs.declared.statement.WrittenAtom.{WrittenAtom}
-use Rattle.px_reader.specs.declared.statement.WrittenLiteral.{WrittenLiteral}
-use Rattle.px_reader.specs.declared.statement.WrittenLiteral.TheVariants as literal
-use Rattle.px_reader.specs.declared.statement.WrittenAtomEdit.{WrittenAtomEdit}
-use Rattle.px_reader.specs.declared.statement.WrittenAtomEdit.TheVariants as edit
-use Rattle.px_reader.specs.declared.statement.Statement.{Statement}
-use Rattle.px_reader.specs.declared.statement.Statement.TheVariants as statement
+use Rattle.px_names.specs.Lists.{has_name}
+use Rattle.px_script.specs.Causes.{is_known_argument, takes}
+use Rattle.px_script.specs.Declarations.{Declared, OpenOperator, parameters_here, names_here, with_variable}
+use Rattle.px_script.specs.Faults.{grown}
+use Rattle.px_script.specs.Statements.{Statement, Manner, line_of, pre, delete, add}
+use Rattle.px_script.specs.Items as spec
+use Rattle.px_reader.specs.StatementViews.{argument_view}
+use Rattle.px_reader.specs.declared.statement.SignedAtom.{SignedAtom}
 
--- an atom with a variable, with the wild card
-abbrev pub varies : WrittenAtom → Bool
+-- an atom with a variable
+abbrev pub varies : SignedAtom → Bool
 varies atom = list_any (λ a. spec.is_variable (argument_view a)) atom.arguments.items
 
-abbrev pub has_dollar : WrittenAtom → Bool
-has_dollar atom = list_any (λ a. is_anything (argument_view a)) atom.arguments.items
-
-abbrev pub literal_varies : WrittenLiteral → Bool
-literal_varies (literal.Positive atom) = varies atom
-literal_varies (literal.Negative atom) = varies atom
-
-abbrev pub edit_varies : WrittenAtomEdit → Bool
-edit_varies (edit.Insert atom) = varies atom
-edit_varies (edit.Remove atom) = varies atom
-
--- the atoms of a line that has atoms and nothing else, but for a name
-abbrev pub plain_atoms : Statement → List WrittenAtom
-plain_atoms (statement.Pre atoms) = atoms.items
-plain_atoms (statement.Delete atoms) = atoms.items
-plain_atoms (statement.Add atoms) = atoms.items
-plain_atoms (statement.Fact atoms) = atoms.items
-plain_atoms (statement.Plan n atoms) = atoms.items
-plain_atoms _ = []
-
--- the line's word is built
-abbrev pub is_built_form : Statement → Bool
-is_built_form s = is_built stage_now (statement_view s)
-
 -- some argument of the atom isn't declared
-abbrev pub lacks_argument : Declared → WrittenAtom → Bool
+abbrev pub lacks_argument : Declared → SignedAtom → Bool
 lacks_argument d atom = list_any (λ a. not (is_known_argument d (argument_view a))) atom.arguments.items
 
--- a list of the open operator has too many atoms with the line's
-abbrev pub grows_too_long : Declared → spec.Statement → Bool
-grows_too_long d (spec.pre atoms) = too_many 16 (grown d (λ schema. length schema.pre) atoms)
-grows_too_long d (spec.delete atoms) = too_many 16 (grown d (λ schema. length schema.del) atoms)
-grows_too_long d (spec.add atoms) = too_many 16 (grown d (λ schema. length schema.add) atoms)
-grows_too_long d _ = false
+-- some argument of the atom may not stand in a line of the manner
+abbrev pub refuses : Declared → Manner → SignedAtom → Bool
+refuses d manner atom = list_any (λ a. not (takes d manner (argument_view a))) atom.arguments.items
+
+-- a name that a line wants isn't declared in its kind
+abbrev pub lacks : Declared → spec.Named × List ℕ → Bool
+lacks d wanted = not (has_name wanted.1 (names_here d wanted.0))
+
+-- one variable more, where there are no more than twelve
+abbrev pub with_early_variable : List (List ℕ) → spec.Argument → List (List ℕ)
+with_early_variable seen a = if nat_lt 12 (length seen) then seen else with_variable seen a
+
+-- the first thirteen variables of atoms
+abbrev pub early_variables : List (List ℕ) → List spec.Argument → List (List ℕ)
+early_variables = fold with_early_variable
+
+-- how many atoms a list of the open operator has with those of the line
+abbrev pub grown_by : Option OpenOperator → Statement → ℕ
+grown_by o (pre atoms) = grown o (λ schema. length schema.pre) atoms
+grown_by o (delete atoms) = grown o (λ schema. length schema.del) atoms
+grown_by o (add atoms) = grown o (λ schema. length schema.add) atoms
+grown_by o _ = 0
+
+-- the atoms can be told by numbers: none has more than six arguments, and the open operator hasn't more than eight parameters
+pub record AreReadable (d : Declared) (atoms : List SignedAtom) : Type 0 where
+  pub few : length (parameters_here d) ≤ 8
+  pub sizes : All (λ atom. length atom.arguments.items ≤ 6) atoms

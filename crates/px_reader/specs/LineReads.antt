@@ -51,7 +51,7 @@ HasFirstFault bytes script.NoMemory = Unit {0}
 
 -- what a script is about, as contracts see it
 abbrev pub content : Script → ScriptValue
-content s = script_of s.version s.names s.problem s.facts s.commands
+content s = script_of s.version s.names s.problem s.facts s.building s.commands
 
 -- the script is about this, unless memory ran out
 abbrev pub IsRead : Result Script ScriptErr → ScriptValue → Type 0

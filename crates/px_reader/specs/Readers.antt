@@ -1,43 +1,70 @@
 -- What the definitions see of the lines so far.
-use Rattle.std.specs.Prelude.{ℕ, List, [], map, length, None}
+use Rattle.std.specs.Prelude.{ℕ, List, [], ◌++◌, map, length}
 use Rattle.std.specs.Option.{option_map}
 use Rattle.std.specs.String.{string_bytes}
-use Rattle.px_script.specs.Declarations.{Declared, OpenBlock, of_operator}
+use Rattle.px_script.specs.Declarations.{Declared, OpenBlock, OpenOperator, BlockKind, of_operator, of_building, declares, declared_by, with_names, with_all_names}
+use Rattle.px_script.specs.Domain.{building_predicates}
+use Rattle.px_script.specs.Items.{a_predicate}
+use Rattle.px_script.specs.Statements.{Statement, line_of}
 pub use Rattle.px_reader.specs.CommandViews.{command_view}
 use Rattle.px_reader.specs.declared.reader.Reader.{Reader}
-use Rattle.px_reader.specs.declared.reader.OpenBlock as code
-
--- the names of the open operator's parameters
-abbrev pub parameters_of : code.OpenBlock → List (List ℕ)
-parameters_of block = map string_bytes block.parameters.items
+use Rattle.px_reader.specs.declared.block.OpenBlock as code
+use Rattle.px_reader.specs.declared.block.OpenOperator as operator
+use Rattle.px_reader.specs.declared.block.BlockKind as kind
 
 -- an open operator with the number that its schema will have
-abbrev pub block_view : ℕ → code.OpenBlock → OpenBlock
-block_view number block = record {
-  line = block.line;
-  kind = of_operator (parameters_of block) (record {
+abbrev pub operator_view : ℕ → operator.OpenOperator → OpenOperator
+operator_view number o = record {
+  parameters = map string_bytes o.parameters.items;
+  schema = record {
     op = number;
-    params = length (parameters_of block);
-    pre = block.pre.items;
-    del = block.delete.items;
-    add = block.add.items;
-  });
+    params = length (map string_bytes o.parameters.items);
+    pre = o.pre.items;
+    del = o.delete.items;
+    add = o.add.items;
+  };
 }
 
+abbrev pub kind_view : ℕ → kind.BlockKind → BlockKind
+kind_view number (kind.TheVariants.Operator o) = of_operator (operator_view number o)
+kind_view number kind.TheVariants.Building = of_building
+
+abbrev pub block_view : ℕ → code.OpenBlock → OpenBlock
+block_view number block = record { line = block.line; kind = kind_view number block.kind }
+
+-- In version 1 each result is a table, and there are no sorts.
 abbrev pub declared_of : Reader → Declared
 declared_of reader = record {
+  version = reader.version;
   names = reader.names;
+  roles = record {
+    rooms = map string_bytes reader.rooms.items;
+    doors = map string_bytes reader.doors.items;
+    boxes = map string_bytes reader.boxes.items;
+    plans = map string_bytes reader.plans.items;
+    tables = reader.names.results;
+  };
+  sorts = [];
   arities = reader.arities.items;
-  axioms = [];
+  axioms = reader.axioms;
   schemas = reader.schemas.items;
   facts = reader.facts.atoms;
-  building_so_far = None;
-  height_limit = None;
-  node_limit = reader.nodes;
-  shape_limit = None;
+  things = option_map (λ things. things.items) reader.things;
+  height = reader.height;
+  nodes = reader.nodes;
+  shapes = reader.shapes;
   commands = map command_view reader.commands.items;
-  plans = reader.names.results;
-  disturbs = 0;
+  disturbs = reader.disturbs;
   block = option_map (block_view (length reader.schemas.items)) reader.block;
+  own_domain = reader.own_domain;
   begun = reader.begun;
 }
+
+-- what a line without a fault leaves, but for that a line stood
+abbrev pub leaves : ℕ → Declared → Statement → Declared
+leaves n d s = with_all_names (declared_by (line_of s)) (declares n d s)
+
+-- what a building gives to its script, but for the robot
+abbrev pub with_building_predicates : Declared → Declared
+with_building_predicates d = record (with_names a_predicate (map (λ p. p.0) building_predicates) d)
+    { arities = d.arities ++ map (λ p. p.1) building_predicates }

@@ -1,5 +1,6 @@
 -- The statements of a number, and of atoms.
 use Rattle.std.specs.Prelude.{ℕ, List}
+use Rattle.px_script.specs.Items.{SignedAtom}
 use Rattle.px_script.specs.Statements as spec
 use Rattle.px_reader.specs.declared.forms.Role.{Role}
 use Rattle.px_reader.specs.declared.forms.Role.TheVariants as role
@@ -12,7 +13,8 @@ of_setting setting.Height n = spec.height n
 of_setting setting.Nodes n = spec.nodes n
 of_setting setting.Shapes n = spec.shapes n
 
-abbrev pub in_role : Role → List spec.WrittenAtom → spec.Statement
+abbrev pub in_role : Role → List SignedAtom → spec.Statement
+in_role role.Axiom atoms = spec.«axiom» atoms
 in_role role.Pre atoms = spec.pre atoms
 in_role role.Delete atoms = spec.delete atoms
 in_role role.Add atoms = spec.add atoms

@@ -3,19 +3,18 @@ use Rattle.std.specs.Prelude.{ℕ, List, map, drop, Option, Vec}
 use Rattle.std.specs.Option.{option_map}
 use Rattle.std.specs.declared.alloc.Global.{Global}
 use Rattle.px_script.specs.Lexemes.{Lexeme}
+use Rattle.px_script.specs.Items as items
 use Rattle.px_script.specs.Statements as spec
 use Rattle.px_reader.specs.Views.{lexeme_of}
 use Rattle.px_reader.specs.declared.token.Token.{Token}
 use Rattle.px_reader.specs.declared.statement.Argument.{Argument}
 use Rattle.px_reader.specs.declared.statement.Argument.TheVariants as argument
-use Rattle.px_reader.specs.declared.statement.WrittenAtom.{WrittenAtom}
-use Rattle.px_reader.specs.declared.statement.WrittenLiteral.{WrittenLiteral}
-use Rattle.px_reader.specs.declared.statement.WrittenLiteral.TheVariants as literal
-use Rattle.px_reader.specs.declared.statement.WrittenAtomEdit.{WrittenAtomEdit}
-use Rattle.px_reader.specs.declared.statement.WrittenAtomEdit.TheVariants as atom_edit
+use Rattle.px_reader.specs.declared.statement.Sign.{Sign}
+use Rattle.px_reader.specs.declared.statement.Sign.TheVariants as sign
+use Rattle.px_reader.specs.declared.statement.SignedAtom.{SignedAtom}
 use Rattle.px_reader.specs.declared.statement.WrittenRoomEdit.{WrittenRoomEdit}
 use Rattle.px_reader.specs.declared.statement.WrittenRoomEdit.TheVariants as room_edit
-use Rattle.px_reader.specs.declared.statement.Binding.{Binding}
+use Rattle.px_reader.specs.declared.statement.WrittenBinding.{WrittenBinding}
 use Rattle.px_reader.specs.declared.statement.Statement.{Statement}
 use Rattle.px_reader.specs.declared.statement.Statement.TheVariants as statement
 use denote.Ref.{Bor}
@@ -26,53 +25,55 @@ lexemes_of tokens = map lexeme_of tokens
 abbrev pub text_of : Bor (List ℕ) → List ℕ
 text_of s = s.now
 
-abbrev pub argument_view : Argument → spec.Argument
-argument_view (argument.Named n) = spec.named n.now
-argument_view (argument.Variable v) = spec.open_variable v.now
-argument_view argument.Anything = spec.anything
+abbrev pub argument_view : Argument → items.Argument
+argument_view (argument.Named n) = items.named n.now
+argument_view (argument.Variable v) = items.open_variable v.now
+argument_view argument.Anything = items.anything
 
-abbrev pub atom_view : WrittenAtom → spec.WrittenAtom
-atom_view atom = record { predicate = atom.predicate.now; arguments = map argument_view atom.arguments.items }
+abbrev pub sign_view : Sign → items.Sign
+sign_view sign.Bare = items.bare
+sign_view sign.Negated = items.negated
+sign_view sign.Added = items.added
+sign_view sign.Removed = items.removed
 
-abbrev pub literal_view : WrittenLiteral → spec.WrittenLiteral
-literal_view (literal.Positive atom) = spec.positive (atom_view atom)
-literal_view (literal.Negative atom) = spec.negative (atom_view atom)
+abbrev pub signed_view : SignedAtom → items.SignedAtom
+signed_view x = record {
+  sign = sign_view x.sign;
+  atom
+      = record { predicate = x.predicate.now; arguments = map argument_view x.arguments.items };
+}
 
-abbrev pub atom_edit_view : WrittenAtomEdit → spec.WrittenAtomEdit
-atom_edit_view (atom_edit.Insert atom) = spec.insert (atom_view atom)
-atom_edit_view (atom_edit.Remove atom) = spec.remove (atom_view atom)
+abbrev pub room_edit_view : WrittenRoomEdit → items.WrittenRoomEdit
+room_edit_view (room_edit.RobotTo r) = items.robot_to r.now
+room_edit_view (room_edit.BoxTo b r) = items.box_to b.now r.now
+room_edit_view (room_edit.DoorTo d is_open) = items.door_to d.now is_open
 
-abbrev pub room_edit_view : WrittenRoomEdit → spec.WrittenRoomEdit
-room_edit_view (room_edit.RobotTo r) = spec.robot_to r.now
-room_edit_view (room_edit.BoxTo b r) = spec.box_to b.now r.now
-room_edit_view (room_edit.DoorTo d is_open) = spec.door_to d.now is_open
-
-abbrev pub binding_view : Binding → spec.Binding
+abbrev pub binding_view : WrittenBinding → items.Binding
 binding_view binding = record { parameter = binding.parameter; object = binding.object.now }
 
 abbrev pub statement_view : Statement → spec.Statement
 statement_view (statement.Script n) = spec.script n
 statement_view (statement.Object ns) = spec.object (map text_of ns.items)
 statement_view (statement.Predicate n a) = spec.predicate n.now a
-statement_view (statement.Axiom literals) = spec.«axiom» (map literal_view literals.items)
+statement_view (statement.Axiom atoms) = spec.«axiom» (map signed_view atoms.items)
 statement_view (statement.Operator n ps) = spec.operator n.now (map text_of ps.items)
-statement_view (statement.Pre atoms) = spec.pre (map atom_view atoms.items)
-statement_view (statement.Delete atoms) = spec.delete (map atom_view atoms.items)
-statement_view (statement.Add atoms) = spec.add (map atom_view atoms.items)
+statement_view (statement.Pre atoms) = spec.pre (map signed_view atoms.items)
+statement_view (statement.Delete atoms) = spec.delete (map signed_view atoms.items)
+statement_view (statement.Add atoms) = spec.add (map signed_view atoms.items)
 statement_view statement.Building = spec.building
 statement_view (statement.Room n) = spec.room n.now
 statement_view (statement.Door n one other is_open) = spec.door n.now one.now other.now is_open
 statement_view (statement.Box n r) = spec.box n.now r.now
 statement_view (statement.Robot r) = spec.robot r.now
 statement_view statement.End = spec.end
-statement_view (statement.Fact atoms) = spec.fact (map atom_view atoms.items)
+statement_view (statement.Fact atoms) = spec.fact (map signed_view atoms.items)
 statement_view (statement.Height n) = spec.height n
 statement_view (statement.Nodes n) = spec.nodes n
 statement_view (statement.Shapes n) = spec.shapes n
-statement_view (statement.Plan n atoms) = spec.plan n.now (map atom_view atoms.items)
+statement_view (statement.Plan n atoms) = spec.plan n.now (map signed_view atoms.items)
 statement_view (statement.Learn n source) = spec.learn n.now source.now
 statement_view (statement.Show n) = spec.show n.now
-statement_view (statement.DisturbAtoms turn between edits) = spec.disturb_atoms turn between (map atom_edit_view edits.items)
+statement_view (statement.DisturbAtoms turn between edits) = spec.disturb_atoms turn between (map signed_view edits.items)
 statement_view (statement.DisturbRooms turn between edits) = spec.disturb_rooms turn between (map room_edit_view edits.items)
 statement_view (statement.Run n bindings) = spec.run n.now (map binding_view bindings.items)
 statement_view statement.Facts = spec.facts

@@ -4,7 +4,7 @@ use Rattle.unicode_ident.specs.Ident.{is_xid_continue}
 use Rattle.px_names.specs.Name.{starts_name}
 use Rattle.std.specs.Str.{IsUtf8, chars}
 use Rattle.px_script.specs.Lexemes.{Lexeme, name, variable, number, sign}
-use Rattle.px_script.specs.Scanning.{First, found, ignored, bad, front_while, after_while}
+use Rattle.px_script.proofs.Scanning.{First, found, ignored, bad, front_while, after_while}
 use Rattle.px_reader.specs.declared.token.Token.{Token}
 use Rattle.px_reader.specs.declared.token.Token.TheVariants as token
 use Rattle.px_reader.specs.declared.token.BadToken.{BadToken}
@@ -27,4 +27,5 @@ abbrev pub NameAt : List ℕ → Option (Bor (List ℕ) × Bor (List ℕ)) → T
 NameAt [] None = Unit {0}
 NameAt [] (Some split) = ⊥
 NameAt (c ∷ cs) None = starts_name c ≡ false
-NameAt (c ∷ cs) (Some split) = (starts_name c ≡ true) × (split.0.now ≡ encode_utf8_all (c ∷ front_while is_xid_continue cs)) × (chars split.1.now ≡ after_while is_xid_continue cs) × IsUtf8 split.1.now
+NameAt (c ∷ cs) (Some split) = (starts_name c ≡ true) × (split.0.now ≡ encode_utf8_all (c ∷ front_while is_xid_continue cs))
+    × (chars split.1.now ≡ after_while is_xid_continue cs) × IsUtf8 split.1.now

@@ -1,69 +1,87 @@
 //! What a line without a fault adds.
-ghost use Rattle.std.specs.Prelude.{◌≡◌, ◌≢◌, ◌≤◌, ◌<◌, ◌+◌, ◌++◌, [], ◌∷◌, true, false, None, length, map, All, IfOk, OnOk};
-ghost use Rattle.std.specs.String.{string_bytes};
-ghost use Rattle.px_names.specs.Lists.{names_of, has_name, with_name, refusal};
-ghost use Rattle.px_names.specs.Name.{is_name_text};
-ghost use Rattle.px_names.specs.declared.kind.Kind.TheVariants as kind;
+ghost use Rattle.std.specs.Prelude.{◌≡◌, ◌≤◌, ◌++◌, [], true, None, length, map, All, IfOk, OnOk};
+ghost use Rattle.px_names.specs.Lists.{names_of, with_name};
 ghost use Rattle.px_terms.specs.AtomSets.{atom_set, with_atom, IsAtomSet};
+ghost use Rattle.px_terms.specs.Clauses.{ArePlainBelow};
 ghost use Rattle.px_terms.specs.Instances.{IsGround};
-ghost use Rattle.px_script.specs.Declarations.{parameters_here, atom_of, variables_of, declare_all, declares, declares_alone, with_command};
-ghost use Rattle.px_script.specs.Faults.{repeats, declared_names, IsFaultless};
-ghost use Rattle.px_script.specs.Ranges.{AreInRange};
+ghost use Rattle.px_script.specs.Declarations.{parameters_here, atom_of, literal_of, variables_of};
+ghost use Rattle.px_script.specs.Faults.{fault_of};
+ghost use Rattle.px_script.specs.Forms.{is_formed};
 ghost use Rattle.px_script.specs.Statements as spec;
-ghost use Rattle.px_reader.specs.StatementViews.{atom_view, statement_view, text_of};
-ghost use Rattle.px_reader.specs.Roles.{in_role};
-ghost use Rattle.px_reader.specs.Readers.{declared_of, command_view};
+ghost use Rattle.px_script.specs.Statements.{line_of};
+ghost use Rattle.px_script.proofs.States.{AreInRange};
+ghost use Rattle.px_reader.specs.Checks.{AreReadable};
+ghost use Rattle.px_reader.specs.Readers.{declared_of, leaves};
+ghost use Rattle.px_reader.specs.StatementViews.{signed_view, statement_view, text_of};
 
 use crate::command::Command;
 use crate::forms::Role;
-use crate::reader::{OpenBlock, Reader};
-use crate::statement::{Statement, WrittenAtom};
-use px_base::{NoMemory, Sequence};
+use crate::reader::Reader;
+use crate::statement::{SignedAtom, Statement};
+use crate::terms::few_variables;
+use px_base::NoMemory;
 use px_names::Kind;
-use px_terms::{Atom, Schema};
-use std::alloc::Global;
-
-/// The names as texts of their own.
-fn owned(alloc: Global, names: &[&str]) -> Result<Vec<String>, NoMemory>
-    ensures { IfOk result (λ owned. map string_bytes owned.items ≡ map text_of names.now) }
-{
-    let mut owned = Vec::new(alloc);
-    for name in names {
-        owned.push(String::from_str(alloc, name)?)?;
-    }
-    Ok(owned)
-}
+use px_terms::Atom;
 
 impl Reader {
     /// Adds what the line says, where it has no fault.
     pub fn declare(&mut self, line: u32, statement: Statement<'_>) -> Result<(), NoMemory>
         requires range { AreInRange (declared_of self.old) }
-        requires faultless { IsFaultless (declared_of self.old) (statement_view statement) }
-        requires named { All (λ name. is_name_text name ≡ true) (declared_names (statement_view statement)) }
-        ensures { OnOk result (declared_of self.new ≡ declares line (declared_of self.old) (statement_view statement.entry)) }
+        requires formed { is_formed (declared_of self.old) (line_of (statement_view statement)) ≡ true }
+        requires faultless { fault_of (declared_of self.old) (statement_view statement) ≡ None }
+        ensures { OnOk result (declared_of self.new ≡ leaves line (declared_of self.old) (statement_view statement.entry)) }
     {
         match statement {
+            Statement::Script(version) => {
+                self.version = version;
+                Ok(())
+            }
             Statement::Object(names) => self.declare_objects(&names),
             Statement::Predicate(name, arity) => self.declare_predicate(name, arity as u8),
-            Statement::Operator(name, parameters) => self.open_operator(line, name, &parameters),
+            Statement::Axiom(literals) => self.add_axiom(&literals),
+            Statement::Operator(name, parameters) => self.open_operator_block(
+                line,
+                name,
+                &parameters,
+            ),
             Statement::Pre(atoms) => self.extend_operator(Role::Pre, &atoms),
             Statement::Delete(atoms) => self.extend_operator(Role::Delete, &atoms),
             Statement::Add(atoms) => self.extend_operator(Role::Add, &atoms),
-            Statement::End => self.close_operator(),
+            Statement::Building => self.open_building(line),
+            Statement::Room(name) => self.add_room(name),
+            Statement::Door(name, one, other, is_open) => self.add_door(name, one, other, is_open),
+            Statement::Box(name, room) => self.add_box(name, room),
+            Statement::Robot(room) => self.add_robot(room),
+            Statement::End => self.close_block(),
             Statement::Fact(atoms) => self.add_facts(&atoms),
+            Statement::Height(height) => {
+                self.height = Some(height);
+                Ok(())
+            }
             Statement::Nodes(nodes) => {
                 self.nodes = Some(nodes);
                 Ok(())
             }
+            Statement::Shapes(shapes) => {
+                self.shapes = Some(shapes);
+                Ok(())
+            }
             Statement::Plan(name, goal) => self.add_plan(name, &goal),
+            Statement::Learn(name, source) => self.add_learned(name, source),
+            Statement::Show(name) => self.add_show(name),
+            Statement::DisturbAtoms(turn, between, edits) => self.disturb_atoms(
+                turn, between, &edits,
+            ),
+            Statement::DisturbRooms(turn, between, edits) => self.disturb_rooms(
+                turn, between, &edits,
+            ),
+            Statement::Run(name, bindings) => self.add_run(name, &bindings),
             Statement::Facts => self.add_command(Command::Facts),
-            _ => Ok(()),
         }
     }
 
     /// Adds a name that its kind hasn't and has room for.
-    fn add_name(&mut self, kind: Kind, name: &str) -> Result<u32, NoMemory>
-        requires { refusal kind self.old.names name.now ≡ None }
+    pub fn add_name(&mut self, kind: Kind, name: &str) -> Result<u32, NoMemory>
         ensures number { IfOk result (λ number. number ≡ length (names_of kind self.old.names)) }
         ensures declared { OnOk result (self.new ≡ record self.old { names = with_name kind name.now self.old.names }) }
     {
@@ -74,10 +92,8 @@ impl Reader {
     }
 
     fn declare_objects(&mut self, names: &[&str]) -> Result<(), NoMemory>
-        requires named { All (λ name. is_name_text name.now ≡ true) names.now }
-        requires single { repeats self.old.names.objects (map text_of names.now) ≡ false }
-        requires few { length self.old.names.objects + length names.now ≤ 256 }
-        ensures { OnOk result (self.new ≡ record self.old { names = declare_all (map text_of names.now) self.old.names }) }
+        ensures { OnOk result (self.new
+            ≡ record self.old { names = record self.old.names { objects = self.old.names.objects ++ map text_of names.now } }) }
     {
         for name in names {
             self.add_name(Kind::Object, name)?;
@@ -85,99 +101,39 @@ impl Reader {
         Ok(())
     }
 
-    fn declare_predicate(&mut self, name: &str, arity: u8) -> Result<(), NoMemory>
-        requires { refusal kind.Predicate self.old.names name.now ≡ None }
-        ensures { OnOk result (declared_of self.new ≡ declares_alone 0 (declared_of self.old) (spec.predicate name.now arity)) }
+    pub fn declare_predicate(&mut self, name: &str, arity: u8) -> Result<(), NoMemory>
+        ensures { OnOk result (declared_of self.new ≡ leaves 0 (declared_of self.old) (spec.predicate name.now arity)) }
     {
         self.add_name(Kind::Predicate, name)?;
         self.arities.push(arity)?;
         Ok(())
     }
 
-    fn open_operator(&mut self, line: u32, name: &str, parameters: &[&str]) -> Result<(), NoMemory>
-        requires { refusal kind.Operator self.old.names name.now ≡ None }
-        ensures { OnOk result (declared_of self.new ≡ declares_alone line (declared_of self.old) (spec.operator name.now (map text_of parameters.now))) }
+    fn add_axiom(&mut self, literals: &[SignedAtom<'_>]) -> Result<(), NoMemory>
+        requires few_variables { length (variables_of (map signed_view literals.now)) ≤ 12 }
+        requires readable { AreReadable (declared_of self.old) literals.now }
+        requires plain { ArePlainBelow (length (variables_of (map signed_view literals.now)))
+            (map (literal_of (declared_of self.old) (variables_of (map signed_view literals.now))) (map signed_view literals.now)) }
+        ensures { OnOk result (declared_of self.new ≡ leaves 0 (declared_of self.old) (spec.«axiom» (map signed_view literals.now))) }
     {
-        let alloc = self.alloc;
-        let parameters = owned(alloc, parameters)?;
-        self.add_name(Kind::Operator, name)?;
-        self.block = Some(OpenBlock {
-            line,
-            parameters,
-            pre: Vec::new(alloc),
-            delete: Vec::new(alloc),
-            add: Vec::new(alloc),
-        });
-        Ok(())
-    }
-
-    /// The atoms by numbers.
-    fn numbered(&self, atoms: &[WrittenAtom<'_>]) -> Result<Vec<Atom>, NoMemory>
-        requires few { length (parameters_here (declared_of self.now)) ≤ 8 }
-        requires sizes { All (λ atom. length atom.arguments.items ≤ 6) atoms.now }
-        ensures { IfOk result (λ numbered. numbered.items ≡ map (atom_of (declared_of self.now) []) (map atom_view atoms.now)) }
-    {
-        let mut numbered = Vec::new(self.alloc);
-        for atom in atoms {
-            numbered.push(self.atom(atom))?;
+        let variables = few_variables(self.alloc, literals)?;
+        let literals = self.literals(&variables, literals)?;
+        match self.axioms.push(variables.len() as u32, &literals) {
+            Ok(_) => Ok(()),
+            Err(_) => Err(NoMemory),
         }
-        Ok(numbered)
     }
 
-    /// Adds atoms to a list of the open operator.
-    fn extend_operator(&mut self, role: Role, atoms: &[WrittenAtom<'_>]) -> Result<(), NoMemory>
-        requires few { length (parameters_here (declared_of self.old)) ≤ 8 }
-        requires sizes { All (λ atom. length atom.arguments.items ≤ 6) atoms.now }
-        requires of_operator { role ≢ Role.Fact }
-        ensures { OnOk result (declared_of self.new ≡ declares_alone 0 (declared_of self.old) (in_role role (map atom_view atoms.now))) }
-    {
-        let atoms = self.numbered(atoms)?;
-        if let Some(block) = &mut self.block {
-            match role {
-                Role::Pre => block.pre.extend_from_slice(&atoms)?,
-                Role::Delete => block.delete.extend_from_slice(&atoms)?,
-                Role::Add => block.add.extend_from_slice(&atoms)?,
-                Role::Fact => {}
-            }
-        }
-        Ok(())
-    }
-
-    fn close_operator(&mut self) -> Result<(), NoMemory>
-        requires { AreInRange (declared_of self.old) }
-        ensures { OnOk result (declared_of self.new ≡ declares_alone 0 (declared_of self.old) spec.end) }
-    {
-        let Some(block) = self.block.take() else {
-            return Ok(());
-        };
-        let OpenBlock {
-            line: _,
-            parameters,
-            pre,
-            delete,
-            add,
-        } = block;
-        let schema = Schema {
-            op: self.schemas.len() as u32,
-            params: parameters.len() as u32,
-            pre: Sequence::from_vec(pre),
-            del: Sequence::from_vec(delete),
-            add: Sequence::from_vec(add),
-        };
-        self.schemas.push(schema)?;
-        Ok(())
-    }
-
-    fn add_facts(&mut self, atoms: &[WrittenAtom<'_>]) -> Result<(), NoMemory>
-        requires few { length (parameters_here (declared_of self.old)) ≤ 8 }
+    fn add_facts(&mut self, atoms: &[SignedAtom<'_>]) -> Result<(), NoMemory>
+        requires readable { AreReadable (declared_of self.old) atoms.now }
         requires fact_set { IsAtomSet self.old.facts.atoms }
-        requires sizes { All (λ atom. length atom.arguments.items ≤ 6) atoms.now }
-        requires all_ground { All (λ atom. IsGround (atom_of (declared_of self.old) [] (atom_view atom))) atoms.now }
+        requires all_ground { All (λ atom. IsGround (atom_of (declared_of self.old) [] (signed_view atom))) atoms.now }
         ensures same { OnOk result (self.new ≡ record self.old { facts = self.new.facts }) }
-        ensures facts { OnOk result (self.new.facts.atoms ≡ atom_set (map (atom_of (declared_of self.old) []) (map atom_view atoms.now) ++ self.old.facts.atoms)) }
+        ensures facts { OnOk result (self.new.facts.atoms
+            ≡ atom_set (map (atom_of (declared_of self.old) []) (map signed_view atoms.now) ++ self.old.facts.atoms)) }
     {
         for atom in atoms {
-            self.add_fact(self.atom(atom))?;
+            self.add_fact(self.atom(&[], atom))?;
         }
         Ok(())
     }
@@ -189,29 +145,5 @@ impl Reader {
     {
         self.facts.insert(fact)?;
         Ok(())
-    }
-
-    fn add_command(&mut self, command: Command) -> Result<(), NoMemory>
-        ensures { OnOk result (declared_of self.new ≡ with_command (command_view command) (declared_of self.old)) }
-    {
-        self.commands.push(command)?;
-        Ok(())
-    }
-
-    /// Adds a plan for a goal without variables.
-    fn add_plan(&mut self, name: &str, goal: &[WrittenAtom<'_>]) -> Result<(), NoMemory>
-        requires few { length (parameters_here (declared_of self.old)) ≤ 8 }
-        requires sizes { All (λ atom. length atom.arguments.items ≤ 6) goal.now }
-        requires fresh { refusal kind.Result self.old.names name.now ≡ None }
-        requires no_variables { variables_of (map atom_view goal.now) ≡ [] }
-        ensures { OnOk result (declared_of self.new ≡ declares_alone 0 (declared_of self.old) (spec.plan name.now (map atom_view goal.now))) }
-    {
-        let goal = self.numbered(goal)?;
-        let name = self.add_name(Kind::Result, name)?;
-        self.add_command(Command::Plan {
-            name,
-            goal: Sequence::from_vec(goal),
-            vars: 0,
-        })
     }
 }

@@ -5,20 +5,32 @@ ghost use Rattle.px_reader.specs.FaultViews.{limit_number, refusal_of, line_erro
 
 use crate::lexing::LexErr;
 
-/// A limit of a script, by its number.
+/// What a script has limits of, in the order of their numbers.
 #[derive(Clone, Copy, Debug, PartialEq, Eq)]
 pub enum Limit {
+    /// Bytes of a name that has a number in its kind.
     NameBytes,
     Objects,
     Predicates,
     Arity,
+    Axioms,
+    /// Literals of an axiom.
+    Literals,
+    /// Variables of an axiom or of a goal.
+    Variables,
     Operators,
     Parameters,
+    /// Atoms of a precondition, of a delete list or of an add list.
     OperatorAtoms,
+    /// Different facts of the lines `fact`.
     Facts,
-    GoalVariables,
     GoalAtoms,
     Commands,
+    /// Disturbances since the last `run`, or since the start.
+    Disturbs,
+    /// Edits of a disturbance.
+    Edits,
+    /// A number that a line gives is outside its bounds.
     Numbers,
 }
 
@@ -31,13 +43,17 @@ impl Limit {
             Limit::Objects => 2,
             Limit::Predicates => 3,
             Limit::Arity => 4,
-            Limit::GoalVariables => 7,
+            Limit::Axioms => 5,
+            Limit::Literals => 6,
+            Limit::Variables => 7,
             Limit::Operators => 8,
             Limit::Parameters => 9,
             Limit::OperatorAtoms => 10,
             Limit::Facts => 11,
             Limit::GoalAtoms => 12,
             Limit::Commands => 13,
+            Limit::Disturbs => 14,
+            Limit::Edits => 15,
             Limit::Numbers => 16,
         }
     }

@@ -2,13 +2,13 @@
 ghost use Rattle.std.specs.Prelude.{◌≡◌, IfOk, map};
 ghost use Rattle.std.specs.Option.{option_map};
 ghost use Rattle.px_script.specs.Statements as spec;
-ghost use Rattle.px_script.specs.Parsing.{all_of, literal_at, names_of, atoms_of, number_form, name_form, nothing_form, predicate_form, operator_form, plan_form, door_form, box_form, learn_form, run_form, edits_form, disturb_form, time_of};
-ghost use Rattle.px_reader.specs.StatementViews.{lexemes_of, atom_view, statement_view};
+ghost use Rattle.px_script.proofs.Parsing.{names_of, atoms_of, number_form, name_form, nothing_form, predicate_form, operator_form, plan_form, door_form, box_form, learn_form, run_form, edits_form, disturb_form, time_of};
+ghost use Rattle.px_reader.specs.StatementViews.{lexemes_of, signed_view, statement_view};
 ghost use Rattle.px_reader.specs.Roles.{in_role, of_setting};
 
 use crate::lists::{names, names_at};
-use crate::statement::{Statement, WrittenAtom};
-use crate::things::{atom_edits, atoms, bindings, literals, open_of, room_edits};
+use crate::series::{atoms, bindings, open_of, room_edits};
+use crate::statement::{SignedAtom, Statement};
 use crate::token::Token;
 use px_base::NoMemory;
 use std::alloc::Global;
@@ -117,15 +117,6 @@ pub fn operator<'a>(alloc: Global, tokens: &[Token<'a>]) -> Result<Option<Statem
     }
 }
 
-pub fn axiom<'a>(alloc: Global, tokens: &[Token<'a>]) -> Result<Option<Statement<'a>>, NoMemory>
-    ensures { IfOk result (λ found. option_map statement_view found ≡ option_map spec.«axiom» (all_of literal_at (lexemes_of tokens.now))) }
-{
-    match literals(alloc, tokens)? {
-        Some(literals) => Ok(Some(Statement::Axiom(literals))),
-        None => Ok(None),
-    }
-}
-
 pub fn door<'a>(tokens: &[Token<'a>]) -> Option<Statement<'a>>
     ensures { option_map statement_view result ≡ door_form (lexemes_of tokens.now) }
 {
@@ -187,36 +178,41 @@ fn between_of(word: &str) -> Option<bool>
     }
 }
 
-/// Edits: a sign begins those of atoms.
+/// Edits of the script's kind: of a building where it has one so far, and else of atoms.
 fn edits<'a>(
     alloc: Global,
+    with_building: bool,
     turn: u32,
     between: bool,
     tokens: &[Token<'a>],
 ) -> Result<Option<Statement<'a>>, NoMemory>
-    ensures { IfOk result (λ found. option_map statement_view found ≡ edits_form turn between (lexemes_of tokens.now)) }
+    ensures { IfOk result (λ found. option_map statement_view found ≡ edits_form with_building turn between (lexemes_of tokens.now)) }
 {
-    if let [Token::Sign(_), ..] = tokens {
-        match atom_edits(alloc, tokens)? {
-            Some(edits) => Ok(Some(Statement::DisturbAtoms(turn, between, edits))),
+    if with_building {
+        match room_edits(alloc, tokens)? {
+            Some(edits) => Ok(Some(Statement::DisturbRooms(turn, between, edits))),
             None => Ok(None),
         }
     } else {
-        match room_edits(alloc, tokens)? {
-            Some(edits) => Ok(Some(Statement::DisturbRooms(turn, between, edits))),
+        match atoms(alloc, tokens)? {
+            Some(edits) => Ok(Some(Statement::DisturbAtoms(turn, between, edits))),
             None => Ok(None),
         }
     }
 }
 
-pub fn disturb<'a>(alloc: Global, tokens: &[Token<'a>]) -> Result<Option<Statement<'a>>, NoMemory>
-    ensures { IfOk result (λ found. option_map statement_view found ≡ disturb_form (lexemes_of tokens.now)) }
+pub fn disturb<'a>(
+    alloc: Global,
+    with_building: bool,
+    tokens: &[Token<'a>],
+) -> Result<Option<Statement<'a>>, NoMemory>
+    ensures { IfOk result (λ found. option_map statement_view found ≡ disturb_form with_building (lexemes_of tokens.now)) }
 {
     let [Token::Number(turn), Token::Name(time), after @ ..] = tokens else {
         return Ok(None);
     };
     match between_of(time) {
-        Some(between) => edits(alloc, *turn, between, after),
+        Some(between) => edits(alloc, with_building, *turn, between, after),
         None => Ok(None),
     }
 }
@@ -233,9 +229,10 @@ pub fn run<'a>(alloc: Global, tokens: &[Token<'a>]) -> Result<Option<Statement<'
     }
 }
 
-/// Which list of an operator, or the facts, atoms are of.
+/// What the atoms of a line are that has nothing else.
 #[derive(Clone, Copy, Debug, PartialEq, Eq)]
 pub enum Role {
+    Axiom,
     Pre,
     Delete,
     Add,
@@ -243,10 +240,11 @@ pub enum Role {
 }
 
 /// The statement of atoms in their role.
-fn of_role(role: Role, atoms: Vec<WrittenAtom<'_>>) -> Statement<'_>
-    ensures { statement_view result ≡ in_role role (map atom_view atoms.entry.items) }
+fn of_role(role: Role, atoms: Vec<SignedAtom<'_>>) -> Statement<'_>
+    ensures { statement_view result ≡ in_role role (map signed_view atoms.entry.items) }
 {
     match role {
+        Role::Axiom => Statement::Axiom(atoms),
         Role::Pre => Statement::Pre(atoms),
         Role::Delete => Statement::Delete(atoms),
         Role::Add => Statement::Add(atoms),

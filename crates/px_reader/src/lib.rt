@@ -3,26 +3,41 @@
 //! # Calling it
 //!
 //! - [`read_script`] takes the bytes of an input, fewer than 4,294,967,295, and answers a [`Script`]: its names, its
-//!   problem, its facts and its commands. What it is about follows from the bytes alone (`IsScript` of `px_script`).
-//!   The problem is valid, each of its numbers has a name, the facts are ground atoms of it, the numbers in the commands
-//!   are in range, and all is within the limits. A `Script` keeps that (`in_range`, by `IsInRange` of `px_script`), and that
-//!   it has only what is built (`of_stage`, by `IsOfStage`), so a caller may hand its parts on to the search and the printer.
+//!   problem, its facts, its building if it has one, and its commands. What it is about follows from the bytes alone
+//!   (`IsScript` of `px_script`). The problem is valid, each of its numbers has a name, the facts are ground atoms of it, the
+//!   numbers in the commands are in range, and all is within the limits. A `Script` keeps that (`in_range`, by `IsInRange` of
+//!   `px_script`), and that it has only what is built (`of_stage`, by `IsOfStage`), so a caller may hand its parts on to the
+//!   search and the printer.
 //! - Where the bytes are no script it answers [`ScriptErr::Refused`] with the first fault: its line from 1, its code, and
 //!   the number of the limit that is passed, or 0. That comes exactly where `FirstFault` of `px_script` holds.
-//! - [`Command`] is what a script asks for, in its order. Lines of words that aren't built yet are read, and refused with
-//!   code 11 where no cause stands before it: a bad form has code 2, as the bare word `room`; and a line out of order has
-//!   code 9, as those of `room`, `door`, `box` and `robot` that have their form always are, since no building's block can be
-//!   open.
+//! - [`Command`] is what a script asks for, in its order.
+//! - All words of version 1 are read, and what they say is declared and checked. Which of them are built is told in one place,
+//!   `is_unbuilt`: a line of another word is refused with code 11 where no cause stands before it. A bad form has code 2, as
+//!   the bare word `room`; and a line out of order has code 9, as those of `room`, `door`, `box` and `robot` that have their
+//!   form always are, since no building's block can be open.
 //! - Tokens and names borrow from the input. How fast it reads is measured (`bench/reading`).
+//!
+//! # How it is made
+//!
+//! A line's tokens (`token`, `lexing`) are parsed to a `Statement` (`lists`, `series`, `forms`, `parsing`), which says where it
+//! may stand, what its atoms may be, and which they are (`line`). `Reader` has what the lines so far have declared, field by
+//! field as `Declared` of `px_script` (`declared_of` in `specs/Readers`). The causes to refuse a line are tests of the reader, in
+//! the order of their codes (`order`, `naming`, `duplicates`, `limits`), and a line without a fault is declared (`declaring`,
+//! `blocks`, `commands`, over `terms`).
 #![tactic(auto)]
 
+mod block;
+mod blocks;
 mod class;
 mod command;
+mod commands;
 mod declaring;
+mod duplicates;
 mod fault;
 mod forms;
 mod lexing;
 mod limits;
+mod line;
 mod lines;
 mod lists;
 mod naming;
@@ -31,14 +46,14 @@ mod parsing;
 mod reader;
 mod reading;
 mod script;
+mod series;
 mod statement;
 mod terms;
 #[cfg(test)]
 mod tests;
-mod things;
 mod token;
 mod word;
 
-pub use command::Command;
+pub use command::{Binding, Command};
 pub use reading::read_script;
 pub use script::{Refused, Script, ScriptErr};

@@ -1,36 +1,64 @@
 //! The limits of a script.
-ghost use Rattle.std.specs.Prelude.{◌≡◌, ◌≤◌, ◌+◌, ◌++◌, [], ◌∷◌, length, map, nat_lt, All, Contains, IfOk, OnOk, if◌then◌else◌, Some, None};
+ghost use Rattle.std.specs.Prelude.{◌≡◌, ◌≤◌, ◌<◌, ◌+◌, ◌^◌, ◌++◌, [], ◌∷◌, length, map, nat_lt, All, Contains, IfOk, OnOk, if◌then◌else◌, Some, None};
 ghost use Rattle.std.specs.List.{list_any};
 ghost use Rattle.std.specs.Option.{option_map};
 ghost use Rattle.px_terms.specs.AtomSets.{atom_set, with_atom, IsAtomSet};
 ghost use Rattle.px_terms.specs.Instances.{IsGround};
-ghost use Rattle.px_script.specs.Declarations.{parameters_here, atom_of};
-ghost use Rattle.px_script.specs.Faults.{passed_limit, is_long, too_many_commands, first_of_tests, too_many, too_many_objects, IsRight};
-ghost use Rattle.px_script.specs.Ranges.{AreInRange};
+ghost use Rattle.px_script.specs.Causes.{has_long_name};
+ghost use Rattle.px_script.specs.Declarations.{Declared, parameters_here, operator_here, atom_of, variables_of};
+ghost use Rattle.px_script.specs.Faults.{first_of, passed, limits, own_limits, over, outside, disturbance_limits};
+ghost use Rattle.px_script.specs.Limits as limit;
+ghost use Rattle.px_script.specs.Limits.{Bounds};
 ghost use Rattle.px_script.specs.Statements as spec;
-ghost use Rattle.px_reader.specs.FaultViews.{limit_number};
-ghost use Rattle.px_reader.specs.StatementViews.{atom_view, statement_view, text_of};
-ghost use Rattle.px_reader.specs.Checks.{grows_too_long};
+ghost use Rattle.px_script.specs.Statements.{line_of};
+ghost use Rattle.px_script.proofs.States.{AreInRange};
+ghost use Rattle.px_script.proofs.Faultless.{IsRight};
+ghost use Rattle.px_reader.specs.Checks.{AreReadable, grown_by};
+ghost use Rattle.px_reader.specs.FaultViews.{limit_number, limit_refusal};
 ghost use Rattle.px_reader.specs.Readers.{declared_of};
+ghost use Rattle.px_reader.specs.StatementViews.{signed_view, statement_view};
 
 use crate::fault::Limit;
 use crate::reader::Reader;
-use crate::statement::{Statement, WrittenAtom};
+use crate::statement::{SignedAtom, Statement};
+use crate::terms::has_many_variables;
 use px_base::NoMemory;
 use px_names::Kind;
 use px_ops::Model;
 use px_terms::Atom;
 
+/// How many bytes a name has at most that has a number in its kind.
+const NAME_BYTES: usize = 64;
+
 fn is_long(name: &str) -> bool
-    ensures { result ≡ is_long name.now }
+    ensures { result ≡ nat_lt 64 (length name.now) }
 {
-    name.len() > 64
+    name.len() > NAME_BYTES
 }
 
 fn any_long(names: &[&str]) -> bool
-    ensures { result ≡ list_any (λ name. is_long name.now) names.now }
+    ensures { result ≡ list_any (λ name. nat_lt 64 (length name.now)) names.now }
 {
     names.iter().any(|name| is_long(name))
+}
+
+impl Statement<'_> {
+    /// A name that the line declares, but for parameters, is too long.
+    fn has_long_name(&self) -> bool
+        ensures { (d : Declared) → result ≡ has_long_name d (line_of (statement_view self.now)) }
+    {
+        match self {
+            Statement::Object(names) => any_long(names),
+            Statement::Predicate(name, _)
+            | Statement::Operator(name, _)
+            | Statement::Room(name)
+            | Statement::Door(name, _, _, _)
+            | Statement::Box(name, _)
+            | Statement::Plan(name, _)
+            | Statement::Learn(name, _) => is_long(name),
+            _ => false,
+        }
+    }
 }
 
 /// The limit, if it is passed.
@@ -40,111 +68,172 @@ fn passed(is_passed: bool, limit: Limit) -> Option<Limit>
     if is_passed { Some(limit) } else { None }
 }
 
+/// The limit of numbers, if this one is outside its bounds.
+fn outside(number: u32, least: u32, most: u32) -> Option<Limit>
+    ensures { option_map limit_refusal result ≡ first_of (map passed (outside (record { least = least; most = most }) number ∷ [])) }
+{
+    passed(number < least || most < number, Limit::Numbers)
+}
+
 impl Reader {
     /// The least number of the limits that the line passes.
     pub fn passed_limit(&self, statement: &Statement<'_>) -> Result<Option<Limit>, NoMemory>
         requires range { AreInRange (declared_of self.now) }
         requires right { IsRight (declared_of self.now) (statement_view statement.now) }
-        ensures { IfOk result (λ limit. option_map limit_number limit ≡ passed_limit (declared_of self.now) (statement_view statement.now)) }
+        ensures { IfOk result (λ found. option_map limit_refusal found
+            ≡ first_of (map passed (limits (declared_of self.now) (statement_view statement.now)))) }
     {
+        if statement.has_long_name() {
+            return Ok(Some(Limit::NameBytes));
+        }
         let limit = match statement {
-            Statement::Script(version) => passed(*version != 1, Limit::Numbers),
-            Statement::Object(names) => self.objects_limit(names),
-            Statement::Predicate(name, arity) => self.predicate_limit(name, *arity),
-            Statement::Operator(name, parameters) => self.operator_limit(name, parameters.len()),
+            Statement::Script(version) => outside(*version, 1, 1),
+            Statement::Object(names) => self.objects_limit(names.len()),
+            Statement::Room(_) | Statement::Door(_, _, _, _) | Statement::Box(_, _) => {
+                self.objects_limit(1)
+            }
+            Statement::Predicate(_, arity) => self.predicate_limit(*arity),
+            Statement::Axiom(literals) => self.axiom_limit(literals)?,
+            Statement::Operator(_, parameters) => self.operator_limit(parameters.len()),
             Statement::Pre(_) | Statement::Delete(_) | Statement::Add(_) => {
-                passed(self.grows_too_long(statement), Limit::OperatorAtoms)
+                passed(self.grown(statement) > 16, Limit::OperatorAtoms)
             }
             Statement::Fact(atoms) => passed(self.has_too_many_facts(atoms)?, Limit::Facts),
-            Statement::Nodes(nodes) => passed(*nodes < 1 || *nodes > 50_000, Limit::Numbers),
-            Statement::Plan(name, goal) => self.plan_limit(name, goal.len()),
-            Statement::Facts => passed(self.has_too_many_commands(), Limit::Commands),
-            _ => None,
+            Statement::Height(height) => outside(*height, 1, 8),
+            Statement::Nodes(nodes) => outside(*nodes, 1, 50_000),
+            Statement::Shapes(shapes) => outside(*shapes, 2, 70_000),
+            Statement::Plan(_, goal) => self.plan_limit(goal)?,
+            Statement::DisturbAtoms(turn, _, edits) => self.disturbance_limit(*turn, edits.len()),
+            Statement::DisturbRooms(turn, _, edits) => self.disturbance_limit(*turn, edits.len()),
+            Statement::Learn(_, _) | Statement::Show(_) | Statement::Run(_, _) | Statement::Facts =>
+                { self.commands_limit() }
+            Statement::Building | Statement::Robot(_) | Statement::End => None,
         };
         Ok(limit)
     }
 
-    fn objects_limit(&self, names: &[&str]) -> Option<Limit>
-        ensures { option_map limit_number result ≡ passed_limit (declared_of self.now) (spec.object (map text_of names.now)) }
+    fn objects_limit(&self, new: usize) -> Option<Limit>
+        requires version { self.now.version ≡ 1 }
+        requires few { new < 2 ^ 63 }
+        ensures { option_map limit_refusal result
+            ≡ first_of (map passed (over (declared_of self.now) limit.objects (length self.now.names.objects + new) ∷ [])) }
     {
-        if any_long(names) {
-            return Some(Limit::NameBytes);
-        }
         passed(
-            self.names.count(Kind::Object) as usize + names.len() > 256,
+            self.names.count(Kind::Object) as usize + new > 256,
             Limit::Objects,
         )
     }
 
-    fn predicate_limit(&self, name: &str, arity: u32) -> Option<Limit>
-        ensures { option_map limit_number result ≡ passed_limit (declared_of self.now) (spec.predicate name.now arity) }
+    fn predicate_limit(&self, arity: u32) -> Option<Limit>
+        ensures { option_map limit_refusal result
+            ≡ first_of (map passed (over (declared_of self.now) limit.predicates (length self.now.names.predicates + 1)
+            ∷ over (declared_of self.now) limit.arity arity ∷ [])) }
     {
-        if is_long(name) {
-            return Some(Limit::NameBytes);
-        }
         if self.names.count(Kind::Predicate) + 1 > 64 {
             return Some(Limit::Predicates);
         }
         passed(arity > 6, Limit::Arity)
     }
 
-    fn operator_limit(&self, name: &str, parameters: usize) -> Option<Limit>
-        ensures { option_map limit_number result ≡ first_of_tests ((is_long name.now, 1) ∷ (too_many 32 (length self.now.names.operators + 1), 8) ∷ (too_many 8 parameters, 9) ∷ []) }
+    fn axiom_limit(&self, literals: &[SignedAtom<'_>]) -> Result<Option<Limit>, NoMemory>
+        ensures { IfOk result (λ found. option_map limit_refusal found
+            ≡ first_of (map passed (own_limits (declared_of self.now) (spec.«axiom» (map signed_view literals.now))))) }
     {
-        if is_long(name) {
-            return Some(Limit::NameBytes);
+        if self.axioms.count() + 1 > 64 {
+            return Ok(Some(Limit::Axioms));
         }
+        if literals.len() > 6 {
+            return Ok(Some(Limit::Literals));
+        }
+        let many = has_many_variables(self.alloc, literals)?;
+        Ok(passed(many, Limit::Variables))
+    }
+
+    fn operator_limit(&self, parameters: usize) -> Option<Limit>
+        ensures { option_map limit_refusal result
+            ≡ first_of (map passed (over (declared_of self.now) limit.operators (length self.now.names.operators + 1)
+            ∷ over (declared_of self.now) limit.parameters parameters ∷ [])) }
+    {
         if self.names.count(Kind::Operator) + 1 > 32 {
             return Some(Limit::Operators);
         }
         passed(parameters > 8, Limit::Parameters)
     }
 
-    fn plan_limit(&self, name: &str, goal: usize) -> Option<Limit>
-        ensures { option_map limit_number result ≡ first_of_tests ((is_long name.now, 1) ∷ (too_many 16 goal, 12) ∷ (too_many_commands (declared_of self.now), 13) ∷ []) }
+    fn plan_limit(&self, goal: &[SignedAtom<'_>]) -> Result<Option<Limit>, NoMemory>
+        requires { self.now.version ≡ 1 }
+        ensures { IfOk result (λ found. option_map limit_refusal found
+            ≡ first_of (map passed (over (declared_of self.now) limit.variables (length (variables_of (map signed_view goal.now)))
+            ∷ over (declared_of self.now) limit.goal_atoms (length goal.now)
+            ∷ over (declared_of self.now) limit.commands (length self.now.commands.items + 1) ∷ []))) }
     {
-        if is_long(name) {
-            return Some(Limit::NameBytes);
+        if has_many_variables(self.alloc, goal)? {
+            return Ok(Some(Limit::Variables));
         }
-        if goal > 16 {
-            return Some(Limit::GoalAtoms);
+        if goal.len() > 16 {
+            return Ok(Some(Limit::GoalAtoms));
         }
+        Ok(self.commands_limit())
+    }
+
+    fn commands_limit(&self) -> Option<Limit>
+        requires { self.now.version ≡ 1 }
+        ensures { option_map limit_refusal result
+            ≡ first_of (map passed (over (declared_of self.now) limit.commands (length self.now.commands.items + 1) ∷ [])) }
+    {
         passed(self.has_too_many_commands(), Limit::Commands)
     }
 
     fn has_too_many_commands(&self) -> bool
-        ensures { result ≡ too_many_commands (declared_of self.now) }
+        ensures { result ≡ nat_lt 512 (length self.now.commands.items + 1) }
     {
         self.commands.len() + 1 > 512
     }
 
-    /// A list of the open operator has too many atoms with the line's.
-    fn grows_too_long(&self, statement: &Statement<'_>) -> bool
-        ensures { result ≡ grows_too_long (declared_of self.now) (statement_view statement.now) }
+    fn disturbance_limit(&self, turn: u32, edits: usize) -> Option<Limit>
+        requires { self.now.version ≡ 1 }
+        ensures { option_map limit_refusal result ≡ first_of (map passed (disturbance_limits (declared_of self.now) turn edits)) }
     {
-        let Some(block) = &self.block else {
-            return false;
+        if self.has_too_many_commands() {
+            return Some(Limit::Commands);
+        }
+        if self.disturbs as usize + 1 > 64 {
+            return Some(Limit::Disturbs);
+        }
+        if edits > 16 {
+            return Some(Limit::Edits);
+        }
+        outside(turn, 1, 9999)
+    }
+
+    /// How many atoms a list of the open operator has with the line's.
+    fn grown(&self, statement: &Statement<'_>) -> usize
+        ensures { result ≡ grown_by (operator_here (declared_of self.now).block) (statement_view statement.now) }
+    {
+        let Some(operator) = self.open_operator() else {
+            return 0;
         };
         match statement {
-            Statement::Pre(atoms) => block.pre.len() + atoms.len() > 16,
-            Statement::Delete(atoms) => block.delete.len() + atoms.len() > 16,
-            Statement::Add(atoms) => block.add.len() + atoms.len() > 16,
-            _ => false,
+            Statement::Pre(atoms) => operator.pre.len() + atoms.len(),
+            Statement::Delete(atoms) => operator.delete.len() + atoms.len(),
+            Statement::Add(atoms) => operator.add.len() + atoms.len(),
+            _ => 0,
         }
     }
 
     /// There are more than 512 different facts with these.
-    fn has_too_many_facts(&self, atoms: &[WrittenAtom<'_>]) -> Result<bool, NoMemory>
-        requires few { length (parameters_here (declared_of self.now)) ≤ 8 }
+    fn has_too_many_facts(&self, atoms: &[SignedAtom<'_>]) -> Result<bool, NoMemory>
+        requires readable { AreReadable (declared_of self.now) atoms.now }
         requires fact_set { IsAtomSet self.now.facts.atoms }
         requires few_facts { length self.now.facts.atoms ≤ 512 }
-        requires sizes { All (λ atom. length atom.arguments.items ≤ 6) atoms.now }
-        requires all_ground { All (λ atom. IsGround (atom_of (declared_of self.now) [] (atom_view atom))) atoms.now }
-        ensures { IfOk result (λ found. found ≡ nat_lt 512 (length (atom_set (map (atom_of (declared_of self.now) []) (map atom_view atoms.now) ++ self.now.facts.atoms)))) }
+        requires all_ground { All (λ atom. IsGround (atom_of (declared_of self.now) [] (signed_view atom))) atoms.now }
+        ensures { IfOk result (λ found. found
+            ≡ nat_lt 512 (length (atom_set (map (atom_of (declared_of self.now) [])
+            (map signed_view atoms.now) ++ self.now.facts.atoms)))) }
     {
         let mut new = Model::new(self.alloc);
         for atom in atoms {
-            self.add_new(&mut new, self.atom(atom))?;
+            self.add_new(&mut new, self.atom(&[], atom))?;
             if self.facts.atoms().len() + new.atoms().len() > 512 {
                 return Ok(true);
             }

@@ -2,7 +2,7 @@
 ghost use Rattle.std.specs.Prelude.{◌≡◌, ◌≤◌, ◌<◌, ◌+◌, drop, length, IfOk, IfSome, IsTrue, map};
 ghost use Rattle.std.specs.Option.{option_map};
 ghost use Rattle.px_script.specs.Lexemes.{sign};
-ghost use Rattle.px_script.specs.Parsing.{argument_of, name_of, names_of, item_at, items_after, items_at, opens};
+ghost use Rattle.px_script.proofs.Parsing.{argument_of, name_of, names_of, item_at, items_after, items_at, opens};
 ghost use Rattle.px_reader.specs.Views.{lexeme_of};
 ghost use Rattle.px_reader.specs.StatementViews.{lexemes_of, argument_view, text_of, list_view, front_view, items_view};
 
@@ -49,7 +49,8 @@ pub fn names<'a>(alloc: Global, tokens: &[Token<'a>]) -> Result<Option<Vec<&'a s
 
 /// An argument in front, and the sign after it.
 fn argument_and_sign<'a>(tokens: &[Token<'a>]) -> Option<(Argument<'a>, char)>
-    ensures item { option_map (λ p. (argument_view p.0, p.1, lexemes_of (drop 2 tokens.now))) result ≡ item_at argument_of (lexemes_of tokens.now) }
+    ensures item { option_map (λ p. (argument_view p.0, p.1, lexemes_of (drop 2 tokens.now))) result
+        ≡ item_at argument_of (lexemes_of tokens.now) }
     ensures two { IfSome result (λ p. 2 ≤ length tokens.now) }
 {
     match tokens {
@@ -64,7 +65,8 @@ fn argument_and_sign<'a>(tokens: &[Token<'a>]) -> Option<(Argument<'a>, char)>
 /// The same at a place.
 fn argument_at<'a>(tokens: &[Token<'a>], at: usize) -> Option<(Argument<'a>, char)>
     requires { at ≤ length tokens.now }
-    ensures item { option_map (λ p. (argument_view p.0, p.1, lexemes_of (drop (at + 2) tokens.now))) result ≡ item_at argument_of (lexemes_of (drop at tokens.now)) }
+    ensures item { option_map (λ p. (argument_view p.0, p.1, lexemes_of (drop (at + 2) tokens.now))) result
+        ≡ item_at argument_of (lexemes_of (drop at tokens.now)) }
     ensures two { IfSome result (λ p. at + 2 ≤ length tokens.now) }
 {
     argument_and_sign(&tokens[at..])
@@ -87,7 +89,8 @@ fn name_and_sign<'a>(tokens: &[Token<'a>]) -> Option<(&'a str, char)>
 /// The same at a place.
 fn name_at<'a>(tokens: &[Token<'a>], at: usize) -> Option<(&'a str, char)>
     requires { at ≤ length tokens.now }
-    ensures item { option_map (λ p. (text_of p.0, p.1, lexemes_of (drop (at + 2) tokens.now))) result ≡ item_at name_of (lexemes_of (drop at tokens.now)) }
+    ensures item { option_map (λ p. (text_of p.0, p.1, lexemes_of (drop (at + 2) tokens.now))) result
+        ≡ item_at name_of (lexemes_of (drop at tokens.now)) }
     ensures two { IfSome result (λ p. at + 2 ≤ length tokens.now) }
 {
     name_and_sign(&tokens[at..])
@@ -100,7 +103,8 @@ fn arguments_after<'a>(
     start: usize,
 ) -> Result<Option<(Vec<Argument<'a>>, usize)>, NoMemory>
     requires { start ≤ length tokens.now }
-    ensures found { IfOk result (λ found. front_view (items_view argument_view) tokens.now found ≡ items_after argument_of (lexemes_of (drop start tokens.now))) }
+    ensures found { IfOk result (λ found. front_view (items_view argument_view) tokens.now found
+        ≡ items_after argument_of (lexemes_of (drop start tokens.now))) }
     ensures within { IfOk result (λ found. IfSome found (λ p. (start ≤ p.1) × (p.1 ≤ length tokens.now))) }
 {
     let mut arguments = Vec::new(alloc);
@@ -125,7 +129,8 @@ fn names_after<'a>(
     start: usize,
 ) -> Result<Option<(Vec<&'a str>, usize)>, NoMemory>
     requires { start ≤ length tokens.now }
-    ensures found { IfOk result (λ found. front_view (items_view text_of) tokens.now found ≡ items_after name_of (lexemes_of (drop start tokens.now))) }
+    ensures found { IfOk result (λ found. front_view (items_view text_of) tokens.now found
+        ≡ items_after name_of (lexemes_of (drop start tokens.now))) }
     ensures within { IfOk result (λ found. IfSome found (λ p. (start ≤ p.1) × (p.1 ≤ length tokens.now))) }
 {
     let mut names = Vec::new(alloc);
@@ -150,7 +155,8 @@ pub fn arguments_at<'a>(
     at: usize,
 ) -> Result<Option<(Vec<Argument<'a>>, usize)>, NoMemory>
     requires { at ≤ length tokens.now }
-    ensures found { IfOk result (λ found. front_view (items_view argument_view) tokens.now found ≡ items_at argument_of (lexemes_of (drop at tokens.now))) }
+    ensures found { IfOk result (λ found. front_view (items_view argument_view) tokens.now found
+        ≡ items_at argument_of (lexemes_of (drop at tokens.now))) }
     ensures within { IfOk result (λ found. IfSome found (λ p. (at ≤ p.1) × (p.1 ≤ length tokens.now))) }
 {
     if opens(tokens, at) {
@@ -167,7 +173,8 @@ pub fn names_at<'a>(
     at: usize,
 ) -> Result<Option<(Vec<&'a str>, usize)>, NoMemory>
     requires { at ≤ length tokens.now }
-    ensures found { IfOk result (λ found. front_view (items_view text_of) tokens.now found ≡ items_at name_of (lexemes_of (drop at tokens.now))) }
+    ensures found { IfOk result (λ found. front_view (items_view text_of) tokens.now found
+        ≡ items_at name_of (lexemes_of (drop at tokens.now))) }
     ensures within { IfOk result (λ found. IfSome found (λ p. (at ≤ p.1) × (p.1 ≤ length tokens.now))) }
 {
     if opens(tokens, at) {

@@ -1,58 +1,95 @@
-//! Names that aren't declared, or are declared already, and wrong numbers of arguments.
-ghost use Rattle.std.specs.Prelude.{◌≡◌, ◌==◌, ◌<◌, true, length, map, not, position, is_some, slice_index, IfOk, IfSome};
-ghost use Rattle.std.specs.List.{list_any};
+//! Names that aren't declared, arguments that may not stand, and wrong numbers of arguments.
+ghost use Rattle.std.specs.Prelude.{◌≡◌, ◌==◌, ◌||◌, ◌<◌, length, not, None, Some, position, is_some, slice_index, map, IfSome, MatchOption};
+ghost use Rattle.std.specs.List.{list_any, flat_map};
 ghost use Rattle.std.specs.Str.{bytes_eq};
 ghost use Rattle.std.specs.String.{string_bytes};
 ghost use Rattle.px_names.specs.Lists.{names_of, has_name};
-ghost use Rattle.px_script.specs.Declarations.{parameters_here, number_in};
-ghost use Rattle.px_script.specs.Faults.{is_known_argument, has_unknown_name, has_duplicate, has_wrong_arity, repeats};
-ghost use Rattle.px_reader.specs.StatementViews.{argument_view, statement_view, text_of};
-ghost use Rattle.px_reader.specs.Checks.{plain_atoms, is_built_form, lacks_argument};
-ghost use Rattle.px_reader.specs.Readers.{declared_of};
+ghost use Rattle.px_script.specs.Causes.{has_unknown_name, has_wrong_arity, is_known_argument, is_unbound, takes, wanted_by};
+ghost use Rattle.px_script.specs.Declarations.{Declared, operator_here, parameters_here, number_in};
+ghost use Rattle.px_script.specs.Items.{a_room, an_object, wanted_by_edit};
+ghost use Rattle.px_script.specs.Statements.{line_of};
+ghost use Rattle.px_reader.specs.Checks.{lacks, lacks_argument, refuses};
+ghost use Rattle.px_reader.specs.LineViews.{manner_view};
+ghost use Rattle.px_reader.specs.Readers.{declared_of, operator_view};
+ghost use Rattle.px_reader.specs.StatementViews.{argument_view, binding_view, room_edit_view, statement_view};
 
+use crate::block::{BlockKind, OpenOperator};
+use crate::line::Manner;
 use crate::reader::Reader;
-use crate::statement::{Argument, Statement, WrittenAtom};
-use px_base::NoMemory;
+use crate::statement::{Argument, SignedAtom, Statement, WrittenBinding, WrittenRoomEdit};
 use px_names::Kind;
-use std::collections::BTreeSet;
 
 /// Where the name stands in a list.
-fn place_of(name: &str, names: &[String]) -> Option<usize>
+pub fn place_of(name: &str, names: &[String]) -> Option<usize>
     ensures number { result ≡ position (λ other. bytes_eq name.now (string_bytes other)) names.now }
     ensures within { IfSome result (λ number. number < length names.now) }
 {
     names.iter().position(|other| name == other.as_str())
 }
 
+/// The name stands in a list.
+fn is_among(name: &str, names: &[String]) -> bool
+    ensures { result ≡ has_name name.now (map string_bytes names.now) }
+{
+    place_of(name, names).is_some()
+}
+
 impl Reader {
-    fn has(&self, kind: Kind, name: &str) -> bool
+    pub fn has(&self, kind: Kind, name: &str) -> bool
         ensures { result ≡ has_name name.now (names_of kind self.now.names) }
     {
         self.names.find(kind, name).is_some()
     }
 
-    /// Which parameter of the open block the name is.
+    /// The number of a name in its kind.
+    pub fn number(&self, kind: Kind, name: &str) -> u32
+        ensures { result ≡ number_in name.now (names_of kind self.now.names) }
+    {
+        self.names.find(kind, name).unwrap_or(0)
+    }
+
+    /// The operator whose block is open.
+    pub fn open_operator(&self) -> Option<&OpenOperator>
+        ensures { MatchOption result (operator_here (declared_of self.now).block ≡ None)
+            (λ o. operator_here (declared_of self.now).block ≡ Some (operator_view (length self.now.schemas.items) o.now)) }
+    {
+        match &self.block {
+            Some(block) => match &block.kind {
+                BlockKind::Operator(operator) => Some(operator),
+                BlockKind::Building => None,
+            },
+            None => None,
+        }
+    }
+
+    /// Which parameter of the open operator the name is.
     pub fn parameter(&self, name: &str) -> Option<usize>
         ensures number { result ≡ position (bytes_eq name.now) (parameters_here (declared_of self.now)) }
         ensures found { is_some result ≡ has_name name.now (parameters_here (declared_of self.now)) }
         ensures within { IfSome result (λ number. number < length (parameters_here (declared_of self.now))) }
     {
-        match &self.block {
-            Some(block) => place_of(name, &block.parameters),
+        match self.open_operator() {
+            Some(operator) => place_of(name, &operator.parameters),
             None => None,
         }
     }
 
-    /// Some predicate or argument of the line isn't declared.
+    /// Some name of the line isn't declared in the kind of its place.
     pub fn has_unknown_name(&self, statement: &Statement<'_>) -> bool
-        requires { is_built_form statement.now ≡ true }
-        ensures { result ≡ has_unknown_name (declared_of self.now) (statement_view statement.now) }
+        ensures { result ≡ has_unknown_name (declared_of self.now) (line_of (statement_view statement.now)) }
     {
-        let atoms = statement.atoms();
+        self.lack_names(statement.atoms()) || self.lacks_name(statement)
+    }
+
+    /// Some predicate or argument isn't declared.
+    fn lack_names(&self, atoms: &[SignedAtom<'_>]) -> bool
+        ensures { result ≡ (list_any (λ atom. not (has_name atom.predicate.now self.now.names.predicates)) atoms.now
+            || list_any (lacks_argument (declared_of self.now)) atoms.now) }
+    {
         self.lack_predicates(atoms) || self.lack_arguments(atoms)
     }
 
-    fn lack_predicates(&self, atoms: &[WrittenAtom<'_>]) -> bool
+    fn lack_predicates(&self, atoms: &[SignedAtom<'_>]) -> bool
         ensures { result ≡ list_any (λ atom. not (has_name atom.predicate.now self.now.names.predicates)) atoms.now }
     {
         atoms
@@ -60,13 +97,13 @@ impl Reader {
             .any(|atom| !self.has(Kind::Predicate, atom.predicate))
     }
 
-    fn lack_arguments(&self, atoms: &[WrittenAtom<'_>]) -> bool
+    fn lack_arguments(&self, atoms: &[SignedAtom<'_>]) -> bool
         ensures { result ≡ list_any (lacks_argument (declared_of self.now)) atoms.now }
     {
         atoms.iter().any(|atom| self.has_unknown_argument(atom))
     }
 
-    fn has_unknown_argument(&self, atom: &WrittenAtom<'_>) -> bool
+    fn has_unknown_argument(&self, atom: &SignedAtom<'_>) -> bool
         ensures { result ≡ lacks_argument (declared_of self.now) atom.now }
     {
         atom.arguments
@@ -85,49 +122,66 @@ impl Reader {
         }
     }
 
-    /// The line declares what is declared already, or a name twice.
-    pub fn has_duplicate(&self, statement: &Statement<'_>) -> Result<bool, NoMemory>
-        requires { is_built_form statement.now ≡ true }
-        ensures { IfOk result (λ found. found ≡ has_duplicate (declared_of self.now) (statement_view statement.now)) }
+    /// Some name outside atoms that the line wants isn't declared in its kind.
+    fn lacks_name(&self, statement: &Statement<'_>) -> bool
+        ensures { result ≡ list_any (lacks (declared_of self.now)) (wanted_by (line_of (statement_view statement.now))) }
     {
         match statement {
-            Statement::Object(names) => self.repeats(names),
-            Statement::Predicate(name, _) => Ok(self.has(Kind::Predicate, name)),
-            Statement::Operator(name, parameters) => {
-                if self.has(Kind::Operator, name) {
-                    return Ok(true);
-                }
-                self.repeats(parameters)
+            Statement::Door(_, one, other, _) => self.lacks_room(one) || self.lacks_room(other),
+            Statement::Box(_, room) | Statement::Robot(room) => self.lacks_room(room),
+            Statement::Learn(_, source) => !is_among(source, &self.plans),
+            Statement::Show(name) => !self.has(Kind::Result, name),
+            Statement::DisturbRooms(_, _, edits) => self.lack_places(edits),
+            Statement::Run(name, bindings) => {
+                !self.has(Kind::Result, name) || self.lack_objects(bindings)
             }
-            Statement::Nodes(_) => Ok(self.nodes.is_some()),
-            Statement::Plan(name, _) => Ok(self.has(Kind::Result, name)),
-            _ => Ok(false),
+            _ => false,
         }
     }
 
-    /// One of the names is an object's, or stands twice.
-    fn repeats(&self, names: &[&str]) -> Result<bool, NoMemory>
-        ensures { IfOk result (λ found. found ≡ repeats self.now.names.objects (map text_of names.now)) }
+    fn lacks_room(&self, name: &str) -> bool
+        ensures { result ≡ lacks (declared_of self.now) (a_room, name.now) }
     {
-        let mut seen = BTreeSet::new(self.alloc);
-        for name in names {
-            if self.has(Kind::Object, name) || !seen.insert(*name)? {
-                return Ok(true);
+        !is_among(name, &self.rooms)
+    }
+
+    fn lack_places(&self, edits: &[WrittenRoomEdit<'_>]) -> bool
+        ensures { result ≡ list_any (λ edit. list_any (lacks (declared_of self.now)) (wanted_by_edit (room_edit_view edit))) edits.now }
+    {
+        edits.iter().any(|edit| self.lacks_place(edit))
+    }
+
+    fn lacks_place(&self, edit: &WrittenRoomEdit<'_>) -> bool
+        ensures { result ≡ list_any (lacks (declared_of self.now)) (wanted_by_edit (room_edit_view edit.now)) }
+    {
+        match edit {
+            WrittenRoomEdit::RobotTo(room) => self.lacks_room(room),
+            WrittenRoomEdit::BoxTo(name, room) => {
+                !is_among(name, &self.boxes) || self.lacks_room(room)
             }
+            WrittenRoomEdit::DoorTo(name, _) => !is_among(name, &self.doors),
         }
-        Ok(false)
+    }
+
+    fn lack_objects(&self, bindings: &[WrittenBinding<'_>]) -> bool
+        ensures { result ≡ list_any (λ binding. lacks (declared_of self.now) (an_object, binding.object.now)) bindings.now }
+    {
+        bindings
+            .iter()
+            .any(|binding| !self.has(Kind::Object, binding.object))
     }
 
     /// Some atom has another number of arguments than its predicate.
     pub fn has_wrong_arity(&self, statement: &Statement<'_>) -> bool
-        requires { is_built_form statement.now ≡ true }
-        ensures { result ≡ has_wrong_arity (declared_of self.now) (statement_view statement.now) }
+        ensures { result ≡ has_wrong_arity (declared_of self.now) (line_of (statement_view statement.now)) }
     {
         self.differ_in_arity(statement.atoms())
     }
 
-    fn differ_in_arity(&self, atoms: &[WrittenAtom<'_>]) -> bool
-        ensures { result ≡ list_any (λ atom. not (length atom.arguments.items == slice_index self.now.arities.items (number_in atom.predicate.now self.now.names.predicates))) atoms.now }
+    fn differ_in_arity(&self, atoms: &[SignedAtom<'_>]) -> bool
+        ensures { result ≡ list_any (λ atom. not
+            (length atom.arguments.items == slice_index self.now.arities.items
+            (number_in atom.predicate.now self.now.names.predicates))) atoms.now }
     {
         atoms
             .iter()
@@ -137,10 +191,38 @@ impl Reader {
     fn arity(&self, predicate: &str) -> usize
         ensures { result ≡ slice_index self.now.arities.items (number_in predicate.now self.now.names.predicates) }
     {
-        let number = self.names.find(Kind::Predicate, predicate).unwrap_or(0);
+        let number = self.number(Kind::Predicate, predicate);
         match self.arities.get(number as usize) {
             Some(arity) => *arity as usize,
             None => 0,
         }
+    }
+
+    /// Some argument may not stand in the line.
+    pub fn is_unbound(&self, statement: &Statement<'_>) -> bool
+        ensures { result ≡ is_unbound (declared_of self.now) (line_of (statement_view statement.now)) }
+    {
+        self.have_unbound(statement.manner(), statement.atoms())
+    }
+
+    fn have_unbound(&self, manner: Manner, atoms: &[SignedAtom<'_>]) -> bool
+        ensures { result ≡ list_any (refuses (declared_of self.now) (manner_view manner)) atoms.now }
+    {
+        atoms.iter().any(|atom| self.has_unbound(manner, atom))
+    }
+
+    fn has_unbound(&self, manner: Manner, atom: &SignedAtom<'_>) -> bool
+        ensures { result ≡ refuses (declared_of self.now) (manner_view manner) atom.now }
+    {
+        atom.arguments
+            .iter()
+            .any(|argument| !self.takes(manner, argument))
+    }
+
+    /// The argument may stand in atoms of the manner.
+    fn takes(&self, manner: Manner, argument: &Argument<'_>) -> bool
+        ensures { result ≡ takes (declared_of self.now) (manner_view manner) (argument_view argument.now) }
+    {
+        manner.takes(argument)
     }
 }

@@ -2,35 +2,41 @@
 ghost use Rattle.std.specs.Prelude.{◌≡◌, ◌∷◌, IfOk};
 ghost use Rattle.std.specs.List.{list_all};
 ghost use Rattle.std.specs.Option.{option_map};
+ghost use Rattle.px_script.specs.Declarations.{Declared, has_building};
+ghost use Rattle.px_script.specs.Forms.{atoms_of, is_formed, is_of_script, is_signed};
+ghost use Rattle.px_script.specs.Items.{is_filled, is_parameter_number};
 ghost use Rattle.px_script.specs.Lexemes.{name};
-ghost use Rattle.px_script.specs.Statements.{is_whole, is_parameter_number};
-ghost use Rattle.px_script.specs.Parsing.{rest_form, parse};
-ghost use Rattle.px_reader.specs.StatementViews.{lexemes_of, statement_view};
+ghost use Rattle.px_script.specs.Statements.{line_of};
+ghost use Rattle.px_script.proofs.Parsing.{rest_form, parse};
+ghost use Rattle.px_reader.specs.LineViews.{manner_view};
+ghost use Rattle.px_reader.specs.StatementViews.{lexemes_of, sign_view, statement_view};
 ghost use Rattle.px_reader.specs.Words.{word_text};
 
 use crate::forms::{
-    Role, Setting, alone, atoms_as, axiom, box_in, disturb, door, learn, object, operator, plan,
+    Role, Setting, alone, atoms_as, box_in, disturb, door, learn, object, operator, plan,
     predicate, robot, room, run, set, show,
 };
-use crate::statement::{Binding, Statement};
+use crate::line::Manner;
+use crate::statement::{SignedAtom, Statement, WrittenBinding};
 use crate::token::Token;
 use crate::word::Word;
 use px_base::NoMemory;
 use std::alloc::Global;
 
-/// The statement of a word's line.
+/// The statement of a word's line, in a script with or without a building so far.
 fn form<'a>(
     alloc: Global,
+    with_building: bool,
     word: Word,
     rest: &[Token<'a>],
 ) -> Result<Option<Statement<'a>>, NoMemory>
-    ensures { IfOk result (λ found. option_map statement_view found ≡ rest_form (word_text word) (lexemes_of rest.now)) }
+    ensures { IfOk result (λ found. option_map statement_view found ≡ rest_form with_building (word_text word) (lexemes_of rest.now)) }
 {
     match word {
         Word::Script => Ok(set(Setting::Version, rest)),
         Word::Object => object(alloc, rest),
         Word::Predicate => Ok(predicate(rest)),
-        Word::Axiom => axiom(alloc, rest),
+        Word::Axiom => atoms_as(alloc, Role::Axiom, rest),
         Word::Operator => operator(alloc, rest),
         Word::Pre => atoms_as(alloc, Role::Pre, rest),
         Word::Delete => atoms_as(alloc, Role::Delete, rest),
@@ -48,53 +54,86 @@ fn form<'a>(
         Word::Plan => plan(alloc, rest),
         Word::Learn => Ok(learn(rest)),
         Word::Show => Ok(show(rest)),
-        Word::Disturb => disturb(alloc, rest),
+        Word::Disturb => disturb(alloc, with_building, rest),
         Word::Run => run(alloc, rest),
         Word::Facts => Ok(alone(Statement::Facts, rest)),
     }
 }
 
 /// The parameters of the bindings have their numbers.
-fn are_numbered(bindings: &[Binding<'_>]) -> bool
+fn are_numbered(bindings: &[WrittenBinding<'_>]) -> bool
     ensures { result ≡ list_all (λ b. is_parameter_number b.parameter) bindings.now }
 {
     bindings.iter().all(|binding| binding.parameter > 0 && binding.parameter < 10_000)
 }
 
 impl Statement<'_> {
-    /// Where the form wants one or more things, there is one; parameters have their numbers; and edits are of the
-    /// script's kind.
+    /// The line has its form, in a script with or without a building so far.
+    fn is_formed(&self, with_building: bool) -> bool
+        ensures { (d : Declared) → d.version ≡ 1 → has_building d ≡ with_building
+            → result ≡ is_formed d (line_of (statement_view self.now)) }
+    {
+        let manner = self.manner();
+        self.is_filled() && self.is_signed(manner) && is_of_script(manner, with_building)
+    }
+
+    /// Where an item is one or more things, there is one, and parameters have their numbers.
     #[tactic(auto, using(px_script::proofs::ListLemmas::list_all_map))]
-    fn is_whole(&self, with_building: bool) -> bool
-        ensures { result ≡ is_whole with_building (statement_view self.now) }
+    fn is_filled(&self) -> bool
+        ensures { result ≡ list_all is_filled (line_of (statement_view self.now)).items }
     {
         match self {
             Statement::Object(names) => !names.is_empty(),
-            Statement::Axiom(literals) => !literals.is_empty(),
-            Statement::Pre(atoms)
+            Statement::Axiom(atoms)
+            | Statement::Pre(atoms)
             | Statement::Delete(atoms)
             | Statement::Add(atoms)
             | Statement::Fact(atoms)
-            | Statement::Plan(_, atoms) => !atoms.is_empty(),
-            Statement::DisturbAtoms(_, _, edits) => !edits.is_empty() && !with_building,
-            Statement::DisturbRooms(_, _, edits) => !edits.is_empty() && with_building,
+            | Statement::Plan(_, atoms)
+            | Statement::DisturbAtoms(_, _, atoms) => !atoms.is_empty(),
+            Statement::DisturbRooms(_, _, edits) => !edits.is_empty(),
             Statement::Run(_, bindings) => are_numbered(bindings),
             _ => true,
         }
+    }
+
+    /// The signs of the atoms are those of the line.
+    fn is_signed(&self, manner: Manner) -> bool
+        ensures { result ≡ list_all (λ x. is_signed (manner_view manner) x.sign) (atoms_of (line_of (statement_view self.now))) }
+    {
+        are_signed(manner, self.atoms())
+    }
+}
+
+fn are_signed(manner: Manner, atoms: &[SignedAtom<'_>]) -> bool
+    ensures { result ≡ list_all (λ x. is_signed (manner_view manner) (sign_view x.sign)) atoms.now }
+{
+    atoms.iter().all(|atom| manner.is_signed(atom.sign))
+}
+
+/// Edits are of the script's kind.
+fn is_of_script(manner: Manner, with_building: bool) -> bool
+    ensures { (d : Declared) → has_building d ≡ with_building → result ≡ is_of_script d (manner_view manner) }
+{
+    match manner {
+        Manner::AtomChanges => !with_building,
+        Manner::RoomChanges => with_building,
+        _ => true,
     }
 }
 
 /// The statement of a line that begins with a word, in a script with or without a building so far.
 pub fn statement<'a>(
     alloc: Global,
+    with_building: bool,
     word: Word,
     rest: &[Token<'a>],
-    with_building: bool,
 ) -> Result<Option<Statement<'a>>, NoMemory>
-    ensures { IfOk result (λ found. option_map statement_view found ≡ parse with_building (name (word_text word) ∷ lexemes_of rest.now)) }
+    ensures { (d : Declared) → d.version ≡ 1 → has_building d ≡ with_building
+        → IfOk result (λ found. option_map statement_view found ≡ parse d (name (word_text word) ∷ lexemes_of rest.now)) }
 {
-    match form(alloc, word, rest)? {
-        Some(statement) if statement.is_whole(with_building) => Ok(Some(statement)),
+    match form(alloc, with_building, word, rest)? {
+        Some(statement) if statement.is_formed(with_building) => Ok(Some(statement)),
         _ => Ok(None),
     }
 }

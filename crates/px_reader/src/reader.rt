@@ -1,21 +1,24 @@
 //! The lines so far, and the next one.
-ghost use Rattle.std.specs.Prelude.{◌≡◌, ◌∷◌, true, false, None, Some, drop, length, All, IfOk, IfErr, IfSome, OnOk, MatchOption, MatchResult};
+ghost use Rattle.std.specs.Prelude.{◌≡◌, ◌∷◌, true, false, None, Some, drop, IfOk, IfErr, OnOk, MatchOption, MatchResult};
 ghost use Rattle.std.specs.Option.{option_map};
 ghost use Rattle.std.specs.Str.{chars};
-ghost use Rattle.px_names.specs.Name.{is_name_text};
 ghost use Rattle.px_script.specs.Content.{content_of};
 ghost use Rattle.px_script.specs.Declarations.{OpenBlock as Opened, nothing_declared, after_line};
-ghost use Rattle.px_script.specs.Faults.{fault_of, declared_names};
+ghost use Rattle.px_script.specs.Faults.{fault_of};
+ghost use Rattle.px_script.specs.Forms.{begins_with_word, is_formed};
 ghost use Rattle.px_script.specs.Lexemes.{name};
-ghost use Rattle.px_script.specs.Ranges.{AreInRange};
+ghost use Rattle.px_script.specs.Ranges.{IsInRange};
 ghost use Rattle.px_script.specs.Scripts.{Passes};
-ghost use Rattle.px_script.specs.Statements.{begins_with_word};
+ghost use Rattle.px_script.specs.StageRanges.{IsOfStage};
+ghost use Rattle.px_script.specs.Statements.{line_of};
+ghost use Rattle.px_script.proofs.States.{AreInRange};
 ghost use Rattle.px_reader.specs.FaultViews.{refusal_of};
 ghost use Rattle.px_reader.specs.LineReads.{StatementFails, LineFails, content};
 ghost use Rattle.px_reader.specs.Readers.{declared_of};
 ghost use Rattle.px_reader.specs.StatementViews.{lexemes_of, statement_view};
 ghost use Rattle.px_reader.specs.Words.{word_text};
 
+use crate::block::OpenBlock;
 use crate::command::Command;
 use crate::fault::{Fault, LineErr};
 use crate::lexing::tokens;
@@ -25,45 +28,41 @@ use crate::statement::Statement;
 use crate::token::Token;
 use crate::word::Word;
 use px_base::{NoMemory, Sequence};
-use px_names::Names;
+use px_names::{Kind, Names};
 use px_ops::Model;
-use px_terms::{Atom, ClauseArena, Problem, Schema};
+use px_terms::{ClauseArena, Problem, Schema};
+use px_world::Thing;
 use std::alloc::Global;
-
-/// The operator block that is open: the line that opened it, its parameters' names, and its lists so far.
-#[derive(Drop)]
-pub struct OpenBlock {
-    pub line: u32,
-    pub parameters: Vec<String>,
-    pub pre: Vec<Atom>,
-    pub delete: Vec<Atom>,
-    pub add: Vec<Atom>,
-}
 
 /// What the lines so far have declared.
 #[derive(Drop)]
 pub struct Reader {
     pub alloc: Global,
+    pub version: u32,
     pub names: Names,
+    /// The objects that are rooms, doors and boxes of a building.
+    pub rooms: Vec<String>,
+    pub doors: Vec<String>,
+    pub boxes: Vec<String>,
+    /// The results that are plans. Each result is a table.
+    pub plans: Vec<String>,
     pub arities: Vec<u8>,
+    pub axioms: ClauseArena,
     pub schemas: Vec<Schema>,
     pub facts: Model,
+    /// The things of the building, if there is one.
+    pub things: Option<Vec<Thing>>,
+    pub height: Option<u32>,
     pub nodes: Option<u32>,
+    pub shapes: Option<u32>,
     pub commands: Vec<Command>,
+    /// How many lines `disturb` stood since the last `run`.
+    pub disturbs: u32,
     pub block: Option<OpenBlock>,
-    /// A line with tokens stood before.
+    /// A line stood that a building excludes.
+    pub own_domain: bool,
+    /// A line with tokens stood.
     pub begun: bool,
-}
-
-/// The word that begins a line.
-fn word_of(tokens: &[Token<'_>]) -> Option<Word>
-    ensures { MatchOption result (begins_with_word (lexemes_of tokens.now) ≡ false)
-        (λ word. (begins_with_word (lexemes_of tokens.now) ≡ true) × (lexemes_of tokens.now ≡ name (word_text word) ∷ lexemes_of (drop 1 tokens.now))) }
-{
-    match tokens {
-        [Token::Name(name), ..] => Word::named(name),
-        _ => None,
-    }
 }
 
 impl Reader {
@@ -72,15 +71,39 @@ impl Reader {
     {
         Ok(Reader {
             alloc,
+            version: 1,
             names: Names::new(alloc)?,
+            rooms: Vec::new(alloc),
+            doors: Vec::new(alloc),
+            boxes: Vec::new(alloc),
+            plans: Vec::new(alloc),
             arities: Vec::new(alloc),
+            axioms: ClauseArena::new(alloc),
             schemas: Vec::new(alloc),
             facts: Model::new(alloc),
+            things: None,
+            height: None,
             nodes: None,
+            shapes: None,
             commands: Vec::new(alloc),
+            disturbs: 0,
             block: None,
+            own_domain: false,
             begun: false,
         })
+    }
+
+    /// The word that begins a line.
+    fn word_of(&self, tokens: &[Token<'_>]) -> Option<Word>
+        requires { self.now.version ≡ 1 }
+        ensures { MatchOption result (begins_with_word (declared_of self.now) (lexemes_of tokens.now) ≡ false)
+            (λ word. (begins_with_word (declared_of self.now) (lexemes_of tokens.now) ≡ true)
+            × (lexemes_of tokens.now ≡ name (word_text word) ∷ lexemes_of (drop 1 tokens.now))) }
+    {
+        match tokens {
+            [Token::Name(name), ..] => Word::named(name),
+            _ => None,
+        }
     }
 
     /// Reads the next line.
@@ -93,10 +116,10 @@ impl Reader {
         if tokens.is_empty() {
             return Ok(());
         }
-        let Some(word) = word_of(&tokens) else {
+        let Some(word) = self.word_of(&tokens) else {
             return Err(LineErr::Fault(Fault::UnknownWord));
         };
-        match statement(self.alloc, word, &tokens[1..], false)? {
+        match statement(self.alloc, self.has_building(), word, &tokens[1..])? {
             Some(statement) => self.read_statement(number, statement),
             None => Err(LineErr::Fault(Fault::BadToken)),
         }
@@ -104,7 +127,7 @@ impl Reader {
 
     fn read_statement(&mut self, number: u32, statement: Statement<'_>) -> Result<(), LineErr>
         requires range { AreInRange (declared_of self.old) }
-        requires named { All (λ name. is_name_text name ≡ true) (declared_names (statement_view statement)) }
+        requires formed { is_formed (declared_of self.old) (line_of (statement_view statement)) ≡ true }
         ensures passes { OnOk result (fault_of (declared_of self.old) (statement_view statement.entry) ≡ None) }
         ensures declared { OnOk result (declared_of self.new ≡ after_line number (declared_of self.old) (statement_view statement.entry)) }
         ensures err { IfErr result (StatementFails (declared_of self.old) (statement_view statement.entry)) }
@@ -112,7 +135,9 @@ impl Reader {
         match self.fault(&statement)? {
             Some(fault) => Err(LineErr::Fault(fault)),
             None => {
+                let own_domain = self.own_domain || statement.place().excludes_building();
                 self.declare(number, statement)?;
+                self.own_domain = own_domain;
                 self.begun = true;
                 Ok(())
             }
@@ -139,7 +164,7 @@ impl Reader {
         if self.has_wrong_arity(statement) {
             return Ok(Some(Fault::Arity));
         }
-        if statement.is_unbound() {
+        if self.is_unbound(statement) {
             return Ok(Some(Fault::Unbound));
         }
         match self.passed_limit(statement)? {
@@ -150,7 +175,8 @@ impl Reader {
 
     /// The line that opened the block, if one is open.
     fn open_line(&self) -> Option<u32>
-        ensures { MatchOption result ((declared_of self.now).block ≡ None) (λ line. (block : Opened) × ((declared_of self.now).block ≡ Some block) × (line ≡ block.line)) }
+        ensures { MatchOption result ((declared_of self.now).block ≡ None)
+            (λ line. (block : Opened) × ((declared_of self.now).block ≡ Some block) × (line ≡ block.line)) }
     {
         match &self.block {
             Some(block) => Some(block.line),
@@ -160,7 +186,8 @@ impl Reader {
 
     /// The script, where no block is open, or the line that opened the block.
     pub fn finish(self) -> Result<Script, u32>
-        requires { AreInRange (declared_of self) }
+        requires range { (declared_of self).block ≡ None → IsInRange (content_of (declared_of self)) }
+        requires stage { IsOfStage (content_of (declared_of self)) }
         ensures { MatchResult result
             (λ script. ((declared_of self).block ≡ None) × (content script ≡ content_of (declared_of self)))
             (λ line. (block : Opened) × ((declared_of self).block ≡ Some block) × (line ≡ block.line)) }
@@ -169,30 +196,44 @@ impl Reader {
             return Err(line);
         }
         let Reader {
-            alloc,
+            version,
             names,
             arities,
+            axioms,
             schemas,
             facts,
+            things,
+            height,
             nodes,
+            shapes,
             commands,
-            block: _,
-            begun: _,
+            ..
         } = self;
         Ok(Script {
-            version: 1,
+            version,
             problem: Problem {
-                objects: names.count(px_names::Kind::Object),
+                objects: names.count(Kind::Object),
                 arities: Sequence::from_vec(arities),
-                axioms: ClauseArena::new(alloc),
+                axioms,
                 schemas: Sequence::from_vec(schemas),
-                height: 4,
+                height: height.unwrap_or(4),
                 nodes: nodes.unwrap_or(10_000),
-                shapes: 10_000,
+                shapes: shapes.unwrap_or(10_000),
             },
             names,
             facts,
+            building: building(things),
             commands: Sequence::from_vec(commands),
         })
+    }
+}
+
+/// The things of a building, if there is one.
+fn building(things: Option<Vec<Thing>>) -> Option<Sequence<Thing>>
+    ensures { result ≡ option_map (λ things. things.items) things }
+{
+    match things {
+        Some(things) => Some(Sequence::from_vec(things)),
+        None => None,
     }
 }

@@ -1,5 +1,4 @@
 //! What a script is about, and why an input is none.
-
 ghost use Rattle.px_script.specs.Ranges.{IsInRange};
 ghost use Rattle.px_script.specs.RangeLaws.{IsInRange-prop, IsOfStage-prop};
 ghost use Rattle.px_script.specs.StageRanges.{IsOfStage};
@@ -10,6 +9,7 @@ use px_base::Sequence;
 use px_names::Names;
 use px_ops::Model;
 use px_terms::Problem;
+use px_world::Thing;
 use thiserror::Error;
 
 /// A script that was read. It keeps that its problem is valid, that each of its numbers has a name and no name stands twice in
@@ -22,9 +22,10 @@ pub struct Script {
     pub names: Names,
     pub problem: Problem,
     pub facts: Model,
+    pub building: Option<Sequence<Thing>>,
     pub commands: Sequence<Command>,
-    pub ghost in_range: { IsInRange (script_of version names problem facts commands) } by { IsInRange-prop (script_of version names problem facts commands) },
-    pub ghost of_stage: { IsOfStage (script_of version names problem facts commands) } by { IsOfStage-prop (script_of version names problem facts commands) },
+    pub ghost in_range: { IsInRange (script_of version names problem facts building commands) } by { IsInRange-prop (script_of version names problem facts building commands) },
+    pub ghost of_stage: { IsOfStage (script_of version names problem facts building commands) } by { IsOfStage-prop (script_of version names problem facts building commands) },
 }
 
 /// The first fault of an input: its line from 1, its code, and the number of the limit that is passed, or 0.

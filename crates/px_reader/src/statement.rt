@@ -8,25 +8,21 @@ pub enum Argument<'a> {
     Anything,
 }
 
-/// An atom by names.
+/// What stands before an atom: nothing, `~` of a literal, `+` or `-` of an edit.
+#[derive(Clone, Copy, Debug, PartialEq, Eq)]
+pub enum Sign {
+    Bare,
+    Negated,
+    Added,
+    Removed,
+}
+
+/// An atom by names, with its sign.
 #[derive(Debug, Drop)]
-pub struct WrittenAtom<'a> {
+pub struct SignedAtom<'a> {
+    pub sign: Sign,
     pub predicate: &'a str,
     pub arguments: Vec<Argument<'a>>,
-}
-
-/// An atom with a sign.
-#[derive(Debug, Drop)]
-pub enum WrittenLiteral<'a> {
-    Positive(WrittenAtom<'a>),
-    Negative(WrittenAtom<'a>),
-}
-
-/// An edit of the atoms of a world.
-#[derive(Debug, Drop)]
-pub enum WrittenAtomEdit<'a> {
-    Insert(WrittenAtom<'a>),
-    Remove(WrittenAtom<'a>),
 }
 
 /// An edit of a building: the robot to a room, a box to a room, a door open or not.
@@ -39,7 +35,7 @@ pub enum WrittenRoomEdit<'a> {
 
 /// A parameter of a learned table, by its number from 1, and an object's name.
 #[derive(Clone, Copy, Debug, PartialEq, Eq)]
-pub struct Binding<'a> {
+pub struct WrittenBinding<'a> {
     pub parameter: u32,
     pub object: &'a str,
 }
@@ -50,11 +46,11 @@ pub enum Statement<'a> {
     Script(u32),
     Object(Vec<&'a str>),
     Predicate(&'a str, u32),
-    Axiom(Vec<WrittenLiteral<'a>>),
+    Axiom(Vec<SignedAtom<'a>>),
     Operator(&'a str, Vec<&'a str>),
-    Pre(Vec<WrittenAtom<'a>>),
-    Delete(Vec<WrittenAtom<'a>>),
-    Add(Vec<WrittenAtom<'a>>),
+    Pre(Vec<SignedAtom<'a>>),
+    Delete(Vec<SignedAtom<'a>>),
+    Add(Vec<SignedAtom<'a>>),
     Building,
     Room(&'a str),
     /// Its name, its two rooms, and whether it is open.
@@ -62,16 +58,16 @@ pub enum Statement<'a> {
     Box(&'a str, &'a str),
     Robot(&'a str),
     End,
-    Fact(Vec<WrittenAtom<'a>>),
+    Fact(Vec<SignedAtom<'a>>),
     Height(u32),
     Nodes(u32),
     Shapes(u32),
-    Plan(&'a str, Vec<WrittenAtom<'a>>),
+    Plan(&'a str, Vec<SignedAtom<'a>>),
     Learn(&'a str, &'a str),
     Show(&'a str),
     /// The turn, whether between sensing and acting, and the edits.
-    DisturbAtoms(u32, bool, Vec<WrittenAtomEdit<'a>>),
+    DisturbAtoms(u32, bool, Vec<SignedAtom<'a>>),
     DisturbRooms(u32, bool, Vec<WrittenRoomEdit<'a>>),
-    Run(&'a str, Vec<Binding<'a>>),
+    Run(&'a str, Vec<WrittenBinding<'a>>),
     Facts,
 }

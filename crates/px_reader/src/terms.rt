@@ -1,24 +1,118 @@
-//! Atoms by numbers.
-ghost use Rattle.std.specs.Prelude.{◌≡◌, ◌≤◌, [], length, if◌then◌else◌};
+//! Terms, atoms and edits by numbers.
+ghost use Rattle.std.specs.Prelude.{◌≡◌, ◌≤◌, ◌<◌, length, map, nat_lt, take, position, All, IfOk, IfSome, OnOk, if◌then◌else◌};
+ghost use Rattle.std.specs.Str.{bytes_eq};
 ghost use Rattle.px_names.specs.Lists.{has_name};
-ghost use Rattle.px_script.specs.Declarations.{parameters_here, number_in, term_of, atom_of};
-ghost use Rattle.px_reader.specs.StatementViews.{argument_view, atom_view};
+ghost use Rattle.px_script.specs.Declarations.{parameters_here, number_in, term_of, atom_of, literal_of, atom_edit_of, room_edit_of, binding_of, variables_of};
+ghost use Rattle.px_reader.specs.CommandViews.{binding_pair};
+ghost use Rattle.px_reader.specs.Checks.{AreReadable, with_early_variable, early_variables};
 ghost use Rattle.px_reader.specs.Readers.{declared_of};
+ghost use Rattle.px_reader.specs.StatementViews.{argument_view, signed_view, room_edit_view, binding_view, text_of};
 
+use crate::command::Binding;
 use crate::reader::Reader;
-use crate::statement::{Argument, WrittenAtom};
+use crate::statement::{Argument, Sign, SignedAtom, WrittenBinding, WrittenRoomEdit};
+use px_base::NoMemory;
 use px_names::Kind;
-use px_terms::{Atom, Term};
+use px_terms::{Atom, Lit, Term};
+use px_world::{AtomEdit, RoomEdit};
+use std::alloc::Global;
+
+/// Where a variable stands among these.
+fn variable_place(variables: &[&str], name: &str) -> Option<usize>
+    ensures number { result ≡ position (λ other. bytes_eq name.now other.now) variables.now }
+    ensures within { IfSome result (λ number. number < length variables.now) }
+{
+    variables.iter().position(|other| name == *other)
+}
+
+/// The variable is one of these.
+fn is_variable_of(variables: &[&str], name: &str) -> bool
+    ensures { result ≡ has_name name.now (map text_of variables.now) }
+{
+    variable_place(variables, name).is_some()
+}
+
+/// Adds a variable that isn't there yet, where there are no more than twelve.
+fn add_variable<'a>(variables: &mut Vec<&'a str>, argument: &Argument<'a>) -> Result<(), NoMemory>
+    ensures { OnOk result (map text_of variables.new.items
+        ≡ with_early_variable (map text_of variables.old.items) (argument_view argument.now)) }
+{
+    let Argument::Variable(name) = argument else {
+        return Ok(());
+    };
+    if variables.len() > 12 {
+        return Ok(());
+    }
+    if is_variable_of(variables, name) {
+        return Ok(());
+    }
+    variables.push(*name)?;
+    Ok(())
+}
+
+fn add_variables<'a>(
+    variables: &mut Vec<&'a str>,
+    arguments: &[Argument<'a>],
+) -> Result<(), NoMemory>
+    ensures { OnOk result (map text_of variables.new.items
+        ≡ early_variables (map text_of variables.old.items) (map argument_view arguments.now)) }
+{
+    for argument in arguments {
+        add_variable(variables, argument)?;
+    }
+    Ok(())
+}
+
+/// The different variables of the atoms, by first occurrence, and only the first thirteen where there are more.
+fn variables<'a>(alloc: Global, atoms: &[SignedAtom<'a>]) -> Result<Vec<&'a str>, NoMemory>
+    ensures { IfOk result (λ found. map text_of found.items ≡ take 13 (variables_of (map signed_view atoms.now))) }
+{
+    let mut variables = Vec::new(alloc);
+    for atom in atoms {
+        add_variables(&mut variables, &atom.arguments)?;
+    }
+    Ok(variables)
+}
+
+/// The atoms have more than twelve different variables.
+pub fn has_many_variables(alloc: Global, atoms: &[SignedAtom<'_>]) -> Result<bool, NoMemory>
+    ensures { IfOk result (λ many. many ≡ nat_lt 12 (length (variables_of (map signed_view atoms.now)))) }
+{
+    let variables = variables(alloc, atoms)?;
+    Ok(variables.len() > 12)
+}
+
+/// The different variables of atoms that haven't more than twelve.
+pub fn few_variables<'a>(alloc: Global, atoms: &[SignedAtom<'a>]) -> Result<Vec<&'a str>, NoMemory>
+    requires { length (variables_of (map signed_view atoms.now)) ≤ 12 }
+    ensures names { IfOk result (λ found. map text_of found.items ≡ variables_of (map signed_view atoms.now)) }
+    ensures few { IfOk result (λ found. length found.items ≡ length (variables_of (map signed_view atoms.now))) }
+{
+    variables(alloc, atoms)
+}
+
+/// The number of a variable.
+fn variable_number(variables: &[&str], name: &str) -> u32
+    requires { length variables.now ≤ 12 }
+    ensures { result ≡ number_in name.now (map text_of variables.now) }
+{
+    match variable_place(variables, name) {
+        Some(number) => number as u32,
+        None => 0,
+    }
+}
 
 impl Reader {
-    /// The term of an argument that is no variable.
-    fn term(&self, argument: &Argument<'_>) -> Term
-        requires { length (parameters_here (declared_of self.now)) ≤ 8 }
-        ensures { result ≡ term_of (parameters_here (declared_of self.now)) [] self.now.names.objects (argument_view argument.now) }
+    /// The term of an argument.
+    fn term(&self, variables: &[&str], argument: &Argument<'_>) -> Term
+        requires few { length (parameters_here (declared_of self.now)) ≤ 8 }
+        requires few_variables { length variables.now ≤ 12 }
+        ensures { result ≡ term_of (parameters_here (declared_of self.now))
+            (map text_of variables.now) self.now.names.objects (argument_view argument.now) }
     {
         match argument {
             Argument::Named(name) => self.named(name),
-            Argument::Variable(_) => Term::Var(0),
+            Argument::Variable(name) => Term::Var(variable_number(variables, name)),
             Argument::Anything => Term::Any,
         }
     }
@@ -26,28 +120,134 @@ impl Reader {
     /// The parameter or the object of a name.
     fn named(&self, name: &str) -> Term
         requires { length (parameters_here (declared_of self.now)) ≤ 8 }
-        ensures { result ≡ (if has_name name.now (parameters_here (declared_of self.now)) then Term.Var (number_in name.now (parameters_here (declared_of self.now))) else Term.Obj (number_in name.now self.now.names.objects)) }
+        ensures { result ≡ (if has_name name.now (parameters_here (declared_of self.now)) then Term.Var
+            (number_in name.now (parameters_here (declared_of self.now))) else Term.Obj (number_in name.now self.now.names.objects)) }
     {
         match self.parameter(name) {
             Some(number) => Term::Var(number as u32),
-            None => Term::Obj(self.names.find(Kind::Object, name).unwrap_or(0)),
+            None => Term::Obj(self.number(Kind::Object, name)),
         }
     }
 
-    /// An atom without variables, by numbers.
-    pub fn atom(&self, atom: &WrittenAtom<'_>) -> Atom
+    /// An atom by numbers, with these variables.
+    pub fn atom(&self, variables: &[&str], atom: &SignedAtom<'_>) -> Atom
         requires few { length (parameters_here (declared_of self.now)) ≤ 8 }
+        requires few_variables { length variables.now ≤ 12 }
         requires size { length atom.now.arguments.items ≤ 6 }
-        ensures { result ≡ atom_of (declared_of self.now) [] (atom_view atom.now) }
+        ensures { result ≡ atom_of (declared_of self.now) (map text_of variables.now) (signed_view atom.now) }
     {
-        let predicate = self
-            .names
-            .find(Kind::Predicate, atom.predicate)
-            .unwrap_or(0);
+        let predicate = self.number(Kind::Predicate, atom.predicate);
         let mut terms = [Term::Any; 6];
         for (index, argument) in atom.arguments.iter().enumerate() {
-            terms[index] = self.term(argument);
+            terms[index] = self.term(variables, argument);
         }
         Atom::new(predicate, &terms[..atom.arguments.len()]).unwrap()
+    }
+
+    pub fn atoms(&self, variables: &[&str], atoms: &[SignedAtom<'_>]) -> Result<Vec<Atom>, NoMemory>
+        requires readable { AreReadable (declared_of self.now) atoms.now }
+        requires few_variables { length variables.now ≤ 12 }
+        ensures { IfOk result (λ numbered. numbered.items
+            ≡ map (λ x. atom_of (declared_of self.now) (map text_of variables.now) (signed_view x)) atoms.now) }
+    {
+        let mut numbered = Vec::new(self.alloc);
+        for atom in atoms {
+            numbered.push(self.atom(variables, atom))?;
+        }
+        Ok(numbered)
+    }
+
+    pub fn literals(
+        &self,
+        variables: &[&str],
+        atoms: &[SignedAtom<'_>],
+    ) -> Result<Vec<Lit>, NoMemory>
+        requires readable { AreReadable (declared_of self.now) atoms.now }
+        requires few_variables { length variables.now ≤ 12 }
+        ensures { IfOk result (λ numbered. numbered.items
+            ≡ map (λ x. literal_of (declared_of self.now) (map text_of variables.now) (signed_view x)) atoms.now) }
+    {
+        let mut literals = Vec::new(self.alloc);
+        for atom in atoms {
+            literals.push(Lit {
+                positive: matches!(atom.sign, Sign::Bare),
+                atom: self.atom(variables, atom),
+            })?;
+        }
+        Ok(literals)
+    }
+
+    fn atom_edit(&self, atom: &SignedAtom<'_>) -> AtomEdit
+        requires few { length (parameters_here (declared_of self.now)) ≤ 8 }
+        requires size { length atom.now.arguments.items ≤ 6 }
+        ensures { result ≡ atom_edit_of (declared_of self.now) (signed_view atom.now) }
+    {
+        let edited = self.atom(&[], atom);
+        match atom.sign {
+            Sign::Added => AtomEdit::Add(edited),
+            _ => AtomEdit::Remove(edited),
+        }
+    }
+
+    pub fn atom_edits(&self, atoms: &[SignedAtom<'_>]) -> Result<Vec<AtomEdit>, NoMemory>
+        requires { AreReadable (declared_of self.now) atoms.now }
+        ensures { IfOk result (λ numbered. numbered.items ≡ map (λ x. atom_edit_of (declared_of self.now) (signed_view x)) atoms.now) }
+    {
+        let mut edits = Vec::new(self.alloc);
+        for atom in atoms {
+            edits.push(self.atom_edit(atom))?;
+        }
+        Ok(edits)
+    }
+
+    fn room_edit(&self, edit: &WrittenRoomEdit<'_>) -> RoomEdit
+        ensures { result ≡ room_edit_of (declared_of self.now) (room_edit_view edit.now) }
+    {
+        match edit {
+            WrittenRoomEdit::RobotTo(room) => RoomEdit::Robot(self.object(room)),
+            WrittenRoomEdit::BoxTo(name, room) => RoomEdit::Box(
+                self.object(name),
+                self.object(room),
+            ),
+            WrittenRoomEdit::DoorTo(name, is_open) => RoomEdit::Door(self.object(name), *is_open),
+        }
+    }
+
+    pub fn room_edits(&self, edits: &[WrittenRoomEdit<'_>]) -> Result<Vec<RoomEdit>, NoMemory>
+        ensures { IfOk result (λ numbered. numbered.items
+            ≡ map (λ edit. room_edit_of (declared_of self.now) (room_edit_view edit)) edits.now) }
+    {
+        let numbered = edits
+            .iter()
+            .map(|edit| self.room_edit(edit))
+            .collect(self.alloc)?;
+        Ok(numbered)
+    }
+
+    /// The number of an object.
+    pub fn object(&self, name: &str) -> u32
+        ensures { result ≡ number_in name.now self.now.names.objects }
+    {
+        self.number(Kind::Object, name)
+    }
+
+    fn binding(&self, binding: &WrittenBinding<'_>) -> Binding
+        ensures { binding_pair result ≡ binding_of (declared_of self.now) (binding_view binding.now) }
+    {
+        Binding {
+            parameter: binding.parameter,
+            object: self.object(binding.object),
+        }
+    }
+
+    pub fn bindings(&self, bindings: &[WrittenBinding<'_>]) -> Result<Vec<Binding>, NoMemory>
+        ensures { IfOk result (λ numbered. map binding_pair numbered.items
+            ≡ map (λ b. binding_of (declared_of self.now) (binding_view b)) bindings.now) }
+    {
+        let mut numbered = Vec::new(self.alloc);
+        for binding in bindings {
+            numbered.push(self.binding(binding))?;
+        }
+        Ok(numbered)
     }
 }

@@ -39,6 +39,7 @@ const TEXTS: &[(&str, Outcome)] = &[
     ("object", (1, 2, 0)),
     ("object 9", (1, 2, 0)),
     ("object ?a", (1, 2, 0)),
+    ("object a,", (1, 2, 0)),
     ("predicate P", (1, 2, 0)),
     ("predicate P 1 2", (1, 2, 0)),
     ("operator", (1, 2, 0)),
@@ -204,7 +205,6 @@ const TEXTS: &[(&str, Outcome)] = &[
     ("\n\n \t\n# fly \u{e9}\n#", READ),
     ("\u{feff}script 1", READ),
     ("\r\n# \r\nscript 001\r\nobject a\r", READ),
-    ("object a,", (1, 2, 0)),
     (
         "object object\npredicate object 1\nfact object(object)#(",
         READ,

@@ -3,7 +3,7 @@ ghost use Rattle.std.specs.Prelude.{◌≡◌, ◌<◌, true, length};
 ghost use Rattle.std.specs.Char.{is_ascii_digit};
 ghost use Rattle.std.specs.Str.{chars, all_ascii_digits};
 ghost use Rattle.px_script.specs.Lexemes.{is_sign, number_value, goes_on};
-ghost use Rattle.px_script.specs.Scanning.{front_while, first, first_at, first_number, first_variable};
+ghost use Rattle.px_script.proofs.Scanning.{front_while, first, first_at, first_number, first_variable};
 ghost use Rattle.px_reader.specs.Views.{Scans, NameAt};
 
 use crate::class::{Class, split_while};

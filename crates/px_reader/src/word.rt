@@ -1,8 +1,6 @@
-//! The words that may begin a line.
+//! The words that may begin a line of version 1.
 ghost use Rattle.std.specs.Prelude.{◌≡◌, false, MatchOption};
-ghost use Rattle.std.specs.List.{list_any};
-ghost use Rattle.std.specs.Str.{bytes_eq};
-ghost use Rattle.px_script.specs.Statements.{words};
+ghost use Rattle.px_script.specs.Limits.{is_word};
 ghost use Rattle.px_reader.specs.Words.{word_text};
 
 /// A word that begins a line.
@@ -37,7 +35,7 @@ pub enum Word {
 impl Word {
     /// The word of this name.
     pub fn named(name: &str) -> Option<Word>
-        ensures { MatchOption result (list_any (bytes_eq name.now) words ≡ false) (λ word. name.now ≡ word_text word) }
+        ensures { MatchOption result (is_word 1 name.now ≡ false) (λ word. name.now ≡ word_text word) }
     {
         match name {
             "script" => Some(Word::Script),

@@ -20,10 +20,12 @@ pub record AreNamesOf (problem : Problem) (names : NameLists) : Type 0 where
   pub predicates : length names.predicates ≡ length problem.arities
   pub operators : length names.operators ≡ length problem.schemas
 
--- a plan has the name of a result, and a goal of at most twelve atoms of the problem without variables
+-- A plan has the name of a result, and a goal of at most twelve atoms of the problem without variables. Other commands than these aren't
+-- built.
 abbrev pub IsAnswerable : Problem → ℕ → Command → Type 0
 IsAnswerable problem results (Plan name goal vars) = (name < results) × All (IsAtomOf problem 0) goal × (vars ≡ 0) × (length goal ≤ 12)
-IsAnswerable problem results _ = Unit {0}
+IsAnswerable problem results Facts = Unit {0}
+IsAnswerable problem results _ = ⊥
 
 -- The problem is valid and has no axioms, its preconditions are short and its limit of shapes is what a search asks for, and the
 -- facts, the names and the commands are those of the problem.

@@ -30,6 +30,7 @@ pub fn answer(alloc: Global, script: &Script, place: usize) -> Result<Reply, NoM
         Command::Facts => Ok(Reply::FactsAre {
             atoms: facts(alloc, &script.facts)?,
         }),
+        _ => unreachable!(),
     }
 }
 

@@ -16,18 +16,21 @@ use Rattle.px_base.specs.SetLaws.{set_of-sorted, with_item-sorted, with_item-mem
 module _ {K : Type 0} (R : K → K → Ordering) (o : IsTotalOrder R) (same : IsAntisymmetric R) where
   -- the item is in the set, which stays as it is, or it isn't, and there is one more
   abbrev pub OneMore : K → List K → Type 0
-  OneMore item items = (Contains items item × (with_item R item items ≡ items)) ⊎ ((Contains items item → ⊥) × (length (with_item R item items) ≡ length items + 1))
+  OneMore item items = (Contains items item × (with_item R item items ≡ items))
+      ⊎ ((Contains items item → ⊥) × (length (with_item R item items) ≡ length items + 1))
 
   below-none : (x item : K) (xs : List K) → R item x ≡ Less → AllByRecursion (λ y. R x y ≡ Less) xs → Contains (x ∷ xs) item → ⊥
   below-none x item xs less all there = elim (Contains-cases x xs item there) [
     | inl is ↦ (let tied : R item item ≡ Equal = tied_itself o item in let below : R item item ≡ Less = ap (R item) (sym is) ∙ less in cc)
-    | inr later ↦ (let more = AllByRecursion-at (λ y. R x y ≡ Less) xs item all later in let tied : R item item ≡ Equal = tied_itself o item in let below : R item item ≡ Less = o.trans item x item less more in cc)
+    | inr later ↦ (let more = AllByRecursion-at (λ y. R x y ≡ Less) xs item all later in
+        let tied : R item item ≡ Equal = tied_itself o item in let below : R item item ≡ Less = o.trans item x item less more in cc)
   ]
 
   pub one-more : (item : K) (items : List K) → IsStrictlySortedBy R items → OneMore item items
   unfolding with_item IsStrictlySortedBy
   one-more item [] sorted = inr (Contains-none item, refl)
-  one-more item (x ∷ xs) sorted = elim (R item x) as (λ r. R item x ≡ r → (Contains (x ∷ xs) item × (place_item r item x xs (with_item R item xs) ≡ x ∷ xs))
+  one-more item (x ∷ xs) sorted =
+      elim (R item x) as (λ r. R item x ≡ r → (Contains (x ∷ xs) item × (place_item r item x xs (with_item R item xs) ≡ x ∷ xs))
       ⊎ ((Contains (x ∷ xs) item → ⊥) × (length (place_item r item x xs (with_item R item xs)) ≡ length (x ∷ xs) + 1))) [
         | Less ↦ λ e. inr (below-none x item xs e sorted.0, omega arith)
         | Equal ↦ λ e. inl (subst (Contains (x ∷ xs)) (sym (same item x e)) (Contains-first x xs), refl)
@@ -35,7 +38,8 @@ module _ {K : Type 0} (R : K → K → Ordering) (o : IsTotalOrder R) (same : Is
           | inl there ↦ inl (Contains-later x xs item there.0, ap (λ t. x ∷ t) there.1)
           | inr none ↦ inr (
             (λ there. elim (Contains-cases x xs item there) [
-              | inl is ↦ (let tied : R item item ≡ Equal = tied_itself o item in let above : R item item ≡ Greater = ap (R item) (sym is) ∙ e in cc)
+              | inl is ↦ (let tied : R item item ≡ Equal = tied_itself o item in
+                  let above : R item item ≡ Greater = ap (R item) (sym is) ∙ e in cc)
               | inr later ↦ none.0 later
             ]),
             omega (arith, none.1),
@@ -46,13 +50,15 @@ module _ {K : Type 0} (R : K → K → Ordering) (o : IsTotalOrder R) (same : Is
   -- the set of the items and an earlier list, with one more item
   pub set-more : (item : K) (done rest : List K) → with_item R item (set_of R (done ++ rest)) ≡ set_of R ((done ++ item ∷ []) ++ rest)
   set-more item done rest =
-      same_set R o same (with_item R item (set_of R (done ++ rest))) (set_of R ((done ++ item ∷ []) ++ rest)) (with_item-sorted R o same item (set_of R (done ++ rest)) (set_of-is_sorted R o same (done ++ rest)))
+      same_set R o same (with_item R item (set_of R (done ++ rest))) (set_of R ((done ++ item ∷ []) ++ rest))
+      (with_item-sorted R o same item (set_of R (done ++ rest)) (set_of-is_sorted R o same (done ++ rest)))
       (set_of-is_sorted R o same ((done ++ item ∷ []) ++ rest)) (λ q.
       let put = with_item-members R o same item (set_of R (done ++ rest)) q in
       let old = set_of-members R o same (done ++ rest) q in
       let new = set_of-members R o same ((done ++ item ∷ []) ++ rest) q in (
         λ h. new.1 (elim (Contains-cases item (set_of R (done ++ rest)) q (put.0 h)) [
-          | inl is ↦ Contains-append_left (done ++ item ∷ []) rest q (Contains-append_right done (item ∷ []) q (subst (Contains (item ∷ [])) is (Contains-first item [])))
+          | inl is ↦ Contains-append_left (done ++ item ∷ []) rest q
+              (Contains-append_right done (item ∷ []) q (subst (Contains (item ∷ [])) is (Contains-first item [])))
           | inr later ↦ elim (Contains-append_cases done rest q (old.0 later)) [
             | inl left ↦ Contains-append_left (done ++ item ∷ []) rest q (Contains-append_left done (item ∷ []) q left)
             | inr right ↦ Contains-append_right (done ++ item ∷ []) rest q right
@@ -61,7 +67,8 @@ module _ {K : Type 0} (R : K → K → Ordering) (o : IsTotalOrder R) (same : Is
         λ h. put.1 (elim (Contains-append_cases (done ++ item ∷ []) rest q (new.0 h)) [
           | inl left ↦ elim (Contains-append_cases done (item ∷ []) q left) [
             | inl first ↦ Contains-later item (set_of R (done ++ rest)) q (old.1 (Contains-append_left done rest q first))
-            | inr last ↦ subst (Contains (item ∷ set_of R (done ++ rest))) (Contains-one item q last) (Contains-first item (set_of R (done ++ rest)))
+            | inr last ↦ subst (Contains (item ∷ set_of R (done ++ rest))) (Contains-one item q last)
+                (Contains-first item (set_of R (done ++ rest)))
           ]
           | inr right ↦ Contains-later item (set_of R (done ++ rest)) q (old.1 (Contains-append_right done rest q right))
         ]),
@@ -75,9 +82,17 @@ module _ {K : Type 0} (R : K → K → Ordering) (o : IsTotalOrder R) (same : Is
   pub set-grows : (done more rest : List K) → length (set_of R (done ++ rest)) ≤ length (set_of R ((done ++ more) ++ rest))
   set-grows done [] rest = omega (arith, ap (λ t. length (set_of R (t ++ rest))) (append-nil done))
   set-grows done (item ∷ more) rest =
-      let one = no-fewer item (set_of R (done ++ rest)) (one-more item (set_of R (done ++ rest)) (set_of-is_sorted R o same (done ++ rest))) in
+      let one = no-fewer item (set_of R (done ++ rest))
+      (one-more item (set_of R (done ++ rest)) (set_of-is_sorted R o same (done ++ rest))) in
       let later = set-grows (done ++ item ∷ []) more rest in
-      omega (arith, one, ap length (set-more item done rest), later, ap (λ t. length (set_of R (t ++ rest))) (append_assoc done (item ∷ []) more))
+      omega (
+        arith,
+        one,
+        ap length (set-more item done rest),
+        later,
+        ap
+            (λ t. length (set_of R (t ++ rest))) (append_assoc done (item ∷ []) more),
+      )
 
   -- The new items are those that are done and weren't there.
   pub record Counts (old new done : List K) : Type 0 where
@@ -111,13 +126,18 @@ module _ {K : Type 0} (R : K → K → Ordering) (o : IsTotalOrder R) (same : Is
   }
 
   -- an item that wasn't
-  pub counts-new : (old new done : List K) (item : K) → Counts old new done → (Contains old item → ⊥) → Counts old (with_item R item new) (done ++ item ∷ [])
+  pub counts-new : (old new done : List K) (item : K) → Counts old new done → (Contains old item → ⊥)
+      → Counts old (with_item R item new) (done ++ item ∷ [])
   counts-new old new done item c none = record {
     sorted = with_item-sorted R o same item new c.sorted;
     members = λ q.
         let put = with_item-members R o same item new q in (
           λ h. elim (Contains-cases item new q (put.0 h)) [
-            | inl is ↦ (Contains-append_right done (item ∷ []) q (subst (Contains (item ∷ [])) is (Contains-first item [])), λ there. none (subst (Contains old) (sym is) there))
+            | inl is ↦ (
+              Contains-append_right done (item ∷ []) q
+                  (subst (Contains (item ∷ [])) is (Contains-first item [])),
+              λ there. none (subst (Contains old) (sym is) there),
+            )
             | inr later ↦ (let was = (c.members q).0 later in (Contains-append_left done (item ∷ []) q was.0, was.1))
           ],
           λ h. elim (Contains-append_cases done (item ∷ []) q h.0) [

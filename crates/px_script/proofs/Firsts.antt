@@ -9,7 +9,7 @@ use Rattle.unicode_ident.specs.Ident.{is_xid_continue}
 use Rattle.unicode_ident.proofs.IdentLemmas.{is_xid_start-ascii, is_xid_continue-ascii, is_xid_start-is_xid_continue}
 use Rattle.px_names.specs.Name.{starts_name}
 use Rattle.px_script.specs.Lexemes.{Lexeme, name, variable, number, sign, is_blank, is_sign, number_value, goes_on, is_comment, IsLexeme, ends_before, Begins, IsIgnored}
-use Rattle.px_script.specs.Scanning.{found, ignored, bad, front_while, after_while, first_number, first_variable, first_sign, first_at, first, stops}
+use Rattle.px_script.proofs.Scanning.{found, ignored, bad, front_while, after_while, first_number, first_variable, first_sign, first_at, first, stops}
 use Rattle.px_script.proofs.Fronts.{by_test, true_not_false, front-after, front-all, after-stops, front-is, after-is, all-first}
 
 -- an ASCII character begins a name only where it is a letter or an underscore
@@ -66,7 +66,11 @@ sign-starts c is =
                                         elim (or_cases _ _ is6) [
                                           | inl a ↦ at_code P c 45 a (starts-ascii 45 (omega arith))
                                           | inr is7 ↦
-                                              elim (or_cases _ _ is7) [ inl a ↦ at_code P c 61 a (starts-ascii 61 (omega arith)) | inr none ↦ true_not_false false none refl ]
+                                              elim (or_cases _ _ is7) [
+                                                | inl a ↦ at_code P c 61 a
+                                                    (starts-ascii 61 (omega arith))
+                                                | inr none ↦ true_not_false false none refl
+                                              ]
                                         ]
                                   ]
                             ]
@@ -78,7 +82,8 @@ sign-starts c is =
 -- what starts a name may go on one
 pub starts-continues : (c : ℕ) → starts_name c ≡ true → is_xid_continue c ≡ true
 starts-continues c starts = elim (or_cases _ _ starts) [
-  | inl underscore ↦ (let P : ℕ → Type 0 = λ x. is_xid_continue x ≡ true in at_code P c 95 underscore (is_xid_continue-ascii 95 (omega arith)))
+  | inl underscore ↦ (let P : ℕ → Type 0 = λ x. is_xid_continue x ≡ true in
+      at_code P c 95 underscore (is_xid_continue-ascii 95 (omega arith)))
   | inr letter ↦ is_xid_start-is_xid_continue c letter
 ]
 
@@ -103,7 +108,8 @@ goes_on-stops (c ∷ cs) h = rw h refl
 
 stops-goes_on : (cs : List ℕ) → stops is_xid_continue cs ≡ true → goes_on cs ≡ false
 stops-goes_on [] h = refl
-stops-goes_on (c ∷ cs) h = by_test (is_xid_continue c) (λ e. let wrong : false ≡ true = rw e at h in true_not_false false wrong refl) (λ e. e)
+stops-goes_on (c ∷ cs) h =
+    by_test (is_xid_continue c) (λ e. let wrong : false ≡ true = rw e at h in true_not_false false wrong refl) (λ e. e)
 
 stops-digit : (cs : List ℕ) → goes_on cs ≡ false → stops is_ascii_digit cs ≡ true
 stops-digit [] h = refl
@@ -145,7 +151,11 @@ sign-first c cs is =
                                         elim (or_cases _ _ is6) [
                                           | inl a ↦ at_code P c 45 a (rw (starts-ascii 45 (omega arith)) refl)
                                           | inr is7 ↦
-                                              elim (or_cases _ _ is7) [ inl a ↦ at_code P c 61 a (rw (starts-ascii 61 (omega arith)) refl) | inr none ↦ true_not_false false none refl ]
+                                              elim (or_cases _ _ is7) [
+                                                | inl a ↦ at_code P c 61 a
+                                                    (rw (starts-ascii 61 (omega arith)) refl)
+                                                | inr none ↦ true_not_false false none refl
+                                              ]
                                         ]
                                   ]
                             ]
@@ -218,7 +228,8 @@ pub found-same : (l m : Lexeme) (rest more : List ℕ) → found l rest ≡ foun
 found-same l m rest more e = (cc, cc)
 
 scanned-name : (c : ℕ) (cs : List ℕ) (l : Lexeme) (rest : List ℕ) → starts_name c ≡ true
-    → found (name (encode_utf8_all (c ∷ front_while is_xid_continue cs))) (after_while is_xid_continue cs) ≡ found l rest → Scanned (c ∷ cs) l rest
+    → found (name (encode_utf8_all (c ∷ front_while is_xid_continue cs))) (after_while is_xid_continue cs) ≡ found l rest
+    → Scanned (c ∷ cs) l rest
 scanned-name c cs l rest starts e =
     let same = found-same _ _ _ _ e in
     let P : Lexeme → List ℕ → Type 0 = λ m more. Scanned (c ∷ cs) m more in
@@ -236,7 +247,8 @@ scanned-variable (c ∷ cs) l rest e = by_test (starts_name c)
     (λ starts.
     let chosen = rw starts at e in
     let same = found-same _ _ _ _ chosen in
-    let here : Scanned (63 ∷ c ∷ cs) (variable (encode_utf8_all (c ∷ front_while is_xid_continue cs))) (after_while is_xid_continue cs) = record {
+    let here : Scanned (63 ∷ c ∷ cs) (variable (encode_utf8_all (c ∷ front_while is_xid_continue cs)))
+    (after_while is_xid_continue cs) = record {
       text = 63 ∷ c ∷ front_while is_xid_continue cs;
       whole = ap (λ t. 63 ∷ c ∷ t) (sym (front-after is_xid_continue cs));
       is_lexeme = (refl, rw starts (front-all is_xid_continue cs), refl);
@@ -245,13 +257,15 @@ scanned-variable (c ∷ cs) l rest e = by_test (starts_name c)
     rw (← same.0, ← same.1) here)
     (λ starts. let chosen = rw starts at e in let no : ⊥ = cc in elim no [ ])
 
-scanned-number : (c : ℕ) (cs : List ℕ) (l : Lexeme) (rest : List ℕ) → is_ascii_digit c ≡ true → first_number (c ∷ cs) ≡ found l rest → Scanned (c ∷ cs) l rest
+scanned-number : (c : ℕ) (cs : List ℕ) (l : Lexeme) (rest : List ℕ) → is_ascii_digit c ≡ true → first_number (c ∷ cs) ≡ found l rest
+    → Scanned (c ∷ cs) l rest
 scanned-number c cs l rest digit e = by_test (goes_on (after_while is_ascii_digit (c ∷ cs)))
     (λ more. let chosen = rw more at e in let no : ⊥ = cc in elim no [ ])
     (λ ends.
     let chosen = rw ends at e in
     let same = found-same _ _ _ _ chosen in
-    let here : Scanned (c ∷ cs) (number (number_value (front_while is_ascii_digit (c ∷ cs)))) (after_while is_ascii_digit (c ∷ cs)) = record {
+    let here : Scanned (c ∷ cs) (number (number_value (front_while is_ascii_digit (c ∷ cs))))
+    (after_while is_ascii_digit (c ∷ cs)) = record {
       text = front_while is_ascii_digit (c ∷ cs);
       whole = sym (front-after is_ascii_digit (c ∷ cs));
       is_lexeme = (rw digit (omega arith), digits-all (front_while is_ascii_digit (c ∷ cs)) ∙ front-all is_ascii_digit (c ∷ cs), refl);
@@ -275,7 +289,8 @@ scanned-at (c ∷ cs) l rest e = by_test (starts_name c)
     (λ starts. let e1 = rw starts at e in by_test (c == 35)
     (λ hash. let e2 = rw hash at e1 in let no : ⊥ = cc in elim no [ ])
     (λ hash. let e2 = rw hash at e1 in by_test (c == 63)
-    (λ mark. let e3 = rw mark at e2 in let P : ℕ → Type 0 = λ x. Scanned (x ∷ cs) l rest in at_code P c 63 mark (scanned-variable cs l rest e3))
+    (λ mark. let e3 = rw mark at e2 in let P : ℕ → Type 0 = λ x. Scanned (x ∷ cs) l rest in
+    at_code P c 63 mark (scanned-variable cs l rest e3))
     (λ mark. let e3 = rw mark at e2 in by_test (is_ascii_digit c)
     (λ digit. scanned-number c cs l rest digit (sym (cond_true (is_ascii_digit c) (first_number (c ∷ cs)) (first_sign c cs) digit) ∙ e3))
     (λ digit. scanned-sign c cs l rest (rw digit at e3)))))
@@ -307,7 +322,8 @@ ignored-at (c ∷ cs) e = by_test (c == 35) (λ hash. hash) (λ hash. by_test (s
     variable-no (c ∷ cs) e = by_test (starts_name c) (λ starts. let e1 = rw starts at e in cc) (λ starts. let e1 = rw starts at e in cc)
 
     number-no : (cs : List ℕ) → first_number cs ≡ ignored → ⊥
-    number-no cs e = by_test (goes_on (after_while is_ascii_digit cs)) (λ more. let e1 = rw more at e in cc) (λ more. let e1 = rw more at e in cc)
+    number-no cs e =
+        by_test (goes_on (after_while is_ascii_digit cs)) (λ more. let e1 = rw more at e in cc) (λ more. let e1 = rw more at e in cc)
 
     sign-no : (c : ℕ) (cs : List ℕ) → first_sign c cs ≡ ignored → ⊥
     sign-no c cs e = by_test (is_sign c) (λ is. let e1 = rw is at e in cc) (λ is. let e1 = rw is at e in cc)

@@ -1,7 +1,7 @@
 -- The longest front of a list that passes a test.
 use Rattle.std.proofs.Common.{◌≡◌, ℕ, Bool, true, false, List, [], ◌∷◌, ◌++◌, refl, ap}
 use Rattle.std.specs.List.{list_all}
-use Rattle.px_script.specs.Scanning.{front_while, after_while, stops}
+use Rattle.px_script.proofs.Scanning.{front_while, after_while, stops}
 
 -- one case for each answer of a test
 pub by_test : {A : Type 0} (b : Bool) → (b ≡ true → A) → (b ≡ false → A) → A
@@ -35,7 +35,8 @@ stops-after p [] h = refl
 stops-after p (c ∷ cs) h = rw (stops-fails p c cs h) refl
 
 pub all-first : (p : ℕ → Bool) (c : ℕ) (cs : List ℕ) → list_all p (c ∷ cs) ≡ true → (p c ≡ true) × (list_all p cs ≡ true)
-all-first p c cs all = by_test (p c) (λ e. (e, rw e at all)) (λ e. let wrong : false ≡ true = rw e at all in true_not_false false wrong refl)
+all-first p c cs all =
+    by_test (p c) (λ e. (e, rw e at all)) (λ e. let wrong : false ≡ true = rw e at all in true_not_false false wrong refl)
 
 -- a front that passes, before what stops
 pub front-is : (p : ℕ → Bool) (front rest : List ℕ) → list_all p front ≡ true → stops p rest ≡ true → front_while p (front ++ rest) ≡ front

@@ -1,27 +1,55 @@
+-- the parser, and what it needs
+pub mod Scanning
+pub mod Progress
+pub mod Parsing
+-- what the lines so far keep
+pub mod States
+-- lexemes
 pub mod Fronts
 pub mod Firsts
 pub mod Readings
 pub mod Texts
 pub mod Numbers
 pub mod Reading
-pub mod OneWay
-pub mod Forms
-pub mod Sound
-pub mod Law
-pub mod Repeats
+-- numbers of names, and of variables
+pub mod Numbered
+pub mod Numbering
+pub mod Arguments
+pub mod Grown
+-- lists and tests
+pub mod Tests
+pub mod ListLemmas
 pub mod Twice
 pub mod Distinct
+pub mod FactSets
+-- forms
+pub mod Repeats
+pub mod ReadBack
+pub mod SoundItems
+pub mod Sound
+pub mod Forms
 pub mod Walks
 pub mod Steps
-pub mod Arguments
-pub mod ListLemmas
-pub mod Kept
+-- lines without a fault, and what they keep
 pub mod Faultless
-pub mod FactSets
+pub mod KeptNames
+pub mod KeptProblem
+pub mod KeptCommands
+pub mod LineAtoms
+pub mod KeptDomain
+pub mod KeptBlocks
+pub mod KeptBuilding
+pub mod KeptRuns
+pub mod Kept
+pub mod Stage
 pub mod Right
 pub mod Named
+-- the law of one reading
+pub mod OneWay
+pub mod Law
+-- worked lines and texts
 pub mod Plain
 pub mod PlainReading
 pub mod NoText
 pub mod Worked
-pub mod WorkedStages
+pub mod WorkedLines

@@ -14,7 +14,8 @@ list_any_map p f [] = refl
 list_any_map p f (x ∷ xs) = ap (λ b. p (f x) || b) (list_any_map p f xs)
 
 -- a test of all that stands in the lists of items
-pub list_any_flat : {A B : Type 0} (p : B → Bool) (f : A → List B) (xs : List A) → list_any p (flat_map f xs) ≡ list_any (λ x. list_any p (f x)) xs
+pub list_any_flat : {A B : Type 0} (p : B → Bool) (f : A → List B) (xs : List A)
+    → list_any p (flat_map f xs) ≡ list_any (λ x. list_any p (f x)) xs
 list_any_flat p f [] = refl
 list_any_flat p f (x ∷ xs) = list_any-append p (f x) (flat_map f xs) ∙ ap (λ b. list_any p (f x) || b) (list_any_flat p f xs)
 
@@ -22,12 +23,13 @@ some-if : (b : Bool) (k : ℕ) → is_some (if b then Some k else None) ≡ b
 some-if true k = refl
 some-if false k = refl
 
-within : {A : Type 0} (p : A → Bool) (xs : List A) → nat_lt (prefix_len (λ x. not (p x)) xs) (length xs) ≡ list_any p xs
+pub within : {A : Type 0} (p : A → Bool) (xs : List A) → nat_lt (prefix_len (λ x. not (p x)) xs) (length xs) ≡ list_any p xs
 within p [] = refl
-within p (x ∷ xs) = elim (p x) as (λ b. p x ≡ b → nat_lt (if not b then 1 + prefix_len (λ y. not (p y)) xs else 0) (length (x ∷ xs)) ≡ (b || list_any p xs)) [
-  | true ↦ λ e. grind (arith, nat_tests)
-  | false ↦ λ e. let more = within p xs in later (prefix_len (λ y. not (p y)) xs) (length xs) ∙ more
-] refl
+within p (x ∷ xs) = elim (p x) as
+    (λ b. p x ≡ b → nat_lt (if not b then 1 + prefix_len (λ y. not (p y)) xs else 0) (length (x ∷ xs)) ≡ (b || list_any p xs)) [
+      | true ↦ λ e. grind (arith, nat_tests)
+      | false ↦ λ e. let more = within p xs in later (prefix_len (λ y. not (p y)) xs) (length xs) ∙ more
+    ] refl
   where
     later : (m n : ℕ) → nat_lt (1 + m) (suc n) ≡ nat_lt m n
     later m n = grind (arith, nat_tests)

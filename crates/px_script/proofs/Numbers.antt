@@ -14,7 +14,8 @@ use Rattle.px_script.proofs.Firsts.{and_both, digit-range}
 pub own : IsNumeralModel (λ ds. all_ascii_digits ds ≡ true) (digits_value 10)
 own = numerals_by_value (λ ds. all_ascii_digits ds ≡ true) tells_all_ascii_digits
 
-capped : {E : Type 0} (r : Result ℕ E) (value : ℕ) (P : Type 0) → P → OkIff r (P × (value < 2 ^ 32)) value → result_unwrap_or r (2 ^ 32 - 1) ≡ min value (2 ^ 32 - 1)
+capped : {E : Type 0} (r : Result ℕ E) (value : ℕ) (P : Type 0) → P → OkIff r (P × (value < 2 ^ 32)) value
+    → result_unwrap_or r (2 ^ 32 - 1) ≡ min value (2 ^ 32 - 1)
 capped (Ok n) value P p is = omega (arith, is.0.1, is.1)
 capped (Err e) value P p is = elim (cases_lt value (2 ^ 32)) [ inl small ↦ absurd (is (p, small)) | inr large ↦ omega (arith, large) ]
 
@@ -27,7 +28,8 @@ encodes-digits (c ∷ cs) all =
     rw (encode_ascii c (omega (arith, range.1)), encodes-digits cs both.1) refl
 
 -- what `parse` answers for the text of digits, with the greatest number in place of an error
-pub parsed-digits : {E : Type 0} (text : List ℕ) (r : Result ℕ E) → IsUtf8 text → 0 < length (chars text) → all_ascii_digits (chars text) ≡ true → ParsesUnsigned 32 10 text r
+pub parsed-digits : {E : Type 0} (text : List ℕ) (r : Result ℕ E) → IsUtf8 text → 0 < length (chars text)
+    → all_ascii_digits (chars text) ≡ true → ParsesUnsigned 32 10 text r
     → result_unwrap_or r (2 ^ 32 - 1) ≡ number_value (chars text)
 parsed-digits text r u some all parses =
     let same : chars text ≡ text = sym (encodes-digits (chars text) all) ∙ encodes-chars text u in

@@ -5,10 +5,11 @@ use Rattle.std.specs.List.{list_all, slice_split}
 use Rattle.std.specs.Char.{is_ascii_digit, is_ascii_alphabetic, is_ascii_alphanumeric}
 use Rattle.px_script.specs.Lexemes.{Lexeme, name, variable, number, sign, is_blank, is_sign, number_value}
 use Rattle.px_script.specs.Lines.{without_return, without_mark}
-use Rattle.px_script.specs.Scanning.{First, found, ignored, bad, front_while, after_while}
-use Rattle.px_script.specs.Statements.{Statement, begins_with_word}
-use Rattle.px_script.specs.Parsing.{parse}
-use Rattle.px_script.specs.Declarations.{Declared, has_building, after_line, nothing_declared}
+use Rattle.px_script.proofs.Scanning.{First, found, ignored, bad, front_while, after_while}
+use Rattle.px_script.specs.Statements.{Statement}
+use Rattle.px_script.specs.Forms.{begins_with_word}
+use Rattle.px_script.proofs.Parsing.{parse}
+use Rattle.px_script.specs.Declarations.{Declared, after_line, nothing_declared}
 use Rattle.px_script.specs.Stages.{Stage}
 use Rattle.px_script.specs.Faults.{Refusal, fault_at}
 
@@ -28,7 +29,7 @@ statement_read stage n d (Some s) = elim (fault_at stage d s) [ None ↦ passes 
 abbrev pub line_read : Stage → ℕ → Declared → Option (List Lexeme) → Reading
 line_read stage n d None = refused n 2 0
 line_read stage n d (Some []) = passes d
-line_read stage n d (Some (x ∷ xs)) = if begins_with_word (x ∷ xs) then statement_read stage n d (parse (has_building d) (x ∷ xs)) else refused n 3 0
+line_read stage n d (Some (x ∷ xs)) = if begins_with_word d (x ∷ xs) then statement_read stage n d (parse d (x ∷ xs)) else refused n 3 0
 
 abbrev pub end_read : Declared → Reading
 end_read d = elim d.block [ None ↦ passes d | Some block ↦ refused block.line 10 0 ]
@@ -73,7 +74,8 @@ first_of_kind c starts a_name a_variable a_number a_sign = if starts then a_name
 
 abbrev pub plain_first_at : List ℕ → First
 plain_first_at [] = ignored
-plain_first_at (c ∷ cs) = first_of_kind c (starts_plain c) (plain_name name c cs) (plain_variable cs) (plain_number (c ∷ cs)) (if is_sign c then found (sign c) cs else bad)
+plain_first_at (c ∷ cs) = first_of_kind c (starts_plain c) (plain_name name c cs) (plain_variable cs) (plain_number (c ∷ cs))
+    (if is_sign c then found (sign c) cs else bad)
 
 abbrev pub plain_first : List ℕ → First
 plain_first line = plain_first_at (after_while is_blank line)

@@ -1,7 +1,7 @@
 -- A line has at most one reading as lexemes, and it is decided whether it has one.
 use Rattle.std.proofs.Common.{◌≡◌, ◌⊎◌, ℕ, ◌<◌, ◌+◌, suc, zero, List, [], ◌∷◌, length, refl, sym, ap, ◌∙◌, subst, arith, inl, inr, length-append}
 use Rattle.px_script.specs.Lexemes.{Lexeme, name, variable, number, sign, IsLexeme, Begins, IsIgnored, Lexes}
-use Rattle.px_script.specs.Scanning.{First, found, ignored, bad, first}
+use Rattle.px_script.proofs.Scanning.{First, found, ignored, bad, first}
 use Rattle.px_script.proofs.Firsts.{begins-found, ignored-scanned, found-begins, scanned-ignored, found-same}
 
 -- two lexemes at the front of a line are one
@@ -53,7 +53,8 @@ decided-after line l rest begins (inr none) = inr (λ xs. after xs)
         let P : List ℕ → Type 0 = λ t. Lexes t xs in
         none xs (subst P (sym same.1) is.2)
 
-decided-by : (line : List ℕ) (f : First) → first line ≡ f → ((l : Lexeme) (rest : List ℕ) → Begins line l rest → Decided rest) → Decided line
+decided-by : (line : List ℕ) (f : First) → first line ≡ f → ((l : Lexeme) (rest : List ℕ) → Begins line l rest → Decided rest)
+    → Decided line
 decided-by line (found l rest) e recur = let begins = found-begins line l rest e in decided-after line l rest begins (recur l rest begins)
 decided-by line ignored e recur = inl ([], scanned-ignored line e)
 decided-by line bad e recur = inr (decided-bad line e)

@@ -7,7 +7,7 @@ use Rattle.std.proofs.lemmas.Str.{IsUtf8-take, IsUtf8-encode, IsCharBoundary-at_
 use Rattle.std.proofs.Math.Seq.{take-append_seam}
 use Rattle.std.proofs.lemmas.List.{append-nil}
 use Rattle.std.proofs.lemmas.List.Folds.{list_all-append}
-use Rattle.px_script.specs.Scanning.{front_while, after_while, stops}
+use Rattle.px_script.proofs.Scanning.{front_while, after_while, stops}
 use Rattle.px_script.proofs.Fronts.{front-is, after-is}
 
 -- what stands before a text in a text is text
@@ -29,21 +29,35 @@ IsUtf8-first text rest c u whole =
     IsUtf8-encode c (and_left _ _ scalars)
 
 -- a front that passes grows by a character that passes
-pub front-grows : (p : ℕ → Bool) (text front rest after : List ℕ) (c : ℕ) → IsUtf8 text → text ≡ front ++ rest → IsUtf8 rest → rest ≡ encode_utf8 c ++ after
-    → list_all p (chars front) ≡ true → p c ≡ true → (text ≡ (front ++ encode_utf8 c) ++ after) × (list_all p (chars (front ++ encode_utf8 c)) ≡ true)
+pub front-grows : (p : ℕ → Bool) (text front rest after : List ℕ) (c : ℕ) → IsUtf8 text → text ≡ front ++ rest → IsUtf8 rest
+    → rest ≡ encode_utf8 c ++ after
+    → list_all p (chars front) ≡ true → p c ≡ true
+    → (text ≡ (front ++ encode_utf8 c) ++ after) × (list_all p (chars (front ++ encode_utf8 c)) ≡ true)
 front-grows p text front rest after c u whole v next all passes =
     let one = IsUtf8-first rest after c v next in
-    let single : chars (encode_utf8 c) ≡ c ∷ [] = chars_past_char (encode_utf8 c) [] c one (sym (append-nil (encode_utf8 c))) ∙ ap (λ t. c ∷ t) chars-nil in (
+    let single : chars (encode_utf8 c) ≡ c ∷ [] = chars_past_char (encode_utf8 c) [] c one (sym (append-nil (encode_utf8 c)))
+    ∙ ap (λ t. c ∷ t) chars-nil in (
       whole ∙ ap (λ t. front ++ t) next ∙ sym (append_assoc front (encode_utf8 c) after),
-      rw (chars-append front (encode_utf8 c) (IsUtf8-front text front rest u whole v), single, list_all-append p (chars front) (c ∷ []), all, passes) refl,
+      rw (
+        chars-append front (encode_utf8 c) (IsUtf8-front text front rest u whole v),
+        single,
+        list_all-append p (chars front)
+            (c ∷ []),
+        all,
+        passes,
+      ) refl,
     )
 
 -- the front at which the text stops
-pub front-ends : (p : ℕ → Bool) (text front rest : List ℕ) → IsUtf8 text → text ≡ front ++ rest → IsUtf8 rest → list_all p (chars front) ≡ true → stops p (chars rest) ≡ true
+pub front-ends : (p : ℕ → Bool) (text front rest : List ℕ) → IsUtf8 text → text ≡ front ++ rest → IsUtf8 rest
+    → list_all p (chars front) ≡ true → stops p (chars rest) ≡ true
     → (chars front ≡ front_while p (chars text)) × (chars rest ≡ after_while p (chars text))
 front-ends p text front rest u whole v all stop =
-    let characters : chars text ≡ chars front ++ chars rest = rw whole (chars-append front rest (IsUtf8-front text front rest u whole v)) in
-    (sym (ap (front_while p) characters ∙ front-is p (chars front) (chars rest) all stop), sym (ap (after_while p) characters ∙ after-is p (chars front) (chars rest) all stop))
+    let characters : chars text ≡ chars front ++ chars rest = rw whole (chars-append front rest (IsUtf8-front text front rest u whole v)) in (
+      sym (ap (front_while p) characters ∙ front-is p (chars front) (chars rest) all stop),
+      sym
+          (ap (after_while p) characters ∙ after-is p (chars front) (chars rest) all stop),
+    )
 
 -- the length of the front is what is left of the length
 pub cut-place : (text front rest : List ℕ) → text ≡ front ++ rest → length text - length rest ≡ length front

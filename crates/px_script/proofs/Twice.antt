@@ -9,8 +9,8 @@ use Rattle.std.proofs.lemmas.List.Folds.{list_any-append, list_any_at}
 use Rattle.std.proofs.lemmas.Slice.Eq.{bytes_eq-Decides}
 use Rattle.px_names.specs.Lists.{has_name}
 use Rattle.px_names.specs.NameLaws.{bytes_eq-itself}
-use Rattle.px_script.specs.Faults.{stands_twice, repeats}
-use Rattle.px_script.proofs.Arguments.{or-false}
+use Rattle.px_script.specs.Causes.{stands_twice, repeats}
+use Rattle.px_script.proofs.Tests.{or-false}
 
 same_any : {A : Type 0} (p q : A → Bool) (xs : List A) → All (λ x. p x ≡ q x) xs → list_any p xs ≡ list_any q xs
 same_any p q [] same = refl
@@ -20,7 +20,8 @@ more_any : {A : Type 0} (p q : A → Bool) (xs : List A) → ((x : A) → p x �
 more_any p q [] implied some = some
 more_any p q (x ∷ xs) implied some = by (p x) refl (q x) refl (more_any p q xs implied) some
   where
-    by : (a : Bool) → p x ≡ a → (b : Bool) → q x ≡ b → (list_any p xs ≡ true → list_any q xs ≡ true) → (a || list_any p xs) ≡ true → (b || list_any q xs) ≡ true
+    by : (a : Bool) → p x ≡ a → (b : Bool) → q x ≡ b → (list_any p xs ≡ true → list_any q xs ≡ true) → (a || list_any p xs) ≡ true
+        → (b || list_any q xs) ≡ true
     by a is true e more h = refl
     by true is false e more h = let bad : false ≡ true = sym e ∙ implied x is in cc
     by false is false e more h = more h
@@ -29,7 +30,8 @@ some_filtered : {A : Type 0} (p : A → Bool) (xs : List A) → nat_lt 0 (length
 some_filtered p [] = refl
 some_filtered p (x ∷ xs) = by (p x) (some_filtered p xs)
   where
-    by : (b : Bool) → nat_lt 0 (length (filter p xs)) ≡ list_any p xs → nat_lt 0 (length (if b then x ∷ filter p xs else filter p xs)) ≡ (b || list_any p xs)
+    by : (b : Bool) → nat_lt 0 (length (filter p xs)) ≡ list_any p xs
+        → nat_lt 0 (length (if b then x ∷ filter p xs else filter p xs)) ≡ (b || list_any p xs)
     by true e = grind (arith, nat_tests)
     by false e = e
 
@@ -48,7 +50,8 @@ module _ (others : List (List ℕ)) (n : List ℕ) (ns : List (List ℕ)) where
   one-more m = list_any-append (bytes_eq m) others (n ∷ [])
 
   by-name : (m : List ℕ) (is_n is_other : Bool) → list_any (bytes_eq m) ns ≡ true
-      → (is_other || nat_lt 1 (length (if is_n then n ∷ filter (bytes_eq m) ns else filter (bytes_eq m) ns))) ≡ ((is_other || (is_n || false)) || stands_twice ns m)
+      → (is_other || nat_lt 1 (length (if is_n then n ∷ filter (bytes_eq m) ns else filter (bytes_eq m) ns)))
+      ≡ ((is_other || (is_n || false)) || stands_twice ns m)
   by-name m is_n true among = refl
   by-name m true false among = one-longer (length (filter (bytes_eq m) ns)) ∙ some_filtered (bytes_eq m) ns ∙ among
   by-name m false false among = refl

@@ -4,16 +4,17 @@ use Rattle.std.specs.Prelude.{Option, None, Some}
 use Rattle.std.specs.Option.{option_map, option_and_then}
 use Rattle.std.proofs.lemmas.List.{append-nil}
 use Rattle.px_script.specs.Lexemes.{Lexeme}
-use Rattle.px_script.specs.Parsing.{all_within, all_of, atom_at, literal_at, atom_edit_at, room_edit_at, binding_at}
+use Rattle.px_script.proofs.Parsing.{all_within, all_of, atom_at, room_edit_at, binding_at}
 use Rattle.px_script.proofs.Repeats.{ReadsBack, ReadsSpelled}
-use Rattle.px_script.proofs.Forms.{atoms-back, literals-back, atom-edits-back, room-edits-back, bindings-back}
-use Rattle.px_script.proofs.Sound.{atom-sound, literal-sound, atom-edit-sound, room-edit-sound, binding-sound}
+use Rattle.px_script.proofs.ReadBack.{atoms-back, room-edits-back, bindings-back}
+use Rattle.px_script.proofs.SoundItems.{atom-sound, room-edit-sound, binding-sound}
 
 -- a reader of one thing takes at least one lexeme
 abbrev pub Advances : {A : Type 0} → (List Lexeme → Option (A × List Lexeme)) → Type 0
 Advances {A = A} one = (lexemes : List Lexeme) (front : A × List Lexeme) → one lexemes ≡ Some front → length front.1 < length lexemes
 
-advances-spelled : {A : Type 0} (good : A → Bool) (one : List Lexeme → Option (A × List Lexeme)) (spell : A → List Lexeme) → ReadsBack good one spell → ReadsSpelled one spell → Advances one
+advances-spelled : {A : Type 0} (good : A → Bool) (one : List Lexeme → Option (A × List Lexeme)) (spell : A → List Lexeme)
+    → ReadsBack good one spell → ReadsSpelled one spell → Advances one
 advances-spelled good one spell back sound lexemes front e =
     let long = back.long front.0 in
     let whole = ap length (sound lexemes front e) ∙ length-append (spell front.0) front.1 in
@@ -21,12 +22,6 @@ advances-spelled good one spell back sound lexemes front e =
 
 pub atom-advances : Advances atom_at
 atom-advances = advances-spelled _ atom_at _ atoms-back atom-sound
-
-pub literal-advances : Advances literal_at
-literal-advances = advances-spelled _ literal_at _ literals-back literal-sound
-
-pub atom-edit-advances : Advances atom_edit_at
-atom-edit-advances = advances-spelled _ atom_edit_at _ atom-edits-back atom-edit-sound
 
 pub room-edit-advances : Advances room_edit_at
 room-edit-advances = advances-spelled _ room_edit_at _ room-edits-back room-edit-sound
@@ -38,7 +33,8 @@ binding-advances = advances-spelled _ binding_at _ bindings-back binding-sound
 abbrev pub before : {A : Type 0} → List A → Option (List A) → Option (List A)
 before got found = option_map (λ more. got ++ more) found
 
-before-more : {A : Type 0} (got : List A) (a : A) (found : Option (List A)) → before got (option_map (λ more. a ∷ more) found) ≡ before (got ++ a ∷ []) found
+before-more : {A : Type 0} (got : List A) (a : A) (found : Option (List A))
+    → before got (option_map (λ more. a ∷ more) found) ≡ before (got ++ a ∷ []) found
 before-more got a None = refl
 before-more got a (Some more) = ap Some (sym (append_assoc got (a ∷ []) more))
 
@@ -75,7 +71,8 @@ module _ {A : Type 0} (one : List Lexeme → Option (A × List Lexeme)) (advance
   first-step n x xs = refl
 
   -- the first thing, and then the others
-  all-first : (xs : List Lexeme) (a : A) (after : List Lexeme) → Some (a, after) ≡ one xs → all_of one xs ≡ option_map (λ more. a ∷ more) (all_of one after)
+  all-first : (xs : List Lexeme) (a : A) (after : List Lexeme) → Some (a, after) ≡ one xs
+      → all_of one xs ≡ option_map (λ more. a ∷ more) (all_of one after)
   all-first [] a after e = let fewer = advances [] (a, after) (sym e) in let no : ⊥ = omega (arith, fewer) in elim no [ ]
   all-first (x ∷ xs) a after e =
       let fewer = advances (x ∷ xs) (a, after) (sym e) in
@@ -90,14 +87,17 @@ module _ {A : Type 0} (one : List Lexeme → Option (A × List Lexeme)) (advance
   unfolding all_within
   all-ended = refl
 
-  pub walk-more : (all rest : List Lexeme) (got : List A) (a : A) (after : List Lexeme) → all_of one all ≡ before got (all_of one rest) → Some (a, after) ≡ one rest
+  pub walk-more : (all rest : List Lexeme) (got : List A) (a : A) (after : List Lexeme) → all_of one all ≡ before got (all_of one rest)
+      → Some (a, after) ≡ one rest
       → all_of one all ≡ before (got ++ a ∷ []) (all_of one after)
   walk-more all rest got a after whole e = whole ∙ ap (before got) (all-first rest a after e) ∙ before-more got a (all_of one after)
 
-  pub walk-stuck : (all rest : List Lexeme) (got : List A) → all_of one all ≡ before got (all_of one rest) → 0 < length rest → None ≡ one rest → None ≡ all_of one all
+  pub walk-stuck : (all rest : List Lexeme) (got : List A) → all_of one all ≡ before got (all_of one rest) → 0 < length rest
+      → None ≡ one rest → None ≡ all_of one all
   walk-stuck all rest got whole some e = ap (before got) (all-none rest some e) ∙ sym whole
 
-  pub walk-end : (all rest : List Lexeme) (got : List A) → all_of one all ≡ before got (all_of one rest) → rest ≡ [] → Some got ≡ all_of one all
+  pub walk-end : (all rest : List Lexeme) (got : List A) → all_of one all ≡ before got (all_of one rest) → rest ≡ []
+      → Some got ≡ all_of one all
   walk-end all rest got whole ended =
       let empty : all_of one rest ≡ Some [] = ap (all_of one) ended ∙ all-ended in
       sym (whole ∙ ap (before got) empty ∙ ap Some (append-nil got))

@@ -6,7 +6,7 @@ use Rattle.unicode_ident.proofs.Computing.{unicode_ident}
 use lib.Utf8.{encode}
 use Rattle.px_base.specs.Sets.{with_item, set_of}
 use Rattle.px_script.specs.Worked.{WorkedScripts, WorkedRefusals, danger_text, blanks_text, marked_text}
-use Rattle.px_script.specs.Parsing.{all_within, items_after}
+use Rattle.px_script.proofs.Parsing.{all_within, items_after}
 use Rattle.px_script.proofs.Plain.{lines_read, scan_by}
 use Rattle.px_script.proofs.PlainReading.{refused-so, spelled-so, spelled-after, refused-by}
 use Rattle.px_script.proofs.NoText.{byte_of_no_character}

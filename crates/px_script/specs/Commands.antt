@@ -1,16 +1,8 @@
 -- The commands of a script, by numbers.
 use Rattle.std.specs.Prelude.{ℕ, Bool, List}
 use Rattle.px_terms.specs.declared.atom.Atom.{Atom}
-
-pub data AtomEdit : Type 0 where
-  Insert : Atom → AtomEdit
-  Remove : Atom → AtomEdit
-
--- the robot to a room; a box to a room; a door open or not
-pub data RoomEdit : Type 0 where
-  Robot : ℕ → RoomEdit
-  Box : ℕ → ℕ → RoomEdit
-  Door : ℕ → Bool → RoomEdit
+use Rattle.px_world.specs.declared.edits.AtomEdit.{AtomEdit}
+use Rattle.px_world.specs.declared.edits.RoomEdit.{RoomEdit}
 
 -- Names are numbers of results. Of a goal its atoms and the number of its variables are told, of a disturbance
 -- the turn and whether it stands between sensing and acting, of a run its pairs of a parameter and an object.

@@ -1,12 +1,9 @@
 -- What the lines so far have declared, and what a line adds.
-use Rattle.std.specs.Prelude.{ℕ, ◌+◌, Bool, true, false, List, [], ◌∷◌, ◌++◌, map, length, Option, None, Some, is_some, position, unwrap_or, if◌then◌else◌, fold}
+use Rattle.std.specs.Prelude.{ℕ, ◌+◌, Bool, true, false, List, [], ◌∷◌, ◌++◌, map, length, Option, None, Some, is_some, position, unwrap_or, if◌then◌else◌, fold, ◌||◌}
 use Rattle.std.specs.List.{flat_map}
+use Rattle.std.specs.Option.{option_map}
 use Rattle.std.specs.Str.{bytes_eq}
-use Rattle.px_names.specs.declared.kind.Kind.TheVariants as kind
-use Rattle.px_names.specs.Lists.{NameLists, no_names, with_name, has_name}
-use Rattle.px_script.specs.Statements.{Statement, Argument, WrittenAtom, WrittenLiteral, WrittenAtomEdit, WrittenRoomEdit, Binding, named, open_variable, anything, positive, negative, insert, remove, robot_to, box_to, door_to, script, object, predicate, «axiom», operator, pre, delete, add, building, room, door, box, robot, end, fact, height, nodes, shapes, plan, learn, show, disturb_atoms, disturb_rooms, run, facts}
-use Rattle.px_script.specs.Buildings.{Thing, a_room, a_door, a_box, a_robot}
-use Rattle.px_script.specs.Commands.{AtomEdit, RoomEdit, Command, Insert, Remove, Robot, Box, Door, Plan, Learn, Show, DisturbAtoms, DisturbRooms, Run, Facts}
+use Rattle.px_names.specs.Lists.{NameLists, no_names, has_name}
 use Rattle.px_terms.specs.declared.atom.Atom.{Atom}
 use Rattle.px_terms.specs.declared.clause.Clause.{Clause}
 use Rattle.px_terms.specs.declared.clause.Lit.{Lit}
@@ -14,11 +11,24 @@ use Rattle.px_terms.specs.declared.problem.Schema.{Schema}
 use Rattle.px_terms.specs.declared.term.Term.{Term}
 use Rattle.px_terms.specs.declared.term.Term.TheVariants.{Obj, Var, Any}
 use Rattle.px_terms.specs.AtomSets.{atom_set}
-use Rattle.px_script.specs.Domain.{the_robot, predicate_lines, connects_both_ways, operator_lines}
+use Rattle.px_world.specs.declared.edits.AtomEdit.{AtomEdit}
+use Rattle.px_world.specs.declared.edits.AtomEdit.TheVariants as atom_edit
+use Rattle.px_world.specs.declared.edits.RoomEdit.{RoomEdit}
+use Rattle.px_world.specs.declared.edits.RoomEdit.TheVariants as room_edit
+use Rattle.px_world.specs.declared.thing.Thing.{Thing}
+use Rattle.px_world.specs.declared.thing.Thing.TheVariants as thing
+use Rattle.px_script.specs.Items.{Named, Argument, SignedAtom, Sign, WrittenRoomEdit, Binding, named, open_variable, anything, bare, added, robot_to, box_to, door_to, declared_in, an_object, a_predicate, an_operator, a_result, a_parameter, a_sort, a_room, a_door, a_box, a_plan, a_table}
+use Rattle.px_script.specs.Statements.{Statement, Line, Place, Block, line_of, domain, opens, operator_block, building_block, script, object, predicate, «axiom», operator, pre, delete, add, building, room, door, box, robot, end, fact, height, nodes, shapes, plan, learn, show, disturb_atoms, disturb_rooms, run, facts}
+use Rattle.px_script.specs.Commands.{Command, Plan, Learn, Show, DisturbAtoms, DisturbRooms, Run, Facts}
+use Rattle.px_script.specs.Domain.{the_robot, building_predicates}
 
--- what a block is of: an operator, with its parameters' names and its schema so far, or the building
+-- the operator whose block is open: its parameters' names, and its schema so far
+pub record OpenOperator : Type 0 where
+  pub parameters : List (List ℕ)
+  pub schema : Schema
+
 pub data BlockKind : Type 0 where
-  of_operator : List (List ℕ) → Schema → BlockKind
+  of_operator : OpenOperator → BlockKind
   of_building : BlockKind
 
 -- a block that isn't closed, and the line that opened it
@@ -26,73 +36,147 @@ pub record OpenBlock : Type 0 where
   pub line : ℕ
   pub kind : BlockKind
 
--- the building so far, and its names by kind
-pub record BuildingSoFar : Type 0 where
-  pub things : List Thing
+-- the objects that are rooms, doors and boxes, and the results that are plans and tables
+pub record Roles : Type 0 where
   pub rooms : List (List ℕ)
   pub doors : List (List ℕ)
   pub boxes : List (List ℕ)
+  pub plans : List (List ℕ)
+  pub tables : List (List ℕ)
 
 pub record Declared : Type 0 where
+  pub version : ℕ
   pub names : NameLists
+  pub roles : Roles
+  -- those of version 2
+  pub sorts : List (List ℕ)
   pub arities : List ℕ
   pub axioms : List Clause
   pub schemas : List Schema
   -- those of the lines `fact`, as a set
   pub facts : List Atom
-  pub building_so_far : Option BuildingSoFar
-  pub height_limit : Option ℕ
-  pub node_limit : Option ℕ
-  pub shape_limit : Option ℕ
+  -- of the building, if there is one
+  pub things : Option (List Thing)
+  pub height : Option ℕ
+  pub nodes : Option ℕ
+  pub shapes : Option ℕ
   pub commands : List Command
-  -- the results that are of a `plan`
-  pub plans : List (List ℕ)
   -- the lines `disturb` since the last `run`
   pub disturbs : ℕ
   pub block : Option OpenBlock
-  -- a line with tokens stood before
+  -- a line stood that a building excludes
+  pub own_domain : Bool
+  -- a line with tokens stood
   pub begun : Bool
 
 abbrev pub nothing_declared : Declared
 nothing_declared = record {
+  version = 1;
   names = no_names;
+  roles = record { rooms = []; doors = []; boxes = []; plans = []; tables = [] };
+  sorts = [];
   arities = [];
   axioms = [];
   schemas = [];
   facts = [];
-  building_so_far = None;
-  height_limit = None;
-  node_limit = None;
-  shape_limit = None;
+  things = None;
+  height = None;
+  nodes = None;
+  shapes = None;
   commands = [];
-  plans = [];
   disturbs = 0;
   block = None;
+  own_domain = false;
   begun = false;
 }
 
--- a line `building` stood before
+-- a line `building` stood
 abbrev pub has_building : Declared → Bool
-has_building d = is_some d.building_so_far
+has_building d = is_some d.things
+
+-- what the open block is of
+abbrev pub kind_of_block : BlockKind → Block
+kind_of_block (of_operator o) = operator_block
+kind_of_block of_building = building_block
+
+abbrev pub block_here : Declared → Option Block
+block_here d = option_map (λ block. kind_of_block block.kind) d.block
+
+abbrev pub operator_in : BlockKind → Option OpenOperator
+operator_in (of_operator o) = Some o
+operator_in of_building = None
+
+-- the operator whose block is open
+abbrev pub operator_here : Option OpenBlock → Option OpenOperator
+operator_here None = None
+operator_here (Some block) = operator_in block.kind
+
+abbrev pub parameters_of : Option OpenOperator → List (List ℕ)
+parameters_of None = []
+parameters_of (Some o) = o.parameters
+
+abbrev pub parameters_here : Declared → List (List ℕ)
+parameters_here d = parameters_of (operator_here d.block)
+
+-- the names of a kind
+abbrev pub names_here : Declared → Named → List (List ℕ)
+names_here d an_object = d.names.objects
+names_here d a_predicate = d.names.predicates
+names_here d an_operator = d.names.operators
+names_here d a_result = d.names.results
+names_here d a_parameter = parameters_here d
+names_here d a_sort = d.sorts
+names_here d a_room = d.roles.rooms
+names_here d a_door = d.roles.doors
+names_here d a_box = d.roles.boxes
+names_here d a_plan = d.roles.plans
+names_here d a_table = d.roles.tables
+
+abbrev pub with_objects : List (List ℕ) → Declared → Declared
+with_objects ns d = record d { names = record d.names { objects = d.names.objects ++ ns } }
+
+abbrev pub with_results : List (List ℕ) → Declared → Declared
+with_results ns d = record d { names = record d.names { results = d.names.results ++ ns } }
+
+-- more names of a kind; parameters are told by their operator
+abbrev pub with_names : Named → List (List ℕ) → Declared → Declared
+with_names an_object ns d = with_objects ns d
+with_names a_predicate ns d = record d { names = record d.names { predicates = d.names.predicates ++ ns } }
+with_names an_operator ns d = record d { names = record d.names { operators = d.names.operators ++ ns } }
+with_names a_result ns d = with_results ns d
+with_names a_parameter ns d = d
+with_names a_sort ns d = record d { sorts = d.sorts ++ ns }
+with_names a_room ns d = record (with_objects ns d) { roles = record d.roles { rooms = d.roles.rooms ++ ns } }
+with_names a_door ns d = record (with_objects ns d) { roles = record d.roles { doors = d.roles.doors ++ ns } }
+with_names a_box ns d = record (with_objects ns d) { roles = record d.roles { boxes = d.roles.boxes ++ ns } }
+with_names a_plan ns d =
+    record (with_results ns d) { roles = record d.roles { plans = d.roles.plans ++ ns; tables = d.roles.tables ++ ns } }
+with_names a_table ns d = record (with_results ns d) { roles = record d.roles { tables = d.roles.tables ++ ns } }
+
+abbrev pub with_all_names : List (Named × List (List ℕ)) → Declared → Declared
+with_all_names [] d = d
+with_all_names (group ∷ more) d = with_all_names more (with_names group.0 group.1 d)
+
+-- the names that a line declares, by kind
+abbrev pub declared_by : Line → List (Named × List (List ℕ))
+declared_by l = flat_map declared_in l.items
+
+-- a line that a building excludes
+abbrev pub excludes_building : Place → Bool
+excludes_building domain = true
+excludes_building (opens operator_block) = true
+excludes_building _ = false
 
 abbrev pub number_in : List ℕ → List (List ℕ) → ℕ
 number_in n names = unwrap_or (position (bytes_eq n) names) 0
-
--- the names of the parameters that an argument may name here
-abbrev pub parameters_of : Option OpenBlock → List (List ℕ)
-parameters_of None = []
-parameters_of (Some block) = elim block.kind [ of_operator parameters schema ↦ parameters | of_building ↦ [] ]
-
-abbrev pub parameters_here : Declared → List (List ℕ)
-parameters_here d = parameters_of d.block
 
 -- the different variables of atoms, by first occurrence
 abbrev pub with_variable : List (List ℕ) → Argument → List (List ℕ)
 with_variable seen (open_variable v) = if has_name v seen then seen else seen ++ v ∷ []
 with_variable seen _ = seen
 
-abbrev pub variables_of : List WrittenAtom → List (List ℕ)
-variables_of atoms = fold with_variable [] (flat_map (λ atom. atom.arguments) atoms)
+abbrev pub variables_of : List SignedAtom → List (List ℕ)
+variables_of xs = fold with_variable [] (flat_map (λ x. x.atom.arguments) xs)
 
 -- the term of an argument: a name is a parameter or an object, and never one of the variables
 abbrev pub term_of : List (List ℕ) → List (List ℕ) → List (List ℕ) → Argument → Term
@@ -100,126 +184,112 @@ term_of parameters variables objects (named n) = if has_name n parameters then V
 term_of parameters variables objects (open_variable v) = Var (number_in v variables)
 term_of parameters variables objects anything = Any
 
-abbrev pub atom_of : Declared → List (List ℕ) → WrittenAtom → Atom
-atom_of d variables atom = record { pred = number_in atom.predicate d.names.predicates; args = map (term_of (parameters_here d) variables d.names.objects) atom.arguments }
+abbrev pub atom_of : Declared → List (List ℕ) → SignedAtom → Atom
+atom_of d variables x = record {
+  pred = number_in x.atom.predicate d.names.predicates;
+  args = map (term_of (parameters_here d) variables d.names.objects) x.atom.arguments;
+}
 
-abbrev pub atom_of_literal : WrittenLiteral → WrittenAtom
-atom_of_literal (positive atom) = atom
-atom_of_literal (negative atom) = atom
+abbrev pub is_bare : Sign → Bool
+is_bare bare = true
+is_bare _ = false
 
-abbrev pub atom_of_edit : WrittenAtomEdit → WrittenAtom
-atom_of_edit (insert atom) = atom
-atom_of_edit (remove atom) = atom
+abbrev pub literal_of : Declared → List (List ℕ) → SignedAtom → Lit
+literal_of d variables x = record { positive = is_bare x.sign; atom = atom_of d variables x }
 
-abbrev pub literal_of : Declared → List (List ℕ) → WrittenLiteral → Lit
-literal_of d variables (positive atom) = record { positive = true; atom = atom_of d variables atom }
-literal_of d variables (negative atom) = record { positive = false; atom = atom_of d variables atom }
+abbrev pub clause_of : Declared → List SignedAtom → Clause
+clause_of d xs = record { vars = length (variables_of xs); lits = map (literal_of d (variables_of xs)) xs }
 
-abbrev pub clause_of : Declared → List WrittenLiteral → Clause
-clause_of d literals = let variables = variables_of (map atom_of_literal literals) in record { vars = length variables; lits = map (literal_of d variables) literals }
+abbrev pub edit_by : Sign → Atom → AtomEdit
+edit_by added atom = atom_edit.Add atom
+edit_by _ atom = atom_edit.Remove atom
 
-abbrev pub atom_edit_of : Declared → WrittenAtomEdit → AtomEdit
-atom_edit_of d (insert atom) = Insert (atom_of d [] atom)
-atom_edit_of d (remove atom) = Remove (atom_of d [] atom)
+abbrev pub atom_edit_of : Declared → SignedAtom → AtomEdit
+atom_edit_of d x = edit_by x.sign (atom_of d [] x)
 
 abbrev pub room_edit_of : Declared → WrittenRoomEdit → RoomEdit
-room_edit_of d (robot_to r) = Robot (number_in r d.names.objects)
-room_edit_of d (box_to b r) = Box (number_in b d.names.objects) (number_in r d.names.objects)
-room_edit_of d (door_to n is_open) = Door (number_in n d.names.objects) is_open
+room_edit_of d (robot_to r) = room_edit.Robot (number_in r d.names.objects)
+room_edit_of d (box_to b r) = room_edit.Box (number_in b d.names.objects) (number_in r d.names.objects)
+room_edit_of d (door_to n is_open) = room_edit.Door (number_in n d.names.objects) is_open
 
 abbrev pub binding_of : Declared → Binding → ℕ × ℕ
 binding_of d binding = (binding.parameter, number_in binding.object d.names.objects)
 
-abbrev pub declare_all : List (List ℕ) → NameLists → NameLists
-declare_all ns names = record names { objects = names.objects ++ ns }
-
 -- the schema changed of the operator whose block is open
-abbrev pub in_open : (Schema → Schema) → Declared → Option OpenBlock → Declared
-in_open change d None = d
-in_open change d (Some block) = elim block.kind [
-  | of_operator parameters schema ↦ record d { block = Some (record block { kind = of_operator parameters (change schema) }) }
-  | of_building ↦ d
-]
+abbrev pub change_schema : (Schema → Schema) → BlockKind → BlockKind
+change_schema change (of_operator o) = of_operator (record o { schema = change o.schema })
+change_schema change of_building = of_building
+
+abbrev pub change_block : (Schema → Schema) → OpenBlock → OpenBlock
+change_block change block = record block { kind = change_schema change block.kind }
 
 abbrev pub in_schema : (Schema → Schema) → Declared → Declared
-in_schema change d = in_open change d d.block
+in_schema change d = record d { block = option_map (change_block change) d.block }
 
 -- the block closed: an operator's schema is the script's from its `end` on
-abbrev pub close_open : Declared → Option OpenBlock → Declared
-close_open d None = d
-close_open d (Some block) = elim block.kind [
-  | of_operator parameters schema ↦ record d { schemas = d.schemas ++ schema ∷ []; block = None }
-  | of_building ↦ record d { block = None }
-]
+abbrev pub schema_closed : Option OpenOperator → List Schema
+schema_closed None = []
+schema_closed (Some o) = o.schema ∷ []
 
 abbrev pub close_block : Declared → Declared
-close_block d = close_open d d.block
+close_block d = record d { schemas = d.schemas ++ schema_closed (operator_here d.block); block = None }
 
--- the building with one more thing, and its names changed
-abbrev pub with_thing : Thing → (BuildingSoFar → BuildingSoFar) → Declared → Declared
-with_thing thing change d = elim d.building_so_far [
-  | None ↦ d
-  | Some b ↦ record d { building_so_far = Some (record (change b) { things = b.things ++ thing ∷ [] }) }
-]
+abbrev pub open_block : ℕ → BlockKind → Declared → Declared
+open_block n kind d = record d { block = Some (record { line = n; kind = kind }) }
 
-abbrev pub with_object : List ℕ → Declared → Declared
-with_object n d = record d { names = with_name kind.Object n d.names }
+-- the building with one more thing
+abbrev pub with_thing : Thing → Declared → Declared
+with_thing thing d = record d { things = option_map (λ things. things ++ thing ∷ []) d.things }
 
 abbrev pub with_command : Command → Declared → Declared
 with_command command d = record d { commands = d.commands ++ command ∷ [] }
 
--- a result of the name, and the command with its number
-abbrev pub with_result : List ℕ → (ℕ → Command) → Declared → Declared
-with_result n command d = record (with_command (command (length d.names.results)) d) { names = with_name kind.Result n d.names }
+abbrev pub with_disturbance : Command → Declared → Declared
+with_disturbance command d = record (with_command command d) { disturbs = d.disturbs + 1 }
 
--- what a line without a fault leaves, where it is line number n; of the line `building` what it does besides giving its domain
-abbrev pub declares_alone : ℕ → Declared → Statement → Declared
-declares_alone n d (script version) = d
-declares_alone n d (object ns) = record d { names = declare_all ns d.names }
-declares_alone n d (predicate p arity) = record d { names = with_name kind.Predicate p d.names; arities = d.arities ++ arity ∷ [] }
-declares_alone n d («axiom» literals) = record d { axioms = d.axioms ++ clause_of d literals ∷ [] }
-declares_alone n d (operator o ps) = record d {
-  names = with_name kind.Operator o d.names;
-  block = Some (record { line = n; kind = of_operator ps (record { op = length d.schemas; params = length ps; pre = []; del = []; add = [] }) });
-}
-declares_alone n d (pre atoms) = in_schema (λ schema. record schema { pre = schema.pre ++ map (atom_of d []) atoms }) d
-declares_alone n d (delete atoms) = in_schema (λ schema. record schema { del = schema.del ++ map (atom_of d []) atoms }) d
-declares_alone n d (add atoms) = in_schema (λ schema. record schema { add = schema.add ++ map (atom_of d []) atoms }) d
-declares_alone n d building = record d {
-  building_so_far = Some (record { things = []; rooms = []; doors = []; boxes = [] });
-  block = Some (record { line = n; kind = of_building });
-}
-declares_alone n d (room r) = with_thing a_room (λ b. record b { rooms = b.rooms ++ r ∷ [] }) (with_object r d)
-declares_alone n d (door m one other is_open) =
-    with_thing (a_door (number_in one d.names.objects) (number_in other d.names.objects) is_open) (λ b. record b { doors = b.doors ++ m ∷ [] }) (with_object m d)
-declares_alone n d (box m r) = with_thing (a_box (number_in r d.names.objects)) (λ b. record b { boxes = b.boxes ++ m ∷ [] }) (with_object m d)
-declares_alone n d (robot r) = with_thing (a_robot (number_in r d.names.objects)) (λ b. b) d
-declares_alone n d end = close_block d
-declares_alone n d (fact atoms) = record d { facts = atom_set (map (atom_of d []) atoms ++ d.facts) }
-declares_alone n d (height limit) = record d { height_limit = Some limit }
-declares_alone n d (nodes limit) = record d { node_limit = Some limit }
-declares_alone n d (shapes limit) = record d { shape_limit = Some limit }
-declares_alone n d (plan p atoms) = let variables = variables_of atoms in
-    record (with_result p (λ k. Plan k (map (atom_of d variables) atoms) (length variables)) d) { plans = d.plans ++ p ∷ [] }
-declares_alone n d (learn m source) = with_result m (λ k. Learn k (number_in source d.names.results)) d
-declares_alone n d (show m) = with_command (Show (number_in m d.names.results)) d
-declares_alone n d (disturb_atoms turn between edits) = record (with_command (DisturbAtoms turn between (map (atom_edit_of d) edits)) d) { disturbs = d.disturbs + 1 }
-declares_alone n d (disturb_rooms turn between edits) = record (with_command (DisturbRooms turn between (map (room_edit_of d) edits)) d) { disturbs = d.disturbs + 1 }
-declares_alone n d (run m bindings) = record (with_command (Run (number_in m d.names.results) (map (binding_of d) bindings)) d) { disturbs = 0 }
-declares_alone n d facts = with_command Facts d
-
-abbrev pub declare_lines : List Statement → Declared → Declared
-declare_lines [] d = d
-declare_lines (s ∷ more) d = declare_lines more (declares_alone 0 d s)
-
--- the objects, predicates, axiom and operators that a building gives
+-- what a building gives to its script
 abbrev pub with_domain : Declared → Declared
-with_domain d = declare_lines (object (the_robot ∷ []) ∷ predicate_lines ++ connects_both_ways ∷ operator_lines) d
+with_domain d = record (with_names a_predicate (map (λ p. p.0) building_predicates) (with_objects (the_robot ∷ []) d)) {
+  arities = d.arities ++ map (λ p. p.1) building_predicates;
+}
+
+-- an operator's schema before its lists
+abbrev pub empty_schema : ℕ → ℕ → Schema
+empty_schema number parameters = record { op = number; params = parameters; pre = []; del = []; add = [] }
+
+-- what a line without a fault leaves, where it is line number n, but for the names that it declares
+abbrev pub declares : ℕ → Declared → Statement → Declared
+declares n d (script version) = record d { version = version }
+declares n d (object ns) = d
+declares n d (predicate p arity) = record d { arities = d.arities ++ arity ∷ [] }
+declares n d («axiom» xs) = record d { axioms = d.axioms ++ clause_of d xs ∷ [] }
+declares n d (operator o ps) =
+    open_block n (of_operator (record { parameters = ps; schema = empty_schema (length d.schemas) (length ps) })) d
+declares n d (pre xs) = in_schema (λ schema. record schema { pre = schema.pre ++ map (atom_of d []) xs }) d
+declares n d (delete xs) = in_schema (λ schema. record schema { del = schema.del ++ map (atom_of d []) xs }) d
+declares n d (add xs) = in_schema (λ schema. record schema { add = schema.add ++ map (atom_of d []) xs }) d
+declares n d building = open_block n of_building (record (with_domain d) { things = Some [] })
+declares n d (room r) = with_thing thing.Room d
+declares n d (door m one other is_open) =
+    with_thing (thing.Door (number_in one d.names.objects) (number_in other d.names.objects) is_open) d
+declares n d (box m r) = with_thing (thing.Box (number_in r d.names.objects)) d
+declares n d (robot r) = with_thing (thing.Robot (number_in r d.names.objects)) d
+declares n d end = close_block d
+declares n d (fact xs) = record d { facts = atom_set (map (atom_of d []) xs ++ d.facts) }
+declares n d (height limit) = record d { height = Some limit }
+declares n d (nodes limit) = record d { nodes = Some limit }
+declares n d (shapes limit) = record d { shapes = Some limit }
+declares n d (plan m xs) = with_command (Plan (length d.names.results) (map (atom_of d (variables_of xs)) xs) (length (variables_of xs))) d
+declares n d (learn m source) = with_command (Learn (length d.names.results) (number_in source d.names.results)) d
+declares n d (show m) = with_command (Show (number_in m d.names.results)) d
+declares n d (disturb_atoms turn between xs) = with_disturbance (DisturbAtoms turn between (map (atom_edit_of d) xs)) d
+declares n d (disturb_rooms turn between es) = with_disturbance (DisturbRooms turn between (map (room_edit_of d) es)) d
+declares n d (run m bs) = record (with_command (Run (number_in m d.names.results) (map (binding_of d) bs)) d) { disturbs = 0 }
+declares n d facts = with_command Facts d
 
 -- what a line without a fault leaves, where it is line number n
-abbrev pub declares : ℕ → Declared → Statement → Declared
-declares n d building = declares_alone n (with_domain d) building
-declares n d s = declares_alone n d s
-
 abbrev pub after_line : ℕ → Declared → Statement → Declared
-after_line n d statement = record (declares n d statement) { begun = true }
+after_line n d s = record (with_all_names (declared_by (line_of s)) (declares n d s)) {
+  own_domain = d.own_domain || excludes_building (line_of s).place;
+  begun = true;
+}

@@ -1,20 +1,27 @@
-pub mod Lexemes
+-- the definition of a script, in the order in which it reads
 pub mod Lines
+pub mod Lexemes
+pub mod Items
 pub mod Statements
-pub mod Buildings
+pub mod Limits
 pub mod Commands
 pub mod Domain
 pub mod Declarations
-pub mod Content
+pub mod Forms
 pub mod Stages
+pub mod Causes
 pub mod Faults
+pub mod Content
 pub mod Scripts
-pub mod Scanning
-pub mod Progress
-pub mod Parsing
-pub mod BuildingRanges
-pub mod StageRanges
-pub mod Ranges
+-- what it says of small lines
+pub mod WorkedLines
+pub mod WorkedDomains
+pub mod WorkedBuildings
+pub mod WorkedCommands
+pub mod WorkedLater
 pub mod Worked
-pub mod WorkedStages
+-- what a script keeps
+pub mod Things
+pub mod Ranges
+pub mod StageRanges
 pub mod RangeLaws

@@ -8,10 +8,15 @@ use Rattle.px_terms.specs.declared.term.Term.{Term}
 use Rattle.px_terms.specs.declared.term.Term.TheVariants.{Obj, Var, Any}
 use Rattle.px_terms.specs.Language.{IsPlainBelow}
 use Rattle.px_terms.specs.Validity.{IsTermOf, IsPatternTermOf, IsAtomOf, IsValid}
-use Rattle.px_script.specs.Commands.{AtomEdit, RoomEdit, Command, Insert, Remove, Robot, Box, Door, Plan, Learn, Show, DisturbAtoms, DisturbRooms, Run, Facts}
+use Rattle.px_world.specs.declared.edits.AtomEdit.{AtomEdit}
+use Rattle.px_world.specs.declared.edits.AtomEdit.TheVariants as atom_edit
+use Rattle.px_world.specs.declared.edits.RoomEdit.{RoomEdit}
+use Rattle.px_world.specs.declared.edits.RoomEdit.TheVariants as room_edit
+use Rattle.px_world.specs.declared.thing.Thing.{Thing}
+use Rattle.px_world.specs.declared.thing.Thing.TheVariants as thing
+use Rattle.px_script.specs.Commands.{Command, Plan, Learn, Show, DisturbAtoms, DisturbRooms, Run, Facts}
 use Rattle.px_script.specs.Content.{ScriptValue}
-use Rattle.px_script.specs.Buildings.{Thing, a_room, a_door, a_box, a_robot}
-use Rattle.px_script.specs.BuildingRanges.{IsThingAfter}
+use Rattle.px_script.specs.Things.{IsThingAfter}
 use Rattle.px_script.specs.Ranges.{IsEditOf, IsRoomEditOf, AreRoomEditsOf, IsCommandOf, NamesEarlier, IsInRange}
 use Rattle.px_script.specs.StageRanges.{IsBuiltCommand, IsOfStage}
 
@@ -44,19 +49,19 @@ pub IsValid-prop : (problem : Problem) → IsProp (IsValid problem)
 IsValid-prop problem = Prim.hlevel terms
 
 IsEditOf-prop : (problem : Problem) (edit : AtomEdit) → IsProp (IsEditOf problem edit)
-IsEditOf-prop problem (Insert atom) = IsAtomOf-prop problem 0 atom
-IsEditOf-prop problem (Remove atom) = IsAtomOf-prop problem 0 atom
+IsEditOf-prop problem (atom_edit.Add atom) = IsAtomOf-prop problem 0 atom
+IsEditOf-prop problem (atom_edit.Remove atom) = IsAtomOf-prop problem 0 atom
 
-IsThingAfter-prop : (before : List Thing) (thing : Thing) → IsProp (IsThingAfter before thing)
-IsThingAfter-prop before a_room = Prim.hlevel props
-IsThingAfter-prop before (a_door one other is_open) = Prim.hlevel props
-IsThingAfter-prop before (a_box r) = Prim.hlevel props
-IsThingAfter-prop before (a_robot r) = Prim.hlevel props
+IsThingAfter-prop : (before : List Thing) (t : Thing) → IsProp (IsThingAfter before t)
+IsThingAfter-prop before thing.Room = Prim.hlevel props
+IsThingAfter-prop before (thing.Door one other is_open) = Prim.hlevel props
+IsThingAfter-prop before (thing.Box r) = Prim.hlevel props
+IsThingAfter-prop before (thing.Robot r) = Prim.hlevel props
 
 IsRoomEditOf-prop : (things : List Thing) (edit : RoomEdit) → IsProp (IsRoomEditOf things edit)
-IsRoomEditOf-prop things (Robot r) = Prim.hlevel props
-IsRoomEditOf-prop things (Box b r) = Prim.hlevel props
-IsRoomEditOf-prop things (Door d is_open) = Prim.hlevel props
+IsRoomEditOf-prop things (room_edit.Robot r) = Prim.hlevel props
+IsRoomEditOf-prop things (room_edit.Box b r) = Prim.hlevel props
+IsRoomEditOf-prop things (room_edit.Door d is_open) = Prim.hlevel props
 
 ruleset parts = (IsEditOf-prop, IsRoomEditOf-prop, IsAtomOf-prop, IsThingAfter-prop, terms)
 
@@ -66,14 +71,15 @@ AreRoomEditsOf-prop (Some things) edits = Prim.hlevel parts
 
 ruleset edits_too = (AreRoomEditsOf-prop, parts)
 
-IsCommandOf-prop : (problem : Problem) (building : Option (List Thing)) (results : ℕ) (command : Command) → IsProp (IsCommandOf problem building results command)
-IsCommandOf-prop problem building results (Plan name goal vars) = Prim.hlevel parts
-IsCommandOf-prop problem building results (Learn name source) = Prim.hlevel parts
-IsCommandOf-prop problem building results (Show name) = Prim.hlevel parts
-IsCommandOf-prop problem building results (DisturbAtoms turn between edits) = Prim.hlevel parts
-IsCommandOf-prop problem building results (DisturbRooms turn between edits) = Prim.hlevel edits_too
-IsCommandOf-prop problem building results (Run name bindings) = Prim.hlevel parts
-IsCommandOf-prop problem building results Facts = Prim.hlevel parts
+IsCommandOf-prop : (version : ℕ) (problem : Problem) (building : Option (List Thing)) (results : ℕ) (command : Command)
+    → IsProp (IsCommandOf version problem building results command)
+IsCommandOf-prop version problem building results (Plan name goal vars) = Prim.hlevel parts
+IsCommandOf-prop version problem building results (Learn name source) = Prim.hlevel parts
+IsCommandOf-prop version problem building results (Show name) = Prim.hlevel parts
+IsCommandOf-prop version problem building results (DisturbAtoms turn between edits) = Prim.hlevel parts
+IsCommandOf-prop version problem building results (DisturbRooms turn between edits) = Prim.hlevel edits_too
+IsCommandOf-prop version problem building results (Run name bindings) = Prim.hlevel parts
+IsCommandOf-prop version problem building results Facts = Prim.hlevel parts
 
 NamesEarlier-prop : (before : List Command) (command : Command) → IsProp (NamesEarlier before command)
 NamesEarlier-prop before (Plan name goal vars) = Prim.hlevel props

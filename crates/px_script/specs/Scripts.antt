@@ -4,15 +4,17 @@ use Rattle.std.specs.Str.{IsUtf8}
 use Rattle.std.specs.Str.Lossy.{utf8_valid_len}
 use Rattle.px_script.specs.Lexemes.{Lexeme, Lexes}
 use Rattle.px_script.specs.Lines.{lines_of}
-use Rattle.px_script.specs.Statements.{Statement, Forms, begins_with_word}
-use Rattle.px_script.specs.Declarations.{Declared, OpenBlock, nothing_declared, has_building, after_line}
+use Rattle.px_script.specs.Statements.{Statement}
+use Rattle.px_script.specs.Forms.{Forms, begins_with_word}
+use Rattle.px_script.specs.Declarations.{Declared, OpenBlock, nothing_declared, after_line}
 use Rattle.px_script.specs.Content.{ScriptValue, content_of}
 use Rattle.px_script.specs.Faults.{Refusal, fault_of, coded}
 
 -- Line n has no fault, and leaves this declared.
 abbrev pub PassesLexemes : ℕ → Declared → List Lexeme → Declared → Type 0
 PassesLexemes n d [] after = after ≡ d
-PassesLexemes n d (lexeme ∷ lexemes) after = (s : Statement) × Forms (has_building d) (lexeme ∷ lexemes) s × (fault_of d s ≡ None) × (after ≡ after_line n d s)
+PassesLexemes n d (lexeme ∷ lexemes) after =
+    (s : Statement) × Forms d (lexeme ∷ lexemes) s × (fault_of d s ≡ None) × (after ≡ after_line n d s)
 
 abbrev pub Passes : ℕ → Declared → List ℕ → Declared → Type 0
 Passes n d line after = (lexemes : List Lexeme) × Lexes line lexemes × PassesLexemes n d lexemes after
@@ -26,17 +28,17 @@ PassAll n d (line ∷ lines) after = (next : Declared) × Passes n d line next �
 abbrev pub FailsLexemes : Declared → List Lexeme → Refusal → Type 0
 FailsLexemes d [] refusal = ⊥
 FailsLexemes d (lexeme ∷ lexemes) refusal = let line = lexeme ∷ lexemes in
-    ((begins_with_word line ≡ false) × (Some refusal ≡ coded 3))
-    ⊎ ((begins_with_word line ≡ true) × ((s : Statement) → Forms (has_building d) line s → ⊥) × (Some refusal ≡ coded 2))
-    ⊎ ((s : Statement) × Forms (has_building d) line s × (fault_of d s ≡ Some refusal))
+    ((begins_with_word d line ≡ false) × (refusal ≡ coded 3))
+    ⊎ ((begins_with_word d line ≡ true) × ((s : Statement) → Forms d line s → ⊥) × (refusal ≡ coded 2))
+    ⊎ ((s : Statement) × Forms d line s × (fault_of d s ≡ Some refusal))
 
 abbrev pub Fails : Declared → List ℕ → Refusal → Type 0
-Fails d line refusal = (((lexemes : List Lexeme) → Lexes line lexemes → ⊥) × (Some refusal ≡ coded 2))
+Fails d line refusal = (((lexemes : List Lexeme) → Lexes line lexemes → ⊥) × (refusal ≡ coded 2))
     ⊎ ((lexemes : List Lexeme) × Lexes line lexemes × FailsLexemes d lexemes refusal)
 
 -- the first of the lines from number n on that has a fault
 abbrev pub FailsIn : ℕ → Declared → List (List ℕ) → ℕ → Refusal → Type 0
-FailsIn n d [] at refusal = (block : OpenBlock) × (d.block ≡ Some block) × (at ≡ block.line) × (Some refusal ≡ coded 10)
+FailsIn n d [] at refusal = (block : OpenBlock) × (d.block ≡ Some block) × (at ≡ block.line) × (refusal ≡ coded 10)
 FailsIn n d (line ∷ lines) at refusal = (Fails d line refusal × (at ≡ n))
     ⊎ ((next : Declared) × Passes n d line next × FailsIn (n + 1) next lines at refusal)
 
@@ -54,7 +56,8 @@ pub record IsScript (bytes : List ℕ) (script : ScriptValue) : Type 0 where
 
 -- the first fault of the bytes
 abbrev pub FirstFault : List ℕ → ℕ → Refusal → Type 0
-FirstFault bytes line refusal = ((IsUtf8 bytes → ⊥) × (line ≡ 1 + count_by (λ b. b == 10) (take (utf8_valid_len bytes) bytes)) × (Some refusal ≡ coded 1))
+FirstFault bytes line refusal =
+    ((IsUtf8 bytes → ⊥) × (line ≡ 1 + count_by (λ b. b == 10) (take (utf8_valid_len bytes) bytes)) × (refusal ≡ coded 1))
     ⊎ (IsUtf8 bytes × FailsIn 1 nothing_declared (lines_of bytes) line refusal)
 
 -- For all bytes exactly one of the two holds, and it determines what it names.

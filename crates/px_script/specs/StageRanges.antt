@@ -1,9 +1,8 @@
 -- What a script has of the language as far as it is built.
-use Rattle.std.specs.Prelude.{◌≡◌, ◌≤◌, List, [], length, Option, None, Some, All}
+use Rattle.std.specs.Prelude.{◌≡◌, ◌≤◌, [], length, None, All}
 use Rattle.px_terms.specs.declared.problem.Schema.{Schema}
 use Rattle.px_script.specs.Commands.{Command, Plan, Learn, Show, DisturbAtoms, DisturbRooms, Run, Facts}
 use Rattle.px_script.specs.Content.{ScriptValue}
-use Rattle.px_script.specs.Declarations.{OpenBlock, of_operator, of_building}
 use Rattle.px_script.specs.Stages.{most_atoms}
 
 -- a plan for a goal of at most twelve atoms without variables, or the facts
@@ -27,13 +26,3 @@ pub record IsOfStage (script : ScriptValue) : Type 0 where
   pub height : script.problem.height ≡ 4
   pub shapes : script.problem.shapes ≡ 10000
   pub commands : All IsBuiltCommand script.commands
-
-abbrev pub IsBlockOfStage : Option OpenBlock → Type 0
-IsBlockOfStage None = Unit {0}
-IsBlockOfStage (Some block) = elim block.kind [ of_operator parameters schema ↦ HasShortPrecondition schema | of_building ↦ ⊥ ]
-
--- the same of what the lines so far have declared
-pub record AreOfStage (all_schemas : List Schema) (all_commands : List Command) (open_block : Option OpenBlock) : Type 0 where
-  pub schemas : All HasShortPrecondition all_schemas
-  pub commands : All IsBuiltCommand all_commands
-  pub block : IsBlockOfStage open_block

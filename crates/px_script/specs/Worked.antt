@@ -18,7 +18,9 @@ of_one p x = record { pred = p; args = x ∷ [] }
 
 -- two objects, two operators, the second of which needs what the first may delete, two facts, and two commands
 abbrev pub danger_text : List ℕ
-danger_text = codes "object a b\npredicate P 1\npredicate Q 1\npredicate R 1\npredicate G 1\noperator A(x)\npre P(x)\ndelete Q(x)\nadd R(x)\nend\noperator B(x,y)\npre R(x) Q(y)\nadd G(x)\nend\nfact P(a) Q(b)\nplan N G(a)\nfacts\n"
+danger_text = codes "object a b\npredicate P 1\npredicate Q 1\npredicate R 1\npredicate G 1\n"
+    ++ codes "operator A(x)\npre P(x)\ndelete Q(x)\nadd R(x)\nend\noperator B(x,y)\npre R(x) Q(y)\nadd G(x)\nend\n"
+    ++ codes "fact P(a) Q(b)\nplan N G(a)\nfacts\n"
 
 abbrev pub danger : ScriptValue
 danger = record {
@@ -104,7 +106,10 @@ pub record WorkedRefusals : Type 0 where
   pub unbuilt_before_name : IsRefused (codes "axiom Q(a)") 1 11 0
   pub name_before_duplicate : IsRefused (codes "object a\npredicate P 1\nplan N P(a)\nplan N P(b)") 4 4 0
   pub duplicate_before_arity : IsRefused (codes "object a\npredicate P 1\nplan N P(a)\nplan N P(a,a)") 4 5 0
-  pub unbound_before_limit : IsRefused (codes "object a\npredicate P 1\nplan aaaaaaaaaaaaaaaaaaaaaaaaaaaaaaaaaaaaaaaaaaaaaaaaaaaaaaaaaaaaaaaaa P($)") 3 7 0
+  pub unbound_before_limit : IsRefused (codes "object a\npredicate P 1\n"
+      ++ codes "plan aaaaaaaaaaaaaaaaaaaaaaaaaaaaaaaaaaaaaaaaaaaaaaaaaaaaaaaaaaaaaaaaa P($)") 3 7 0
   pub duplicate_before_limit : IsRefused (codes "nodes 5\nnodes 0") 2 5 0
   pub arity_before_unbound : IsRefused (codes "object a\npredicate P 1\nfact P(?x,a)") 3 6 0
-  pub not_built : IsRefused (codes "object ROBOT R1 R2 R3 D1 D2 B1\npredicate INROOM 2\npredicate CONNECTS 3\npredicate BOX 1\naxiom ~CONNECTS(?d,?x,?y) CONNECTS(?d,?y,?x)\noperator GOTHRU(d,r1,r2)\npre INROOM(ROBOT,r1) CONNECTS(d,r1,r2)\ndelete INROOM(ROBOT,$)\n") 5 11 0
+  pub not_built : IsRefused (codes "object ROBOT R1 R2 R3 D1 D2 B1\npredicate INROOM 2\npredicate CONNECTS 3\npredicate BOX 1\n"
+      ++ codes "axiom ~CONNECTS(?d,?x,?y) CONNECTS(?d,?y,?x)\n"
+      ++ codes "operator GOTHRU(d,r1,r2)\npre INROOM(ROBOT,r1) CONNECTS(d,r1,r2)\ndelete INROOM(ROBOT,$)\n") 5 11 0

@@ -1,41 +1,85 @@
 //! What a script is: the definitions of lines, lexemes, forms, faults and content, and the law that bytes read one way.
 //!
+//! # Reading it
+//!
+//! The definition of a script stands in `specs`, and reads in this order:
+//!
+//! 1. `Lines` and `Lexemes`: the lines of the bytes, and the lexemes of a line.
+//! 2. `Items` and `Statements`: what may stand in a line after its word, and each line described once (`line_of`): its word, its
+//!    place, what its atoms may be, and its items.
+//! 3. `Limits`: the words and the limits of each version (`greatest`).
+//! 4. `Commands`, `Domain` and `Declarations`: what a line adds to what the lines before it declared (`declares`, `after_line`).
+//! 5. `Forms`: which statement the lexemes of a line are.
+//! 6. `Stages`, `Causes` and `Faults`: what is built; the causes to refuse a line that follow from its description alone; and all
+//!    causes in their order (`causes`), of which the first that is there is the fault (`fault_at`).
+//! 7. `Content` and `Scripts`: what a script is about, which bytes are a script (`IsScript`), and which fault is the first
+//!    (`FirstFault`).
+//!
+//! Beside it stand small lines and small texts with what the definition says of them (`Worked..`), and what each script keeps
+//! (`Things`, `Ranges`, `StageRanges`; `RangeLaws` has that these are facts with one proof at most, so that a type can keep them).
+//!
 //! # Calling it
 //!
 //! There is no code here but laws, as functions without a body. `px_reader` reads what is defined here.
 //!
 //! - [`reads_one_way`]: bytes are a script (`Spells`, and `IsScript` with what it is about), or they have a first fault
 //!   (`FirstFault`), never both, and there is one of each at most.
+//! - [`only_takes_away`]: where only some of version 1 is built, a line is refused as in the whole of it, or as not built.
 //! - [`is_in_range`]: what a script is about is in range, and of the language as far as it is built, so a caller may hand its
 //!   numbers on.
-//! - [`worked_texts`]: what the definitions say of small texts, to be compared with what one expects.
+//! - [`worked_lines`] and [`worked_texts`]: what the definition says of small lines, and of small texts from their bytes, to be
+//!   compared with what one expects.
+//!
+//! The modules of `proofs` that px_reader cites (`Scanning`, `Parsing`, `Progress`, `States` and lemmas) are no part of what a script
+//! is: no promise speaks of them.
 #![tactic(auto)]
 
 ghost use Rattle.std.specs.Prelude.{List, ℕ};
 ghost use Rattle.px_script.specs.Content.{ScriptValue};
+ghost use Rattle.px_script.specs.Declarations.{Declared};
+ghost use Rattle.px_script.specs.Faults.{OnlyTakesAway};
 ghost use Rattle.px_script.specs.Ranges.{IsInRange};
-ghost use Rattle.px_script.specs.Scripts.{ReadsOneWay, IsScript};
 ghost use Rattle.px_script.specs.StageRanges.{IsOfStage};
+ghost use Rattle.px_script.specs.Stages.{Stage};
+ghost use Rattle.px_script.specs.Statements.{Statement};
+ghost use Rattle.px_script.specs.Scripts.{ReadsOneWay, IsScript};
 ghost use Rattle.px_script.specs.Worked.{WorkedScripts, WorkedRefusals};
-ghost use Rattle.px_script.specs.WorkedStages.{WorkedStages};
+ghost use Rattle.px_script.specs.WorkedDomains.{WorkedDomains};
+ghost use Rattle.px_script.specs.WorkedBuildings.{WorkedBuildings};
+ghost use Rattle.px_script.specs.WorkedCommands.{WorkedCommands};
+ghost use Rattle.px_script.specs.WorkedLater.{WorkedLater};
+
+/// Small lines of all of version 1, each behind lines that have no fault: what it leaves, or its first fault; and of lines of version 2
+/// what follows from their description.
+pub fn worked_lines()
+    ensures domains { WorkedDomains }
+    ensures buildings { WorkedBuildings }
+    ensures commands { WorkedCommands }
+    ensures later { WorkedLater }
+{}
 
 /// All bytes are a script or have a first fault, and never both; each determines what it names.
 pub fn reads_one_way()
     ensures { (bytes : List ℕ) → ReadsOneWay bytes }
 {}
 
-/// The problem of a script is valid, each of its numbers has a name and no name stands twice in its kind, the facts and the
-/// commands are over its numbers, all is within the limits, and no result is given twice. It has no axioms and no building,
-/// its goals have no variables, and these and its preconditions have at most 12 atoms.
+/// A stage only takes away: where less is built, a line either has the fault that it has in the whole of version 1, and none where it
+/// has none there, or is refused as not built.
+pub fn only_takes_away()
+    ensures { (stage : Stage) (d : Declared) (s : Statement) → OnlyTakesAway stage d s }
+{}
+
+/// The problem of a script is valid, each of its numbers has a name and no name stands twice in its kind, the facts, the building and
+/// the commands are over its numbers, all is within the limits, and each result is given once and named by later commands alone. As far
+/// as the language is built, it has no axioms and no building, its goals have no variables, and these and its preconditions have at most
+/// 12 atoms.
 pub fn is_in_range()
     ensures range { (bytes : List ℕ) (script : ScriptValue) → IsScript bytes script → IsInRange script }
     ensures stage { (bytes : List ℕ) (script : ScriptValue) → IsScript bytes script → IsOfStage script }
 {}
 
-/// Small texts: what three scripts are about, and the first faults of texts that are none. Of words to come, by the lines
-/// that the texts would be: faults of some lines, behind lines that have none, and the facts of a building.
+/// Small texts, from their bytes: what three scripts are about, and the first faults of texts that are none.
 pub fn worked_texts()
     ensures scripts { WorkedScripts }
     ensures refusals { WorkedRefusals }
-    ensures stages { WorkedStages }
 {}

@@ -1,5 +1,4 @@
 use Rattle.px_script.proofs.Worked.{worked-scripts, worked-refusals}
-use Rattle.px_script.proofs.WorkedStages.{worked-stages}
 use Rattle.px_script.proofs.worked_texts.Goals as goal
 
 pub returns-clause-scripts : goal.returns-clause-scripts
@@ -7,6 +6,3 @@ returns-clause-scripts c = worked-scripts
 
 pub returns-clause-refusals : goal.returns-clause-refusals
 returns-clause-refusals c = worked-refusals
-
-pub returns-clause-stages : goal.returns-clause-stages
-returns-clause-stages c = worked-stages

@@ -2,7 +2,7 @@ use Rattle.std.proofs.Common.{◌≡◌, ◌∷◌, ◌<◌, drop, length, sym, 
 use Rattle.std.proofs.lemmas.Grind.{common_steps}
 use Rattle.std.proofs.lemmas.List.{length-drop, length-map}
 use Rattle.px_script.specs.Lexemes.{name}
-use Rattle.px_script.specs.Parsing.{operator_form}
+use Rattle.px_script.proofs.Parsing.{operator_form}
 use Rattle.px_reader.specs.Views.{lexeme_of}
 use Rattle.px_reader.specs.StatementViews.{lexemes_of}
 use Rattle.px_reader.proofs.TokenLemmas.{no-operator}
@@ -13,6 +13,13 @@ returns-in-Some c =
     let tokens = c.args.tokens.now in
     let found = rw c.in-Some.is at c.in_ok-parameters.ensures.found in
     let within = rw c.in-Some.is at c.in_ok-parameters.ensures.within in
-    let more : 0 < length (lexemes_of (drop c.in-Some.next tokens)) = omega (arith, length-map (drop c.in-Some.next tokens) lexeme_of, length-drop c.in-Some.next tokens, within, c.if-next-tokens.false) in
+    let more : 0 < length (lexemes_of (drop c.in-Some.next tokens))
+    = omega (
+      arith,
+      length-map (drop c.in-Some.next tokens) lexeme_of,
+      length-drop c.in-Some.next tokens,
+      within,
+      c.if-next-tokens.false,
+    ) in
     let whole : lexemes_of tokens ≡ name c.in-Name.name.now ∷ lexemes_of (drop 1 tokens) = grind (arith, common_steps) in
     no-operator c.in-Name.name.now (lexemes_of (drop 1 tokens)) _ _ found more ∙ ap operator_form (sym whole)

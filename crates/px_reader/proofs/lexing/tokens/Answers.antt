@@ -30,4 +30,5 @@ returns-in-Ok-None-clause-tokens c =
 
 pub returns-in-Err-clause-refused : goal.returns-in-Err-clause-refused
 returns-in-Err-clause-refused c = λ all lexes.
-    none-read (chars c.args.line.now) (map lexeme_of c.loop-token.tokens.items) (chars c.loop-token.rest.now) c.loop-token.invariant.0 c.in-Err.ensures all lexes
+    none-read (chars c.args.line.now) (map lexeme_of c.loop-token.tokens.items) (chars c.loop-token.rest.now) c.loop-token.invariant.0
+    c.in-Err.ensures all lexes

@@ -2,7 +2,7 @@ use Rattle.std.proofs.Common.{◌≡◌, ◌++◌, ◌∷◌, [], ◌+◌, false
 use Rattle.std.specs.Prelude.{◌==◌}
 use Rattle.std.proofs.lemmas.Grind.{common_steps}
 use Rattle.std.proofs.lemmas.List.{map-append}
-use Rattle.px_script.specs.Parsing.{argument_of}
+use Rattle.px_script.proofs.Parsing.{argument_of}
 use Rattle.px_reader.specs.StatementViews.{lexemes_of, argument_view}
 use Rattle.px_script.proofs.Steps.{items-closed, items-wrong, items-more, items-none}
 use Rattle.px_reader.proofs.lists.arguments_after.Goals as goal
@@ -10,25 +10,32 @@ use Rattle.px_reader.proofs.lists.arguments_after.Goals as goal
 pub returns-then-sign-eq41-clause-found : goal.returns-then-sign-eq41-clause-found
 returns-then-sign-eq41-clause-found c =
     let pushed : c.push.new.self.items ≡ c.loop-argument.arguments.items ++ c.in-Some.argument ∷ [] = grind (arith, common_steps) in
-    rw (pushed, map-append) (items-closed argument_of (lexemes_of (drop c.args.start c.args.tokens.now)) (lexemes_of (drop c.loop-argument.at c.args.tokens.now)) (map argument_view c.loop-argument.arguments.items)
-    (argument_view c.in-Some.argument) c.in-Some.sign (lexemes_of (drop (c.loop-argument.at + 2) c.args.tokens.now)) c.loop-argument.invariant.0 c.in-Some.ensures.item c.if-sign-eq41.true)
+    rw (pushed, map-append) (items-closed argument_of (lexemes_of (drop c.args.start c.args.tokens.now))
+    (lexemes_of (drop c.loop-argument.at c.args.tokens.now)) (map argument_view c.loop-argument.arguments.items)
+    (argument_view c.in-Some.argument) c.in-Some.sign (lexemes_of (drop (c.loop-argument.at + 2) c.args.tokens.now))
+    c.loop-argument.invariant.0 c.in-Some.ensures.item c.if-sign-eq41.true)
 
 pub returns-then-sign-ne44-clause-found : goal.returns-then-sign-ne44-clause-found
 returns-then-sign-ne44-clause-found c =
     let not_close : (c.in-Some.sign == 41) ≡ false = grind (arith, c.if-sign-eq41.false) in
     let not_comma : (c.in-Some.sign == 44) ≡ false = grind (arith, c.if-sign-ne44.true) in
-    items-wrong argument_of (lexemes_of (drop c.args.start c.args.tokens.now)) (lexemes_of (drop c.loop-argument.at c.args.tokens.now)) (map argument_view c.loop-argument.arguments.items)
-    (argument_view c.in-Some.argument) c.in-Some.sign (lexemes_of (drop (c.loop-argument.at + 2) c.args.tokens.now)) c.loop-argument.invariant.0 c.in-Some.ensures.item not_close not_comma
+    items-wrong argument_of (lexemes_of (drop c.args.start c.args.tokens.now)) (lexemes_of (drop c.loop-argument.at c.args.tokens.now))
+    (map argument_view c.loop-argument.arguments.items)
+    (argument_view c.in-Some.argument) c.in-Some.sign (lexemes_of (drop (c.loop-argument.at + 2) c.args.tokens.now))
+    c.loop-argument.invariant.0 c.in-Some.ensures.item not_close not_comma
 
 pub loop-argument-preserved : goal.loop-argument-preserved
 loop-argument-preserved c =
     let pushed : c.push.new.self.items ≡ c.loop-argument.arguments.items ++ c.in-Some.argument ∷ [] = grind (arith, common_steps) in (
-      rw (pushed, map-append) (items-more argument_of (lexemes_of (drop c.args.start c.args.tokens.now)) (lexemes_of (drop c.loop-argument.at c.args.tokens.now)) (map argument_view c.loop-argument.arguments.items)
-          (argument_view c.in-Some.argument) c.in-Some.sign (lexemes_of (drop (c.loop-argument.at + 2) c.args.tokens.now)) c.loop-argument.invariant.0 c.in-Some.ensures.item c.if-sign-ne44.false),
+      rw (pushed, map-append) (items-more argument_of (lexemes_of (drop c.args.start c.args.tokens.now))
+          (lexemes_of (drop c.loop-argument.at c.args.tokens.now)) (map argument_view c.loop-argument.arguments.items)
+          (argument_view c.in-Some.argument) c.in-Some.sign (lexemes_of (drop (c.loop-argument.at + 2) c.args.tokens.now))
+          c.loop-argument.invariant.0 c.in-Some.ensures.item c.if-sign-ne44.false),
       omega arith,
       c.in-Some.ensures.two,
     )
 
 pub returns-clause-found : goal.returns-clause-found
-returns-clause-found c = items-none argument_of (lexemes_of (drop c.args.start c.args.tokens.now)) (lexemes_of (drop c.loop-argument.at c.args.tokens.now)) (map argument_view c.loop-argument.arguments.items)
+returns-clause-found c = items-none argument_of (lexemes_of (drop c.args.start c.args.tokens.now))
+    (lexemes_of (drop c.loop-argument.at c.args.tokens.now)) (map argument_view c.loop-argument.arguments.items)
     c.loop-argument.invariant.0 c.in_default.ensures.item

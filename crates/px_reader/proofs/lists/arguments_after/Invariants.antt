@@ -1,11 +1,13 @@
 use Rattle.std.proofs.Common.{◌≡◌, ◌≤◌, ◌-◌, drop, map, length}
-use Rattle.px_script.specs.Parsing.{items_after, argument_of}
+use Rattle.px_script.proofs.Parsing.{items_after, argument_of}
 use Rattle.px_script.proofs.Steps.{in_front}
 use Rattle.px_reader.specs.StatementViews.{lexemes_of, argument_view}
 use Rattle.px_reader.proofs.lists.arguments_after.Given as goal
 
 abbrev pub invariant-loop-argument : goal.invariant-loop-argument
-invariant-loop-argument l = (items_after argument_of (lexemes_of (drop l.start l.tokens)) ≡ in_front (map argument_view l.arguments.items) (items_after argument_of (lexemes_of (drop l.at l.tokens)))) × (l.start ≤ l.at) × (l.at ≤ length l.tokens)
+invariant-loop-argument l = (items_after argument_of (lexemes_of (drop l.start l.tokens))
+    ≡ in_front (map argument_view l.arguments.items) (items_after argument_of (lexemes_of (drop l.at l.tokens)))) × (l.start ≤ l.at)
+    × (l.at ≤ length l.tokens)
 
 abbrev pub decreases-loop-argument : goal.decreases-loop-argument
 decreases-loop-argument l = length l.tokens - l.at

@@ -1,5 +1,5 @@
 use Rattle.std.proofs.Common.{◌≡◌, ◌∙◌, true, drop, ap, sym, arith}
-use Rattle.px_script.specs.Parsing.{argument_of, items_after, opens}
+use Rattle.px_script.proofs.Parsing.{argument_of, items_after, opens}
 use Rattle.px_script.proofs.Steps.{items-opened}
 use Rattle.px_reader.specs.StatementViews.{lexemes_of, front_view, items_view, argument_view}
 use Rattle.px_reader.proofs.TokenLemmas.{ok-same, lexemes-drop}
@@ -9,4 +9,5 @@ pub returns-then-opens-clause-found : goal.returns-then-opens-clause-found
 returns-then-opens-clause-found c =
     let opened : opens (lexemes_of (drop c.args.at c.args.tokens.now)) ≡ true = grind (arith, c.opens.ensures.opens, c.if-opens.true) in
     ok-same c.arguments_after.result (front_view (items_view argument_view) c.args.tokens.now) _ _ c.arguments_after.ensures.found
-    (sym (items-opened argument_of (lexemes_of (drop c.args.at c.args.tokens.now)) opened ∙ ap (items_after argument_of) (lexemes-drop 1 c.args.at c.args.tokens.now)))
+    (sym (items-opened argument_of (lexemes_of (drop c.args.at c.args.tokens.now)) opened
+    ∙ ap (items_after argument_of) (lexemes-drop 1 c.args.at c.args.tokens.now)))

@@ -2,7 +2,7 @@ use Rattle.std.proofs.Common.{◌≡◌, ◌++◌, ◌∷◌, [], ◌+◌, false
 use Rattle.std.specs.Prelude.{◌==◌}
 use Rattle.std.proofs.lemmas.Grind.{common_steps}
 use Rattle.std.proofs.lemmas.List.{map-append}
-use Rattle.px_script.specs.Parsing.{name_of}
+use Rattle.px_script.proofs.Parsing.{name_of}
 use Rattle.px_reader.specs.StatementViews.{lexemes_of, text_of}
 use Rattle.px_script.proofs.Steps.{items-closed, items-wrong, items-more, items-none}
 use Rattle.px_reader.proofs.lists.names_after.Goals as goal
@@ -10,25 +10,32 @@ use Rattle.px_reader.proofs.lists.names_after.Goals as goal
 pub returns-then-sign-eq41-clause-found : goal.returns-then-sign-eq41-clause-found
 returns-then-sign-eq41-clause-found c =
     let pushed : c.push.new.self.items ≡ c.loop-name.names.items ++ c.in-Some.name ∷ [] = grind (arith, common_steps) in
-    rw (pushed, map-append) (items-closed name_of (lexemes_of (drop c.args.start c.args.tokens.now)) (lexemes_of (drop c.loop-name.at c.args.tokens.now)) (map text_of c.loop-name.names.items)
-    (text_of c.in-Some.name) c.in-Some.sign (lexemes_of (drop (c.loop-name.at + 2) c.args.tokens.now)) c.loop-name.invariant.0 c.in-Some.ensures.item c.if-sign-eq41.true)
+    rw (pushed, map-append) (items-closed name_of (lexemes_of (drop c.args.start c.args.tokens.now))
+    (lexemes_of (drop c.loop-name.at c.args.tokens.now)) (map text_of c.loop-name.names.items)
+    (text_of c.in-Some.name) c.in-Some.sign (lexemes_of (drop (c.loop-name.at + 2) c.args.tokens.now)) c.loop-name.invariant.0
+    c.in-Some.ensures.item c.if-sign-eq41.true)
 
 pub returns-then-sign-ne44-clause-found : goal.returns-then-sign-ne44-clause-found
 returns-then-sign-ne44-clause-found c =
     let not_close : (c.in-Some.sign == 41) ≡ false = grind (arith, c.if-sign-eq41.false) in
     let not_comma : (c.in-Some.sign == 44) ≡ false = grind (arith, c.if-sign-ne44.true) in
-    items-wrong name_of (lexemes_of (drop c.args.start c.args.tokens.now)) (lexemes_of (drop c.loop-name.at c.args.tokens.now)) (map text_of c.loop-name.names.items)
-    (text_of c.in-Some.name) c.in-Some.sign (lexemes_of (drop (c.loop-name.at + 2) c.args.tokens.now)) c.loop-name.invariant.0 c.in-Some.ensures.item not_close not_comma
+    items-wrong name_of (lexemes_of (drop c.args.start c.args.tokens.now)) (lexemes_of (drop c.loop-name.at c.args.tokens.now))
+    (map text_of c.loop-name.names.items)
+    (text_of c.in-Some.name) c.in-Some.sign (lexemes_of (drop (c.loop-name.at + 2) c.args.tokens.now)) c.loop-name.invariant.0
+    c.in-Some.ensures.item not_close not_comma
 
 pub loop-name-preserved : goal.loop-name-preserved
 loop-name-preserved c =
     let pushed : c.push.new.self.items ≡ c.loop-name.names.items ++ c.in-Some.name ∷ [] = grind (arith, common_steps) in (
-      rw (pushed, map-append) (items-more name_of (lexemes_of (drop c.args.start c.args.tokens.now)) (lexemes_of (drop c.loop-name.at c.args.tokens.now)) (map text_of c.loop-name.names.items)
-          (text_of c.in-Some.name) c.in-Some.sign (lexemes_of (drop (c.loop-name.at + 2) c.args.tokens.now)) c.loop-name.invariant.0 c.in-Some.ensures.item c.if-sign-ne44.false),
+      rw (pushed, map-append) (items-more name_of (lexemes_of (drop c.args.start c.args.tokens.now))
+          (lexemes_of (drop c.loop-name.at c.args.tokens.now)) (map text_of c.loop-name.names.items)
+          (text_of c.in-Some.name) c.in-Some.sign (lexemes_of (drop (c.loop-name.at + 2) c.args.tokens.now)) c.loop-name.invariant.0
+          c.in-Some.ensures.item c.if-sign-ne44.false),
       omega arith,
       c.in-Some.ensures.two,
     )
 
 pub returns-clause-found : goal.returns-clause-found
-returns-clause-found c = items-none name_of (lexemes_of (drop c.args.start c.args.tokens.now)) (lexemes_of (drop c.loop-name.at c.args.tokens.now)) (map text_of c.loop-name.names.items)
+returns-clause-found c = items-none name_of (lexemes_of (drop c.args.start c.args.tokens.now))
+    (lexemes_of (drop c.loop-name.at c.args.tokens.now)) (map text_of c.loop-name.names.items)
     c.loop-name.invariant.0 c.in_default.ensures.item

@@ -14,10 +14,12 @@ pub returns-in-Err-Fault-clause-fails : goal.returns-in-Err-Fault-clause-fails
 returns-in-Err-Fault-clause-fails c =
     let fails = rw c.in-Err-Fault.field-0-is at c.in-Err-Fault.ensures.err in
     subst (LinesFail (characters_of c.args.lines.now)) (sym (rw c.in-Err-Fault.field-0-is at c.refused.ensures))
-    (one-fails (λ line. chars (without_return line.now)) c.args.lines.now (declared_of c.loop-index.reader) c.loop-index.index _ _ (refusal_of c.in-Err-Fault.fault)
+    (one-fails (λ line. chars (without_return line.now)) c.args.lines.now (declared_of c.loop-index.reader) c.loop-index.index _ _
+    (refusal_of c.in-Err-Fault.fault)
     c.loop-index-test.true (ap chars c.without_return.ensures) c.loop-index.invariant fails)
 
 pub loop-index-preserved : goal.loop-index-preserved
 loop-index-preserved c =
-    more-read (λ line. chars (without_return line.now)) c.args.lines.now (declared_of c.loop-index.reader) (declared_of c.read_line.new.self) c.loop-index.index _ _
+    more-read (λ line. chars (without_return line.now)) c.args.lines.now (declared_of c.loop-index.reader)
+    (declared_of c.read_line.new.self) c.loop-index.index _ _
     c.loop-index-test.true (ap chars c.without_return.ensures) c.loop-index.invariant c.in-Ok.ensures.ok

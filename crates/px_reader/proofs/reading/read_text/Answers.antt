@@ -2,7 +2,8 @@ use Rattle.std.proofs.Common.{◌≡◌, sym, ap, ◌∙◌, subst, inr, length,
 use Rattle.px_script.specs.Declarations.{nothing_declared}
 use Rattle.px_script.specs.Lines.{lines_of}
 use Rattle.px_script.specs.Scripts.{PassAll}
-use Rattle.px_script.proofs.Kept.{lines-kept, nothing-in_range}
+use Rattle.px_script.proofs.Kept.{lines-kept, start-in-range, declared-in-range}
+use Rattle.px_script.proofs.Stage.{lines-of-stage, start-of-stage, declared-of-stage}
 use Rattle.px_reader.specs.LineReads.{characters_of, HasFirstFault, LinesFail}
 use Rattle.px_reader.specs.Readers.{declared_of}
 use Rattle.px_reader.proofs.Outcomes.{parts-lines, few-parts, left-open, text-fails, err-carried}
@@ -15,17 +16,23 @@ read_each-requires-clause-few c =
     omega (arith, few, same, c.requires)
 
 pub finish-requires : goal.finish-requires
-finish-requires c = lines-kept 1 nothing_declared _ _ nothing-in_range c.in_ok-read_each.ensures.passes
+finish-requires c = record {
+  range = λ closed. declared-in-range _ (lines-kept 1 nothing_declared _ _ start-in-range c.in_ok-read_each.ensures.passes) closed;
+  stage = declared-of-stage _ (lines-of-stage 1 nothing_declared _ _ start-of-stage c.in_ok-read_each.ensures.passes);
+}
 
 pub returns-in_err-read_each-clause-refused : goal.returns-in_err-read_each-clause-refused
 returns-in_err-read_each-clause-refused c =
-    let lines : characters_of c.deref.result.now ≡ lines_of c.args.text.now = ap characters_of c.deref.ensures.value ∙ parts-lines c.in-Ok.lines.items c.args.text.now (rw c.without_mark.ensures at c.in-Ok.ensures) in
+    let lines : characters_of c.deref.result.now ≡ lines_of c.args.text.now = ap characters_of c.deref.ensures.value
+    ∙ parts-lines c.in-Ok.lines.items c.args.text.now (rw c.without_mark.ensures at c.in-Ok.ensures) in
     err-carried c.from_residual.result (HasFirstFault c.args.text.now) c.in_err-read_each.field-0.0 c.from_residual.ensures.1
-    (text-fails c.args.text.now c.in_err-read_each.field-0.0 c.utf8.text (subst (λ ls. LinesFail ls c.in_err-read_each.field-0.0) lines c.in_err-read_each.ensures.fails))
+    (text-fails c.args.text.now c.in_err-read_each.field-0.0 c.utf8.text
+    (subst (λ ls. LinesFail ls c.in_err-read_each.field-0.0) lines c.in_err-read_each.ensures.fails))
 
 pub returns-in-Ok-finish-clause-script : goal.returns-in-Ok-finish-clause-script
 returns-in-Ok-finish-clause-script c =
-    let lines : characters_of c.deref.result.now ≡ lines_of c.args.text.now = ap characters_of c.deref.ensures.value ∙ parts-lines c.in-Ok.lines.items c.args.text.now (rw c.without_mark.ensures at c.in-Ok.ensures) in
+    let lines : characters_of c.deref.result.now ≡ lines_of c.args.text.now = ap characters_of c.deref.ensures.value
+    ∙ parts-lines c.in-Ok.lines.items c.args.text.now (rw c.without_mark.ensures at c.in-Ok.ensures) in
     record {
       last = declared_of c.read_each.new.reader;
       spells = record {
@@ -38,8 +45,10 @@ returns-in-Ok-finish-clause-script c =
 
 pub returns-clause-refused : goal.returns-clause-refused
 returns-clause-refused c =
-    let lines : characters_of c.deref.result.now ≡ lines_of c.args.text.now = ap characters_of c.deref.ensures.value ∙ parts-lines c.in-Ok.lines.items c.args.text.now (rw c.without_mark.ensures at c.in-Ok.ensures) in
+    let lines : characters_of c.deref.result.now ≡ lines_of c.args.text.now = ap characters_of c.deref.ensures.value
+    ∙ parts-lines c.in-Ok.lines.items c.args.text.now (rw c.without_mark.ensures at c.in-Ok.ensures) in
     let passes = subst (λ ls. PassAll 1 nothing_declared ls (declared_of c.read_each.new.reader)) lines c.in_ok-read_each.ensures.passes in
     let block = c.in-Err.ensures.0 in
-    let fails = left-open 1 nothing_declared (lines_of c.args.text.now) (declared_of c.read_each.new.reader) block passes c.in-Err.ensures.1 in
+    let fails = left-open 1 nothing_declared (lines_of c.args.text.now) (declared_of c.read_each.new.reader) block passes
+    c.in-Err.ensures.1 in
     subst (HasFirstFault c.args.text.now) (sym c.refused.ensures) (inr (c.utf8.text, rw c.in-Err.ensures.2 fails))

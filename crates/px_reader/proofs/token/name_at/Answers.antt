@@ -4,7 +4,7 @@ use Rattle.std.specs.Str.{chars}
 use Rattle.std.proofs.lemmas.Str.{encodes-chars}
 use Rattle.unicode_ident.specs.Ident.{is_xid_continue}
 use Rattle.px_names.specs.Name.{starts_name}
-use Rattle.px_script.specs.Scanning.{front_while, after_while}
+use Rattle.px_script.proofs.Scanning.{front_while, after_while}
 use Rattle.px_script.proofs.Firsts.{starts-continues}
 use Rattle.px_reader.proofs.token.name_at.Goals as goal
 
@@ -14,6 +14,14 @@ returns-then-starts_name c =
     let characters = c.in_ok-first.ensures.characters in
     let starts : starts_name first ≡ true = grind (arith, c.starts_name.ensures, c.if-starts_name.true) in
     let goes_on = starts-continues first starts in
-    let front : chars c.split_while.result.0.now ≡ first ∷ front_while is_xid_continue (chars c.in_ok-first.field-0-1.now) = c.split_while.ensures.front ∙ rw (characters, goes_on) refl in
-    let after : chars c.split_while.result.1.now ≡ after_while is_xid_continue (chars c.in_ok-first.field-0-1.now) = c.split_while.ensures.after ∙ rw (characters, goes_on) refl in
-    rw characters (starts, sym (encodes-chars c.split_while.result.0.now c.split_while.ensures.front_text) ∙ ap encode_utf8_all front, after, c.split_while.ensures.rest_text)
+    let front : chars c.split_while.result.0.now ≡ first ∷ front_while is_xid_continue (chars c.in_ok-first.field-0-1.now)
+    = c.split_while.ensures.front ∙ rw (characters, goes_on) refl in
+    let after : chars c.split_while.result.1.now ≡ after_while is_xid_continue (chars c.in_ok-first.field-0-1.now)
+    = c.split_while.ensures.after ∙ rw (characters, goes_on) refl in
+    rw characters (
+      starts,
+      sym (encodes-chars c.split_while.result.0.now c.split_while.ensures.front_text)
+          ∙ ap encode_utf8_all front,
+      after,
+      c.split_while.ensures.rest_text,
+    )

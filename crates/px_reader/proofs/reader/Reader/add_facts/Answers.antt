@@ -7,8 +7,8 @@ use Rattle.px_terms.specs.Order.{atom_cmp}
 use Rattle.px_terms.specs.declared.atom.Atom.{Atom}
 use Rattle.px_script.specs.Declarations.{atom_of}
 use Rattle.px_reader.specs.Readers.{declared_of}
-use Rattle.px_reader.specs.StatementViews.{atom_view}
-use Rattle.px_reader.specs.declared.statement.WrittenAtom.{WrittenAtom}
+use Rattle.px_reader.specs.StatementViews.{signed_view}
+use Rattle.px_reader.specs.declared.statement.SignedAtom.{SignedAtom}
 use Rattle.px_reader.specs.declared.reader.Reader.{Reader}
 use Rattle.px_reader.proofs.Facts.{numbered, facts-more}
 use Rattle.px_reader.proofs.reader.Reader.add_facts.Goals as goal
@@ -18,22 +18,25 @@ loop-atom-init c = (refl, sym (set_of-sorted atom_cmp c.args.self.now.facts.atom
 
 pub add_fact-requires : goal.add_fact-requires
 add_fact-requires c =
-    let f : WrittenAtom → Atom = λ a. atom_of (declared_of c.args.self.now) [] (atom_view a) in
-    let number : Reader → Atom = λ r. atom_of (declared_of r) [] (atom_view c.atom-item.result) in
+    let f : SignedAtom → Atom = λ a. atom_of (declared_of c.args.self.now) [] (signed_view a) in
+    let number : Reader → Atom = λ r. atom_of (declared_of r) [] (signed_view c.atom-item.result) in
     let objects = c.requires.all_ground c.loop-atom.atom-index c.atom-item.result c.loop-atom-test.true in
     subst IsGround (sym (c.atom.ensures ∙ ap number c.loop-atom.invariant.0 ∙ ap f c.atom-item.is)) objects
 
 pub loop-atom-preserved : goal.loop-atom-preserved
 loop-atom-preserved c =
-    let f : WrittenAtom → Atom = λ a. atom_of (declared_of c.args.self.now) [] (atom_view a) in
-    let number : Reader → Atom = λ r. atom_of (declared_of r) [] (atom_view c.atom-item.result) in
+    let f : SignedAtom → Atom = λ a. atom_of (declared_of c.args.self.now) [] (signed_view a) in
+    let number : Reader → Atom = λ r. atom_of (declared_of r) [] (signed_view c.atom-item.result) in
     let changed : Reader → Reader = λ r. record r { facts = c.add_fact.new.self.facts } in (
       c.in_ok-add_fact.ensures.same ∙ ap changed c.loop-atom.invariant.0,
-      c.in_ok-add_fact.ensures.facts ∙ facts-more f c.args.atoms.now c.args.self.now.facts.atoms c.loop-atom.atom-index c.atom-item.result c.atom.result c.loop-atom.self.facts.atoms
+      c.in_ok-add_fact.ensures.facts ∙ facts-more f c.args.atoms.now c.args.self.now.facts.atoms c.loop-atom.atom-index
+          c.atom-item.result c.atom.result c.loop-atom.self.facts.atoms
           (c.atom.ensures ∙ ap number c.loop-atom.invariant.0 ∙ ap f c.atom-item.is) c.loop-atom-test.true c.loop-atom.invariant.1,
     )
 
 pub returns-clause-facts : goal.returns-clause-facts
 returns-clause-facts c =
-    let f : WrittenAtom → Atom = λ a. atom_of (declared_of c.args.self.now) [] (atom_view a) in
-    c.loop-atom.invariant.1 ∙ ap (λ t. atom_set (t ++ c.args.self.now.facts.atoms)) (ap (map f) (take_all c.loop-atom.atom-index c.args.atoms.now c.loop-atom-test.false) ∙ sym (numbered (declared_of c.args.self.now) c.args.atoms.now))
+    let f : SignedAtom → Atom = λ a. atom_of (declared_of c.args.self.now) [] (signed_view a) in
+    c.loop-atom.invariant.1 ∙ ap (λ t. atom_set (t ++ c.args.self.now.facts.atoms))
+    (ap (map f) (take_all c.loop-atom.atom-index c.args.atoms.now c.loop-atom-test.false)
+    ∙ sym (numbered (declared_of c.args.self.now) c.args.atoms.now))

@@ -2,10 +2,11 @@ use Rattle.std.proofs.Common.{◌≡◌, ◌++◌, [], map, take}
 use Rattle.px_terms.specs.AtomSets.{atom_set}
 use Rattle.px_script.specs.Declarations.{atom_of}
 use Rattle.px_reader.specs.Readers.{declared_of}
-use Rattle.px_reader.specs.StatementViews.{atom_view}
+use Rattle.px_reader.specs.StatementViews.{signed_view}
 use Rattle.px_reader.proofs.reader.Reader.add_facts.Given as goal
 
 abbrev pub invariant-loop-atom : goal.invariant-loop-atom
 invariant-loop-atom l =
     (l.self ≡ record l.initial.self { facts = l.self.facts })
-    × (l.self.facts.atoms ≡ atom_set (map (λ a. atom_of (declared_of l.initial.self) [] (atom_view a)) (take l.atom-index l.atoms) ++ l.initial.self.facts.atoms))
+    × (l.self.facts.atoms ≡ atom_set
+    (map (λ a. atom_of (declared_of l.initial.self) [] (signed_view a)) (take l.atom-index l.atoms) ++ l.initial.self.facts.atoms))

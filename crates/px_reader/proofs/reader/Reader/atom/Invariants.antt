@@ -1,8 +1,10 @@
-use Rattle.std.proofs.Common.{◌≡◌, [], map, take, length}
+use Rattle.std.proofs.Common.{◌≡◌, map, take, length}
 use Rattle.px_script.specs.Declarations.{parameters_here, term_of}
 use Rattle.px_reader.specs.Readers.{declared_of}
-use Rattle.px_reader.specs.StatementViews.{argument_view}
+use Rattle.px_reader.specs.StatementViews.{argument_view, text_of}
 use Rattle.px_reader.proofs.reader.Reader.atom.Given as goal
 
 abbrev pub invariant-loop-index : goal.invariant-loop-index
-invariant-loop-index l = (take l.index l.terms ≡ map (λ a. term_of (parameters_here (declared_of l.self)) [] l.self.names.objects (argument_view a)) (take l.index l.atom.arguments.items)) × (length l.terms ≡ 6)
+invariant-loop-index l = (take l.index l.terms
+    ≡ map (λ a. term_of (parameters_here (declared_of l.self)) (map text_of l.variables) l.self.names.objects (argument_view a))
+    (take l.index l.atom.arguments.items)) × (length l.terms ≡ 6)

@@ -1,63 +1,112 @@
-use Rattle.std.proofs.Common.{◌≡◌, [], true, map, refl, arith}
-use Rattle.px_names.specs.Name.{is_name_text}
-use Rattle.px_script.specs.Faults.{IsFaultless}
+use Rattle.std.proofs.Common.{◌≡◌, map, refl}
+use Rattle.std.specs.Prelude.{None}
+use Rattle.px_script.specs.Faults.{fault_of}
 use Rattle.px_script.specs.Statements as spec
-use Rattle.px_script.proofs.Right.{right-of, no-variables, plan-fresh, operator-fresh}
+use Rattle.px_script.specs.Statements.{line_of}
 use Rattle.px_reader.specs.Readers.{declared_of}
-use Rattle.px_reader.specs.StatementViews.{atom_view, text_of}
-use Rattle.px_reader.proofs.LimitLemmas.{all-viewed, sizes-seen, facts-viewed}
+use Rattle.px_reader.specs.StatementViews.{signed_view, room_edit_view}
+use Rattle.px_reader.proofs.Right.{faultless, readable, facts-ground, axiom-few, axiom-plain, goal-few, room-left}
 use Rattle.px_reader.proofs.reader.Reader.declare.Goals as goal
 
-pub declare_objects-requires-clause-named : goal.declare_objects-requires-clause-named
-declare_objects-requires-clause-named c = rw c.deref.ensures.value (all-viewed (λ name. is_name_text name ≡ true) text_of c.in-Object.names.items (rw c.in-Object.is at c.requires.named))
+pub add_axiom-requires-clause-few_variables : goal.add_axiom-requires-clause-few_variables
+add_axiom-requires-clause-few_variables c =
+    let d = declared_of c.args.self.now in
+    let atoms = c.in-Axiom.literals.items in
+    let s = spec.«axiom» (map signed_view atoms) in
+    let e : fault_of d s ≡ None = rw c.in-Axiom.is at c.requires.faultless in
+    rw c.deref-in-Axiom.ensures.value (axiom-few d (map signed_view atoms) e)
 
-pub open_operator-requires : goal.open_operator-requires
-open_operator-requires c =
-    let parameters = map text_of c.in-Operator.parameters.items in
-    let faultless : IsFaultless (declared_of c.args.self.now) (spec.operator c.in-Operator.name.now parameters) = rw c.in-Operator.is at c.requires.faultless in
-    let named = rw c.in-Operator.is at c.requires.named in
-    operator-fresh (declared_of c.args.self.now) c.in-Operator.name.now parameters faultless (named 0 [] (omega arith))
+pub add_axiom-requires-clause-readable : goal.add_axiom-requires-clause-readable
+add_axiom-requires-clause-readable c =
+    let d = declared_of c.args.self.now in
+    let atoms = c.in-Axiom.literals.items in
+    let s = spec.«axiom» (map signed_view atoms) in
+    let e : fault_of d s ≡ None = rw c.in-Axiom.is at c.requires.faultless in
+    rw c.deref-in-Axiom.ensures.value (readable d (line_of s) atoms c.requires.range (faultless d s e).right.arity refl)
 
-pub extend_operator-requires-clause-sizes : goal.extend_operator-requires-clause-sizes
-extend_operator-requires-clause-sizes c =
-    let faultless : IsFaultless (declared_of c.args.self.now) (spec.pre (map atom_view c.in-Pre.atoms.items)) = rw c.in-Pre.is at c.requires.faultless in
-    rw c.deref-in-Pre.ensures.value (sizes-seen (declared_of c.args.self.now) (spec.pre (map atom_view c.in-Pre.atoms.items)) c.in-Pre.atoms.items c.requires.range faultless.arity refl)
+pub add_axiom-requires-clause-plain : goal.add_axiom-requires-clause-plain
+add_axiom-requires-clause-plain c =
+    let d = declared_of c.args.self.now in
+    let atoms = c.in-Axiom.literals.items in
+    let s = spec.«axiom» (map signed_view atoms) in
+    let e : fault_of d s ≡ None = rw c.in-Axiom.is at c.requires.faultless in
+    rw c.deref-in-Axiom.ensures.value (axiom-plain d (map signed_view atoms) c.requires.range (rw c.in-Axiom.is at c.requires.formed) e)
 
-pub extend_operator-requires-in-Delete-clause-sizes : goal.extend_operator-requires-in-Delete-clause-sizes
-extend_operator-requires-in-Delete-clause-sizes c =
-    let faultless : IsFaultless (declared_of c.args.self.now) (spec.delete (map atom_view c.in-Delete.atoms.items)) = rw c.in-Delete.is at c.requires.faultless in
-    rw c.deref-in-Delete.ensures.value (sizes-seen (declared_of c.args.self.now) (spec.delete (map atom_view c.in-Delete.atoms.items)) c.in-Delete.atoms.items c.requires.range faultless.arity refl)
+pub extend_operator-requires-clause-readable : goal.extend_operator-requires-clause-readable
+extend_operator-requires-clause-readable c =
+    let d = declared_of c.args.self.now in
+    let atoms = c.in-Pre.atoms.items in
+    let s = spec.pre (map signed_view atoms) in
+    let e : fault_of d s ≡ None = rw c.in-Pre.is at c.requires.faultless in
+    rw c.deref-in-Pre.ensures.value (readable d (line_of s) atoms c.requires.range (faultless d s e).right.arity refl)
 
-pub extend_operator-requires-in-Add-clause-sizes : goal.extend_operator-requires-in-Add-clause-sizes
-extend_operator-requires-in-Add-clause-sizes c =
-    let faultless : IsFaultless (declared_of c.args.self.now) (spec.add (map atom_view c.in-Add.atoms.items)) = rw c.in-Add.is at c.requires.faultless in
-    rw c.deref-in-Add.ensures.value (sizes-seen (declared_of c.args.self.now) (spec.add (map atom_view c.in-Add.atoms.items)) c.in-Add.atoms.items c.requires.range faultless.arity refl)
+pub extend_operator-requires-in-Delete-clause-readable : goal.extend_operator-requires-in-Delete-clause-readable
+extend_operator-requires-in-Delete-clause-readable c =
+    let d = declared_of c.args.self.now in
+    let atoms = c.in-Delete.atoms.items in
+    let s = spec.delete (map signed_view atoms) in
+    let e : fault_of d s ≡ None = rw c.in-Delete.is at c.requires.faultless in
+    rw c.deref-in-Delete.ensures.value (readable d (line_of s) atoms c.requires.range (faultless d s e).right.arity refl)
 
-pub add_facts-requires-clause-sizes : goal.add_facts-requires-clause-sizes
-add_facts-requires-clause-sizes c =
-    let faultless : IsFaultless (declared_of c.args.self.now) (spec.fact (map atom_view c.in-Fact.atoms.items)) = rw c.in-Fact.is at c.requires.faultless in
-    rw c.deref-in-Fact.ensures.value (sizes-seen (declared_of c.args.self.now) (spec.fact (map atom_view c.in-Fact.atoms.items)) c.in-Fact.atoms.items c.requires.range faultless.arity refl)
+pub extend_operator-requires-in-Add-clause-readable : goal.extend_operator-requires-in-Add-clause-readable
+extend_operator-requires-in-Add-clause-readable c =
+    let d = declared_of c.args.self.now in
+    let atoms = c.in-Add.atoms.items in
+    let s = spec.add (map signed_view atoms) in
+    let e : fault_of d s ≡ None = rw c.in-Add.is at c.requires.faultless in
+    rw c.deref-in-Add.ensures.value (readable d (line_of s) atoms c.requires.range (faultless d s e).right.arity refl)
+
+pub add_facts-requires-clause-readable : goal.add_facts-requires-clause-readable
+add_facts-requires-clause-readable c =
+    let d = declared_of c.args.self.now in
+    let atoms = c.in-Fact.atoms.items in
+    let s = spec.fact (map signed_view atoms) in
+    let e : fault_of d s ≡ None = rw c.in-Fact.is at c.requires.faultless in
+    rw c.deref-in-Fact.ensures.value (readable d (line_of s) atoms c.requires.range (faultless d s e).right.arity refl)
 
 pub add_facts-requires-clause-all_ground : goal.add_facts-requires-clause-all_ground
 add_facts-requires-clause-all_ground c =
-    let faultless : IsFaultless (declared_of c.args.self.now) (spec.fact (map atom_view c.in-Fact.atoms.items)) = rw c.in-Fact.is at c.requires.faultless in
-    rw c.deref-in-Fact.ensures.value (facts-viewed (declared_of c.args.self.now) c.in-Fact.atoms.items c.requires.range (right-of _ _ faultless))
+    let d = declared_of c.args.self.now in
+    let atoms = c.in-Fact.atoms.items in
+    let s = spec.fact (map signed_view atoms) in
+    let e : fault_of d s ≡ None = rw c.in-Fact.is at c.requires.faultless in
+    rw c.deref-in-Fact.ensures.value (facts-ground d atoms c.requires.range (faultless d s e).right)
 
-pub add_plan-requires-clause-sizes : goal.add_plan-requires-clause-sizes
-add_plan-requires-clause-sizes c =
-    let s = spec.plan c.in-Plan.name.now (map atom_view c.in-Plan.goal.items) in
-    let faultless : IsFaultless (declared_of c.args.self.now) s = rw c.in-Plan.is at c.requires.faultless in
-    rw c.deref-in-Plan.ensures.value (sizes-seen (declared_of c.args.self.now) s c.in-Plan.goal.items c.requires.range faultless.arity refl)
+pub add_plan-requires-clause-few_variables : goal.add_plan-requires-clause-few_variables
+add_plan-requires-clause-few_variables c =
+    let d = declared_of c.args.self.now in
+    let atoms = c.in-Plan.goal.items in
+    let s = spec.plan c.in-Plan.name.now (map signed_view atoms) in
+    let e : fault_of d s ≡ None = rw c.in-Plan.is at c.requires.faultless in
+    rw c.deref-in-Plan.ensures.value (goal-few d (map signed_view atoms) c.in-Plan.name.now e)
 
-pub add_plan-requires-clause-fresh : goal.add_plan-requires-clause-fresh
-add_plan-requires-clause-fresh c =
-    let s = spec.plan c.in-Plan.name.now (map atom_view c.in-Plan.goal.items) in
-    let faultless : IsFaultless (declared_of c.args.self.now) s = rw c.in-Plan.is at c.requires.faultless in
-    let named = rw c.in-Plan.is at c.requires.named in
-    plan-fresh (declared_of c.args.self.now) c.in-Plan.name.now (map atom_view c.in-Plan.goal.items) c.requires.range faultless (named 0 [] (omega arith))
+pub add_plan-requires-clause-readable : goal.add_plan-requires-clause-readable
+add_plan-requires-clause-readable c =
+    let d = declared_of c.args.self.now in
+    let atoms = c.in-Plan.goal.items in
+    let s = spec.plan c.in-Plan.name.now (map signed_view atoms) in
+    let e : fault_of d s ≡ None = rw c.in-Plan.is at c.requires.faultless in
+    rw c.deref-in-Plan.ensures.value (readable d (line_of s) atoms c.requires.range (faultless d s e).right.arity refl)
 
-pub add_plan-requires-clause-no_variables : goal.add_plan-requires-clause-no_variables
-add_plan-requires-clause-no_variables c =
-    let s = spec.plan c.in-Plan.name.now (map atom_view c.in-Plan.goal.items) in
-    let faultless : IsFaultless (declared_of c.args.self.now) s = rw c.in-Plan.is at c.requires.faultless in
-    rw c.deref-in-Plan.ensures.value (no-variables (declared_of c.args.self.now) c.in-Plan.name.now (map atom_view c.in-Plan.goal.items) (right-of _ _ faultless))
+pub disturb_atoms-requires-clause-readable : goal.disturb_atoms-requires-clause-readable
+disturb_atoms-requires-clause-readable c =
+    let d = declared_of c.args.self.now in
+    let atoms = c.in-DisturbAtoms.edits.items in
+    let s = spec.disturb_atoms c.in-DisturbAtoms.turn c.in-DisturbAtoms.between (map signed_view atoms) in
+    let e : fault_of d s ≡ None = rw c.in-DisturbAtoms.is at c.requires.faultless in
+    rw c.deref-in-DisturbAtoms.ensures.value (readable d (line_of s) atoms c.requires.range (faultless d s e).right.arity refl)
+
+pub disturb_atoms-requires-clause-room : goal.disturb_atoms-requires-clause-room
+disturb_atoms-requires-clause-room c =
+    let d = declared_of c.args.self.now in
+    let atoms = c.in-DisturbAtoms.edits.items in
+    let s = spec.disturb_atoms c.in-DisturbAtoms.turn c.in-DisturbAtoms.between (map signed_view atoms) in
+    let e : fault_of d s ≡ None = rw c.in-DisturbAtoms.is at c.requires.faultless in
+    room-left d s c.in-DisturbAtoms.turn _ e refl
+
+pub disturb_rooms-requires : goal.disturb_rooms-requires
+disturb_rooms-requires c =
+    let d = declared_of c.args.self.now in
+    let s = spec.disturb_rooms c.in-DisturbRooms.turn c.in-DisturbRooms.between (map room_edit_view c.in-DisturbRooms.edits.items) in
+    let e : fault_of d s ≡ None = rw c.in-DisturbRooms.is at c.requires.faultless in
+    room-left d s c.in-DisturbRooms.turn _ e refl

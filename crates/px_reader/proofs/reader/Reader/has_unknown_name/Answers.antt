@@ -1,16 +1,23 @@
-use Rattle.std.proofs.Common.{refl, sym, ◌∙◌}
+use Rattle.std.proofs.Common.{◌≡◌, true, false, refl, sym, ap, ◌∙◌}
+use Rattle.std.specs.Prelude.{◌||◌, not}
+use Rattle.std.specs.List.{list_any}
+use Rattle.px_names.specs.Lists.{has_name}
+use Rattle.px_script.specs.Causes.{is_known_argument}
+use Rattle.px_script.specs.Forms.{atoms_of, arguments_of}
+use Rattle.px_script.specs.Statements.{line_of}
 use Rattle.px_reader.specs.Readers.{declared_of}
-use Rattle.px_reader.proofs.FaultTests.{predicates-lack, arguments-lack, built-knows, unknown-is}
+use Rattle.px_reader.specs.StatementViews.{statement_view}
+use Rattle.px_reader.proofs.AtomTests.{names-lack}
 use Rattle.px_reader.proofs.reader.Reader.has_unknown_name.Goals as goal
 
-pub returns-then-lack_predicates : goal.returns-then-lack_predicates
-returns-then-lack_predicates c =
-    let lacks = sym (predicates-lack (declared_of c.args.self.now) c.args.statement.now c.requires) ∙ sym (rw c.atoms-atoms.ensures at c.lack_predicates.ensures) ∙ c.if-lack_predicates.true in
-    rw (c.if-lack_predicates.true, lacks) refl
+pub returns-then-lack_names : goal.returns-then-lack_names
+returns-then-lack_names c =
+    let lacks = sym (names-lack (line_of (statement_view c.args.statement.now)) c.atoms.result.now (declared_of c.args.self.now)
+    c.atoms.ensures.atoms c.atoms.ensures.arguments) ∙ sym c.lack_names.ensures ∙ c.if-lack_names.true in
+    rw (c.if-lack_names.true, lacks) refl
 
-pub returns-else-lack_predicates : goal.returns-else-lack_predicates
-returns-else-lack_predicates c =
-    let has = sym (predicates-lack (declared_of c.args.self.now) c.args.statement.now c.requires) ∙ sym (rw c.atoms-atoms.ensures at c.lack_predicates.ensures) ∙ c.if-lack_predicates.false in
-    let arguments = rw c.atoms-atoms.ensures at c.lack_arguments.ensures ∙ arguments-lack (declared_of c.args.self.now) c.args.statement.now c.requires in
-    let knows = built-knows (declared_of c.args.self.now) c.args.statement.now c.requires in
-    unknown-is _ _ _ c.lack_arguments.result has knows arguments
+pub returns-else-lack_names : goal.returns-else-lack_names
+returns-else-lack_names c =
+    let lacks = sym (names-lack (line_of (statement_view c.args.statement.now)) c.atoms.result.now (declared_of c.args.self.now)
+    c.atoms.ensures.atoms c.atoms.ensures.arguments) ∙ sym c.lack_names.ensures ∙ c.if-lack_names.false in
+    rw lacks c.lacks_name.ensures

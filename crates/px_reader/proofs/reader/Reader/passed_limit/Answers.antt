@@ -1,27 +1,21 @@
-use Rattle.std.proofs.Common.{◌≡◌, map, length, arith}
-use Rattle.std.proofs.lemmas.Grind.{common_steps}
-use Rattle.std.proofs.lemmas.List.{length-map}
-use Rattle.px_script.specs.Faults.{IsRight}
+use Rattle.std.proofs.Common.{◌≡◌, map, refl}
 use Rattle.px_script.specs.Statements as spec
-use Rattle.px_script.proofs.Right.{no-variables}
+use Rattle.px_script.specs.Statements.{line_of}
+use Rattle.px_script.proofs.Faultless.{IsRight}
 use Rattle.px_reader.specs.Readers.{declared_of}
-use Rattle.px_reader.specs.StatementViews.{atom_view}
-use Rattle.px_reader.proofs.LimitLemmas.{sizes-viewed, facts-viewed}
+use Rattle.px_reader.specs.StatementViews.{signed_view}
+use Rattle.px_reader.proofs.Right.{readable, facts-ground}
 use Rattle.px_reader.proofs.reader.Reader.passed_limit.Goals as goal
 
-pub has_too_many_facts-requires-clause-sizes : goal.has_too_many_facts-requires-clause-sizes
-has_too_many_facts-requires-clause-sizes c =
-    let right : IsRight (declared_of c.args.self.now) (spec.fact (map atom_view c.in-Fact.atoms.items)) = rw c.in-Fact.is at c.requires.right in
-    rw c.deref-in-Fact.ensures.value (sizes-viewed (declared_of c.args.self.now) c.in-Fact.atoms.items c.requires.range right)
+pub has_too_many_facts-requires-clause-readable : goal.has_too_many_facts-requires-clause-readable
+has_too_many_facts-requires-clause-readable c =
+    let d = declared_of c.args.self.now in
+    let s = spec.fact (map signed_view c.in-Fact.atoms.items) in
+    let right : IsRight d s = rw c.in-Fact.is at c.requires.right in
+    rw c.deref-in-Fact.ensures.value (readable d (line_of s) c.in-Fact.atoms.items c.requires.range right.arity refl)
 
 pub has_too_many_facts-requires-clause-all_ground : goal.has_too_many_facts-requires-clause-all_ground
 has_too_many_facts-requires-clause-all_ground c =
-    let right : IsRight (declared_of c.args.self.now) (spec.fact (map atom_view c.in-Fact.atoms.items)) = rw c.in-Fact.is at c.requires.right in
-    rw c.deref-in-Fact.ensures.value (facts-viewed (declared_of c.args.self.now) c.in-Fact.atoms.items c.requires.range right)
-
-pub returns-in-Plan : goal.returns-in-Plan
-returns-in-Plan c =
-    let right : IsRight (declared_of c.args.self.now) (spec.plan c.in-Plan.name.now (map atom_view c.in-Plan.goal.items)) = rw c.in-Plan.is at c.requires.right in
-    let none = no-variables (declared_of c.args.self.now) c.in-Plan.name.now (map atom_view c.in-Plan.goal.items) right in
-    let long : c.len-in-Plan.result ≡ length c.in-Plan.goal.items = grind (arith, common_steps) in
-    rw (c.in-Plan.is, none, length-map, ← long) c.plan_limit-limit.ensures
+    let d = declared_of c.args.self.now in
+    let right : IsRight d (spec.fact (map signed_view c.in-Fact.atoms.items)) = rw c.in-Fact.is at c.requires.right in
+    rw c.deref-in-Fact.ensures.value (facts-ground d c.in-Fact.atoms.items c.requires.range right)

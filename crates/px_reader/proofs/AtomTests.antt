@@ -1,0 +1,90 @@
+-- Tests of the code's atoms, as tests of a line's.
+use Rattle.std.proofs.Common.{◌≡◌, ℕ, Bool, true, false, List, [], ◌∷◌, ◌++◌, map, length, refl, sym, ap, ◌∙◌}
+use Rattle.std.specs.Prelude.{◌||◌, ◌==◌, not, slice_index}
+use Rattle.std.specs.List.{list_any, flat_map}
+use Rattle.std.proofs.lemmas.List.{append-nil, length-map}
+use Rattle.std.proofs.lemmas.List.Folds.{list_any-append}
+use Rattle.px_names.specs.Lists.{has_name}
+use Rattle.px_script.specs.Causes.{has_wrong_arity, is_known_argument}
+use Rattle.px_script.specs.Declarations.{Declared, number_in}
+use Rattle.px_script.specs.Forms.{atoms_of, arguments_of}
+use Rattle.px_script.specs.Items as items
+use Rattle.px_script.specs.Items.{wanted_by_edit}
+use Rattle.px_script.specs.Statements.{Line}
+use Rattle.px_script.proofs.ListLemmas.{list_any_map, list_any_flat}
+use Rattle.px_reader.specs.StatementViews.{argument_view, signed_view, room_edit_view, binding_view}
+use Rattle.px_reader.specs.Checks.{lacks, lacks_argument}
+use Rattle.px_reader.specs.declared.statement.Argument.{Argument}
+use Rattle.px_reader.specs.declared.statement.SignedAtom.{SignedAtom}
+use Rattle.px_reader.specs.declared.statement.WrittenBinding.{WrittenBinding}
+use Rattle.px_reader.specs.declared.statement.WrittenRoomEdit.{WrittenRoomEdit}
+
+-- the arguments of atoms, one atom after another
+abbrev pub arguments : List items.SignedAtom → List items.Argument
+arguments atoms = flat_map (λ x. x.atom.arguments) atoms
+
+-- the only list of a line
+pub one-list : {A : Type 0} (f : List A → Bool) (xs : List A) (b : Bool) → b ≡ f xs → b ≡ f (xs ++ [])
+one-list f xs b e = e ∙ ap f (sym (append-nil xs))
+
+one-more : (p : items.Argument → Bool) (args : List Argument) (rest : List items.Argument)
+    → list_any p (map argument_view args ++ rest) ≡ (list_any (λ a. p (argument_view a)) args || list_any p rest)
+one-more p args rest = list_any-append p (map argument_view args) rest ∙ ap (λ b. b || list_any p rest) (list_any_map p argument_view args)
+
+-- a test of arguments, atom by atom
+pub atoms-any : (p : items.Argument → Bool) (atoms : List SignedAtom)
+    → list_any p (arguments (map signed_view atoms)) ≡ list_any (λ atom. list_any (λ a. p (argument_view a)) atom.arguments.items) atoms
+atoms-any p [] = refl
+atoms-any p (atom ∷ more) = one-more p atom.arguments.items (arguments (map signed_view more))
+    ∙ ap (λ b. list_any (λ a. p (argument_view a)) atom.arguments.items || b) (atoms-any p more)
+
+module _ (l : Line) (atoms : List SignedAtom) where
+  pub arguments-any : (p : items.Argument → Bool) → arguments (map signed_view atoms) ≡ arguments_of l
+      → list_any (λ atom. list_any (λ a. p (argument_view a)) atom.arguments.items) atoms ≡ list_any p (arguments_of l)
+  arguments-any p are = sym (atoms-any p atoms) ∙ ap (list_any p) are
+
+  pub predicates-lack : (names : List (List ℕ)) → map signed_view atoms ≡ atoms_of l
+      → list_any (λ atom. not (has_name atom.predicate.now names)) atoms
+      ≡ list_any (λ x. not (has_name x.atom.predicate names)) (atoms_of l)
+  predicates-lack names are = sym (list_any_map (λ x. not (has_name x.atom.predicate names)) signed_view atoms)
+      ∙ ap (list_any (λ x. not (has_name x.atom.predicate names))) are
+
+  pub arities-differ : (d : Declared) → map signed_view atoms ≡ atoms_of l
+      → list_any (λ atom. not (length atom.arguments.items == slice_index d.arities (number_in atom.predicate.now d.names.predicates)))
+      atoms ≡ has_wrong_arity d l
+  arities-differ d are = sym (step atoms)
+      ∙ ap (list_any (λ x. not (length x.atom.arguments == slice_index d.arities (number_in x.atom.predicate d.names.predicates)))) are
+    where
+      step : (xs : List SignedAtom) → list_any
+          (λ x. not (length x.atom.arguments == slice_index d.arities (number_in x.atom.predicate d.names.predicates))) (map signed_view xs)
+          ≡ list_any (λ atom. not (length atom.arguments.items == slice_index d.arities
+          (number_in atom.predicate.now d.names.predicates))) xs
+      step [] = refl
+      step (atom ∷ more) = rw (length-map atom.arguments.items argument_view, step more) refl
+
+  pub names-lack : (d : Declared) → map signed_view atoms ≡ atoms_of l → arguments (map signed_view atoms) ≡ arguments_of l
+      → (list_any (λ atom. not (has_name atom.predicate.now d.names.predicates)) atoms || list_any (lacks_argument d) atoms)
+      ≡ (list_any (λ x. not (has_name x.atom.predicate d.names.predicates)) (atoms_of l) || list_any (λ a. not (is_known_argument d a))
+      (arguments_of l))
+  names-lack d are arguments-are =
+      ap (λ b. b || list_any (lacks_argument d) atoms) (predicates-lack d.names.predicates are)
+      ∙ ap (λ b. list_any (λ x. not (has_name x.atom.predicate d.names.predicates)) (atoms_of l) || b)
+      (arguments-any (λ a. not (is_known_argument d a)) arguments-are)
+
+-- names outside atoms
+
+pub places-lack : (d : Declared) (edits : List WrittenRoomEdit)
+    → list_any (λ edit. list_any (lacks d) (wanted_by_edit (room_edit_view edit))) edits
+    ≡ list_any (lacks d) (flat_map wanted_by_edit (map room_edit_view edits) ++ [])
+places-lack d edits =
+    sym (list_any_map (λ e. list_any (lacks d) (wanted_by_edit e)) room_edit_view edits)
+    ∙ sym (list_any_flat (lacks d) wanted_by_edit (map room_edit_view edits))
+    ∙ ap (list_any (lacks d)) (sym (append-nil (flat_map wanted_by_edit (map room_edit_view edits))))
+
+pub objects-lack : (d : Declared) (bindings : List WrittenBinding)
+    → list_any (λ b. lacks d (items.an_object, b.object.now)) bindings
+    ≡ list_any (lacks d) (map (λ b. (items.an_object, b.object)) (map binding_view bindings) ++ [])
+objects-lack d bindings =
+    sym (list_any_map (λ (b : items.Binding). lacks d (items.an_object, b.object)) binding_view bindings)
+    ∙ sym (list_any_map (lacks d) (λ (b : items.Binding). (items.an_object, b.object)) (map binding_view bindings))
+    ∙ ap (list_any (lacks d)) (sym (append-nil (map (λ (b : items.Binding). (items.an_object, b.object)) (map binding_view bindings))))

@@ -1,0 +1,7 @@
+use Rattle.std.proofs.Common.{◌≡◌, map, take}
+use Rattle.std.specs.String.{string_bytes}
+use Rattle.px_reader.specs.StatementViews.{text_of}
+use Rattle.px_reader.proofs.blocks.owned.Given as goal
+
+abbrev pub invariant-loop-name : goal.invariant-loop-name
+invariant-loop-name l = map string_bytes l.owned.items ≡ map text_of (take l.name-index l.names)

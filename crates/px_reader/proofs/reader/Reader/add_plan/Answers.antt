@@ -1,0 +1,29 @@
+use Rattle.std.proofs.Common.{◌≡◌, ℕ, List, [], ◌∷◌, map, length, sym, ap, ◌∙◌, arith}
+use Rattle.std.proofs.lemmas.Grind.{common_steps}
+use Rattle.px_script.specs.Commands.{Command, Plan}
+use Rattle.px_script.specs.Declarations.{atom_of, variables_of, with_command, with_names}
+use Rattle.px_script.specs.Items.{a_plan}
+use Rattle.px_reader.specs.Readers.{declared_of}
+use Rattle.px_reader.specs.StatementViews.{signed_view, text_of}
+use Rattle.px_reader.proofs.Facts.{map_map}
+use Rattle.px_reader.proofs.TokenLemmas.{on-ok}
+use Rattle.px_reader.proofs.reader.Reader.add_plan.Goals as goal
+
+pub returns : goal.returns
+returns c =
+    let d = declared_of c.args.self.now in
+    let xs = map signed_view c.args.goal.now in
+    let vars : c.len.result ≡ length (variables_of xs)
+    = (let items : c.len.result ≡ length c.in_ok-variables.variables.items = grind (arith, common_steps) in items
+    ∙ c.in_ok-variables.ensures.few) in
+    let atoms : c.from_vec.result ≡ map (atom_of d (variables_of xs)) xs =
+    c.from_vec.ensures ∙ c.in_ok-goal.ensures
+    ∙ ap (λ vs. map (λ x. atom_of d vs (signed_view x)) c.args.goal.now)
+    (ap (map text_of) c.deref.ensures.value ∙ c.in_ok-variables.ensures.names)
+    ∙ sym (map_map (atom_of d (variables_of xs)) signed_view c.args.goal.now) in
+    let command : Plan c.in_ok-name.name c.from_vec.result c.len.result
+    ≡ Plan (length d.names.results) (map (atom_of d (variables_of xs)) xs) (length (variables_of xs)) =
+    λ i. Plan (c.in_ok-name.ensures.number i) (atoms i) (vars i) in
+    on-ok c.add_command.result (λ last.
+    last ∙ ap (with_command (Plan c.in_ok-name.name c.from_vec.result c.len.result)) c.in_ok-name.ensures.declared
+    ∙ ap (λ (made : Command). with_command made (with_names a_plan (c.args.name.now ∷ []) d)) command) c.add_command.ensures

@@ -1,0 +1,8 @@
+use Rattle.std.proofs.Common.{◌≡◌, map, take}
+use Rattle.px_script.specs.Declarations.{atom_edit_of}
+use Rattle.px_reader.specs.Readers.{declared_of}
+use Rattle.px_reader.specs.StatementViews.{signed_view}
+use Rattle.px_reader.proofs.reader.Reader.atom_edits.Given as goal
+
+abbrev pub invariant-loop-atom : goal.invariant-loop-atom
+invariant-loop-atom l = l.edits.items ≡ map (λ x. atom_edit_of (declared_of l.self) (signed_view x)) (take l.atom-index l.atoms)

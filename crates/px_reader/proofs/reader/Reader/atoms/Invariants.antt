@@ -1,0 +1,9 @@
+use Rattle.std.proofs.Common.{◌≡◌, map, take}
+use Rattle.px_script.specs.Declarations.{atom_of}
+use Rattle.px_reader.specs.Readers.{declared_of}
+use Rattle.px_reader.specs.StatementViews.{signed_view, text_of}
+use Rattle.px_reader.proofs.reader.Reader.atoms.Given as goal
+
+abbrev pub invariant-loop-atom : goal.invariant-loop-atom
+invariant-loop-atom l = l.numbered.items
+    ≡ map (λ x. atom_of (declared_of l.self) (map text_of l.variables) (signed_view x)) (take l.atom-index l.atoms)

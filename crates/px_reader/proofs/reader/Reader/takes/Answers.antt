@@ -1,0 +1,5 @@
+use Rattle.px_reader.specs.Readers.{declared_of}
+use Rattle.px_reader.proofs.reader.Reader.takes.Goals as goal
+
+pub returns : goal.returns
+returns c = c.takes.ensures (declared_of c.args.self.now)

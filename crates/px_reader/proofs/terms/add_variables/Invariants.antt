@@ -1,0 +1,8 @@
+use Rattle.std.proofs.Common.{◌≡◌, map, take}
+use Rattle.px_reader.specs.Checks.{early_variables}
+use Rattle.px_reader.specs.StatementViews.{argument_view, text_of}
+use Rattle.px_reader.proofs.terms.add_variables.Given as goal
+
+abbrev pub invariant-loop-argument : goal.invariant-loop-argument
+invariant-loop-argument l = map text_of l.variables.items
+    ≡ early_variables (map text_of l.initial.variables.items) (map argument_view (take l.argument-index l.arguments))

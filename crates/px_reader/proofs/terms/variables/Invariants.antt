@@ -1,0 +1,8 @@
+use Rattle.std.proofs.Common.{◌≡◌, [], map, take}
+use Rattle.px_reader.specs.Checks.{early_variables}
+use Rattle.px_reader.specs.StatementViews.{signed_view, text_of}
+use Rattle.px_reader.proofs.AtomTests.{arguments}
+use Rattle.px_reader.proofs.terms.variables.Given as goal
+
+abbrev pub invariant-loop-atom : goal.invariant-loop-atom
+invariant-loop-atom l = map text_of l.variables.items ≡ early_variables [] (arguments (map signed_view (take l.atom-index l.atoms)))

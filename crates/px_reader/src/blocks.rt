@@ -1,0 +1,192 @@
+//! What the lines of blocks add.
+ghost use Rattle.std.specs.Prelude.{◌≡◌, ◌≢◌, ◌≤◌, ◌<◌, ◌^◌, ◌++◌, ◌∷◌, [], length, map, All, IfOk, OnOk};
+ghost use Rattle.std.specs.String.{string_bytes};
+ghost use Rattle.px_script.specs.Declarations.{parameters_here, with_thing};
+ghost use Rattle.px_script.specs.Statements as spec;
+ghost use Rattle.px_script.proofs.States.{AreInRange};
+ghost use Rattle.px_reader.specs.Checks.{AreReadable};
+ghost use Rattle.px_reader.specs.Readers.{declared_of, leaves, operator_view, with_building_predicates};
+ghost use Rattle.px_reader.specs.Roles.{in_role};
+ghost use Rattle.px_reader.specs.StatementViews.{signed_view, text_of};
+
+use crate::block::{BlockKind, OpenBlock, OpenOperator};
+use crate::forms::Role;
+use crate::reader::Reader;
+use crate::statement::SignedAtom;
+use px_base::{NoMemory, Sequence};
+use px_names::Kind;
+use px_terms::Schema;
+use px_world::Thing;
+use std::alloc::Global;
+
+/// The names as texts of their own.
+fn owned(alloc: Global, names: &[&str]) -> Result<Vec<String>, NoMemory>
+    ensures { IfOk result (λ owned. map string_bytes owned.items ≡ map text_of names.now) }
+{
+    let mut owned = Vec::new(alloc);
+    for name in names {
+        owned.push(String::from_str(alloc, name)?)?;
+    }
+    Ok(owned)
+}
+
+impl Reader {
+    pub fn open_operator_block(
+        &mut self,
+        line: u32,
+        name: &str,
+        parameters: &[&str],
+    ) -> Result<(), NoMemory>
+        ensures { OnOk result (declared_of self.new
+            ≡ leaves line (declared_of self.old) (spec.operator name.now (map text_of parameters.now))) }
+    {
+        let alloc = self.alloc;
+        let parameters = owned(alloc, parameters)?;
+        self.add_name(Kind::Operator, name)?;
+        self.block = Some(OpenBlock {
+            line,
+            kind: BlockKind::Operator(OpenOperator {
+                parameters,
+                pre: Vec::new(alloc),
+                delete: Vec::new(alloc),
+                add: Vec::new(alloc),
+            }),
+        });
+        Ok(())
+    }
+
+    /// Adds atoms to a list of the open operator.
+    #[tactic(auto, using(crate::proofs::Facts::map_map))]
+    pub fn extend_operator(&mut self, role: Role, atoms: &[SignedAtom<'_>]) -> Result<(), NoMemory>
+        requires readable { AreReadable (declared_of self.old) atoms.now }
+        requires of_axiom { role ≢ Role.Axiom }
+        requires of_fact { role ≢ Role.Fact }
+        ensures { OnOk result (declared_of self.new ≡ leaves 0 (declared_of self.old) (in_role role (map signed_view atoms.now))) }
+    {
+        let atoms = self.atoms(&[], atoms)?;
+        if let Some(block) = &mut self.block {
+            if let BlockKind::Operator(operator) = &mut block.kind {
+                match role {
+                    Role::Pre => operator.pre.extend_from_slice(&atoms)?,
+                    Role::Delete => operator.delete.extend_from_slice(&atoms)?,
+                    Role::Add => operator.add.extend_from_slice(&atoms)?,
+                    Role::Axiom | Role::Fact => {}
+                }
+            }
+        }
+        Ok(())
+    }
+
+    pub fn close_block(&mut self) -> Result<(), NoMemory>
+        requires { AreInRange (declared_of self.old) }
+        ensures { OnOk result (declared_of self.new ≡ leaves 0 (declared_of self.old) (spec.end)) }
+    {
+        let Some(block) = self.block.take() else {
+            return Ok(());
+        };
+        match block.kind {
+            BlockKind::Operator(operator) => self.add_schema(operator),
+            BlockKind::Building => Ok(()),
+        }
+    }
+
+    fn add_schema(&mut self, operator: OpenOperator) -> Result<(), NoMemory>
+        requires few { length self.old.schemas.items < 2 ^ 32 }
+        requires few_parameters { length operator.parameters.items < 2 ^ 32 }
+        ensures same { OnOk result (self.new ≡ record self.old { schemas = self.new.schemas }) }
+        ensures schemas { OnOk result (self.new.schemas.items
+            ≡ self.old.schemas.items ++ (operator_view (length self.old.schemas.items) operator).schema ∷ []) }
+    {
+        let OpenOperator {
+            parameters,
+            pre,
+            delete,
+            add,
+        } = operator;
+        let schema = Schema {
+            op: self.schemas.len() as u32,
+            params: parameters.len() as u32,
+            pre: Sequence::from_vec(pre),
+            del: Sequence::from_vec(delete),
+            add: Sequence::from_vec(add),
+        };
+        self.schemas.push(schema)?;
+        Ok(())
+    }
+
+    /// Opens the building's block, and declares the names that a building gives to its script.
+    pub fn open_building(&mut self, line: u32) -> Result<(), NoMemory>
+        ensures { OnOk result (declared_of self.new ≡ leaves line (declared_of self.old) (spec.building)) }
+    {
+        self.add_name(Kind::Object, "ROBOT")?;
+        self.declare_building_predicates()?;
+        self.things = Some(Vec::new(self.alloc));
+        self.block = Some(OpenBlock {
+            line,
+            kind: BlockKind::Building,
+        });
+        Ok(())
+    }
+
+    fn declare_building_predicates(&mut self) -> Result<(), NoMemory>
+        ensures { OnOk result (declared_of self.new ≡ with_building_predicates (declared_of self.old)) }
+    {
+        self.declare_predicate("INROOM", 2)?;
+        self.declare_predicate("NEXTTO", 2)?;
+        self.declare_predicate("CONNECTS", 3)?;
+        self.declare_predicate("OPENED", 1)?;
+        self.declare_predicate("CLOSED", 1)?;
+        self.declare_predicate("ROOM", 1)?;
+        self.declare_predicate("DOOR", 1)?;
+        self.declare_predicate("BOX", 1)
+    }
+
+    pub fn add_room(&mut self, name: &str) -> Result<(), NoMemory>
+        ensures { OnOk result (declared_of self.new ≡ leaves 0 (declared_of self.old) (spec.room name.now)) }
+    {
+        self.add_name(Kind::Object, name)?;
+        self.rooms.push(String::from_str(self.alloc, name)?)?;
+        self.add_thing(Thing::Room)
+    }
+
+    pub fn add_door(
+        &mut self,
+        name: &str,
+        one: &str,
+        other: &str,
+        is_open: bool,
+    ) -> Result<(), NoMemory>
+        ensures { OnOk result (declared_of self.new ≡ leaves 0 (declared_of self.old) (spec.door name.now one.now other.now is_open)) }
+    {
+        let a = self.object(one);
+        let b = self.object(other);
+        self.add_name(Kind::Object, name)?;
+        self.doors.push(String::from_str(self.alloc, name)?)?;
+        self.add_thing(Thing::Door { a, b, is_open })
+    }
+
+    pub fn add_box(&mut self, name: &str, room: &str) -> Result<(), NoMemory>
+        ensures { OnOk result (declared_of self.new ≡ leaves 0 (declared_of self.old) (spec.box name.now room.now)) }
+    {
+        let room = self.object(room);
+        self.add_name(Kind::Object, name)?;
+        self.boxes.push(String::from_str(self.alloc, name)?)?;
+        self.add_thing(Thing::Box { room })
+    }
+
+    pub fn add_robot(&mut self, room: &str) -> Result<(), NoMemory>
+        ensures { OnOk result (declared_of self.new ≡ leaves 0 (declared_of self.old) (spec.robot room.now)) }
+    {
+        let room = self.object(room);
+        self.add_thing(Thing::Robot { room })
+    }
+
+    fn add_thing(&mut self, thing: Thing) -> Result<(), NoMemory>
+        ensures { OnOk result (declared_of self.new ≡ with_thing thing (declared_of self.old)) }
+    {
+        if let Some(things) = &mut self.things {
+            things.push(thing)?;
+        }
+        Ok(())
+    }
+}

@@ -1,0 +1,126 @@
+//! The commands that lines add.
+ghost use Rattle.std.specs.Prelude.{◌≡◌, ◌≤◌, ◌<◌, ◌∷◌, [], length, map, IfOk, OnOk};
+ghost use Rattle.px_script.specs.Declarations.{parameters_here, number_in, variables_of, with_command, with_names};
+ghost use Rattle.px_script.specs.Items.{a_plan};
+ghost use Rattle.px_script.specs.Statements as spec;
+ghost use Rattle.px_reader.specs.Checks.{AreReadable};
+ghost use Rattle.px_reader.specs.CommandViews.{command_view};
+ghost use Rattle.px_reader.specs.Readers.{declared_of, leaves};
+ghost use Rattle.px_reader.specs.StatementViews.{signed_view, room_edit_view, binding_view};
+
+use crate::command::Command;
+use crate::reader::Reader;
+use crate::statement::{SignedAtom, WrittenBinding, WrittenRoomEdit};
+use crate::terms::few_variables;
+use px_base::{NoMemory, Sequence};
+use px_names::Kind;
+
+impl Reader {
+    pub fn add_command(&mut self, command: Command) -> Result<(), NoMemory>
+        ensures { OnOk result (declared_of self.new ≡ with_command (command_view command) (declared_of self.old)) }
+    {
+        self.commands.push(command)?;
+        Ok(())
+    }
+
+    pub fn add_plan(&mut self, name: &str, goal: &[SignedAtom<'_>]) -> Result<(), NoMemory>
+        requires few_variables { length (variables_of (map signed_view goal.now)) ≤ 12 }
+        requires readable { AreReadable (declared_of self.old) goal.now }
+        ensures { OnOk result (declared_of self.new ≡ leaves 0 (declared_of self.old) (spec.plan name.now (map signed_view goal.now))) }
+    {
+        let variables = few_variables(self.alloc, goal)?;
+        let goal = self.atoms(&variables, goal)?;
+        let name = self.add_plan_name(name)?;
+        self.add_command(Command::Plan {
+            name,
+            goal: Sequence::from_vec(goal),
+            vars: variables.len() as u32,
+        })
+    }
+
+    /// Adds the name of a plan, and answers its number.
+    fn add_plan_name(&mut self, name: &str) -> Result<u32, NoMemory>
+        ensures number { IfOk result (λ number. number ≡ length self.old.names.results) }
+        ensures declared { OnOk result (declared_of self.new ≡ with_names a_plan (name.now ∷ []) (declared_of self.old)) }
+    {
+        let number = self.add_name(Kind::Result, name)?;
+        self.plans.push(String::from_str(self.alloc, name)?)?;
+        Ok(number)
+    }
+
+    pub fn add_learned(&mut self, name: &str, source: &str) -> Result<(), NoMemory>
+        ensures { OnOk result (declared_of self.new ≡ leaves 0 (declared_of self.old) (spec.learn name.now source.now)) }
+    {
+        let source = self.result(source);
+        let name = self.add_name(Kind::Result, name)?;
+        self.add_command(Command::Learn { name, source })
+    }
+
+    pub fn add_show(&mut self, name: &str) -> Result<(), NoMemory>
+        ensures { OnOk result (declared_of self.new ≡ leaves 0 (declared_of self.old) (spec.show name.now)) }
+    {
+        let name = self.result(name);
+        self.add_command(Command::Show { name })
+    }
+
+    /// The number of a result.
+    fn result(&self, name: &str) -> u32
+        ensures { result ≡ number_in name.now self.now.names.results }
+    {
+        self.number(Kind::Result, name)
+    }
+
+    #[tactic(auto, using(crate::proofs::Facts::map_map))]
+    pub fn disturb_atoms(
+        &mut self,
+        turn: u32,
+        between: bool,
+        edits: &[SignedAtom<'_>],
+    ) -> Result<(), NoMemory>
+        requires readable { AreReadable (declared_of self.old) edits.now }
+        requires room { self.old.disturbs < 64 }
+        ensures { OnOk result (declared_of self.new
+            ≡ leaves 0 (declared_of self.old) (spec.disturb_atoms turn between (map signed_view edits.now))) }
+    {
+        let edits = self.atom_edits(edits)?;
+        self.disturbs += 1;
+        self.add_command(Command::DisturbAtoms {
+            turn,
+            between,
+            edits: Sequence::from_vec(edits),
+        })
+    }
+
+    #[tactic(auto, using(crate::proofs::Facts::map_map))]
+    pub fn disturb_rooms(
+        &mut self,
+        turn: u32,
+        between: bool,
+        edits: &[WrittenRoomEdit<'_>],
+    ) -> Result<(), NoMemory>
+        requires { self.old.disturbs < 64 }
+        ensures { OnOk result (declared_of self.new
+            ≡ leaves 0 (declared_of self.old) (spec.disturb_rooms turn between (map room_edit_view edits.now))) }
+    {
+        let edits = self.room_edits(edits)?;
+        self.disturbs += 1;
+        self.add_command(Command::DisturbRooms {
+            turn,
+            between,
+            edits: Sequence::from_vec(edits),
+        })
+    }
+
+    #[tactic(auto, using(crate::proofs::Facts::map_map))]
+    pub fn add_run(&mut self, name: &str, bindings: &[WrittenBinding<'_>]) -> Result<(), NoMemory>
+        ensures { OnOk result (declared_of self.new ≡ leaves 0 (declared_of self.old) (spec.run name.now (map binding_view bindings.now))) }
+    {
+        let name = self.result(name);
+        let bindings = self.bindings(bindings)?;
+        self.disturbs = 0;
+        self.add_command(Command::Run {
+            name,
+            bindings: Sequence::from_vec(bindings),
+        })
+    }
+}

@@ -1,0 +1,154 @@
+//! Where a line stands, what its atoms may be, and its atoms.
+ghost use Rattle.std.specs.Prelude.{◌≡◌, map};
+ghost use Rattle.std.specs.List.{flat_map};
+ghost use Rattle.px_script.specs.Causes.{takes};
+ghost use Rattle.px_script.specs.Declarations.{Declared, excludes_building};
+ghost use Rattle.px_script.specs.Forms.{atoms_of, arguments_of, is_signed};
+ghost use Rattle.px_script.specs.Items.{is_variable};
+ghost use Rattle.px_script.specs.Statements.{line_of};
+ghost use Rattle.px_reader.specs.LineViews.{place_view, manner_view};
+ghost use Rattle.px_reader.specs.StatementViews.{argument_view, sign_view, signed_view, statement_view};
+
+use crate::statement::{Argument, Sign, SignedAtom, Statement};
+
+/// What a block is of.
+#[derive(Clone, Copy, Debug, PartialEq, Eq)]
+pub enum Block {
+    Operator,
+    Building,
+}
+
+/// Where a line may stand.
+#[derive(Clone, Copy, Debug, PartialEq, Eq)]
+pub enum Place {
+    /// Only as the first line with tokens.
+    First,
+    /// Among the lines of the script's own domain, which a building excludes.
+    Domain,
+    Setting,
+    Opens(Block),
+    Inside(Block),
+    Closes,
+    Command,
+}
+
+impl Place {
+    /// The line is one that a building excludes.
+    pub fn excludes_building(self) -> bool
+        ensures { result ≡ excludes_building (place_view self) }
+    {
+        matches!(self, Place::Domain | Place::Opens(Block::Operator))
+    }
+}
+
+/// What the atoms of a line may be, and of which scripts its edits are.
+#[derive(Clone, Copy, Debug, PartialEq, Eq)]
+pub enum Manner {
+    /// Names as arguments.
+    Plain,
+    /// Those of a delete list: names and `$`.
+    Patterns,
+    /// Those of an axiom: with or without `~`, names and variables.
+    Literals,
+    /// Those of a goal: names and variables.
+    Goals,
+    /// Edits, with `+` or `-`, of a script without a building.
+    AtomChanges,
+    /// Edits of a building.
+    RoomChanges,
+}
+
+impl Manner {
+    /// The argument may stand in the line's atoms.
+    pub fn takes(self, argument: &Argument<'_>) -> bool
+        ensures { (d : Declared) → result ≡ takes d (manner_view self) (argument_view argument.now) }
+    {
+        match argument {
+            Argument::Named(_) => true,
+            Argument::Variable(_) => matches!(self, Manner::Literals | Manner::Goals),
+            Argument::Anything => matches!(self, Manner::Patterns),
+        }
+    }
+
+    /// The sign may stand before the line's atoms.
+    pub fn is_signed(self, sign: Sign) -> bool
+        ensures { result ≡ is_signed (manner_view self) (sign_view sign) }
+    {
+        match self {
+            Manner::AtomChanges => matches!(sign, Sign::Added | Sign::Removed),
+            Manner::Literals => matches!(sign, Sign::Bare | Sign::Negated),
+            _ => matches!(sign, Sign::Bare),
+        }
+    }
+}
+
+impl Argument<'_> {
+    pub fn is_variable(&self) -> bool
+        ensures { result ≡ is_variable (argument_view self.now) }
+    {
+        matches!(self, Argument::Variable(_))
+    }
+}
+
+impl<'a> Statement<'a> {
+    pub fn place(&self) -> Place
+        ensures { place_view result ≡ (line_of (statement_view self.now)).place }
+    {
+        match self {
+            Statement::Script(_) => Place::First,
+            Statement::Object(_)
+            | Statement::Predicate(_, _)
+            | Statement::Axiom(_)
+            | Statement::Fact(_) => Place::Domain,
+            Statement::Height(_) | Statement::Nodes(_) | Statement::Shapes(_) => Place::Setting,
+            Statement::Operator(_, _) => Place::Opens(Block::Operator),
+            Statement::Building => Place::Opens(Block::Building),
+            Statement::Pre(_) | Statement::Delete(_) | Statement::Add(_) => {
+                Place::Inside(Block::Operator)
+            }
+            Statement::Room(_)
+            | Statement::Door(_, _, _, _)
+            | Statement::Box(_, _)
+            | Statement::Robot(_) => Place::Inside(Block::Building),
+            Statement::End => Place::Closes,
+            Statement::Plan(_, _)
+            | Statement::Learn(_, _)
+            | Statement::Show(_)
+            | Statement::DisturbAtoms(_, _, _)
+            | Statement::DisturbRooms(_, _, _)
+            | Statement::Run(_, _)
+            | Statement::Facts => Place::Command,
+        }
+    }
+
+    pub fn manner(&self) -> Manner
+        ensures { manner_view result ≡ (line_of (statement_view self.now)).manner }
+    {
+        match self {
+            Statement::Delete(_) => Manner::Patterns,
+            Statement::Axiom(_) => Manner::Literals,
+            Statement::Plan(_, _) => Manner::Goals,
+            Statement::DisturbAtoms(_, _, _) => Manner::AtomChanges,
+            Statement::DisturbRooms(_, _, _) => Manner::RoomChanges,
+            _ => Manner::Plain,
+        }
+    }
+
+    /// The atoms of the line, which has no arguments but theirs.
+    pub fn atoms(&self) -> &[SignedAtom<'a>]
+        ensures atoms { map signed_view result.now ≡ atoms_of (line_of (statement_view self.now)) }
+        ensures arguments { flat_map (λ x. x.atom.arguments) (map signed_view result.now)
+            ≡ arguments_of (line_of (statement_view self.now)) }
+    {
+        match self {
+            Statement::Axiom(atoms)
+            | Statement::Pre(atoms)
+            | Statement::Delete(atoms)
+            | Statement::Add(atoms)
+            | Statement::Fact(atoms)
+            | Statement::Plan(_, atoms)
+            | Statement::DisturbAtoms(_, _, atoms) => atoms,
+            _ => &[],
+        }
+    }
+}
