@@ -1,6 +1,6 @@
 -- A world's atoms stay a set: whatever edits and actions leave of a set is one.
-use Rattle.std.specs.Prelude.{◌≡◌, ◌⊎◌, ℕ, Bool, true, false, not, List, [], ◌∷◌, ◌++◌, filter}
-use Rattle.std.proofs.Common.{suc, refl, sym, subst, inl, inr}
+use Rattle.std.specs.Prelude.{ℕ, true, false, not, List, [], ◌∷◌, ◌++◌, filter}
+use Rattle.std.proofs.Common.{suc, sym, subst, inl, inr}
 use Rattle.px_base.specs.SetLaws.{set_of-is_sorted, with_item-sorted}
 use Rattle.px_terms.specs.declared.atom.Atom.{Atom}
 use Rattle.px_terms.specs.declared.instance.OpInst.{OpInst}
@@ -14,12 +14,11 @@ use Rattle.px_ops.specs.ModelLaws.{without_atom-ascending}
 use Rattle.px_table.specs.declared.table.Table.{Table}
 use Rattle.px_world.specs.declared.edits.AtomEdit.TheVariants.{Add, Remove}
 use Rattle.px_rooms.specs.Changes.{edit_schema}
-use Rattle.px_planex.specs.declared.event.Event.{Event}
 use Rattle.px_planex.specs.declared.event.Event.TheVariants.{Sense, Act}
 use Rattle.px_planex.specs.declared.event.Outcome.{Outcome}
 use Rattle.px_planex.specs.declared.event.Outcome.TheVariants.{Disturbed, Sensed, Acted, Slipped, Goal, NoKernel, NotSensed}
 use Rattle.px_planex.specs.Execution.{Happens, Running}
-use Rattle.px_planex.specs.Turns.{EndsTurn, Recorded, RunsTable, TakesTurn, TakesTurns, TurnValue, IsLastTurn, after_edits, disturbed_by, edits_at}
+use Rattle.px_planex.specs.Turns.{EndsTurn, Recorded, RunsTable, TakesTurn, TakesTurns, TurnValue, after_edits, disturbed_by, edits_at}
 use Rattle.px_session.specs.Sessions.{Edit, leaves_edit, of_atoms, of_rooms}
 
 result-set : (schema : Schema) (atoms : List Atom) (inst : OpInst) → IsAtomSet (result_by schema atoms inst)

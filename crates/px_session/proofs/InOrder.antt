@@ -1,14 +1,14 @@
 -- The causes come in their order.
-use Rattle.std.specs.Prelude.{◌≡◌, ◌<◌, ◌≤◌, ◌&&◌, ℕ, Bool, true, false, cond, not, nat_le, nat_lt, Option, Some, None, List, [], ◌∷◌, All, find, option_map, length}
-use Rattle.std.proofs.Common.{refl, sym, ap, ◌∙◌, subst, arith}
+use Rattle.std.specs.Prelude.{◌≡◌, ◌≤◌, ◌&&◌, ℕ, Bool, true, false, cond, not, nat_le, nat_lt, Some, None, List, [], ◌∷◌, All, find, option_map, length}
+use Rattle.std.proofs.Common.{refl, sym, ap, ◌∙◌, arith}
 use Rattle.std.proofs.lemmas.List.Elements.{All-head, All-tail}
 use Rattle.px_terms.specs.declared.problem.Problem.{Problem}
 use Rattle.px_table.specs.declared.table.Table.{Table}
 use Rattle.px_general.specs.Limits.{IsTooDeep, IsTooLong}
-use Rattle.px_library.specs.Libraries.{no_tables, table_named, with_table}
+use Rattle.px_library.specs.Libraries.{table_named}
 use Rattle.px_match.specs.Matching.{first_bad}
 use Rattle.px_ends.specs.Tasks.{task_of}
-use Rattle.px_ends.specs.WorkedEnds.{idle, p, p_at_once}
+use Rattle.px_ends.specs.WorkedEnds.{idle, p}
 use Rattle.px_ends.proofs.Exclusion.{ends_are_one}
 use Rattle.px_ends.proofs.Smallest.{end_facts}
 use Rattle.px_printer.specs.declared.reply.Reply.{Reply}

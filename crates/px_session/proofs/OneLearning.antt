@@ -1,5 +1,5 @@
 -- A command to learn has one lawful reply.
-use Rattle.std.specs.Prelude.{◌≡◌, ◌==◌, ℕ, true, false, Bool, cond, Option, Some, None, List, [], ◌∷◌, length, All, Contains}
+use Rattle.std.specs.Prelude.{◌≡◌, ◌==◌, ℕ, true, false, Bool, cond, Option, Some, None, List, [], ◌∷◌, length, Contains}
 use Rattle.std.proofs.Common.{refl, sym, ap, ◌∙◌, subst, inl}
 use Rattle.px_base.specs.ListLaws.{All-at, Contains-first, Contains-later}
 use Rattle.px_proof.specs.PlaceLaws.{some_same}

@@ -1,6 +1,6 @@
 -- A state and a command have one lawful reply.
-use Rattle.std.specs.Prelude.{◌≡◌, ◌⊎◌, ℕ, Some, None, List, [], ◌∷◌, codes, length, map}
-use Rattle.std.proofs.Common.{refl, sym, ap, ◌∙◌, subst, inl, inr}
+use Rattle.std.specs.Prelude.{◌≡◌, ℕ, [], ◌∷◌, codes, map}
+use Rattle.std.proofs.Common.{sym, ap, ◌∙◌, inl, inr}
 use Rattle.std.specs.Fmt.{decimal}
 use Rattle.px_names.specs.Lists.{NameLists}
 use Rattle.px_names.specs.declared.kind.Kind.TheVariants as kind
@@ -13,7 +13,7 @@ use Rattle.px_printer.specs.Texts.{line, name_text}
 use Rattle.px_printer.specs.declared.reply.Reply.{Reply}
 use Rattle.px_printer.specs.declared.reply.Reply.TheVariants as reply
 use Rattle.px_script.specs.Commands as command
-use Rattle.px_session.specs.Determined.{AreLimits, LawfulIsOne, SameReply}
+use Rattle.px_session.specs.Determined.{LawfulIsOne, SameReply}
 use Rattle.px_session.specs.Lawful.{Lawful, Notes, TellsFacts, TellsShow, recorded_for}
 use Rattle.px_session.specs.Sessions.{Edit, IsSession, SessionState, any_table, of_atoms, of_rooms}
 use Rattle.px_session.proofs.OneLearning.{learning-one, none_or_some, one_some}

@@ -1,6 +1,6 @@
 -- A command to run has one lawful reply.
-use Rattle.std.specs.Prelude.{◌≡◌, ℕ, Option, Some, None, List, [], map}
-use Rattle.std.proofs.Common.{refl, sym, ap, ◌∙◌, subst, inl}
+use Rattle.std.specs.Prelude.{◌≡◌, ℕ, List, [], map}
+use Rattle.std.proofs.Common.{sym, ap, ◌∙◌, subst, inl}
 use Rattle.px_terms.specs.declared.atom.Atom.{Atom}
 use Rattle.px_terms.specs.declared.problem.Problem.{Problem}
 use Rattle.px_table.specs.declared.table.Table.{Table}

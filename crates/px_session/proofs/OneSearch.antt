@@ -1,5 +1,5 @@
 -- A search has one lawful reply.
-use Rattle.std.specs.Prelude.{◌≡◌, ◌⊎◌, ℕ, List, [], length}
+use Rattle.std.specs.Prelude.{◌≡◌, ℕ, List, [], length}
 use Rattle.std.proofs.Common.{refl, sym, ap, ◌∙◌, subst, inl, inr}
 use Rattle.px_terms.specs.declared.instance.OpInst.{OpInst}
 use Rattle.px_table.specs.declared.entry.Move.{Move}

@@ -1,5 +1,5 @@
 -- A script has one list of lawful replies, and one text.
-use Rattle.std.specs.Prelude.{◌≡◌, ◌+◌, ◌++◌, ℕ, Bool, true, false, cond, List, [], ◌∷◌, codes, count_by, length, sum_by}
+use Rattle.std.specs.Prelude.{◌≡◌, ◌+◌, ◌++◌, ℕ, Bool, false, cond, List, [], ◌∷◌, codes, count_by, length, sum_by}
 use Rattle.std.proofs.Common.{refl, sym, ap, ◌∙◌, subst, inl, inr}
 use Rattle.std.specs.Fmt.{decimal}
 use Rattle.std.specs.List.{AllZip}
@@ -11,7 +11,6 @@ use Rattle.px_terms.specs.AtomSets.{IsAtomSet}
 use Rattle.px_terms.specs.Validity.{IsValid}
 use Rattle.px_proof.specs.declared.shape.Tick.{Tick}
 use Rattle.px_table.specs.declared.node.Node.{Node}
-use Rattle.px_printer.specs.Replies.{reply_text}
 use Rattle.px_printer.specs.Texts.{line}
 use Rattle.px_printer.specs.declared.reply.Reply.{Reply}
 use Rattle.px_printer.specs.declared.reply.Reply.TheVariants as reply
@@ -22,7 +21,6 @@ use Rattle.px_script.proofs.Kept.{in-range}
 use Rattle.px_script.proofs.Law.{reads-one-way}
 use Rattle.px_session.specs.Demo.{Summary, demo_script, is_plan, reaches_goal, step_count, summary_line}
 use Rattle.px_session.specs.Determined.{AnswersAreOne, SameReply, TranscriptsAreOne}
-use Rattle.px_session.specs.Lawful.{Lawful}
 use Rattle.px_session.specs.Sessions.{IsSession, SessionState, opening}
 use Rattle.px_session.specs.Transcripts.{AreAnswers, AreAnswersTo, Transcript, texts}
 use Rattle.px_session.proofs.Kept.{sessions_are_kept}

@@ -1,5 +1,5 @@
 -- The general table of a plan has as many steps as the plan, and proofs as high.
-use Rattle.std.specs.Prelude.{◌≡◌, ◌+◌, ◌<◌, ℕ, max, List, [], ◌∷◌, map, length, slice_index_or, Any}
+use Rattle.std.specs.Prelude.{◌≡◌, ◌+◌, ◌<◌, List, [], ◌∷◌, map, length, Any}
 use Rattle.std.proofs.Common.{zero, suc, refl, sym, ap, ◌∙◌, subst, arith}
 use Rattle.std.proofs.lemmas.List.{length-map}
 use Rattle.std.proofs.lemmas.List.Elements.{All-contains_itself}
@@ -12,9 +12,9 @@ use Rattle.px_proof.specs.Substitution.{derivation_under}
 use Rattle.px_proof.specs.SubstitutionLaws.{skeleton-under}
 use Rattle.px_table.specs.declared.table.Table.{Table}
 use Rattle.px_table.specs.Kernels.{IsProper, goal_under, instance_under, kernel_under, rows_under, steps_under}
-use Rattle.px_table.specs.SupportShapes.{SupportShape, shape_of_support}
+use Rattle.px_table.specs.SupportShapes.{SupportShape}
 use Rattle.px_table.specs.Tables.{IsTable, rows_of}
-use Rattle.px_general.specs.General.{Generalises, shape_of}
+use Rattle.px_general.specs.General.{Generalises}
 use Rattle.px_general.specs.Limits.{IsTooDeep, IsTooLong}
 use Rattle.px_general.proofs.Instances.{has_instance}
 

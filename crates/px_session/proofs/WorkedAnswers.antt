@@ -1,6 +1,6 @@
 -- The worked script has these lawful replies, with this text; and the demo is as worked out.
-use Rattle.std.specs.Prelude.{◌≡◌, ◌≢◌, ◌≤◌, ◌<◌, ◌&&◌, ℕ, length, slice_get, true, false, Some, None, Option, List, [], ◌∷◌, map, All, Contains}
-use Rattle.std.proofs.Common.{zero, suc, refl, sym, ap, ◌∙◌, subst, inl, inr, arith}
+use Rattle.std.specs.Prelude.{◌≡◌, ◌≢◌, ◌<◌, ◌&&◌, ℕ, length, slice_get, true, false, Some, None, List, [], ◌∷◌, All, Contains}
+use Rattle.std.proofs.Common.{zero, suc, refl, sym, subst, inl, arith}
 use Rattle.std.proofs.lemmas.List.Elements.{All-nil}
 use Rattle.std.specs.Fmt.{digits}
 use Rattle.std.specs.List.{list_all}
@@ -8,7 +8,7 @@ use Rattle.std.specs.List.Sorted.{IsStrictlySortedBy}
 use Rattle.std.specs.Cmp.Lexicographic.{pointwise, slice_cmp}
 use Rattle.std.specs.Ordering.{nat_cmp}
 use Rattle.std.specs.declared.cmp.Ordering.TheVariants.{Less}
-use Rattle.px_base.specs.ListLaws.{Contains-first, Contains-none, All-at, All-each}
+use Rattle.px_base.specs.ListLaws.{Contains-first, Contains-none, All-at}
 use Rattle.px_base.specs.Sets.{with_item}
 use Rattle.px_terms.specs.declared.atom.Atom.{Atom}
 use Rattle.px_terms.specs.declared.instance.OpInst.{OpInst}
@@ -19,25 +19,23 @@ use Rattle.px_proof.specs.Derivation.{Derivation, fact}
 use Rattle.px_proof.specs.LayerLaws.{derivation_of-fact}
 use Rattle.px_proof.specs.declared.proof.Leaf.{Leaf}
 use Rattle.px_table.specs.declared.mark.Mark.{Mark}
-use Rattle.px_table.specs.declared.table.Table.{Table}
 use Rattle.px_table.specs.Deciding.{is_atom_of, is_in_range, is_named, is_table, rows_prove}
 use Rattle.px_table.specs.KernelLaws.{kernels_carry}
-use Rattle.px_table.specs.Kernels.{IsInstantiation, IsProper, atom_under, kernel_under}
+use Rattle.px_table.specs.Kernels.{IsProper, atom_under, kernel_under}
 use Rattle.px_table.specs.Marks.{IsKept, mark_eq, marks_from, step_at}
 use Rattle.px_table.specs.Tables.{IsTable, rows_of}
 use Rattle.px_table.proofs.DecidingLaws.{tables_are_decided}
-use Rattle.px_match.specs.Matching.{Extends, IsHighest, KernelFits, KernelInstance, NoKernelFits}
+use Rattle.px_match.specs.Matching.{IsHighest, KernelInstance, NoKernelFits}
 use Rattle.px_planex.specs.declared.event.Outcome.TheVariants.{Goal, NoKernel}
-use Rattle.px_planex.specs.Execution.{Running, nothing_sensed}
-use Rattle.px_planex.specs.Turns.{Recorded, RunsTable, AtGoal, AtNoKernel, TurnValue}
+use Rattle.px_planex.specs.Execution.{nothing_sensed}
+use Rattle.px_planex.specs.Turns.{Recorded, AtGoal, AtNoKernel}
 use Rattle.px_ends.specs.WorkedEnds.{idle, p, p_at_once}
 use Rattle.px_ends.specs.Tasks.{task_of}
 use Rattle.px_ends.proofs.Smallest.{end_facts}
 use Rattle.px_world.specs.declared.edits.AtomEdit.TheVariants.{Add, Remove}
 use Rattle.px_library.specs.Libraries.{no_tables, with_table}
-use Rattle.px_script.specs.Content.{ScriptValue}
 use Rattle.px_session.specs.Lawful.{FindsPlan, IsRunOf, recorded_for}
-use Rattle.px_session.specs.Sessions.{Edit, IsPlanTable, SessionState, leaves_edit, of_atoms, opening}
+use Rattle.px_session.specs.Sessions.{Edit, SessionState, of_atoms, opening}
 use Rattle.px_session.specs.Transcripts.{AreAnswersTo}
 use Rattle.px_session.specs.WorkedDemo.{WorkedDemo}
 use Rattle.px_session.specs.WorkedSession.{WorkedSession, at_goal, at_nothing, idle_answers, idle_script}

@@ -1,5 +1,5 @@
 -- Which cause comes first, and what each leaves as it was.
-use Rattle.std.specs.Prelude.{◌≡◌, ◌≤◌, ℕ, Option, Some, None, List, [], ◌∷◌, All}
+use Rattle.std.specs.Prelude.{◌≡◌, ◌≤◌, ℕ, Some, None, List, [], ◌∷◌, All}
 use Rattle.px_terms.specs.declared.problem.Problem.{Problem}
 use Rattle.px_table.specs.declared.table.Table.{Table}
 use Rattle.px_general.specs.Limits.{IsTooDeep, IsTooLong}

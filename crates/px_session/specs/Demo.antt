@@ -7,7 +7,7 @@ use Rattle.px_printer.specs.declared.reply.Reply.{Reply}
 use Rattle.px_printer.specs.declared.reply.Reply.TheVariants as reply
 use Rattle.px_printer.specs.declared.turn.Turn.{Turn}
 use Rattle.px_printer.specs.declared.turn.TurnEnd.{TurnEnd}
-use Rattle.px_printer.specs.declared.turn.TurnEnd.TheVariants.{Acted, Slipped, Goal, NoKernel}
+use Rattle.px_printer.specs.declared.turn.TurnEnd.TheVariants.{Goal}
 use Rattle.px_script.specs.Content.{ScriptValue}
 use Rattle.px_script.specs.Scripts.{IsScript}
 use Rattle.px_session.specs.Transcripts.{AreAnswersTo}

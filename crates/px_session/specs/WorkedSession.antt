@@ -1,5 +1,5 @@
--- A worked script: one predicate without arguments, neither axioms nor operators, and each kind of reply that it can have.
-use Rattle.std.specs.Prelude.{◌≡◌, ◌++◌, ℕ, true, false, None, List, [], ◌∷◌, codes}
+-- A worked script: one predicate without arguments, neither axioms nor operators, and most kinds of replies.
+use Rattle.std.specs.Prelude.{◌≡◌, ◌++◌, ℕ, false, None, List, [], ◌∷◌, codes}
 use Rattle.std.specs.List.{flat_map}
 use Rattle.px_names.specs.Lists.{NameLists}
 use Rattle.px_ends.specs.WorkedEnds.{idle, p, p_at_once}

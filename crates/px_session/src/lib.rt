@@ -10,9 +10,10 @@
 //! - `Lawful` in `specs/Lawful` says which reply a command may have in a state, and which state it leaves: one relation for all
 //!   commands of version 1, a line for each. It stands on the ends of a search (`px_ends`), generalising (`px_general`), the
 //!   executor's runs (`px_planex`) and tables by name (`px_library`).
-//! - `IsSession` is what a session keeps beside: the table of each stored plan has no parameters, and its own steps delete
-//!   nothing that its later rows rest on; there are at most 32 learned tables, none of them too long or with a proof that is
-//!   too high. The opening state is such, and each lawful reply leaves such a state ([`sessions_are_kept`]).
+//! - `IsSession` is what a session keeps: the world's atoms are a set; the table of each stored plan has no parameters, and its
+//!   own steps delete nothing that its later rows rest on; there are at most 32 learned tables, none of them too long or with a
+//!   proof that is too high. The opening state is such where the facts are a set, and each lawful reply leaves such a state
+//!   ([`sessions_are_kept`], which also says that these tables' kernels carry).
 //! - A session's state and a command have one lawful reply ([`lawful_is_one`]; where a search met the limit of shapes, one of
 //!   several questions may be told, and the text is one).
 //! - `Transcript` in `specs/Transcripts` is what is to be written for the bytes of a script: the texts of lawful replies to its
