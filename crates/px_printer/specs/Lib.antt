@@ -1,3 +1,6 @@
 pub mod Notices
-pub mod Replies
 pub mod Texts
+pub mod Rows
+pub mod Turns
+pub mod Whys
+pub mod Replies

@@ -73,6 +73,10 @@ line [] = codes "\n"
 line (word ∷ []) = word ++ codes "\n"
 line (word ∷ next ∷ words) = word ++ (codes " " ++ line (next ∷ words))
 
+-- words, each after a space
+abbrev pub after_spaces : List (List ℕ) → List ℕ
+after_spaces words = flat_map (λ word. codes " " ++ word) words
+
 -- the same, beginning with two spaces
 abbrev pub indented_line : List (List ℕ) → List ℕ
 indented_line words = codes "  " ++ line words

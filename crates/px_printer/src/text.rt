@@ -1,11 +1,13 @@
 //! The texts of replies. Each kind of line has one function that appends it, and each list of lines one loop.
-ghost use Rattle.std.specs.Prelude.{◌≡◌, ◌∷◌, [], ◌++◌, All, IfOk, OnOk, map, string_bytes};
+ghost use Rattle.std.specs.Prelude.{◌≡◌, ◌∷◌, [], ◌++◌, All, IfOk, OnOk, codes, map, string_bytes};
 ghost use Rattle.std.specs.Fmt.{decimal};
-ghost use Rattle.px_printer.specs.Texts.{IsNamedAtom, IsNamedInstance, atom_text, instance_text, indented_line, numbered_lines, lines_of};
+ghost use Rattle.px_printer.specs.Texts.{IsNamedAtom, IsNamedInstance, atom_text, instance_text, indented_line, line, numbered_lines, lines_of};
 ghost use Rattle.px_printer.specs.Replies.{IsNamed, reply_text};
 
 use crate::reply::Reply;
 use crate::shown::{ShownAtom, ShownInstance};
+use crate::table_text::push_table;
+use crate::turn_text::push_turns;
 use px_base::NoMemory;
 use px_names::{Kind, Names};
 use px_terms::{Atom, OpInst};
@@ -46,12 +48,59 @@ fn push_reply(text: &mut String, reply: &Reply, names: &Names) -> Result<(), All
             let count = nodes.len();
             write!(text, "nodelimit {name} {count} nodes {moves} moves\n")
         }
+        Reply::ShapeLimit {
+            name,
+            node: _,
+            formula: _,
+            shapes,
+        } => {
+            let name = names.text(Kind::Result, *name);
+            let count = shapes.len();
+            write!(text, "shapelimit {name} {count} shapes\n")
+        }
+        Reply::Learned {
+            name,
+            params,
+            steps,
+        } => { push_learned(text, names.text(Kind::Result, *name), *params, *steps) }
+        Reply::LearnRefused { name, why } => {
+            push_not_learned(text, names.text(Kind::Result, *name), why.text())
+        }
+        Reply::Shown { name, table } => {
+            push_table(text, names.text(Kind::Result, *name), table, names)
+        }
+        Reply::Noted { count } => write!(text, "noted {count}\n"),
+        Reply::Ran { name, turns } => {
+            let name = names.text(Kind::Result, *name);
+            write!(text, "run {name}\n")?;
+            push_turns(text, turns.as_slice(), names)
+        }
         Reply::FactsAre { atoms } => {
             let count = atoms.len();
             write!(text, "facts {count}\n")?;
             push_atoms(text, atoms.as_slice(), names)
         }
+        Reply::Unknown { name } => {
+            let name = names.text(Kind::Result, *name);
+            write!(text, "unknown {name}\n")
+        }
+        Reply::UnknownParam { param } => write!(text, "unknown p{param}\n"),
     }
+}
+
+/// Appends the line of a table that was learned.
+fn push_learned(text: &mut String, name: &str, params: u32, steps: u32) -> Result<(), AllocError>
+    ensures { OnOk result (string_bytes text.new ≡ string_bytes text.old
+        ++ line (codes "learned" ∷ name.now ∷ decimal params ∷ codes "parameters" ∷ decimal steps ∷ codes "steps" ∷ [])) }
+{
+    write!(text, "learned {name} {params} parameters {steps} steps\n")
+}
+
+/// Appends the line of a plan that wasn't learned.
+fn push_not_learned(text: &mut String, name: &str, why: &str) -> Result<(), AllocError>
+    ensures { OnOk result (string_bytes text.new ≡ string_bytes text.old ++ line (codes "notlearned" ∷ name.now ∷ why.now ∷ [])) }
+{
+    write!(text, "notlearned {name} {why}\n")
 }
 
 /// Appends a line for each step, numbered from 1.

@@ -33,19 +33,15 @@ one-search task name vars (reply.NodeLimit n nodes c) (reply.NodeLimit m more d)
     let limits = one_limit task nodes c more d p.1 q.1 in
     let names : n ≡ m = p.0 ∙ sym q.0 in
     λ i. reply.NodeLimit (names i) (limits.0 i) (limits.1 i)
-one-search task name vars (reply.FactsAre atoms) b p q = elim p [ ]
-one-search task name vars (reply.Plan n c s) (reply.FactsAre atoms) p q = elim q [ ]
-one-search task name vars (reply.Exhausted n) (reply.FactsAre atoms) p q = elim q [ ]
-one-search task name vars (reply.NodeLimit n nodes c) (reply.FactsAre atoms) p q = elim q [ ]
+one-search task name vars (reply.Plan n c s) b p q = absurd q
+one-search task name vars (reply.Exhausted n) b p q = absurd q
+one-search task name vars (reply.NodeLimit n nodes c) b p q = absurd q
+one-search task name vars a b p q = absurd p
 
 one-facts : (facts : List Atom) (a b : Reply) → TellsFacts facts a → TellsFacts facts b → a ≡ b
 one-facts facts (reply.FactsAre atoms) (reply.FactsAre others) p q = ap reply.FactsAre (p.0 ∙ sym q.0)
-one-facts facts (reply.Plan n c s) b p q = elim p [ ]
-one-facts facts (reply.Exhausted n) b p q = elim p [ ]
-one-facts facts (reply.NodeLimit n nodes c) b p q = elim p [ ]
-one-facts facts (reply.FactsAre atoms) (reply.Plan n c s) p q = elim q [ ]
-one-facts facts (reply.FactsAre atoms) (reply.Exhausted n) p q = elim q [ ]
-one-facts facts (reply.FactsAre atoms) (reply.NodeLimit n nodes c) p q = elim q [ ]
+one-facts facts (reply.FactsAre atoms) b p q = absurd q
+one-facts facts a b p q = absurd p
 
 one-answer : (p : Problem) (facts : List Atom) (c : command.Command) (a b : Reply) (l m : List Atom) → Lawful p facts c a l → Lawful p facts c b m → (a ≡ b) × (l ≡ m)
 one-answer p facts (command.Plan name goal vars) a b l m x y = (one-search (task_of p facts goal) name vars a b x.0 y.0, x.1 ∙ sym y.1)

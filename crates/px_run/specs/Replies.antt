@@ -29,7 +29,7 @@ abbrev pub TellsSearch : Task → ℕ → ℕ → Reply → Type 0
 TellsSearch task name vars (reply.Plan given moves steps) = (given ≡ name) × IsPlan task vars moves steps
 TellsSearch task name vars (reply.Exhausted given) = (given ≡ name) × IsExhausted task
 TellsSearch task name vars (reply.NodeLimit given nodes moves) = (given ≡ name) × IsNodeLimit task nodes moves
-TellsSearch task name vars (reply.FactsAre atoms) = ⊥
+TellsSearch task name vars _ = ⊥
 
 -- the reply with the facts, which ascend
 abbrev pub TellsFacts : List Atom → Reply → Type 0

@@ -1,0 +1,11 @@
+pub mod OneSearch
+pub mod OneLearning
+pub mod OneRunning
+pub mod OneReply
+pub mod Shapes
+pub mod Ascending
+pub mod Kept
+pub mod OneTranscript
+pub mod Lifted
+pub mod InOrder
+pub mod WorkedAnswers

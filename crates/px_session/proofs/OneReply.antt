@@ -1,0 +1,72 @@
+-- A state and a command have one lawful reply.
+use Rattle.std.specs.Prelude.{◌≡◌, ℕ, [], ◌∷◌, codes, map}
+use Rattle.std.proofs.Common.{sym, ap, ◌∙◌, inl, inr}
+use Rattle.std.specs.Fmt.{decimal}
+use Rattle.px_names.specs.Lists.{NameLists}
+use Rattle.px_names.specs.declared.kind.Kind.TheVariants as kind
+use Rattle.px_terms.specs.declared.problem.Problem.{Problem}
+use Rattle.px_terms.specs.Validity.{IsValid}
+use Rattle.px_planex.specs.Turns.{Recorded}
+use Rattle.px_ends.specs.Tasks.{task_of}
+use Rattle.px_printer.specs.Replies.{reply_text}
+use Rattle.px_printer.specs.Texts.{line, name_text}
+use Rattle.px_printer.specs.declared.reply.Reply.{Reply}
+use Rattle.px_printer.specs.declared.reply.Reply.TheVariants as reply
+use Rattle.px_script.specs.Commands as command
+use Rattle.px_session.specs.Determined.{LawfulIsOne, SameReply}
+use Rattle.px_session.specs.Lawful.{Lawful, Notes, TellsFacts, TellsShow, recorded_for}
+use Rattle.px_session.specs.Sessions.{Edit, IsSession, SessionState, any_table, of_atoms, of_rooms}
+use Rattle.px_session.proofs.OneLearning.{learning-one, none_or_some, one_some}
+use Rattle.px_session.proofs.OneRunning.{run-one}
+use Rattle.px_session.proofs.OneSearch.{search-one}
+
+-- ---- show, disturb, facts
+
+show-one : (old : SessionState) (name : ℕ) (one other : Reply) (new later : SessionState) → TellsShow old name one new
+    → TellsShow old name other later → SameReply one other × (new ≡ later)
+show-one old name (reply.Unknown n) (reply.Unknown m) new later p q = (inl (ap reply.Unknown (p.0 ∙ sym q.0)), p.2 ∙ sym q.2)
+show-one old name (reply.Unknown n) (reply.Shown m table) new later p q = absurd (none_or_some (any_table old name) table p.1 q.1)
+show-one old name (reply.Shown n table) (reply.Unknown m) new later p q = absurd (none_or_some (any_table old name) table q.1 p.1)
+show-one old name (reply.Shown n table) (reply.Shown m other) new later p q =
+    let tables = one_some (any_table old name) table other p.1 q.1 in
+    let names : n ≡ m = p.0 ∙ sym q.0 in
+    (inl (λ i. reply.Shown (names i) (tables i)), p.2 ∙ sym q.2)
+show-one old name (reply.Unknown n) other new later p q = absurd q
+show-one old name (reply.Shown n table) other new later p q = absurd q
+show-one old name one other new later p q = absurd p
+
+notes-one : (old : SessionState) (note : Recorded Edit) (one other : Reply) (new later : SessionState) → Notes old note one new
+    → Notes old note other later → SameReply one other × (new ≡ later)
+notes-one old note (reply.Noted n) (reply.Noted m) new later p q = (inl (ap reply.Noted (p.0 ∙ sym q.0)), p.1 ∙ sym q.1)
+notes-one old note (reply.Noted n) other new later p q = absurd q
+notes-one old note one other new later p q = absurd p
+
+facts-one : (old : SessionState) (one other : Reply) (new later : SessionState) → TellsFacts old one new → TellsFacts old other later
+    → SameReply one other × (new ≡ later)
+facts-one old (reply.FactsAre atoms) (reply.FactsAre others) new later p q = (inl (ap reply.FactsAre (p.0 ∙ sym q.0)), p.2 ∙ sym q.2)
+facts-one old (reply.FactsAre atoms) other new later p q = absurd q
+facts-one old one other new later p q = absurd p
+
+-- ---- all commands
+
+reply-one : (problem : Problem) (old : SessionState) (given : command.Command) (one other : Reply) (new later : SessionState)
+    → IsValid problem → IsSession problem old
+    → Lawful problem old given one new → Lawful problem old given other later → SameReply one other × (new ≡ later)
+reply-one problem old (command.Plan name goal vars) one other new later valid session p q = search-one (task_of problem old.learned.tables old.atoms goal vars) name old one other new later p q
+reply-one problem old (command.Learn name source) one other new later valid session p q = learning-one problem valid old session name source one other new later p q
+reply-one problem old (command.Show name) one other new later valid session p q = show-one old name one other new later p q
+reply-one problem old (command.DisturbAtoms turn between edits) one other new later valid session p q = notes-one old (recorded_for turn between (map of_atoms edits)) one other new later p q
+reply-one problem old (command.DisturbRooms turn between edits) one other new later valid session p q = notes-one old (recorded_for turn between (map of_rooms edits)) one other new later p q
+reply-one problem old (command.Run name bound) one other new later valid session p q = run-one problem old name bound one other new later p q
+reply-one problem old command.Facts one other new later valid session p q = facts-one old one other new later p q
+
+pub text-one : (names : NameLists) (one other : Reply) → SameReply one other → reply_text names one ≡ reply_text names other
+text-one names one other same = elim same [
+  | inl is ↦ ap (reply_text names) is
+  | inr are ↦ ap (reply_text names) are.one_is
+      ∙ ap (λ n. line (codes "shapelimit" ∷ name_text names kind.Result are.name ∷ decimal n ∷ codes "shapes" ∷ [])) are.as_many
+      ∙ sym (ap (reply_text names) are.other_is)
+]
+
+pub lawful_is_one : LawfulIsOne
+lawful_is_one = record { replies = reply-one; texts = text-one }

@@ -1,0 +1,46 @@
+-- Which cause comes first, and what each leaves as it was.
+use Rattle.std.specs.Prelude.{◌≡◌, ◌≤◌, ℕ, Some, None, List, [], ◌∷◌, All}
+use Rattle.px_terms.specs.declared.problem.Problem.{Problem}
+use Rattle.px_table.specs.declared.table.Table.{Table}
+use Rattle.px_general.specs.Limits.{IsTooDeep, IsTooLong}
+use Rattle.px_library.specs.Libraries.{no_tables, table_named, with_table}
+use Rattle.px_match.specs.Matching.{first_bad}
+use Rattle.px_ends.specs.WorkedEnds.{idle, p, p_at_once}
+use Rattle.px_printer.specs.declared.reply.Reply.{Reply}
+use Rattle.px_printer.specs.declared.reply.Reply.TheVariants as reply
+use Rattle.px_printer.specs.declared.reply.Why.{Why}
+use Rattle.px_printer.specs.declared.reply.Why.TheVariants.{TooLong, TooDeep}
+use Rattle.px_script.specs.Commands as command
+use Rattle.px_session.specs.Lawful.{Lawful, RefusesLearning, first_unknown}
+use Rattle.px_session.specs.Sessions.{SessionState, any_table, opening}
+
+-- A name without a table is unknown, whatever is bound, and a plan's name without a plan, whatever is learned. A bound parameter that the
+-- table hasn't comes before the run. After these answers nothing has changed, what is recorded included.
+pub record CausesInOrder : Type 0 where
+  pub no_plan : (problem : Problem) (old : SessionState) (name source : ℕ) (answer : Reply) (new : SessionState)
+      → table_named old.plans source ≡ None → Lawful problem old (command.Learn name source) answer new → (answer ≡ reply.Unknown source)
+      × (new ≡ old)
+  pub too_long : (state : SessionState) (plan : Table) (why : Why) → IsTooLong plan → RefusesLearning state plan why → why ≡ TooLong
+  pub too_deep : (state : SessionState) (plan : Table) (why : Why) → (¬ IsTooLong plan) → IsTooDeep plan → RefusesLearning state plan why
+      → why ≡ TooDeep
+  pub no_table : (problem : Problem) (old : SessionState) (name : ℕ) (bound : List (ℕ × ℕ)) (answer : Reply) (new : SessionState)
+      → any_table old name ≡ None → Lawful problem old (command.Run name bound) answer new → (answer ≡ reply.Unknown name) × (new ≡ old)
+  pub no_parameter : (problem : Problem) (old : SessionState) (name : ℕ) (bound : List (ℕ × ℕ))
+      (answer : Reply) (new : SessionState) (table : Table) (param : ℕ)
+      → any_table old name ≡ Some table → first_unknown table bound ≡ Some param
+      → Lawful problem old (command.Run name bound) answer new → (answer ≡ reply.UnknownParam param) × (new ≡ old)
+  -- where all numbers are from 1 on, an executor refuses the same bindings
+  pub bad_parameter : (table : Table) (bound : List (ℕ × ℕ)) → All (λ (pair : ℕ × ℕ). 1 ≤ pair.0) bound
+      → first_unknown table bound ≡ first_bad table bound
+
+-- with one learned table
+abbrev pub one_learned : SessionState
+one_learned = record (opening (p ∷ [])) { learned = with_table no_tables 1 p_at_once }
+
+-- Where P is a fact, a plan for it is neither exhausted nor has it a move; and a learned table is no plan.
+pub record RefusedReplies : Type 0 where
+  pub exhausted : (new : SessionState) → ¬ Lawful idle (opening (p ∷ [])) (command.Plan 0 (p ∷ []) 0) (reply.Exhausted 0) new
+  pub moved : (new : SessionState) → ¬ Lawful idle (opening (p ∷ [])) (command.Plan 0 (p ∷ []) 0) (reply.Plan 0 1 []) new
+  pub other_name : (new : SessionState) → ¬ Lawful idle (opening (p ∷ [])) (command.Plan 0 (p ∷ []) 0) (reply.Plan 1 0 []) new
+  pub not_stored : ¬ Lawful idle (opening (p ∷ [])) (command.Plan 0 (p ∷ []) 0) (reply.Plan 0 0 []) (opening (p ∷ []))
+  pub no_plan : (new : SessionState) → ¬ Lawful idle one_learned (command.Learn 2 1) (reply.Learned 2 0 0) new

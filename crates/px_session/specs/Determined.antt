@@ -1,0 +1,64 @@
+-- What a state and a command determine, and what a session keeps.
+use Rattle.std.specs.Prelude.{◌≡◌, ◌⊎◌, ◌++◌, ℕ, List, length, All}
+use Rattle.std.specs.List.{AllZip}
+use Rattle.px_names.specs.Lists.{NameLists}
+use Rattle.px_terms.specs.declared.atom.Atom.{Atom}
+use Rattle.px_terms.specs.declared.problem.Problem.{Problem}
+use Rattle.px_terms.specs.AtomSets.{IsAtomSet}
+use Rattle.px_terms.specs.Validity.{IsValid}
+use Rattle.px_proof.specs.declared.shape.Tick.{Tick}
+use Rattle.px_table.specs.declared.node.Node.{Node}
+use Rattle.px_table.specs.Kernels.{KernelsCarry}
+use Rattle.px_printer.specs.Replies.{reply_text}
+use Rattle.px_printer.specs.declared.reply.Reply.{Reply}
+use Rattle.px_printer.specs.declared.reply.Reply.TheVariants.{ShapeLimit}
+use Rattle.px_script.specs.Commands.{Command}
+use Rattle.px_script.specs.Content.{ScriptValue}
+use Rattle.px_session.specs.Demo.{Summary}
+use Rattle.px_session.specs.Lawful.{Lawful}
+use Rattle.px_session.specs.Sessions.{IsSession, SessionState, opening}
+use Rattle.px_session.specs.Transcripts.{AreAnswersTo, Transcript, texts}
+
+-- a search that met the limit of shapes is told twice, by as many shapes, whatever the question was
+pub record AreLimits (one other : Reply) : Type 0 where
+  pub name : ℕ
+  pub node : Node
+  pub also_node : Node
+  pub formula : List Atom
+  pub also_formula : List Atom
+  pub shapes : List (List Tick)
+  pub also_shapes : List (List Tick)
+  pub one_is : one ≡ ShapeLimit name node formula shapes
+  pub other_is : other ≡ ShapeLimit name also_node also_formula also_shapes
+  pub as_many : length shapes ≡ length also_shapes
+
+-- the same reply, but for the question at which a search met the limit of shapes
+abbrev pub SameReply : Reply → Reply → Type 0
+SameReply one other = (one ≡ other) ⊎ AreLimits one other
+
+-- A session's state and a command have one lawful reply and leave one state; and the same replies have one text.
+pub record LawfulIsOne : Type 0 where
+  pub replies : (problem : Problem) (old : SessionState) (command : Command) (one other : Reply) (new later : SessionState)
+      → IsValid problem → IsSession problem old → Lawful problem old command one new → Lawful problem old command other later
+      → SameReply one other × (new ≡ later)
+  pub texts : (names : NameLists) (one other : Reply) → SameReply one other → reply_text names one ≡ reply_text names other
+
+-- The opening state is one of a session, and each lawful reply leaves one. Of the tables that a session has, each proper instance of each
+-- kernel carries the steps that are left to the goal.
+pub record SessionsAreKept : Type 0 where
+  pub opened : (problem : Problem) (facts : List Atom) → IsAtomSet facts → IsSession problem (opening facts)
+  pub kept : (problem : Problem) (old : SessionState) (command : Command) (answer : Reply) (new : SessionState)
+      → IsSession problem old → Lawful problem old command answer new → IsSession problem new
+  pub carry : (problem : Problem) (state : SessionState) → IsSession problem state
+      → All (KernelsCarry problem) (state.plans.tables ++ state.learned.tables)
+
+-- A script has one list of lawful replies, but for questions at limits of shapes; the state after them is one, and so is the text.
+pub record AnswersAreOne : Type 0 where
+  pub answers : (script : ScriptValue) (answers others : List Reply) → IsValid script.problem → IsAtomSet script.facts
+      → (one : AreAnswersTo script answers) (other : AreAnswersTo script others) → AllZip SameReply answers others × (one.last ≡ other.last)
+  pub texts : (names : NameLists) (answers others : List Reply) → AllZip SameReply answers others → texts names answers ≡ texts names others
+
+-- The text is determined by the bytes, and the line of the demo by its two numbers.
+pub record TranscriptsAreOne : Type 0 where
+  pub transcripts : (bytes text other : List ℕ) → Transcript bytes text → Transcript bytes other → text ≡ other
+  pub summaries : (rooms seed : ℕ) (text other : List ℕ) → Summary rooms seed text → Summary rooms seed other → text ≡ other

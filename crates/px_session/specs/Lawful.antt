@@ -1,0 +1,170 @@
+-- Which replies to a command are lawful, and what state each leaves.
+use Rattle.std.specs.Prelude.{◌≡◌, ◌+◌, ◌≤◌, ◌++◌, ℕ, Bool, nat_lt, Option, Some, None, List, [], ◌∷◌, map, find, length, option_map}
+use Rattle.px_terms.specs.declared.atom.Atom.{Atom}
+use Rattle.px_terms.specs.declared.instance.OpInst.{OpInst}
+use Rattle.px_terms.specs.declared.problem.Problem.{Problem}
+use Rattle.px_terms.specs.AtomSets.{IsAtomSet}
+use Rattle.px_terms.specs.Plans.{Carries}
+use Rattle.px_table.specs.declared.entry.Move.{Move}
+use Rattle.px_table.specs.declared.table.Table.{Table}
+use Rattle.px_general.specs.General.{Generalises}
+use Rattle.px_general.specs.Limits.{IsTooDeep, IsTooLong, IsTooWide}
+use Rattle.px_library.specs.Libraries.{table_named, with_table}
+use Rattle.px_planex.specs.Turns.{AtGoal, AtNoKernel, ByActing, BySlipping, Recorded, RunsTable, TurnValue}
+use Rattle.px_planex.specs.Turns as executed
+use Rattle.px_ends.specs.Ends.{IsExhausted, IsFound, IsNodeLimit, IsShapeLimit}
+use Rattle.px_ends.specs.Made.{IsTableOfMoves}
+use Rattle.px_ends.specs.Tasks.{Task, steps_of, task_of}
+use Rattle.px_printer.specs.declared.reply.Reply.{Reply}
+use Rattle.px_printer.specs.declared.reply.Reply.TheVariants as reply
+use Rattle.px_printer.specs.declared.reply.Why.{Why}
+use Rattle.px_printer.specs.declared.reply.Why.TheVariants.{TooLong, TooDeep, TooWide, Full}
+use Rattle.px_printer.specs.declared.turn.Turn.{Turn}
+use Rattle.px_printer.specs.declared.turn.TurnEnd.{TurnEnd}
+use Rattle.px_printer.specs.declared.turn.TurnEnd.TheVariants.{Acted, Slipped, Goal, NoKernel}
+use Rattle.px_script.specs.Commands as command
+use Rattle.px_session.specs.Sessions.{Edit, IsPlanTable, SessionState, any_table, leaves_edit, of_atoms, of_rooms}
+
+-- ---- plan
+
+-- The search found so many moves, which take these steps. The table of the moves is stored under the name. It is as a plan's table, and
+-- the world's atoms carry the steps to the goal.
+pub record FindsPlan (task : Task) (name : ℕ) (old : SessionState) (count : ℕ) (steps : List OpInst) (new : SessionState) : Type 0 where
+  pub moves : List Move
+  pub found : IsFound task moves
+  pub counted : count ≡ length moves
+  pub taken : steps ≡ steps_of task.tables [] moves
+  pub carries : Carries task.problem task.initial steps task.vars task.goal
+  pub made : Table
+  pub table : IsTableOfMoves task moves made
+  pub plan : IsPlanTable task.problem made
+  pub stored : new ≡ record old { plans = with_table old.plans name made }
+
+-- Each reply says how the search ended. Where no plan is found nothing changes.
+abbrev pub TellsSearch : Task → ℕ → SessionState → Reply → SessionState → Type 0
+TellsSearch task name old (reply.Plan given count steps) new = (given ≡ name) × FindsPlan task name old count steps new
+TellsSearch task name old (reply.Exhausted given) new = (given ≡ name) × IsExhausted task × (new ≡ old)
+TellsSearch task name old (reply.NodeLimit given nodes moves) new = (given ≡ name) × IsNodeLimit task nodes moves × (new ≡ old)
+TellsSearch task name old (reply.ShapeLimit given node formula shapes) new = (given ≡ name) × IsShapeLimit task node formula shapes
+    × (new ≡ old)
+TellsSearch task name old answer new = ⊥
+
+-- ---- learn
+
+-- the plan may not be learned, for the first of these causes
+abbrev pub RefusesLearning : SessionState → Table → Why → Type 0
+RefusesLearning state plan TooLong = IsTooLong plan
+RefusesLearning state plan TooDeep = (¬ IsTooLong plan) × IsTooDeep plan
+RefusesLearning state plan TooWide = (¬ IsTooLong plan) × (¬ IsTooDeep plan) × IsTooWide plan
+RefusesLearning state plan Full = (¬ IsTooLong plan) × (¬ IsTooDeep plan) × (¬ IsTooWide plan) × (32 ≤ length state.learned.tables)
+
+-- the stored plan may not be learned for this cause, and nothing changes
+pub record IsNotLearned (source : ℕ) (old : SessionState) (why : Why) (new : SessionState) : Type 0 where
+  pub plan : Table
+  pub named : table_named old.plans source ≡ Some plan
+  pub refused : RefusesLearning old plan why
+  pub same : new ≡ old
+
+-- The stored plan has no cause not to be learned. Its general table, of so many parameters and steps, is put last among the learned ones.
+pub record IsLearned (problem : Problem) (name source : ℕ) (old : SessionState) (params steps : ℕ) (new : SessionState) : Type 0 where
+  pub plan : Table
+  pub named : table_named old.plans source ≡ Some plan
+  pub allowed : (why : Why) → ¬ RefusesLearning old plan why
+  pub general : Table
+  pub generalises : Generalises problem plan general
+  pub params_are : params ≡ general.params
+  pub steps_are : steps ≡ length general.steps
+  pub learned : new ≡ record old { learned = with_table old.learned name general }
+
+-- to `learn NAME from SOURCE`: the source has no plan, or its plan may not be learned, or it is
+abbrev pub TellsLearning : Problem → SessionState → ℕ → ℕ → Reply → SessionState → Type 0
+TellsLearning problem old name source (reply.Unknown given) new = (given ≡ source) × (table_named old.plans source ≡ None) × (new ≡ old)
+TellsLearning problem old name source (reply.LearnRefused given why) new = (given ≡ name) × IsNotLearned source old why new
+TellsLearning problem old name source (reply.Learned given params steps) new = (given ≡ name)
+    × IsLearned problem name source old params steps new
+TellsLearning problem old name source answer new = ⊥
+
+-- ---- show
+
+-- the name has no table, or this one
+abbrev pub TellsShow : SessionState → ℕ → Reply → SessionState → Type 0
+TellsShow old name (reply.Unknown given) new = (given ≡ name) × (any_table old name ≡ None) × (new ≡ old)
+TellsShow old name (reply.Shown given table) new = (given ≡ name) × (any_table old name ≡ Some table) × (new ≡ old)
+TellsShow old name answer new = ⊥
+
+-- ---- disturb
+
+-- the disturbance is recorded, after the others, and how many are recorded then
+abbrev pub Notes : SessionState → Recorded Edit → Reply → SessionState → Type 0
+Notes old one (reply.Noted count) new = (count ≡ length old.recorded + 1) × (new ≡ record old { recorded = old.recorded ++ one ∷ [] })
+Notes old one answer new = ⊥
+
+-- ---- run
+
+-- the first bound parameter that the table hasn't; parameters are counted from 1
+abbrev pub first_unknown : Table → List (ℕ × ℕ) → Option ℕ
+first_unknown table bound = option_map (λ (pair : ℕ × ℕ). pair.0) (find (λ (pair : ℕ × ℕ). nat_lt table.params pair.0) bound)
+
+-- how a turn is told
+abbrev pub told_end : executed.TurnEnd → TurnEnd
+told_end AtGoal = Goal
+told_end AtNoKernel = NoKernel
+told_end ByActing = Acted
+told_end BySlipping = Slipped
+
+abbrev pub told_turn : TurnValue → Turn
+told_turn turn = record { kernel = turn.kernel; op = turn.op; end = told_end turn.end }
+
+-- the name's table hasn't this parameter, the first of those that are bound; nothing changes, so what is recorded stays so
+pub record HasNoParameter (name : ℕ) (bound : List (ℕ × ℕ)) (old : SessionState) (param : ℕ) (new : SessionState) : Type 0 where
+  pub table : Table
+  pub named : any_table old name ≡ Some table
+  pub unknown : first_unknown table bound ≡ Some param
+  pub same : new ≡ old
+
+-- The name's table has each bound parameter, and is run with all that is recorded, in these turns. The world is then the one after the
+-- run, and nothing is recorded.
+pub record IsRunOf (problem : Problem) (name : ℕ) (bound : List (ℕ × ℕ))
+    (old : SessionState) (told : List Turn) (new : SessionState) : Type 0 where
+  pub table : Table
+  pub named : any_table old name ≡ Some table
+  pub known : first_unknown table bound ≡ None
+  pub turns : List TurnValue
+  pub after : List Atom
+  pub runs : RunsTable leaves_edit problem table bound old.recorded old.atoms turns after
+  pub told_are : told ≡ map told_turn turns
+  pub changed : new ≡ record old { atoms = after; recorded = [] }
+
+-- the name has no table, and nothing changes; or its table hasn't a bound parameter; or it is run
+abbrev pub TellsRun : Problem → SessionState → ℕ → List (ℕ × ℕ) → Reply → SessionState → Type 0
+TellsRun problem old name bound (reply.Unknown given) new = (given ≡ name) × (any_table old name ≡ None) × (new ≡ old)
+TellsRun problem old name bound (reply.UnknownParam param) new = HasNoParameter name bound old param new
+TellsRun problem old name bound (reply.Ran given told) new = (given ≡ name) × IsRunOf problem name bound old told new
+TellsRun problem old name bound answer new = ⊥
+
+-- ---- facts
+
+-- the world's atoms, ascending
+abbrev pub TellsFacts : SessionState → Reply → SessionState → Type 0
+TellsFacts old (reply.FactsAre atoms) new = (atoms ≡ old.atoms) × IsAtomSet atoms × (new ≡ old)
+TellsFacts old answer new = ⊥
+
+-- ---- all commands
+
+-- edits for a turn, before its sensing or between that and its action
+abbrev pub recorded_for : ℕ → Bool → List Edit → Recorded Edit
+recorded_for turn between edits = record { turn = turn; between = between; edits = edits }
+
+-- In this state the command may be answered so, and then leaves that state. A search starts from the world's atoms, with the learned
+-- tables.
+abbrev pub Lawful : Problem → SessionState → command.Command → Reply → SessionState → Type 0
+Lawful problem old (command.Plan name goal vars) answer new =
+    TellsSearch (task_of problem old.learned.tables old.atoms goal vars) name old answer new
+Lawful problem old (command.Learn name source) answer new = TellsLearning problem old name source answer new
+Lawful problem old (command.Show name) answer new = TellsShow old name answer new
+Lawful problem old (command.DisturbAtoms turn between edits) answer new =
+    Notes old (recorded_for turn between (map of_atoms edits)) answer new
+Lawful problem old (command.DisturbRooms turn between edits) answer new =
+    Notes old (recorded_for turn between (map of_rooms edits)) answer new
+Lawful problem old (command.Run name bound) answer new = TellsRun problem old name bound answer new
+Lawful problem old command.Facts answer new = TellsFacts old answer new

@@ -1,0 +1,9 @@
+pub mod Sessions
+pub mod Lawful
+pub mod Transcripts
+pub mod Demo
+pub mod Runs
+pub mod Determined
+pub mod Causes
+pub mod WorkedSession
+pub mod WorkedDemo

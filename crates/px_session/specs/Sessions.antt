@@ -1,0 +1,68 @@
+-- What a session holds, and what it keeps.
+use Rattle.std.specs.Prelude.{◌≡◌, ◌≤◌, ℕ, Option, Some, None, List, [], length, All}
+use Rattle.px_terms.specs.declared.atom.Atom.{Atom}
+use Rattle.px_terms.specs.declared.problem.Problem.{Problem}
+use Rattle.px_terms.specs.AtomSets.{IsAtomSet}
+use Rattle.px_table.specs.declared.table.Table.{Table}
+use Rattle.px_table.specs.Kernels.{IsProper}
+use Rattle.px_table.specs.Tables.{IsTable}
+use Rattle.px_world.specs.declared.edits.AtomEdit.{AtomEdit}
+use Rattle.px_world.specs.declared.edits.RoomEdit.{RoomEdit}
+use Rattle.px_world.specs.Worlds.{edited}
+use Rattle.px_rooms.specs.Changes.{facts_edited}
+use Rattle.px_general.specs.Limits.{IsTooDeep, IsTooLong}
+use Rattle.px_library.specs.Libraries.{LibraryValue, no_tables, table_named}
+use Rattle.px_planex.specs.Turns.{Recorded}
+
+-- ---- the state
+
+-- an edit in a script without a building, or in one with a building
+pub data Edit : Type 0 where
+  of_atoms : AtomEdit → Edit
+  of_rooms : RoomEdit → Edit
+
+-- the atoms that an edit leaves
+abbrev pub leaves_edit : Edit → List Atom → List Atom
+leaves_edit (of_atoms one) atoms = edited one atoms
+leaves_edit (of_rooms one) atoms = facts_edited one atoms
+
+-- the world's atoms, the tables of the stored plans by name, the learned tables by name in the order of learning, and the disturbances
+-- that are recorded for the next run
+pub record SessionState : Type 0 where
+  pub atoms : List Atom
+  pub plans : LibraryValue
+  pub learned : LibraryValue
+  pub recorded : List (Recorded Edit)
+
+-- before the first command, where these are the script's facts (with a building, those of its first state)
+abbrev pub opening : List Atom → SessionState
+opening facts = record { atoms = facts; plans = no_tables; learned = no_tables; recorded = [] }
+
+abbrev pub first_of : Option Table → Option Table → Option Table
+first_of None other = other
+first_of (Some table) other = Some table
+
+-- the table of the stored plan of that name, or the learned table
+abbrev pub any_table : SessionState → ℕ → Option Table
+any_table state name = first_of (table_named state.plans name) (table_named state.learned name)
+
+-- ---- what it keeps
+
+-- a table as that of each stored plan: it has no parameters, and its own steps delete nothing that its later rows rest on
+pub record IsPlanTable (problem : Problem) (plan : Table) : Type 0 where
+  pub table : IsTable problem plan
+  pub no_params : plan.params ≡ 0
+  pub proper : IsProper problem plan [] 1
+
+-- a table as each learned one: neither too long nor with a proof that is too high
+pub record IsLearnedTable (problem : Problem) (learned : Table) : Type 0 where
+  pub table : IsTable problem learned
+  pub short : ¬ IsTooLong learned
+  pub low : ¬ IsTooDeep learned
+
+-- the world's atoms are a set, and the tables are as those of plans and learned ones, of which there are at most 32
+pub record IsSession (problem : Problem) (state : SessionState) : Type 0 where
+  pub atoms : IsAtomSet state.atoms
+  pub plans : All (IsPlanTable problem) state.plans.tables
+  pub learned : All (IsLearnedTable problem) state.learned.tables
+  pub few : length state.learned.tables ≤ 32

@@ -1,0 +1,53 @@
+//! Laws about the definitions. The calls do nothing.
+ghost use Rattle.px_session.specs.Causes.{CausesInOrder, RefusedReplies};
+ghost use Rattle.px_session.specs.Determined.{AnswersAreOne, LawfulIsOne, SessionsAreKept, TranscriptsAreOne};
+ghost use Rattle.px_session.specs.Runs.{OneKindRuns};
+ghost use Rattle.px_session.specs.WorkedDemo.{WorkedDemo};
+ghost use Rattle.px_session.specs.WorkedSession.{WorkedSession};
+
+/// A session's state and a command have one lawful reply and leave one state. Where a search met the limit of shapes, one of
+/// several questions may be told, and the text is the same.
+pub fn lawful_is_one()
+    ensures { LawfulIsOne }
+{}
+
+/// The opening state is one of a session, and each lawful reply leaves one. Of the tables of a session, each proper instance of
+/// each kernel carries the steps that are left to the goal.
+pub fn sessions_are_kept()
+    ensures { SessionsAreKept }
+{}
+
+/// A script with a valid problem has one list of lawful replies, but for questions at limits of shapes, and one text.
+pub fn answers_are_one()
+    ensures { AnswersAreOne }
+{}
+
+/// The bytes of a script determine its transcript, and the two numbers of the demo its line.
+pub fn transcripts_are_one()
+    ensures { TranscriptsAreOne }
+{}
+
+/// Which cause of a refusal comes first, and that nothing has changed after it.
+pub fn causes_in_order()
+    ensures { CausesInOrder }
+{}
+
+/// Small replies that aren't lawful.
+pub fn refused_replies()
+    ensures { RefusedReplies }
+{}
+
+/// A run in a world of atoms, or in a building, is a session's run with the same disturbances.
+pub fn one_kind_runs()
+    ensures { OneKindRuns }
+{}
+
+/// A small script with thirteen commands: its lawful replies, and their text.
+pub fn worked_session()
+    ensures { WorkedSession }
+{}
+
+/// The demo of three rooms and the seed 0: its targets, its script and the form of its line.
+pub fn worked_demo()
+    ensures { WorkedDemo }
+{}

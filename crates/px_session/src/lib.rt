@@ -1,0 +1,37 @@
+//! Which replies to the commands of a script are lawful, and what is to be written for a script.
+//!
+//! There is no session yet. These are the definitions that it will meet, and their laws.
+//!
+//! # Calling it
+//!
+//! - A `SessionState` in `specs/Sessions` has the world's atoms, the tables of the stored plans by name, the learned tables by
+//!   name in the order of learning, and the disturbances that are recorded for the next run. `opening` is the one before the
+//!   first command. An `Edit` is one of atoms or one of a building.
+//! - `Lawful` in `specs/Lawful` says which reply a command may have in a state, and which state it leaves: one relation for all
+//!   commands of version 1, a line for each. It stands on the ends of a search (`px_ends`), generalising (`px_general`), the
+//!   executor's runs (`px_planex`) and tables by name (`px_library`).
+//! - `IsSession` is what a session keeps: the world's atoms are a set; the table of each stored plan has no parameters, and its
+//!   own steps delete nothing that its later rows rest on; there are at most 32 learned tables, none of them too long or with a
+//!   proof that is too high. The opening state is such where the facts are a set, and each lawful reply leaves such a state
+//!   ([`sessions_are_kept`], which also says that these tables' kernels carry).
+//! - A session's state and a command have one lawful reply ([`lawful_is_one`]; where a search met the limit of shapes, one of
+//!   several questions may be told, and the text is one).
+//! - `Transcript` in `specs/Transcripts` is what is to be written for the bytes of a script: the texts of lawful replies to its
+//!   commands, one after the other. `Summary` in `specs/Demo` is the line of the demo, with the script that is made from its
+//!   two numbers. Both are determined ([`answers_are_one`], [`transcripts_are_one`]).
+//! - Which cause of a refusal comes first, and that nothing has changed after it, is told in `specs/Causes`
+//!   ([`causes_in_order`]), with some replies that aren't lawful ([`refused_replies`]).
+//! - What an executor does in a world of atoms, or in a building, is what a session's run does with the same disturbances
+//!   (`specs/Runs`, [`one_kind_runs`]).
+//! - A small script is worked out with its text ([`worked_session`]), and so is the demo of three rooms ([`worked_demo`]).
+//! - The laws are calls that do nothing.
+#![tactic(auto)]
+
+mod laws;
+#[cfg(test)]
+mod tests;
+
+pub use laws::{
+    answers_are_one, causes_in_order, lawful_is_one, one_kind_runs, refused_replies,
+    sessions_are_kept, transcripts_are_one, worked_demo, worked_session,
+};
