@@ -101,11 +101,11 @@ kept problem old (command.DisturbRooms turn between edits) answer new session is
 kept problem old (command.Run name bound) answer new session is = run-kept problem old session name bound answer new is
 kept problem old command.Facts answer new session is = facts-kept problem old session answer new is
 
-carry : (problem : Problem) (state : SessionState) → IsSession problem state → All (KernelsCarry problem) (state.plans.tables ++ state.learned.tables)
-carry problem state is =
+kernels : (problem : Problem) (state : SessionState) → IsSession problem state → All (KernelsCarry problem) (state.plans.tables ++ state.learned.tables)
+kernels problem state is =
     All-append (KernelsCarry problem) state.plans.tables state.learned.tables
     (All-each (KernelsCarry problem) state.plans.tables (λ table has. kernels_carry problem table (All-at (IsPlanTable problem) state.plans.tables table is.plans has).table))
     (All-each (KernelsCarry problem) state.learned.tables (λ table has. kernels_carry problem table (All-at (IsLearnedTable problem) state.learned.tables table is.learned has).table))
 
 pub sessions_are_kept : SessionsAreKept
-sessions_are_kept = record { opened = opened; kept = kept; carry = carry }
+sessions_are_kept = record { opened = opened; kept = kept; kernels = kernels; plans = λ problem old name goal vars given count steps new is. is.1.carries }

@@ -3,16 +3,18 @@ use Rattle.std.specs.Prelude.{◌≡◌, ◌⊎◌, ◌++◌, ℕ, List, length,
 use Rattle.std.specs.List.{AllZip}
 use Rattle.px_names.specs.Lists.{NameLists}
 use Rattle.px_terms.specs.declared.atom.Atom.{Atom}
+use Rattle.px_terms.specs.declared.instance.OpInst.{OpInst}
 use Rattle.px_terms.specs.declared.problem.Problem.{Problem}
 use Rattle.px_terms.specs.AtomSets.{IsAtomSet}
+use Rattle.px_terms.specs.Plans.{Carries}
 use Rattle.px_terms.specs.Validity.{IsValid}
 use Rattle.px_proof.specs.declared.shape.Tick.{Tick}
 use Rattle.px_table.specs.declared.node.Node.{Node}
 use Rattle.px_table.specs.Kernels.{KernelsCarry}
 use Rattle.px_printer.specs.Replies.{reply_text}
 use Rattle.px_printer.specs.declared.reply.Reply.{Reply}
-use Rattle.px_printer.specs.declared.reply.Reply.TheVariants.{ShapeLimit}
-use Rattle.px_script.specs.Commands.{Command}
+use Rattle.px_printer.specs.declared.reply.Reply.TheVariants as reply
+use Rattle.px_script.specs.Commands.{Command, Plan}
 use Rattle.px_script.specs.Content.{ScriptValue}
 use Rattle.px_session.specs.Demo.{Summary}
 use Rattle.px_session.specs.Lawful.{Lawful}
@@ -28,8 +30,8 @@ pub record AreLimits (one other : Reply) : Type 0 where
   pub also_formula : List Atom
   pub shapes : List (List Tick)
   pub also_shapes : List (List Tick)
-  pub one_is : one ≡ ShapeLimit name node formula shapes
-  pub other_is : other ≡ ShapeLimit name also_node also_formula also_shapes
+  pub one_is : one ≡ reply.ShapeLimit name node formula shapes
+  pub other_is : other ≡ reply.ShapeLimit name also_node also_formula also_shapes
   pub as_many : length shapes ≡ length also_shapes
 
 -- the same reply, but for the question at which a search met the limit of shapes
@@ -44,13 +46,16 @@ pub record LawfulIsOne : Type 0 where
   pub texts : (names : NameLists) (one other : Reply) → SameReply one other → reply_text names one ≡ reply_text names other
 
 -- The opening state is one of a session, and each lawful reply leaves one. Of the tables that a session has, each proper instance of each
--- kernel carries the steps that are left to the goal.
+-- kernel carries the steps that are left to the goal; and the world's atoms carry the steps of each plan that is told.
 pub record SessionsAreKept : Type 0 where
   pub opened : (problem : Problem) (facts : List Atom) → IsAtomSet facts → IsSession problem (opening facts)
   pub kept : (problem : Problem) (old : SessionState) (command : Command) (answer : Reply) (new : SessionState)
       → IsSession problem old → Lawful problem old command answer new → IsSession problem new
-  pub carry : (problem : Problem) (state : SessionState) → IsSession problem state
+  pub kernels : (problem : Problem) (state : SessionState) → IsSession problem state
       → All (KernelsCarry problem) (state.plans.tables ++ state.learned.tables)
+  pub plans : (problem : Problem) (old : SessionState) (name : ℕ) (goal : List Atom)
+      (vars given count : ℕ) (steps : List OpInst) (new : SessionState)
+      → Lawful problem old (Plan name goal vars) (reply.Plan given count steps) new → Carries problem old.atoms steps vars goal
 
 -- A script has one list of lawful replies, but for questions at limits of shapes; the state after them is one, and so is the text.
 pub record AnswersAreOne : Type 0 where

@@ -12,7 +12,7 @@ pub fn lawful_is_one()
 {}
 
 /// The opening state is one of a session, and each lawful reply leaves one. Of the tables of a session, each proper instance of
-/// each kernel carries the steps that are left to the goal.
+/// each kernel carries the steps that are left to the goal; and the world's atoms carry the steps of each plan that is told.
 pub fn sessions_are_kept()
     ensures { SessionsAreKept }
 {}
