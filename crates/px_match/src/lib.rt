@@ -19,8 +19,21 @@
 //! The three calls are laws about the definitions: they do nothing.
 #![tactic(auto)]
 
+mod checking;
+mod clash;
+mod filling;
+mod highest;
 mod laws;
+mod lead;
+mod match_err;
+mod matcher;
+mod question;
+mod raising;
+mod reasons;
 #[cfg(test)]
 mod tests;
+mod turns;
 
 pub use laws::{danger_kernels, danger_sensed, sensed_is_one};
+pub use match_err::MatchErr;
+pub use matcher::Matcher;
