@@ -11,3 +11,7 @@ pub mod Moved
 pub mod Passed
 pub mod Room
 pub mod Viewed
+pub mod Fewer
+pub mod Kept
+pub mod Renewed
+pub mod Each

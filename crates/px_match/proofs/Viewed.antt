@@ -66,6 +66,6 @@ take_all [] (suc n) h = refl
 take_all (x ∷ xs) zero h = absurd (omega (arith, h))
 take_all (x ∷ xs) (suc n) h = ap (λ l. x ∷ l) (take_all xs n (omega (arith, h)))
 
-pub written_whole : (n : ℕ) (written old : List ℕ) → length written ≡ length old → n ≡ length written → take n (written ++ drop (length written) old) ≡ written
+pub written_whole : {X : Type 0} (n : ℕ) (written old : List X) → length written ≡ length old → n ≡ length written → take n (written ++ drop (length written) old) ≡ written
 written_whole n written old lengths all =
     ap (λ l. take n (written ++ l)) (drop_all old (length written) (omega (arith, lengths))) ∙ ap (take n) (append-nil written) ∙ take_all written n (omega (arith, all))

@@ -5,3 +5,4 @@ pub mod Asking
 pub mod Filling
 pub mod Reasons
 pub mod Turns
+pub mod Keeping

@@ -2,13 +2,15 @@
 ghost use Rattle.std.specs.Prelude.{◌≡◌, ◌⊎◌, ◌↔◌, ◌≤◌, ◌<◌, ◌+◌, ◌≢◌, ℕ, List, [], All, AllPairs, Option, None, length, IfOk, IfSome, IsErrOf, OnOk, Some};
 ghost use Rattle.px_terms.specs.Validity.{IsValid};
 ghost use Rattle.px_table.specs.Tables.{IsTable};
+ghost use Rattle.px_match.specs.Keeping.{AreEmpty};
 ghost use Rattle.px_match.specs.MatcherValue.{kernel_with};
 ghost use Rattle.px_match.specs.Matching.{IsHighest, NoKernelFits, KernelInstance, first_bad as spec_first_bad};
 
 use crate::clash::{Clash, clashes_of};
 use crate::highest::highest;
+use crate::keeping::renew;
 use crate::match_err::MatchErr;
-use px_base::Sequence;
+use px_base::{NoMemory, Sequence};
 use px_ops::Model;
 use px_table::Table;
 use px_terms::Problem;
@@ -24,6 +26,10 @@ pub struct Matcher<'a> {
     bound: Sequence<(u32, u32)>,
     /// How many atoms a model may have.
     room: usize,
+    /// The atoms of the last sensing.
+    sensed: Model,
+    /// For each mark those of them that it may become.
+    lists: Vec<Model>,
     clashes: Vec<Clash>,
     cells: Vec<bool>,
     work: Vec<u32>,
@@ -36,6 +42,7 @@ impl<'a> std::marker::Model for Matcher<'a> {
     ghost use Rattle.std.specs.Prelude.{◌≡◌, [], cond, length};
     ghost use Rattle.px_terms.specs.Validity.{IsValid};
     ghost use Rattle.px_table.specs.Tables.{IsTable};
+    ghost use Rattle.px_match.specs.Keeping.{AreKept};
     ghost use Rattle.px_match.specs.MatcherValue.{MatcherValue};
     ghost use Rattle.std.specs.Coded.{codes};
     ghost use Rattle.px_proof.specs.contracts.proof.Proof as term;
@@ -46,7 +53,7 @@ impl<'a> std::marker::Model for Matcher<'a> {
 
     ghost view = { λ m. record { problem = m.problem.now; table = m.table.now; bound = m.bound; room = m.room; instance = cond m.is_found m.instance.items [] } };
 
-    ghost invariant = { λ m. IsValid m.problem.now × IsTable m.problem.now m.table.now × (length m.work.items ≡ m.table.now.params) × (length m.instance.items ≡ m.table.now.params) };
+    ghost invariant = { λ m. IsValid m.problem.now × IsTable m.problem.now m.table.now × (length m.work.items ≡ m.table.now.params) × (length m.instance.items ≡ m.table.now.params) × AreKept m.room m.table.now.marks m.sensed m.lists.items };
 }
 
 /// The first bound parameter that the table hasn't.
@@ -61,11 +68,34 @@ fn first_bad(table: &Table, bind: &[(u32, u32)]) -> Option<u32>
     None
 }
 
+/// No atoms, with room for so many.
+fn model_with_room(alloc: Global, room: usize) -> Result<Model, NoMemory>
+    ensures empty { IfOk result (λ model. model.atoms ≡ []) }
+    ensures room { IfOk result (λ model. room ≤ model.spare) }
+{
+    let mut model = Model::new(alloc);
+    model.reserve(room)?;
+    Ok(model)
+}
+
+/// For each mark a list of no atoms, with room for so many.
+#[tactic(auto, using(crate::proofs::Renewed::none_empty, crate::proofs::Renewed::one_more_empty))]
+fn lists_of(alloc: Global, count: usize, room: usize) -> Result<Vec<Model>, NoMemory>
+    ensures { IfOk result (λ lists. AreEmpty room count lists.items) }
+{
+    let mut lists = Vec::new(alloc);
+    for _mark in 0..count {
+        lists.push(model_with_room(alloc, room)?)?;
+    }
+    Ok(lists)
+}
+
 impl<'a> Matcher<'a> {
     /// A matcher for the table in which these parameters, counted from 1, have these objects. Takes all memory that it needs.
     ///
     /// # Errors
     /// `BadParam` with the first parameter that the table hasn't, and `NoMemory`.
+    #[tactic(auto, using(crate::proofs::Renewed::kept_empty))]
     pub fn reserve(
         alloc: Global,
         problem: &'a Problem,
@@ -88,6 +118,8 @@ impl<'a> Matcher<'a> {
         let params = table.params as usize;
         let mut bound = Vec::new(alloc);
         bound.extend_from_slice(bind)?;
+        let sensed = model_with_room(alloc, room)?;
+        let lists = lists_of(alloc, table.marks.len(), room)?;
         let clashes = clashes_of(alloc, problem, table)?;
         let cells = vec![in alloc; false; params * params]?;
         let work = vec![in alloc; 0u32; params]?;
@@ -97,6 +129,8 @@ impl<'a> Matcher<'a> {
             table,
             bound: Sequence::from_vec(bound),
             room,
+            sensed,
+            lists,
             clashes,
             cells,
             work,
@@ -115,10 +149,13 @@ impl<'a> Matcher<'a> {
         ensures always { (kernel : KernelInstance) → IsHighest self.old.problem self.old.table self.old.bound model.now.atoms kernel → (result ≡ Some kernel.number) × (self.new.instance ≡ kernel.objects) }
         ensures frame { self.new ≡ record self.old { instance = self.new.instance } }
     {
+        let marks = self.table.marks.as_slice();
+        renew(&mut self.sensed, &mut self.lists, marks, model);
         let found = highest(
             self.problem,
             self.table,
             self.bound.as_slice(),
+            &self.lists,
             &self.clashes,
             &mut self.cells,
             &mut self.work,

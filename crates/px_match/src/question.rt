@@ -11,6 +11,8 @@ pub struct Question<'a> {
     pub table: &'a Table,
     pub bound: &'a [(u32, u32)],
     pub model: &'a Model,
+    /// For each mark the atoms of the model that it may become.
+    pub lists: &'a [Model],
     pub clashes: &'a [Clash],
     pub number: u32,
     /// How many objects the problem has.

@@ -74,12 +74,14 @@ fn raise_by_marks(
     ensures raised { IsRaised question.now cells.new work.now place (object_at work.now place) result }
 {
     let from = work[place];
-    for mark in question.table.marks.as_slice() {
+    let marks = question.table.marks.as_slice();
+    let lists = question.lists;
+    for (at, mark) in marks.iter().enumerate() {
         if question.number <= mark.row
             && mark.column < question.number
             && concerns(mark.atom.args(), place)
         {
-            let raised = least(question.model.atoms(), &mark.atom, work, place, from);
+            let raised = least(lists[at].atoms(), &mark.atom, work, place, from);
             if raised != Some(from) {
                 blame(cells, work.len(), place, mark.atom.args());
                 return raised;
