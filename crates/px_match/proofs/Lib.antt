@@ -2,3 +2,16 @@ pub mod Sensing
 pub mod DangerLaws
 pub mod DangerSensing
 pub mod DangerTable
+pub mod Clashing
+pub mod Down
+pub mod Filled
+pub mod Floors
+pub mod Kernel
+pub mod Moved
+pub mod Passed
+pub mod Room
+pub mod Viewed
+pub mod Fewer
+pub mod Kept
+pub mod Renewed
+pub mod Each

@@ -1,12 +1,18 @@
 //! The highest kernel of a triangle table with a proper instance that is true: what a sensing finds (Fikes, Hart and Nilsson
 //! 1972).
 //!
-//! There is no matcher yet. These are the definitions that it will meet, and their law.
-//!
 //! # Calling it
 //!
+//! - [`Matcher::reserve`] makes a matcher for a table of a problem, under a binding, for models of at most so many atoms. It
+//!   takes all memory that there is to take. It asks for a table of a valid problem (`check_table` of `px_table`) and for a
+//!   binding that binds no parameter twice and has objects of the problem. `BadParam` comes exactly where the table hasn't
+//!   some bound parameter, with the first such one.
 //! - A binding is a list of pairs, each a parameter, counted from 1, and its object. `first_bad` in `specs/Matching` is the
 //!   first parameter of it that the table hasn't.
+//! - [`Matcher::best`] answers the number of the highest kernel that fits a model, and `None` exactly where none does.
+//!   [`Matcher::instance`] then gives the first objects with which that kernel fits; where `best` found none they stay, and at
+//!   first there are none. Neither takes memory.
+//! - Contracts see a matcher as `MatcherValue`: its problem, table, binding, room and objects. All but the objects stay.
 //! - `KernelFits` says that objects for the parameters extend the binding, that the instance of kernel `i` under them is
 //!   proper, and that all its atoms are true. `IsHighest` is the greatest `i` for which some objects fit, with the first
 //!   such objects, compared parameter by parameter; `NoKernelFits` says that there are none. A parameter that stands in no
@@ -14,13 +20,36 @@
 //! - `IsSensed` is what sensing finds in a set of atoms. It is determined ([`sensed_is_one`]).
 //! - A worked example, in `specs/WorkedDanger`, is a plan that would delete what it needs if one object stood for two: when each
 //!   of its kernels fits ([`danger_kernels`]), and what is sensed under some bindings ([`danger_sensed`]).
-//! - `specs/MatcherValue` is what contracts will see of a matcher.
 //!
-//! The three calls are laws about the definitions: they do nothing.
+//! # How it works
+//!
+//! A matcher keeps the atoms of the last sensing, and for each mark the list of those that it may become. The next sensing takes
+//! what is gone and puts what came, and changes no other list. That the lists are exactly these is the invariant of the type.
+//!
+//! A kernel is matched parameter by parameter, each from the first object up. A mark goes on to the least object that an atom of its
+//! list has there under the objects before, and a step that deletes a mark whatever comes later passes over an object. Each
+//! such passing over has its reasons, the earlier parameters on whose objects it rests. Where no object is left, the
+//! search goes back to the last reason, over all parameters between. So parameters that no mark and no deletion joins cost each
+//! other nothing, and what is found first is the first in the order of objects. Which marks and deletions are looked at, and when, is a
+//! hint: each passing over is proved by itself, and a full list of objects is tested.
 #![tactic(auto)]
 
+mod checking;
+mod clash;
+mod filling;
+mod highest;
+mod keeping;
 mod laws;
+mod lead;
+mod match_err;
+mod matcher;
+mod question;
+mod raising;
+mod reasons;
 #[cfg(test)]
 mod tests;
+mod turns;
 
 pub use laws::{danger_kernels, danger_sensed, sensed_is_one};
+pub use match_err::MatchErr;
+pub use matcher::Matcher;

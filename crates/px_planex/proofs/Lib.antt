@@ -8,3 +8,5 @@ pub mod Progressing
 pub mod TracedRuns
 pub mod TurnBound
 pub mod DangerRunning
+mod Taking
+mod Happening

@@ -10,13 +10,13 @@ use Rattle.px_table.specs.declared.table.Table.{Table}
 use Rattle.px_match.specs.Matching.{KernelInstance}
 use Rattle.px_planex.specs.declared.event.Event.TheVariants.{Disturb, Sense, Act}
 use Rattle.px_planex.specs.declared.event.Outcome.{Outcome}
-use Rattle.px_planex.specs.Execution.{Running, step_of_kernel}
-use Rattle.px_planex.specs.Executors.{ChangesNothing, EventsTakePlaces}
+use Rattle.px_planex.specs.Execution.{Happens, Running, remembered_step, step_of_kernel}
+use Rattle.px_planex.specs.Executors.{ChangesNothing, EventsTakePlaces, places_for}
 use Rattle.px_planex.proofs.OneTrace.{ActGives, SenseGives, act_gives, disturb_gives, sense_gives}
 
 module _ {E : Type 0} (leaves : E → List Atom → List Atom) (problem : Problem) (table : Table) (bound : List (ℕ × ℕ)) where
   -- the event adds at most so many atoms, and none where its outcome changes nothing
-  abbrev Adds : ℕ → Running → Outcome → Running → Type 0
+  abbrev pub Adds : ℕ → Running → Outcome → Running → Type 0
   Adds places old outcome new = (length new.atoms ≤ length old.atoms + places) × (ChangesNothing outcome → new.atoms ≡ old.atoms)
 
   same_adds : (places : ℕ) (old new : Running) (outcome : Outcome) → new.atoms ≡ old.atoms → Adds places old outcome new
@@ -31,13 +31,13 @@ module _ {E : Type 0} (leaves : E → List Atom → List Atom) (problem : Proble
   sense_adds old new (Some kernel) outcome (inr gives) = same_adds 0 old new outcome (ap (λ (r : Running). r.atoms) gives.2)
 
   -- the places of an action where this step is remembered
-  abbrev step_places : Option OpInst → ℕ
+  abbrev pub step_places : Option OpInst → ℕ
   step_places step = elim step [ None ↦ 0 | Some inst ↦ length (adds problem inst) ]
 
-  abbrev places_by : Option KernelInstance → ℕ
+  abbrev pub places_by : Option KernelInstance → ℕ
   places_by remembered = step_places (elim remembered [ None ↦ None | Some kernel ↦ step_of_kernel table kernel ])
 
-  act_adds : (old new : Running) (remembered : Option KernelInstance) (outcome : Outcome) → ActGives leaves problem table bound old remembered outcome new → Adds (places_by remembered) old outcome new
+  pub act_adds : (old new : Running) (remembered : Option KernelInstance) (outcome : Outcome) → ActGives leaves problem table bound old remembered outcome new → Adds (places_by remembered) old outcome new
   act_adds old new None outcome gives = same_adds 0 old new outcome (ap (λ (r : Running). r.atoms) gives.1)
   act_adds old new (Some kernel) outcome (inl gives) = same_adds (places_by (Some kernel)) old new outcome (ap (λ (r : Running). r.atoms) gives.2)
   act_adds old new (Some kernel) outcome (inr gives) =
@@ -57,3 +57,9 @@ events_take_places leaves problem table bound old new Sense outcome few happens 
     sense_adds leaves problem table bound old new gives.0 outcome gives.2
 events_take_places leaves problem table bound old new Act outcome few happens =
     act_adds leaves problem table bound old new old.memory.remembered outcome (act_gives leaves problem table bound old new outcome happens)
+
+-- an action adds at most as many atoms as it may want places
+pub act_number : {E : Type 0} (leaves : E → List Atom → List Atom) (problem : Problem) (table : Table) (bound : List (ℕ × ℕ)) (old new : Running) (outcome : Outcome)
+    → Happens leaves problem table bound old Act outcome new → length new.atoms ≤ length old.atoms + places_for problem (remembered_step table old.memory)
+act_number leaves problem table bound old new outcome happens =
+    (act_adds leaves problem table bound old new old.memory.remembered outcome (act_gives leaves problem table bound old new outcome happens)).0

@@ -1,0 +1,68 @@
+-- The atoms that a mark may become, and the lists of them that a matcher keeps between sensings.
+use Rattle.std.specs.Prelude.{◌≡◌, ℕ, ◌<◌, ◌≤◌, ◌+◌, ◌==◌, ◌&&◌, Bool, true, List, [], Contains, filter, length, slice_index_or}
+use Rattle.std.specs.Cmp.Lexicographic.{pointwise}
+use Rattle.px_terms.specs.AtomSets.{IsAtomSet, with_atom}
+use Rattle.px_terms.specs.declared.atom.Atom.{Atom}
+use Rattle.px_terms.specs.declared.term.Term.{Term}
+use Rattle.px_terms.specs.declared.term.Term.TheVariants.{Obj, Var, Any}
+use Rattle.px_terms.specs.Order.{term_eq}
+use Rattle.px_ops.specs.Models.{without_atom}
+use Rattle.px_ops.specs.ModelValue.{ModelValue}
+use Rattle.px_table.specs.declared.mark.Mark.{Mark}
+
+-- an object covers itself alone, and a parameter each term
+abbrev pub covers_term : Term → Term → Bool
+covers_term (Obj n) term = term_eq (Obj n) term
+covers_term (Var v) term = true
+covers_term Any term = true
+
+-- the mark may become the atom, for what its predicate and objects say
+abbrev pub covers : Atom → Atom → Bool
+covers mark atom = (mark.pred == atom.pred) && pointwise covers_term mark.args atom.args
+
+-- the atoms that the mark covers, in their order
+abbrev pub matches : Atom → List Atom → List Atom
+matches mark atoms = filter (covers mark) atoms
+
+-- the list of each mark has the atoms that it covers
+pub record AreMatches (marks : List Mark) (atoms : List Atom) (lists : List ModelValue) : Type 0 where
+  pub same : length lists ≡ length marks
+  pub each : (k : ℕ) (l : ModelValue) (m : Mark) → k < length marks → (slice_index_or lists k l).atoms ≡ matches (slice_index_or marks k m).atom atoms
+
+-- there are places for so many atoms, those that are there counted
+abbrev pub HasRoom : ℕ → ModelValue → Type 0
+HasRoom room list = room ≤ list.spare + length list.atoms
+
+-- the list has the atoms that the mark covers, and room for so many
+pub record IsListOf (room : ℕ) (mark : Atom) (atoms : List Atom) (list : ModelValue) : Type 0 where
+  pub same : list.atoms ≡ matches mark atoms
+  pub places : HasRoom room list
+
+-- the lists of all marks are such, and so many atoms may be kept
+pub record AreKept (room : ℕ) (marks : List Mark) (kept : ModelValue) (lists : List ModelValue) : Type 0 where
+  pub places : HasRoom room kept
+  pub same : length lists ≡ length marks
+  pub each : (k : ℕ) (l : ModelValue) (m : Mark) → k < length marks → IsListOf room (slice_index_or marks k m).atom kept.atoms (slice_index_or lists k l)
+
+-- when an atom is taken, a list of a mark's atoms among whatever ones is one among the others
+pub record IsTaken (mark atom : Atom) (old new : ModelValue) : Type 0 where
+  pub each : (room : ℕ) (atoms : List Atom) → IsAtomSet atoms → IsListOf room mark atoms old → IsListOf room mark (without_atom atom atoms) new
+
+-- and when a new one is put, among these with it
+pub record IsPut (mark atom : Atom) (old new : ModelValue) : Type 0 where
+  pub each : (room : ℕ) (atoms : List Atom) → IsAtomSet atoms → ¬ Contains atoms atom → IsListOf room mark atoms old → IsListOf room mark (with_atom atom atoms) new
+
+-- the same of the list of each mark
+pub record AreTaken (marks : List Mark) (atom : Atom) (old new : List ModelValue) : Type 0 where
+  pub same : length new ≡ length old
+  pub each : (k : ℕ) (l : ModelValue) (m : Mark) → k < length marks → IsTaken (slice_index_or marks k m).atom atom (slice_index_or old k l) (slice_index_or new k l)
+
+pub record ArePut (marks : List Mark) (atom : Atom) (old new : List ModelValue) : Type 0 where
+  pub same : length new ≡ length old
+  pub each : (k : ℕ) (l : ModelValue) (m : Mark) → k < length marks → IsPut (slice_index_or marks k m).atom atom (slice_index_or old k l) (slice_index_or new k l)
+
+-- so many lists without atoms, each with room for so many
+pub record AreEmpty (room count : ℕ) (lists : List ModelValue) : Type 0 where
+  pub same : length lists ≡ count
+  pub empty : (k : ℕ) (l : ModelValue) → k < length lists → (slice_index_or lists k l).atoms ≡ []
+  pub spare : (k : ℕ) (l : ModelValue) → k < length lists → room ≤ (slice_index_or lists k l).spare

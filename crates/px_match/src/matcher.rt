@@ -1,0 +1,183 @@
+//! The matcher of a table.
+ghost use Rattle.std.specs.Prelude.{◌≡◌, ◌⊎◌, ◌↔◌, ◌≤◌, ◌<◌, ◌+◌, ◌≢◌, ℕ, List, [], All, AllPairs, Option, None, length, IfOk, IfSome, IsErrOf, OnOk, Some};
+ghost use Rattle.px_terms.specs.Validity.{IsValid};
+ghost use Rattle.px_table.specs.Tables.{IsTable};
+ghost use Rattle.px_match.specs.Keeping.{AreEmpty};
+ghost use Rattle.px_match.specs.MatcherValue.{kernel_with};
+ghost use Rattle.px_match.specs.Matching.{IsHighest, NoKernelFits, KernelInstance, first_bad as spec_first_bad};
+
+use crate::clash::{Clash, clashes_of};
+use crate::highest::highest;
+use crate::keeping::renew;
+use crate::match_err::MatchErr;
+use px_base::{NoMemory, Sequence};
+use px_ops::Model;
+use px_table::Table;
+use px_terms::Problem;
+use std::alloc::Global;
+
+/// Finds the highest kernel whose instance holds.
+///
+/// Contracts see it as the problem, the table, the binding and the instance.
+#[derive(Drop)]
+pub struct Matcher<'a> {
+    problem: &'a Problem,
+    table: &'a Table,
+    bound: Sequence<(u32, u32)>,
+    /// How many atoms a model may have.
+    room: usize,
+    /// The atoms of the last sensing.
+    sensed: Model,
+    /// For each mark those of them that it may become.
+    lists: Vec<Model>,
+    clashes: Vec<Clash>,
+    cells: Vec<bool>,
+    work: Vec<u32>,
+    instance: Vec<u32>,
+    /// Is there an instance yet?
+    is_found: bool,
+}
+
+impl<'a> std::marker::Model for Matcher<'a> {
+    ghost use Rattle.std.specs.Prelude.{◌≡◌, [], cond, length};
+    ghost use Rattle.px_terms.specs.Validity.{IsValid};
+    ghost use Rattle.px_table.specs.Tables.{IsTable};
+    ghost use Rattle.px_match.specs.Keeping.{AreKept};
+    ghost use Rattle.px_match.specs.MatcherValue.{MatcherValue};
+    ghost use Rattle.std.specs.Coded.{codes};
+    ghost use Rattle.px_proof.specs.contracts.proof.Proof as term;
+
+    ghost Value = { MatcherValue };
+
+    ghost coded = { Prim.hlevel (codes, term.the_row.coded) };
+
+    ghost view = { λ m. record { problem = m.problem.now; table = m.table.now; bound = m.bound; room = m.room; instance = cond m.is_found m.instance.items [] } };
+
+    ghost invariant = { λ m. IsValid m.problem.now × IsTable m.problem.now m.table.now × (length m.work.items ≡ m.table.now.params) × (length m.instance.items ≡ m.table.now.params) × AreKept m.room m.table.now.marks m.sensed m.lists.items };
+}
+
+/// The first bound parameter that the table hasn't.
+fn first_bad(table: &Table, bind: &[(u32, u32)]) -> Option<u32>
+    ensures { result ≡ spec_first_bad table.now bind.now }
+{
+    for pair in bind {
+        if pair.0 < 1 || pair.0 > table.params {
+            return Some(pair.0);
+        }
+    }
+    None
+}
+
+/// No atoms, with room for so many.
+fn model_with_room(alloc: Global, room: usize) -> Result<Model, NoMemory>
+    ensures empty { IfOk result (λ model. model.atoms ≡ []) }
+    ensures room { IfOk result (λ model. room ≤ model.spare) }
+{
+    let mut model = Model::new(alloc);
+    model.reserve(room)?;
+    Ok(model)
+}
+
+/// For each mark a list of no atoms, with room for so many.
+#[tactic(auto, using(crate::proofs::Renewed::none_empty, crate::proofs::Renewed::one_more_empty))]
+fn lists_of(alloc: Global, count: usize, room: usize) -> Result<Vec<Model>, NoMemory>
+    ensures { IfOk result (λ lists. AreEmpty room count lists.items) }
+{
+    let mut lists = Vec::new(alloc);
+    for _mark in 0..count {
+        lists.push(model_with_room(alloc, room)?)?;
+    }
+    Ok(lists)
+}
+
+impl<'a> Matcher<'a> {
+    /// A matcher for the table in which these parameters, counted from 1, have these objects. Takes all memory that it needs.
+    ///
+    /// # Errors
+    /// `BadParam` with the first parameter that the table hasn't, and `NoMemory`.
+    #[tactic(auto, using(crate::proofs::Renewed::kept_empty))]
+    pub fn reserve(
+        alloc: Global,
+        problem: &'a Problem,
+        table: &'a Table,
+        bind: &[(u32, u32)],
+        room: usize,
+    ) -> Result<Matcher<'a>, MatchErr>
+        requires problem { IsValid problem.now }
+        requires table { IsTable problem.now table.now }
+        requires objects { All (λ pair. pair.1 < problem.now.objects) bind.now }
+        requires once { AllPairs (λ one other. one.0 ≢ other.0) bind.now }
+        ensures value { IfOk result (λ matcher. matcher ≡ record { problem = problem.now; table = table.now; bound = bind.now; room = room; instance = [] }) }
+        ensures in_range { OnOk result (spec_first_bad table.now bind.now ≡ None) }
+        ensures bad { (n : ℕ) → IsErrOf result (MatchErr.BadParam n) → spec_first_bad table.now bind.now ≡ Some n }
+        ensures always_bad { (n : ℕ) → spec_first_bad table.now bind.now ≡ Some n → IsErrOf result (MatchErr.BadParam n) ⊎ IsErrOf result MatchErr.NoMemory }
+    {
+        if let Some(number) = first_bad(table, bind) {
+            return Err(MatchErr::BadParam(number));
+        }
+        let params = table.params as usize;
+        let mut bound = Vec::new(alloc);
+        bound.extend_from_slice(bind)?;
+        let sensed = model_with_room(alloc, room)?;
+        let lists = lists_of(alloc, table.marks.len(), room)?;
+        let clashes = clashes_of(alloc, problem, table)?;
+        let cells = vec![in alloc; false; params * params]?;
+        let work = vec![in alloc; 0u32; params]?;
+        let instance = vec![in alloc; 0u32; params]?;
+        Ok(Matcher {
+            problem,
+            table,
+            bound: Sequence::from_vec(bound),
+            room,
+            sensed,
+            lists,
+            clashes,
+            cells,
+            work,
+            instance,
+            is_found: false,
+        })
+    }
+
+    /// The highest kernel of which an instance that extends the binding and is proper holds in the model; `None` exactly where
+    /// there is none. Takes no memory.
+    pub fn best(&mut self, model: &Model) -> Option<u32>
+        requires room { length model.now.atoms ≤ self.old.room }
+        ensures none { (result ≡ None) ↔ NoKernelFits self.old.problem self.old.table self.old.bound model.now.atoms }
+        ensures kept { result ≡ None → self.new.instance ≡ self.old.instance }
+        ensures some { IfSome result (λ number. IsHighest self.old.problem self.old.table self.old.bound model.now.atoms (kernel_with self.new.instance number)) }
+        ensures always { (kernel : KernelInstance) → IsHighest self.old.problem self.old.table self.old.bound model.now.atoms kernel → (result ≡ Some kernel.number) × (self.new.instance ≡ kernel.objects) }
+        ensures frame { self.new ≡ record self.old { instance = self.new.instance } }
+    {
+        let marks = self.table.marks.as_slice();
+        renew(&mut self.sensed, &mut self.lists, marks, model);
+        let found = highest(
+            self.problem,
+            self.table,
+            self.bound.as_slice(),
+            &self.lists,
+            &self.clashes,
+            &mut self.cells,
+            &mut self.work,
+            model,
+        );
+        match found {
+            None => None,
+            Some(number) => {
+                self.instance.copy_from_slice(&self.work);
+                self.is_found = true;
+                Some(number)
+            }
+        }
+    }
+
+    /// The first objects with which the kernel of the last `best` that found one fits; none before. Takes no memory.
+    pub fn instance(&self) -> &[u32]
+        ensures { result.now ≡ self.now.instance }
+    {
+        if self.is_found {
+            return &self.instance;
+        }
+        &self.instance[..0]
+    }
+}

@@ -1,0 +1,200 @@
+//! Passing over objects at a place that can't stand there, with the reasons.
+ghost use Rattle.std.specs.Prelude.{◌≡◌, ◌≢◌, ◌↔◌, ◌<◌, ◌≤◌, ◌+◌, ℕ, List, Option, Some, None, All, IsTrue, IfSome, length};
+ghost use Rattle.px_terms.specs.Language.{IsVariableBelow};
+ghost use Rattle.px_table.specs.Kernels.{IsInstantiation};
+ghost use Rattle.px_match.specs.Asking.{Excludes, IsAnswer, IsQuestion, IsRaised};
+ghost use Rattle.px_match.specs.Matching.{Extends};
+ghost use Rattle.px_match.specs.Reasons.{Agree, Grown, IsAtMost, object_at};
+
+use crate::clash::Clash;
+use crate::filling::least;
+use crate::question::Question;
+use crate::reasons::blame;
+use px_ops::schema_of;
+use px_table::atom_with;
+use px_terms::{Atom, Term, apply, instance_of};
+
+/// Is the parameter of the place among the terms, or, at place 0, is there none at all?
+fn concerns(terms: &[Term], place: usize) -> bool {
+    let mut is_plain = true;
+    for term in terms {
+        if let Term::Var(number) = *term {
+            if number as usize == place {
+                return true;
+            }
+            is_plain = false;
+        }
+    }
+    is_plain && place == 0
+}
+
+/// Are all parameters among the terms up to the place?
+fn are_up_to(terms: &[Term], place: usize) -> bool
+    ensures { IsTrue result → All (IsVariableBelow (place + 1)) terms.now }
+{
+    for term in terms {
+        if let Term::Var(number) = *term {
+            if number as usize > place {
+                return false;
+            }
+        }
+    }
+    true
+}
+
+/// The least object from `from` on that the binding allows at the place.
+fn least_bound(bound: &[(u32, u32)], place: usize, from: u32) -> Option<u32>
+    requires place { place < 4294967295 }
+    ensures at_least { IfSome result (λ r. from ≤ r) }
+    ensures at_most { (objects : List ℕ) → Extends bound.now objects → from ≤ object_at objects place → IsAtMost result (object_at objects place) }
+{
+    for pair in bound {
+        if pair.0 as usize == place + 1 {
+            if pair.1 < from {
+                return None;
+            }
+            return Some(pair.1);
+        }
+    }
+    Some(from)
+}
+
+/// The first object from that of the place on that the first mark which passes over one allows.
+fn raise_by_marks(
+    question: &Question,
+    cells: &mut [bool],
+    work: &[u32],
+    place: usize,
+) -> Option<u32>
+    requires asked { IsQuestion question.now }
+    requires short { length work.now ≤ 4294967295 }
+    requires work { IsInstantiation question.now.problem.now question.now.table.now work.now }
+    requires place { place < length work.now }
+    ensures grown { Grown cells.old cells.new }
+    ensures raised { IsRaised question.now cells.new work.now place (object_at work.now place) result }
+{
+    let from = work[place];
+    let marks = question.table.marks.as_slice();
+    let lists = question.lists;
+    for (at, mark) in marks.iter().enumerate() {
+        if question.number <= mark.row
+            && mark.column < question.number
+            && concerns(mark.atom.args(), place)
+        {
+            let raised = least(lists[at].atoms(), &mark.atom, work, place, from);
+            if raised != Some(from) {
+                blame(cells, work.len(), place, mark.atom.args());
+                return raised;
+            }
+        }
+    }
+    Some(from)
+}
+
+/// The pattern over the table's parameters, if it and the mark have all their parameters up to the place and it deletes the
+/// mark.
+fn deleting(question: &Question, work: &[u32], place: usize, clash: &Clash) -> Option<(Atom, Atom)>
+    requires asked { IsQuestion question.now }
+    requires short { length work.now ≤ 4294967295 }
+    requires work { IsInstantiation question.now.problem.now question.now.table.now work.now }
+    requires place { place < length work.now }
+    ensures { IfSome result (λ pair. Excludes question.now work.now (place + 1) pair.0 pair.1) }
+{
+    let marks = question.table.marks.as_slice();
+    let steps = question.table.steps.as_slice();
+    if clash.mark >= marks.len() || clash.step >= steps.len() {
+        return None;
+    }
+    let mark = &marks[clash.mark];
+    let step = &steps[clash.step];
+    let number = clash.step + 1;
+    if number < question.number as usize
+        || number <= mark.column as usize
+        || number >= mark.row as usize
+    {
+        return None;
+    }
+    let patterns = schema_of(question.problem, step).del.as_slice();
+    if clash.pattern >= patterns.len() {
+        return None;
+    }
+    let pattern = apply(step.args(), &patterns[clash.pattern]);
+    if !are_up_to(pattern.args(), place) || !are_up_to(mark.atom.args(), place) {
+        return None;
+    }
+    if !instance_of(&atom_with(work, &mark.atom), &atom_with(work, &pattern)) {
+        return None;
+    }
+    Some((pattern, mark.atom))
+}
+
+/// Does a step delete a mark, whatever the objects after the place?
+fn has_clash(question: &Question, cells: &mut [bool], work: &[u32], place: usize) -> bool
+    requires asked { IsQuestion question.now }
+    requires short { length work.now ≤ 4294967295 }
+    requires work { IsInstantiation question.now.problem.now question.now.table.now work.now }
+    requires place { place < length work.now }
+    ensures grown { Grown cells.old cells.new }
+    ensures never { IsTrue result → (objects : List ℕ) → IsAnswer question.now objects → Agree cells.new (length work.now) work.now place objects → object_at work.now place ≢ object_at objects place }
+{
+    for clash in question.clashes {
+        if clash.place as usize == place {
+            if let Some((pattern, atom)) = deleting(question, work, place, clash) {
+                blame(cells, work.len(), place, pattern.args());
+                blame(cells, work.len(), place, atom.args());
+                return true;
+            }
+        }
+    }
+    false
+}
+
+/// The first object from that of the place on that isn't passed over at once.
+fn raise(question: &Question, cells: &mut [bool], work: &[u32], place: usize) -> Option<u32>
+    requires asked { IsQuestion question.now }
+    requires short { length work.now ≤ 4294967295 }
+    requires work { IsInstantiation question.now.problem.now question.now.table.now work.now }
+    requires place { place < length work.now }
+    ensures grown { Grown cells.old cells.new }
+    ensures raised { IsRaised question.now cells.new work.now place (object_at work.now place) result }
+{
+    let from = work[place];
+    let allowed = least_bound(question.bound, place, from);
+    if allowed != Some(from) {
+        return allowed;
+    }
+    let raised = raise_by_marks(question, cells, work, place);
+    if raised != Some(from) {
+        return raised;
+    }
+    if has_clash(question, cells, work, place) {
+        return Some(from + 1);
+    }
+    Some(from)
+}
+
+/// Puts the object at the place, and answers the first object from it on that isn't passed over at once.
+pub fn try_object(
+    question: &Question,
+    cells: &mut [bool],
+    work: &mut [u32],
+    place: usize,
+    from: u32,
+) -> Option<u32>
+    requires asked { IsQuestion question.now }
+    requires short { length work.old ≤ 4294967295 }
+    requires work { IsInstantiation question.now.problem.now question.now.table.now work.old }
+    requires place { place < length work.old }
+    ensures grown { Grown cells.old cells.new }
+    ensures same_length { length work.new ≡ length work.old }
+    ensures work { IsInstantiation question.now.problem.now question.now.table.now work.new }
+    ensures before { (k : ℕ) → k < place → object_at work.new k ≡ object_at work.old k }
+    ensures taken { result ≡ Some from → (object_at work.new place ≡ from) × (from < question.now.problem.now.objects) }
+    ensures raised { IsRaised question.now cells.new work.new place from result }
+{
+    if from >= question.objects {
+        return None;
+    }
+    work[place] = from;
+    raise(question, cells, work, place)
+}
