@@ -3,7 +3,9 @@ use Rattle.std.specs.Prelude.{◌≢◌, ◌<◌, ℕ, false, None, [], ◌∷�
 use Rattle.std.proofs.Common.{refl, arith}
 use Rattle.std.proofs.lemmas.List.Elements.{All-nil, All-cons}
 use Rattle.px_world.specs.declared.thing.Thing.TheVariants as thing
-use Rattle.px_rooms.specs.States.{IsBuilding, StandsRight, Standing, a_box, a_door, a_room, standings}
+use Rattle.px_rooms.specs.declared.standing.Standing.{Standing}
+use Rattle.px_rooms.specs.declared.standing.Standing.TheVariants.{Room as a_room, Door as a_door, Box as a_box}
+use Rattle.px_rooms.specs.States.{IsBuilding, StandsRight, standings}
 use Rattle.px_rooms.specs.WorkedBuilding.{KindFacts, two_rooms}
 
 different : (one other : ℕ) → one < other → one ≢ other

@@ -16,10 +16,20 @@
 //! - The laws are calls that do nothing.
 #![tactic(auto)]
 
+mod action;
 mod building;
+mod errors;
+mod facts;
 mod laws;
+mod problem;
+mod standing;
 #[cfg(test)]
 mod tests;
+mod things;
 
 pub use building::Building;
-pub use laws::{buildings_are_valid, worked_building, worked_domain};
+pub use errors::{NoSuchThing, RoomErr};
+pub use laws::{
+    actions_are_results, buildings_are_valid, edits_are_edits, worked_building, worked_domain,
+};
+pub use problem::rooms_problem;
