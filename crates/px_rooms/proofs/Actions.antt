@@ -1,5 +1,5 @@
 -- Each action and each edit: the facts that it leaves, and that it leaves a state.
-use Rattle.std.specs.Prelude.{◌≡◌, ◌≢◌, ◌⊎◌, ◌<◌, ◌==◌, ℕ, Bool, true, false, Option, Some, None, List, [], ◌∷◌, length, map, set, slice_get, slice_index_or, Contains, All, if◌then◌else◌}
+use Rattle.std.specs.Prelude.{◌≡◌, ◌≢◌, ◌⊎◌, ◌↔◌, ◌<◌, ◌≤◌, ◌+◌, ◌==◌, ℕ, Bool, true, false, Option, Some, None, List, [], ◌∷◌, length, map, set, slice_get, slice_index_or, Contains, All, if◌then◌else◌}
 use Rattle.std.proofs.Common.{zero, suc, refl, sym, ap, ◌∙◌, subst, inl, inr, arith}
 use Rattle.std.proofs.lemmas.Bool.{eqb-true}
 use Rattle.std.proofs.lemmas.List.{length-set, length-map}
@@ -10,17 +10,18 @@ use Rattle.px_terms.specs.declared.instance.OpInst.{OpInst}
 use Rattle.px_terms.specs.declared.problem.Problem.{Problem}
 use Rattle.px_terms.specs.declared.term.Term.{Term}
 use Rattle.px_terms.specs.declared.term.Term.TheVariants.{Obj, Var, Any as WildCard}
-use Rattle.px_terms.specs.Operators.{no_schema, precondition, result_of}
+use Rattle.px_terms.specs.OperatorLaws.{result_by-length}
+use Rattle.px_terms.specs.Operators.{atoms_of, no_schema, precondition, result_of}
 use Rattle.px_terms.specs.Validity.{IsInstanceOf, IsTermOf}
 use Rattle.px_world.specs.declared.edits.RoomEdit.{RoomEdit}
 use Rattle.px_world.specs.declared.edits.RoomEdit.TheVariants as edit
 use Rattle.px_rooms.specs.declared.standing.Standing.{Standing}
 use Rattle.px_rooms.specs.declared.standing.Standing.TheVariants.{Room as a_room, Door as a_door, Box as a_box}
-use Rattle.px_rooms.specs.Changes.{IsAdmitted, facts_edited, moved, number_of, parted_from, put_beside, put_into, state_edited, things_with, turned, with_thing}
-use Rattle.px_rooms.specs.Domain.{in_room, robot, room_schemas}
+use Rattle.px_rooms.specs.Changes.{IsAdmitted, edit_schema, facts_edited, moved, number_of, parted_from, put_beside, put_into, state_edited, things_with, turned, with_thing}
+use Rattle.px_rooms.specs.Domain.{building_problem, in_room, robot, room_schemas}
 use Rattle.px_rooms.specs.Following.{ActionsAreResults, EditsAreEdits, IsMet}
 use Rattle.px_rooms.specs.States.{IsBoxAt, IsBoxOrDoorOrNone, IsDoorAt, IsDoorOrNone, IsRoomAt, IsRoomState, RoomState, StandsRight, building_rules, rendering, thing_at}
-use Rattle.px_rooms.proofs.ThingKinds.{kind_of}
+use Rattle.px_rooms.proofs.ThingKinds.{admitted-same, kind_of}
 use Rattle.px_rooms.proofs.Kept.{KeepsKinds, all-right, box-stays, door-stays, put_beside-keeps, put_into-keeps, robot-stays, room-stays, same-kinds, turned-keeps, was-right}
 use Rattle.px_rooms.proofs.Steps.{beside-facts, box-facts, door-facts, into-facts, push-through-facts, push-to-facts}
 use Rattle.px_rooms.proofs.Telling.{IsBetween, box-fact, connects-fact, door-fact}
@@ -223,3 +224,22 @@ actions-follow state inst is of_problem met = let leaves = action-leaves state i
 
 pub edits-follow : EditsAreEdits
 edits-follow state one is admitted = let leaves = edit-leaves state one is admitted in (leaves.left.state, leaves.facts)
+
+-- ---- how many facts there are after an edit, and which edits are admitted then
+
+added-one : (one : RoomEdit) → length (atoms_of (edit_schema one).add (record { op = 0; args = [] })) ≡ 1
+added-one (edit.Robot r) = refl
+added-one (edit.Box b r) = refl
+added-one (edit.Door d true) = refl
+added-one (edit.Door d false) = refl
+
+pub edit-number : (one : RoomEdit) (old new : RoomState) → rendering new ≡ facts_edited one (rendering old) → length (rendering new) ≤ length (rendering old) + 1
+edit-number one old new is =
+    let most = result_by-length (edit_schema one) (rendering old) (record { op = 0; args = [] }) in
+    omega (arith, ap length is, most, added-one one)
+
+pub left-admits : (old left new : RoomState) → new ≡ left → IsLeft old left → (one : RoomEdit) → IsAdmitted new one ↔ IsAdmitted old one
+left-admits old left new is kept = admitted-same old new (subst (λ (s : RoomState). map kind_of s.things ≡ map kind_of old.things) (sym is) kept.kinds)
+
+pub left-rules : (old left new : RoomState) → new ≡ left → IsLeft old left → building_rules new ≡ building_rules old
+left-rules old left new is kept = ap (λ n. building_problem (n + 1) 1 1 2) (ap (λ (s : RoomState). length s.things) is ∙ kept.count)

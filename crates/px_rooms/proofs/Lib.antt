@@ -8,4 +8,10 @@ pub mod Telling
 pub mod Kept
 pub mod Actions
 pub mod Starting
+pub mod Worlds
+pub mod Counting
+pub mod Refusing
 pub mod ThingKinds
+pub mod Sensing
+pub mod Meeting
+pub mod Guarding
