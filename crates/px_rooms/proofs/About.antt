@@ -1,6 +1,6 @@
 -- The facts of a state by the object that each is about, its first argument.
-use Rattle.std.specs.Prelude.{◌≡◌, ◌≢◌, ◌↔◌, ◌⊎◌, ◌+◌, ℕ, Bool, true, false, Option, Some, None, List, [], ◌∷◌, ◌++◌, slice_get, Contains, All}
-use Rattle.std.proofs.Common.{zero, suc, refl, sym, ap, ◌∙◌, subst, inl, inr, arith}
+use Rattle.std.specs.Prelude.{◌≡◌, ◌+◌, ℕ, Bool, true, false, Option, Some, None, List, [], ◌∷◌, ◌++◌, slice_get, Contains}
+use Rattle.std.proofs.Common.{zero, suc, refl, subst, inl, inr, arith}
 use Rattle.std.proofs.lemmas.List.Elements.{Contains-append_left, Contains-append_right, Contains-append_cases}
 use Rattle.std.specs.List.{AllByRecursion}
 use Rattle.px_base.specs.ListLaws.{Contains-none, AllByRecursion-at}
@@ -12,8 +12,7 @@ use Rattle.px_terms.specs.Order.{atom_cmp}
 use Rattle.px_terms.specs.OrderLaws.{atom_cmp-total, atom_cmp-same}
 use Rattle.px_rooms.specs.declared.standing.Standing.{Standing}
 use Rattle.px_rooms.specs.declared.standing.Standing.TheVariants.{Room as a_room, Door as a_door, Box as a_box}
-use Rattle.px_rooms.specs.Domain.{in_room, robot}
-use Rattle.px_rooms.specs.States.{RoomState, atoms_about, atoms_from, atoms_of_thing, beside_atoms, door_atom, rendering, robot_atoms, thing_at, thing_atoms}
+use Rattle.px_rooms.specs.States.{RoomState, atoms_about, atoms_from, atoms_of_thing, beside_atoms, door_atom, rendering, robot_atoms, thing_atoms}
 
 -- ---- the facts about an object
 

@@ -1,7 +1,6 @@
 -- Each action and each edit: the facts that it leaves, and that it leaves a state.
-use Rattle.std.specs.Prelude.{◌≡◌, ◌≢◌, ◌⊎◌, ◌↔◌, ◌<◌, ◌≤◌, ◌+◌, ◌==◌, ℕ, Bool, true, false, Option, Some, None, List, [], ◌∷◌, length, map, set, slice_get, slice_index_or, Contains, All, if◌then◌else◌}
+use Rattle.std.specs.Prelude.{◌≡◌, ◌⊎◌, ◌↔◌, ◌<◌, ◌≤◌, ◌+◌, ◌==◌, ℕ, Bool, true, false, Option, Some, None, List, [], ◌∷◌, length, map, slice_get, slice_index_or, Contains, All, if◌then◌else◌}
 use Rattle.std.proofs.Common.{zero, suc, refl, sym, ap, ◌∙◌, subst, inl, inr, arith}
-use Rattle.std.proofs.lemmas.Bool.{eqb-true}
 use Rattle.std.proofs.lemmas.List.{length-set, length-map}
 use Rattle.std.proofs.lemmas.List.Elements.{All-head, All-tail}
 use Rattle.px_base.specs.ListLaws.{All-at}
@@ -11,16 +10,16 @@ use Rattle.px_terms.specs.declared.problem.Problem.{Problem}
 use Rattle.px_terms.specs.declared.term.Term.{Term}
 use Rattle.px_terms.specs.declared.term.Term.TheVariants.{Obj, Var, Any as WildCard}
 use Rattle.px_terms.specs.OperatorLaws.{result_by-length}
-use Rattle.px_terms.specs.Operators.{atoms_of, no_schema, precondition, result_of}
+use Rattle.px_terms.specs.Operators.{atoms_of, no_schema, result_of}
 use Rattle.px_terms.specs.Validity.{IsInstanceOf, IsTermOf}
 use Rattle.px_world.specs.declared.edits.RoomEdit.{RoomEdit}
 use Rattle.px_world.specs.declared.edits.RoomEdit.TheVariants as edit
 use Rattle.px_rooms.specs.declared.standing.Standing.{Standing}
-use Rattle.px_rooms.specs.declared.standing.Standing.TheVariants.{Room as a_room, Door as a_door, Box as a_box}
+use Rattle.px_rooms.specs.declared.standing.Standing.TheVariants.{Door as a_door, Box as a_box}
 use Rattle.px_rooms.specs.Changes.{IsAdmitted, edit_schema, facts_edited, moved, number_of, parted_from, put_beside, put_into, state_edited, things_with, turned, with_thing}
 use Rattle.px_rooms.specs.Domain.{building_problem, in_room, robot, room_schemas}
 use Rattle.px_rooms.specs.Following.{ActionsAreResults, EditsAreEdits, IsMet}
-use Rattle.px_rooms.specs.States.{IsBoxAt, IsBoxOrDoorOrNone, IsDoorAt, IsDoorOrNone, IsRoomAt, IsRoomState, RoomState, StandsRight, building_rules, rendering, thing_at}
+use Rattle.px_rooms.specs.States.{IsBoxAt, IsBoxOrDoorOrNone, IsDoorAt, IsRoomAt, IsRoomState, RoomState, StandsRight, building_rules, rendering}
 use Rattle.px_rooms.proofs.ThingKinds.{admitted-same, kind_of}
 use Rattle.px_rooms.proofs.Kept.{KeepsKinds, all-right, box-stays, door-stays, put_beside-keeps, put_into-keeps, robot-stays, room-stays, same-kinds, turned-keeps, was-right}
 use Rattle.px_rooms.proofs.Steps.{beside-facts, box-facts, door-facts, into-facts, push-through-facts, push-to-facts}

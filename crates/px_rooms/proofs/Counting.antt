@@ -1,14 +1,13 @@
 -- No fact of a state is listed twice.
-use Rattle.std.specs.Prelude.{◌≡◌, ◌≢◌, ◌⊎◌, ◌<◌, ◌≤◌, ◌+◌, ◌*◌, ℕ, Bool, true, false, Option, Some, None, List, [], ◌∷◌, ◌++◌, length, All, Contains, slice_get}
-use Rattle.std.proofs.Common.{zero, suc, refl, sym, ap, ◌∙◌, subst, inl, inr, arith, length-append}
-use Rattle.std.proofs.lemmas.List.Elements.{Contains-append_left, Contains-append_right, Contains-append_cases}
+use Rattle.std.specs.Prelude.{◌≡◌, ◌≢◌, ◌<◌, ◌≤◌, ◌+◌, ◌*◌, ℕ, Bool, true, false, Option, Some, None, List, [], ◌∷◌, ◌++◌, length, Contains}
+use Rattle.std.proofs.Common.{suc, refl, sym, ap, ◌∙◌, subst, inl, inr, arith, length-append}
+use Rattle.std.proofs.lemmas.List.Elements.{Contains-append_cases}
 use Rattle.std.specs.List.{AllByRecursion}
 use Rattle.std.specs.declared.cmp.Ordering.TheVariants.{Less, Equal, Greater}
 use Rattle.px_base.specs.ListLaws.{AllByRecursion-at, Contains-cases, Contains-first, Contains-later, Contains-none, All-at}
 use Rattle.px_base.specs.Sets.{place_item, set_of, with_item}
 use Rattle.px_base.specs.SetLaws.{set_of-members}
 use Rattle.px_terms.specs.declared.atom.Atom.{Atom}
-use Rattle.px_terms.specs.declared.term.Term.{Term}
 use Rattle.px_terms.specs.declared.term.Term.TheVariants.{Obj}
 use Rattle.px_terms.specs.AtomSets.{atom_set, with_atom}
 use Rattle.px_terms.specs.Order.{atom_cmp}
@@ -73,13 +72,16 @@ door-once k x y is_open differ =
     let back = connects (Obj k) (Obj y) (Obj x) in
     let last = door_atom k is_open in
     let not_last : last.pred ≢ 2 = door-kind k is_open 2 (λ e. omega (arith, e)) (λ e. omega (arith, e)) in
-    let no_kind : last.pred ≢ 6 = door-kind k is_open 6 (λ e. omega (arith, e)) (λ e. omega (arith, e)) in
-    (other-kind (is_door (Obj k)) (way ∷ back ∷ last ∷ []) ((λ e. omega (arith, e)), ((λ e. omega (arith, e)), (no_kind, tt))),
-      ((λ has. elim (Contains-cases back (last ∷ []) way has) [
-        | inl is ↦ differ (sym (ap (λ (a : Atom). second_number a.args) is))
-        | inr later ↦ other-kind way (last ∷ []) (not_last, tt) later
-      ]),
-      (other-kind back (last ∷ []) (not_last, tt), (none-in last, tt))))
+    let no_kind : last.pred ≢ 6 = door-kind k is_open 6 (λ e. omega (arith, e)) (λ e. omega (arith, e)) in (
+      other-kind (is_door (Obj k)) (way ∷ back ∷ last ∷ []) ((λ e. omega (arith, e)), ((λ e. omega (arith, e)), (no_kind, tt))),
+      (
+        (λ has. elim (Contains-cases back (last ∷ []) way has) [
+          | inl is ↦ differ (sym (ap (λ (a : Atom). second_number a.args) is))
+          | inr later ↦ other-kind way (last ∷ []) (not_last, tt) later
+        ]),
+        (other-kind back (last ∷ []) (not_last, tt), (none-in last, tt)),
+      ),
+    )
 
 thing-once : (things : List Standing) (k : ℕ) (one : Standing) → StandsRight things one → AreOnce (thing_atoms k one)
 thing-once things k a_room right = (none-in (is_room (Obj k)), tt)
@@ -105,7 +107,7 @@ from-once all n [] right = tt
 from-once all n (one ∷ things) (here, right) =
     append-once (thing_atoms n one) (atoms_from (n + 1) things) (thing-once all n one here) (from-once all (n + 1) things right)
     (λ a has later. let found = from-later (n + 1) things a later in
-      apart n found.0 a (omega (arith, found.1)) (AllByRecursion-at (IsAbout n) (thing_atoms n one) a (thing-about n one) has) found.2)
+    apart n found.0 a (omega (arith, found.1)) (AllByRecursion-at (IsAbout n) (thing_atoms n one) a (thing-about n one) has) found.2)
 
 all-by : {X : Type 0} (P : X → Type 0) (xs : List X) → ((x : X) → Contains xs x → P x) → AllByRecursion P xs
 all-by P [] each = tt
@@ -121,7 +123,7 @@ rendering-length state is = set-of-once (all_atoms state)
     (other-kind (in_room robot (Obj state.robot_room)) (beside_atoms 0 state.robot_beside) (beside-kind 0 state.robot_beside 0 (λ e. omega (arith, e))), beside-once 0 state.robot_beside)
     (from-once state.things 1 state.things (all-by (StandsRight state.things) state.things (λ q has. All-at (StandsRight state.things) state.things q is.things has)))
     (λ a has later. let found = from-later 1 state.things a later in
-      apart 0 found.0 a (omega (arith, found.1)) (AllByRecursion-at (IsAbout 0) (robot_atoms state) a (all-about state 0) has) found.2))
+    apart 0 found.0 a (omega (arith, found.1)) (AllByRecursion-at (IsAbout 0) (robot_atoms state) a (all-about state 0) has) found.2))
 
 -- ---- and there are at most four a thing, and two
 

@@ -1,7 +1,6 @@
 -- What is to be shown of an operator so that the facts afterwards are its result, object by object.
-use Rattle.std.specs.Prelude.{◌≡◌, ◌≢◌, ◌↔◌, ◌⊎◌, ◌==◌, ◌&&◌, ◌||◌, ℕ, Bool, true, false, List, [], ◌∷◌, Contains, map}
-use Rattle.std.proofs.Common.{zero, suc, refl, sym, ap, ◌∙◌, subst, inl, inr, arith}
-use Rattle.std.specs.Cmp.Lexicographic.{pointwise}
+use Rattle.std.specs.Prelude.{◌≡◌, ◌≢◌, ◌↔◌, ◌⊎◌, ◌==◌, ◌&&◌, ℕ, Bool, true, false, List, [], ◌∷◌, Contains}
+use Rattle.std.proofs.Common.{refl, inl, inr, arith}
 use Rattle.std.specs.List.{AllByRecursion, list_any}
 use Rattle.std.proofs.lemmas.Bool.{eqb-true}
 use Rattle.std.proofs.lemmas.Bool.Decides.{nat_tests}
@@ -11,15 +10,14 @@ use Rattle.px_terms.specs.declared.atom.Atom.{Atom}
 use Rattle.px_terms.specs.declared.instance.OpInst.{OpInst}
 use Rattle.px_terms.specs.declared.problem.Schema.{Schema}
 use Rattle.px_terms.specs.declared.term.Term.{Term}
-use Rattle.px_terms.specs.declared.term.Term.TheVariants.{Obj}
-use Rattle.px_terms.specs.Instances.{is_filled_place, is_instance}
+use Rattle.px_terms.specs.Instances.{is_instance}
 use Rattle.px_terms.specs.Operators.{atoms_of, is_deleted, result_by}
 use Rattle.px_terms.specs.OperatorLaws.{result_by-members}
 use Rattle.px_terms.specs.Order.{atom_cmp}
 use Rattle.px_terms.specs.OrderLaws.{atom_cmp-total, atom_cmp-same}
 use Rattle.px_terms.specs.Substitution.{substitute_atom}
 use Rattle.px_rooms.specs.States.{RoomState, atoms_about, rendering}
-use Rattle.px_rooms.proofs.About.{IsAbout, about, about-rendering, rendering-about}
+use Rattle.px_rooms.proofs.About.{IsAbout, about-rendering, rendering-about}
 
 -- ---- numbers
 

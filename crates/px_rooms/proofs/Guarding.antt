@@ -1,12 +1,12 @@
 -- A world refuses an action where an atom of its precondition isn't a fact.
-use Rattle.std.specs.Prelude.{◌≡◌, ◌≤◌, ◌+◌, ℕ, Bool, true, false, Some, List, length, slice_get, All, Contains, IsTrue}
-use Rattle.std.proofs.Common.{refl, sym, ap, ◌∙◌, subst, arith}
+use Rattle.std.specs.Prelude.{◌≡◌, ◌+◌, ℕ, Some, length, slice_get, All, Contains}
+use Rattle.std.proofs.Common.{ap, ◌∙◌, subst, arith}
 use Rattle.px_base.specs.ListLaws.{All-at}
 use Rattle.px_terms.specs.declared.atom.Atom.{Atom}
 use Rattle.px_terms.specs.declared.instance.OpInst.{OpInst}
 use Rattle.px_terms.specs.declared.problem.Problem.{Problem}
 use Rattle.px_terms.specs.declared.problem.Schema.{Schema}
-use Rattle.px_terms.specs.Operators.{adds, atoms_of, precondition, schema_of}
+use Rattle.px_terms.specs.Operators.{atoms_of, precondition, schema_of}
 use Rattle.px_terms.specs.Validity.{IsAtomOf, IsInstanceOf, IsValid}
 use Rattle.px_terms.specs.ValidityLaws.{precondition-is_of}
 use Rattle.px_world.specs.Worlds.{IsRefused}

@@ -1,12 +1,12 @@
 -- States stay states where one thing changes and keeps its kind.
-use Rattle.std.specs.Prelude.{◌≡◌, ◌≢◌, ◌⊎◌, ◌==◌, ℕ, Bool, true, false, Option, Some, None, List, [], ◌∷◌, length, map, set, slice_get, Contains, All}
+use Rattle.std.specs.Prelude.{◌≡◌, ◌⊎◌, ◌==◌, ℕ, Bool, true, false, Option, Some, None, List, [], ◌∷◌, map, set, slice_get, Contains, All}
 use Rattle.std.proofs.Common.{zero, suc, refl, sym, ap, ◌∙◌, subst, inl, inr, arith}
 use Rattle.std.proofs.lemmas.Bool.{eqb-true}
-use Rattle.px_base.specs.ListLaws.{All-at, All-each, Contains-cases, Contains-first, Contains-later, Contains-none}
+use Rattle.px_base.specs.ListLaws.{All-at, All-each, Contains-cases, Contains-first, Contains-later}
 use Rattle.px_rooms.specs.declared.standing.Standing.{Standing}
 use Rattle.px_rooms.specs.declared.standing.Standing.TheVariants.{Room as a_room, Door as a_door, Box as a_box}
 use Rattle.px_rooms.specs.Changes.{put_beside, put_into, things_with, turned}
-use Rattle.px_rooms.specs.States.{IsBoxAt, IsBoxOrDoorOrNone, IsDoorAt, IsDoorOrNone, IsRoomAt, IsRoomState, RoomState, StandsRight, thing_at}
+use Rattle.px_rooms.specs.States.{IsBoxAt, IsBoxOrDoorOrNone, IsDoorAt, IsDoorOrNone, IsRoomAt, StandsRight, thing_at}
 use Rattle.px_rooms.proofs.ThingKinds.{kind_of, set-kind}
 use Rattle.px_rooms.proofs.Touched.{changed-here, changed-there, differing, read-or}
 

@@ -1,18 +1,17 @@
 -- Where an atom of a precondition isn't a fact, some state has all facts, the axiom holds in it, and the atom is false: each object is
 -- its own element, and nothing but the facts is true.
-use Rattle.std.specs.Prelude.{◌≡◌, ◌≢◌, ◌⊎◌, ◌<◌, ◌≤◌, ◌+◌, ◌==◌, ℕ, Bool, true, false, Option, Some, None, List, [], ◌∷◌, length, map, filter, slice_get, slice_index, slice_index_or, All, Any, Contains}
+use Rattle.std.specs.Prelude.{◌≡◌, ◌⊎◌, ◌<◌, ◌≤◌, ◌+◌, ◌==◌, ℕ, Bool, true, false, Option, Some, None, List, [], ◌∷◌, length, map, slice_get, slice_index, slice_index_or, All, Any, Contains}
 use Rattle.std.proofs.Common.{zero, suc, refl, sym, ap, ◌∙◌, subst, inl, inr, arith}
 use Rattle.std.specs.List.{AllByRecursion, list_any}
 use Rattle.std.proofs.lemmas.Bool.{eqb-true}
 use Rattle.std.proofs.lemmas.List.Elements.{All-cons, All-head, All-nil, All-tail}
 use Rattle.std.proofs.lemmas.Option.{slice_get_within}
 use Rattle.std.proofs.lemmas.Map.Views.{list_any-from_Contains, Contains-from_any}
-use Rattle.px_base.specs.ListLaws.{All-at, All-each, AllByRecursion-at, Contains-cases, Contains-filter, Contains-first, Contains-later, Contains-none}
+use Rattle.px_base.specs.ListLaws.{All-at, All-each, AllByRecursion-at, Contains-cases, Contains-first, Contains-later, Contains-none}
 use Rattle.px_terms.specs.declared.atom.Atom.{Atom}
 use Rattle.px_terms.specs.declared.clause.Clause.{Clause}
 use Rattle.px_terms.specs.declared.clause.Lit.{Lit}
 use Rattle.px_terms.specs.declared.instance.OpInst.{OpInst}
-use Rattle.px_terms.specs.declared.problem.Problem.{Problem}
 use Rattle.px_terms.specs.declared.term.Term.{Term}
 use Rattle.px_terms.specs.declared.term.Term.TheVariants.{Obj, Var, Any as WildCard}
 use Rattle.px_terms.specs.Instances.{IsGround}
@@ -21,8 +20,8 @@ use Rattle.px_terms.specs.MergedNamesLaws.{one}
 use Rattle.px_terms.specs.Operators.{precondition}
 use Rattle.px_terms.specs.Order.{atom_eq}
 use Rattle.px_terms.specs.OrderLaws.{atom_eq-decides, atom_eq-equivalence}
-use Rattle.px_terms.specs.States.{AreValues, AxiomsHold, Holds, HoldsUnder, IsState, LiteralHoldsUnder, State, element_of}
-use Rattle.px_terms.specs.Validity.{IsInstanceOf, IsTermOf}
+use Rattle.px_terms.specs.States.{AreValues, AxiomsHold, Holds, IsState, LiteralHoldsUnder, State, element_of}
+use Rattle.px_terms.specs.Validity.{IsTermOf}
 use Rattle.px_world.specs.Worlds.{IsRefused}
 use Rattle.px_rooms.specs.declared.standing.Standing.{Standing}
 use Rattle.px_rooms.specs.declared.standing.Standing.TheVariants.{Room as a_room, Door as a_door, Box as a_box}
@@ -130,13 +129,13 @@ objects-by-numbers (Obj m ∷ xs) (Obj n ∷ ys) all_x all_y is =
     let rest = objects-by-numbers xs ys (All-tail IsObject (Obj m) xs all_x) (All-tail IsObject (Obj n) ys all_y) (ap tail is) in
     λ i. Obj (first i) ∷ rest i
   where
-  head : List ℕ → ℕ
-  head [] = 0
-  head (z ∷ zs) = z
+    head : List ℕ → ℕ
+    head [] = 0
+    head (z ∷ zs) = z
 
-  tail : List ℕ → List ℕ
-  tail [] = []
-  tail (z ∷ zs) = zs
+    tail : List ℕ → List ℕ
+    tail [] = []
+    tail (z ∷ zs) = zs
 objects-by-numbers (Var v ∷ xs) (y ∷ ys) all_x all_y is = absurd (All-head IsObject (Var v) xs all_x)
 objects-by-numbers (WildCard ∷ xs) (y ∷ ys) all_x all_y is = absurd (All-head IsObject WildCard xs all_x)
 objects-by-numbers (Obj m ∷ xs) (Var v ∷ ys) all_x all_y is = absurd (All-head IsObject (Var v) ys all_y)
@@ -264,8 +263,8 @@ module _ (state : RoomState) where
 
     tuples-named : (pred : ℕ) → All (All (λ n. n < size)) (tuples_of pred (rendering state))
     tuples-named pred = All-each (All (λ n. n < size)) (tuples_of pred (rendering state)) (λ tuple has.
-      let found = there-tuple pred (rendering state) tuple has in
-      subst (All (λ n. n < size)) found.3 (numbers-named found.0.args (fact-named found.0 found.1).1))
+        let found = there-tuple pred (rendering state) tuple has in
+        subst (All (λ n. n < size)) found.3 (numbers-named found.0.args (fact-named found.0 found.1).1))
 
     is-state : IsState facts_state
     is-state = record {
@@ -298,8 +297,13 @@ module _ (state : RoomState) where
         let y = slice_index values 2 in
         elim (either-way d x y) [
           | inl neither ↦ (0, slice_index_or both_ways.lits 0 no_literal, omega arith, refl, λ holds. neither (tuple-is-fact (connects (Obj d) (Obj x) (Obj y)) (connects-ground d x y) holds))
-          | inr back ↦ (1, slice_index_or both_ways.lits 1 no_literal, omega arith, refl,
-            subst (λ tuples. Contains tuples (d ∷ y ∷ x ∷ [])) (sym (table-at 8 0 2 (rendering state) (omega arith))) (tuple-there 2 (rendering state) (connects (Obj d) (Obj y) (Obj x)) back refl))
+          | inr back ↦ (
+            1,
+            slice_index_or both_ways.lits 1 no_literal,
+            omega arith,
+            refl,
+            subst (λ tuples. Contains tuples (d ∷ y ∷ x ∷ [])) (sym (table-at 8 0 2 (rendering state) (omega arith))) (tuple-there 2 (rendering state) (connects (Obj d) (Obj y) (Obj x)) back refl),
+          )
         ]
 
     axioms-hold : AxiomsHold (building_rules state) facts_state

@@ -1,6 +1,6 @@
 -- Adding the facts of a state to a model, thing by thing.
 use Rattle.std.specs.Prelude.{◌≡◌, ◌<◌, ◌≤◌, ◌+◌, ℕ, List, [], ◌∷◌, ◌++◌, length, take, slice_index_or}
-use Rattle.std.proofs.Common.{zero, suc, refl, sym, ap, ◌∙◌, subst, arith, length-append}
+use Rattle.std.proofs.Common.{zero, suc, sym, ap, ◌∙◌, arith, length-append}
 use Rattle.std.proofs.lemmas.List.{append-nil, append_assoc, length-take-le, take_more}
 use Rattle.px_base.specs.SetLaws.{set_of-push}
 use Rattle.px_terms.specs.declared.atom.Atom.{Atom}
@@ -46,8 +46,17 @@ next-room state k d room left is below enough kept =
     let all = rendering-length state is in
     let within = from-within 1 state.things (k + 1) in
     let next = ap length (from-next state.things k d below) in
-    omega (arith, all, within, next, enough, kept, length-append (robot_atoms state) (atoms_from 1 state.things), length-append (robot_atoms state) (atoms_from 1 (take k state.things)),
-      length-append (atoms_from 1 (take k state.things)) (thing_atoms (k + 1) (slice_index_or state.things k d)))
+    omega (
+      arith,
+      all,
+      within,
+      next,
+      enough,
+      kept,
+      length-append (robot_atoms state) (atoms_from 1 state.things),
+      length-append (robot_atoms state) (atoms_from 1 (take k state.things)),
+      length-append (atoms_from 1 (take k state.things)) (thing_atoms (k + 1) (slice_index_or state.things k d)),
+    )
 
 pub robot-room : (state : RoomState) (room : ℕ) → IsRoomState state → length (rendering state) ≤ room → length (robot_atoms state) ≤ room
 robot-room state room is enough =

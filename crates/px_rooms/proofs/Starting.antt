@@ -1,7 +1,7 @@
 -- The things and the robots of a list of things, one by one.
-use Rattle.std.specs.Prelude.{◌≡◌, ◌≢◌, ◌<◌, ◌≤◌, ◌+◌, ℕ, Option, Some, None, List, [], ◌∷◌, ◌++◌, length, take, slice_index_or, Result, Ok, Err, IfOk}
-use Rattle.std.proofs.Common.{zero, suc, refl, sym, ap, ◌∙◌, subst, arith, length-append}
-use Rattle.std.proofs.lemmas.List.{take_more, take_all}
+use Rattle.std.specs.Prelude.{◌≡◌, ◌≢◌, ◌<◌, ◌≤◌, ◌+◌, ℕ, None, List, [], ◌∷◌, ◌++◌, length, take, slice_index_or, Result, Ok, Err, IfOk}
+use Rattle.std.proofs.Common.{zero, suc, refl, sym, ap, ◌∙◌, subst, arith}
+use Rattle.std.proofs.lemmas.List.{take_more}
 use Rattle.px_terms.specs.declared.problem.Problem.{Problem}
 use Rattle.px_terms.specs.Validity.{IsValid}
 use Rattle.px_world.specs.declared.thing.Thing.{Thing}

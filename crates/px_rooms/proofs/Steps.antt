@@ -1,6 +1,6 @@
 -- What each change of a state does to its facts.
 use Rattle.std.specs.Prelude.{◌≡◌, ◌≢◌, ◌⊎◌, ◌==◌, ℕ, Bool, true, false, Option, Some, None, List, [], ◌∷◌, slice_get, Contains, if◌then◌else◌}
-use Rattle.std.proofs.Common.{zero, suc, refl, sym, ap, ◌∙◌, subst, inl, inr, arith}
+use Rattle.std.proofs.Common.{suc, refl, sym, subst, inl, inr, arith}
 use Rattle.std.specs.List.{AllByRecursion}
 use Rattle.std.proofs.lemmas.Bool.{eqb-true}
 use Rattle.px_terms.specs.declared.atom.Atom.{Atom}
@@ -9,13 +9,12 @@ use Rattle.px_terms.specs.declared.problem.Schema.{Schema}
 use Rattle.px_terms.specs.declared.term.Term.TheVariants.{Obj, Any as WildCard}
 use Rattle.px_terms.specs.Operators.{atoms_of, is_deleted, result_by}
 use Rattle.px_world.specs.declared.edits.RoomEdit.TheVariants as edit
-use Rattle.px_rooms.specs.declared.standing.Standing.{Standing}
-use Rattle.px_rooms.specs.declared.standing.Standing.TheVariants.{Room as a_room, Door as a_door, Box as a_box}
+use Rattle.px_rooms.specs.declared.standing.Standing.TheVariants.{Door as a_door, Box as a_box}
 use Rattle.px_rooms.specs.Changes.{change_of_facts, edit_schema, facts_edited, parted_from, put_beside, put_into, state_edited, turned, with_thing}
-use Rattle.px_rooms.specs.Domain.{closed, connects, in_room, is_box, is_door, next_to, opened, robot}
-use Rattle.px_rooms.specs.States.{RoomState, atoms_about, atoms_of_thing, beside_atoms, door_atom, rendering, robot_atoms, thing_atoms}
+use Rattle.px_rooms.specs.Domain.{in_room, next_to, robot}
+use Rattle.px_rooms.specs.States.{RoomState, beside_atoms, door_atom, rendering, robot_atoms, thing_atoms}
 use Rattle.px_rooms.proofs.About.{all-about}
-use Rattle.px_rooms.proofs.Effects.{Changes, IsSpared, all_of, both_ways, other-number, result-by-changes, same-facts, same-number}
+use Rattle.px_rooms.proofs.Effects.{Changes, IsSpared, other-number, same-facts, same-number}
 use Rattle.px_rooms.proofs.Touched.{changed-here, changed-there, differing, robot-result, thing-result}
 
 -- the instance of a change that needs nothing

@@ -9,8 +9,8 @@ use Rattle.px_terms.specs.declared.term.Term.TheVariants.{Obj}
 use Rattle.px_rooms.specs.declared.standing.Standing.{Standing}
 use Rattle.px_rooms.specs.declared.standing.Standing.TheVariants.{Room as a_room, Door as a_door, Box as a_box}
 use Rattle.px_rooms.specs.Changes.{number_of}
-use Rattle.px_rooms.specs.Domain.{connects, in_room, is_box, is_door, next_to}
-use Rattle.px_rooms.specs.States.{IsBoxAt, IsDoorAt, RoomState, atoms_about, atoms_of_thing, beside_atoms, door_atom, rendering, thing_at, thing_atoms}
+use Rattle.px_rooms.specs.Domain.{connects, is_box, is_door}
+use Rattle.px_rooms.specs.States.{IsBoxAt, IsDoorAt, RoomState, atoms_about, atoms_of_thing, beside_atoms, rendering, thing_at, thing_atoms}
 use Rattle.px_rooms.proofs.About.{IsAbout, about, about-rendering, rendering-about}
 
 -- ---- which object a fact is about

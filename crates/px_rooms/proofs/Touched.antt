@@ -1,6 +1,6 @@
 -- Changes of the facts about the robot alone, and of those about the robot and one thing.
-use Rattle.std.specs.Prelude.{◌≡◌, ◌≢◌, ◌⊎◌, ◌<◌, ◌==◌, ℕ, Bool, true, false, Option, Some, None, List, [], ◌∷◌, length, set, slice_get, slice_index_or, Contains}
-use Rattle.std.proofs.Common.{zero, suc, refl, sym, ap, ◌∙◌, subst, inl, inr, arith}
+use Rattle.std.specs.Prelude.{◌≡◌, ◌≢◌, ◌⊎◌, ◌==◌, ℕ, Bool, true, false, Some, List, [], ◌∷◌, set, slice_get, slice_index_or, Contains}
+use Rattle.std.proofs.Common.{zero, suc, refl, sym, ap, subst, inl, inr}
 use Rattle.std.specs.List.{AllByRecursion}
 use Rattle.std.proofs.lemmas.Bool.{eqb-true}
 use Rattle.px_terms.specs.declared.atom.Atom.{Atom}
@@ -9,7 +9,7 @@ use Rattle.px_terms.specs.declared.problem.Schema.{Schema}
 use Rattle.px_terms.specs.Operators.{atoms_of, result_by}
 use Rattle.px_rooms.specs.declared.standing.Standing.{Standing}
 use Rattle.px_rooms.specs.declared.standing.Standing.TheVariants.{Room as a_room}
-use Rattle.px_rooms.specs.Changes.{things_with, with_thing}
+use Rattle.px_rooms.specs.Changes.{things_with}
 use Rattle.px_rooms.specs.States.{RoomState, atoms_about, atoms_of_thing, rendering, robot_atoms, thing_atoms}
 use Rattle.px_rooms.proofs.About.{all-about}
 use Rattle.px_rooms.proofs.Effects.{Changes, IsSpared, both_ways, same-number, result-by-changes, same-facts}

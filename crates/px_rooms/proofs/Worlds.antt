@@ -1,6 +1,6 @@
 -- What a world keeps, and what is so of its facts.
-use Rattle.std.specs.Prelude.{◌≡◌, ◌≢◌, ◌⊎◌, ◌↔◌, ◌<◌, ◌≤◌, ◌+◌, ℕ, Bool, true, false, Option, Some, None, List, [], ◌∷◌, ◌++◌, length, All, Contains, IsTrue, slice_get}
-use Rattle.std.proofs.Common.{zero, suc, refl, sym, ap, ◌∙◌, subst, inl, inr, arith}
+use Rattle.std.specs.Prelude.{◌≡◌, ◌↔◌, ◌+◌, ℕ, Bool, true, false, Option, Some, None, List, [], ◌∷◌, length, All, Contains, IsTrue, slice_get}
+use Rattle.std.proofs.Common.{zero, suc, sym, ap, ◌∙◌, subst, arith}
 use Rattle.std.proofs.lemmas.List.Elements.{All-cons, All-nil}
 use Rattle.std.specs.List.{AllByRecursion}
 use Rattle.px_base.specs.ListLaws.{All-each, AllByRecursion-at}
@@ -17,8 +17,8 @@ use Rattle.px_terms.specs.OrderLaws.{atom_cmp-total, atom_cmp-same}
 use Rattle.px_terms.specs.Validity.{IsValid}
 use Rattle.px_rooms.specs.declared.standing.Standing.{Standing}
 use Rattle.px_rooms.specs.declared.standing.Standing.TheVariants.{Room as a_room, Door as a_door, Box as a_box}
-use Rattle.px_rooms.specs.States.{IsRoomState, IsRoomWorld, RoomState, atoms_about, atoms_of_thing, beside_atoms, building_rules, door_atom, number_first, rendering, thing_atoms}
-use Rattle.px_rooms.proofs.About.{IsAbout, about, about-rendering, rendering-about}
+use Rattle.px_rooms.specs.States.{IsRoomWorld, RoomState, atoms_about, atoms_of_thing, beside_atoms, door_atom, number_first, rendering, thing_atoms}
+use Rattle.px_rooms.proofs.About.{about, about-rendering, rendering-about}
 use Rattle.px_rooms.proofs.Telling.{found-about}
 use Rattle.px_rooms.proofs.Valid.{buildings_are_valid}
 
@@ -100,8 +100,8 @@ has-some state atom n b first test =
 pub has-none : (state : RoomState) (atom : Atom) → number_first atom.args ≡ None → IsTrue false ↔ Contains (rendering state) atom
 has-none state atom none =
     ((λ t. absurd (untrue t)), (λ has. let first = first-is-object state atom has in absurd (first-not atom.args first.0 first.1 none first.2))) where
-  untrue : IsTrue false → ⊥
-  untrue t = cc
+      untrue : IsTrue false → ⊥
+      untrue t = cc
 
 -- what a world keeps, of its state
 pub world-state : (problem : Problem) (inside state : RoomState) → inside ≡ state → IsRoomWorld problem inside → IsRoomWorld problem state

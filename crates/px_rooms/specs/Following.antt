@@ -6,7 +6,6 @@ use Rattle.px_terms.specs.Instances.{IsGround}
 use Rattle.px_terms.specs.Operators.{precondition, result_of}
 use Rattle.px_terms.specs.Validity.{IsInstanceOf}
 use Rattle.px_world.specs.declared.edits.RoomEdit.{RoomEdit}
-
 use Rattle.px_world.specs.Worlds.{IsRefused}
 use Rattle.px_rooms.specs.Changes.{IsAdmitted, facts_edited, moved, state_edited}
 use Rattle.px_rooms.specs.States.{IsRoomState, RoomState, building_rules, rendering}

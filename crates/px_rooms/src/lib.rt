@@ -26,9 +26,9 @@ mod facts;
 mod laws;
 mod problem;
 mod standing;
-mod things;
 #[cfg(test)]
 mod tests;
+mod things;
 
 pub use building::Building;
 pub use laws::{
