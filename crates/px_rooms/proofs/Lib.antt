@@ -1,2 +1,17 @@
 pub mod Wanted
 pub mod Valid
+pub mod About
+pub mod Effects
+pub mod Touched
+pub mod Steps
+pub mod Telling
+pub mod Kept
+pub mod Actions
+pub mod Starting
+pub mod Worlds
+pub mod Counting
+pub mod Refusing
+pub mod ThingKinds
+pub mod Sensing
+pub mod Meeting
+pub mod Guarding

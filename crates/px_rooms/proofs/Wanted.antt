@@ -1,9 +1,12 @@
 -- Which lists of things are buildings, and which edits are admitted, in the worked building.
-use Rattle.std.specs.Prelude.{◌≢◌, ◌<◌, ℕ, false, None, [], ◌∷◌}
-use Rattle.std.proofs.Common.{refl, arith}
+use Rattle.std.specs.Prelude.{◌≡◌, ◌≢◌, ◌<◌, ℕ, false, None, List, [], ◌∷◌, length}
+use Rattle.std.proofs.Common.{refl, sym, ap, subst, arith}
 use Rattle.std.proofs.lemmas.List.Elements.{All-nil, All-cons}
+use Rattle.px_world.specs.declared.thing.Thing.{Thing}
 use Rattle.px_world.specs.declared.thing.Thing.TheVariants as thing
-use Rattle.px_rooms.specs.States.{IsBuilding, StandsRight, Standing, a_box, a_door, a_room, standings}
+use Rattle.px_rooms.specs.declared.standing.Standing.{Standing}
+use Rattle.px_rooms.specs.declared.standing.Standing.TheVariants.{Room as a_room, Door as a_door, Box as a_box}
+use Rattle.px_rooms.specs.States.{IsBuilding, StandsRight, standings}
 use Rattle.px_rooms.specs.WorkedBuilding.{KindFacts, two_rooms}
 
 different : (one other : ℕ) → one < other → one ≢ other
@@ -50,3 +53,9 @@ kind_facts = record {
   door_no_room = λ is. let e = is in cc;
   room_no_door = λ is. let e = is.3 in cc;
 }
+
+pub two_rooms_by : (things : List Thing) → things ≡ two_rooms → IsBuilding things
+two_rooms_by things is = subst IsBuilding (sym is) two_rooms_are
+
+pub two_rooms_short : (things : List Thing) → things ≡ two_rooms → length things < 4294967295
+two_rooms_short things is = omega (arith, ap length is)

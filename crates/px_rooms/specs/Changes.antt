@@ -10,7 +10,11 @@ use Rattle.px_terms.specs.Operators.{result_by}
 use Rattle.px_world.specs.declared.edits.RoomEdit.{RoomEdit}
 use Rattle.px_world.specs.declared.edits.RoomEdit.TheVariants as edit
 use Rattle.px_rooms.specs.Domain.{closed, in_room, next_to, opened, robot}
-use Rattle.px_rooms.specs.States.{IsBoxAt, IsDoorAt, IsRoomAt, RoomState, Standing, a_box, a_door, a_room}
+use Rattle.px_rooms.specs.declared.action.RoomAction.{RoomAction}
+use Rattle.px_rooms.specs.declared.action.RoomAction.TheVariants as act
+use Rattle.px_rooms.specs.declared.standing.Standing.{Standing}
+use Rattle.px_rooms.specs.declared.standing.Standing.TheVariants.{Room as a_room, Door as a_door, Box as a_box}
+use Rattle.px_rooms.specs.States.{IsBoxAt, IsDoorAt, IsRoomAt, RoomState}
 
 -- ---- changes of a thing
 
@@ -42,36 +46,26 @@ put_into r (a_box old beside) = a_box r None
 
 -- ---- actions
 
--- an action, with its objects in the order of the operator's parameters
-pub data RoomAction : Type 0 where
-  going_to_box : ℕ → ℕ → RoomAction
-  going_to_door : ℕ → ℕ → ℕ → RoomAction
-  opening : ℕ → RoomAction
-  closing : ℕ → RoomAction
-  going_through : ℕ → ℕ → ℕ → RoomAction
-  pushing_to_door : ℕ → ℕ → ℕ → ℕ → RoomAction
-  pushing_through : ℕ → ℕ → ℕ → ℕ → RoomAction
-
 -- what the action changes where its precondition is true
 abbrev pub acted : RoomAction → RoomState → RoomState
-acted (going_to_box b r) state = record state { robot_beside = Some b }
-acted (going_to_door d r s) state = record state { robot_beside = Some d }
-acted (opening d) state = with_thing d (turned true) state
-acted (closing d) state = with_thing d (turned false) state
-acted (going_through d r s) state = record state { robot_room = s; robot_beside = None }
-acted (pushing_to_door b d r s) state = record (with_thing b (put_beside d) state) { robot_beside = Some b }
-acted (pushing_through b d r s) state = record (with_thing b (put_into s) state) { robot_room = s; robot_beside = Some b }
+acted (act.GoToBox b r) state = record state { robot_beside = Some b }
+acted (act.GoToDoor d r s) state = record state { robot_beside = Some d }
+acted (act.Open d) state = with_thing d (turned true) state
+acted (act.Close d) state = with_thing d (turned false) state
+acted (act.GoThrough d r s) state = record state { robot_room = s; robot_beside = None }
+acted (act.PushToDoor b d r s) state = record (with_thing b (put_beside d) state) { robot_beside = Some b }
+acted (act.PushThrough b d r s) state = record (with_thing b (put_into s) state) { robot_room = s; robot_beside = Some b }
 
 -- the action of the first objects of a list, for each operator by number
 abbrev pub room_actions : List (List ℕ → RoomAction)
 room_actions =
-    (λ os. going_to_box (slice_index os 0) (slice_index os 1))
-    ∷ (λ os. going_to_door (slice_index os 0) (slice_index os 1) (slice_index os 2))
-    ∷ (λ os. opening (slice_index os 0))
-    ∷ (λ os. closing (slice_index os 0))
-    ∷ (λ os. going_through (slice_index os 0) (slice_index os 1) (slice_index os 2))
-    ∷ (λ os. pushing_to_door (slice_index os 0) (slice_index os 1) (slice_index os 2) (slice_index os 3))
-    ∷ (λ os. pushing_through (slice_index os 0) (slice_index os 1) (slice_index os 2) (slice_index os 3))
+    (λ os. act.GoToBox (slice_index os 0) (slice_index os 1))
+    ∷ (λ os. act.GoToDoor (slice_index os 0) (slice_index os 1) (slice_index os 2))
+    ∷ (λ os. act.Open (slice_index os 0))
+    ∷ (λ os. act.Close (slice_index os 0))
+    ∷ (λ os. act.GoThrough (slice_index os 0) (slice_index os 1) (slice_index os 2))
+    ∷ (λ os. act.PushToDoor (slice_index os 0) (slice_index os 1) (slice_index os 2) (slice_index os 3))
+    ∷ (λ os. act.PushThrough (slice_index os 0) (slice_index os 1) (slice_index os 2) (slice_index os 3))
     ∷ []
 
 -- the object's number
@@ -82,7 +76,7 @@ number_of WildCard = 0
 
 -- the action of a ground instance of an operator
 abbrev pub action_of : OpInst → RoomAction
-action_of inst = slice_index_or room_actions inst.op (λ os. opening 0) (map number_of inst.args)
+action_of inst = slice_index_or room_actions inst.op (λ os. act.Open 0) (map number_of inst.args)
 
 -- the state that the action leaves
 abbrev pub moved : OpInst → RoomState → RoomState

@@ -3,3 +3,4 @@ pub mod States
 pub mod Changes
 pub mod WorkedDomain
 pub mod WorkedBuilding
+pub mod Following

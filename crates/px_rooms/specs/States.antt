@@ -1,19 +1,16 @@
 -- Buildings: their states, and the facts of a state.
-use Rattle.std.specs.Prelude.{◌≡◌, ◌≢◌, ◌⊎◌, ◌+◌, ℕ, Bool, true, false, Option, Some, None, List, [], ◌∷◌, ◌++◌, length, All, slice_get, slice_index}
+use Rattle.std.specs.Prelude.{◌≡◌, ◌≢◌, ◌<◌, ◌⊎◌, ◌+◌, ℕ, Bool, true, false, Option, Some, None, List, [], ◌∷◌, ◌++◌, length, All, slice_get, slice_index}
 use Rattle.std.proofs.Common.{zero, suc}
 use Rattle.px_terms.specs.declared.atom.Atom.{Atom}
 use Rattle.px_terms.specs.declared.problem.Problem.{Problem}
-use Rattle.px_terms.specs.declared.term.Term.TheVariants.{Obj}
+use Rattle.px_terms.specs.declared.term.Term.{Term}
+use Rattle.px_terms.specs.declared.term.Term.TheVariants.{Obj, Var, Any as WildCard}
 use Rattle.px_terms.specs.AtomSets.{atom_set}
 use Rattle.px_world.specs.declared.thing.Thing.{Thing}
 use Rattle.px_world.specs.declared.thing.Thing.TheVariants as thing
+use Rattle.px_rooms.specs.declared.standing.Standing.{Standing}
+use Rattle.px_rooms.specs.declared.standing.Standing.TheVariants.{Room as a_room, Door as a_door, Box as a_box}
 use Rattle.px_rooms.specs.Domain.{building_problem, closed, connects, in_room, is_box, is_door, is_room, next_to, opened, robot}
-
--- a thing as it stands: of a door its two rooms and whether it is open, of a box its room and the door that it is beside
-pub data Standing : Type 0 where
-  a_room : Standing
-  a_door : ℕ → ℕ → Bool → Standing
-  a_box : ℕ → Option ℕ → Standing
 
 -- the robot's room, the box or door that it is beside, and the things by their numbers, which begin with 1
 pub record RoomState : Type 0 where
@@ -97,6 +94,25 @@ thing_atoms k a_room = is_room (Obj k) ∷ []
 thing_atoms k (a_door x y is_open) = is_door (Obj k) ∷ connects (Obj k) (Obj x) (Obj y) ∷ connects (Obj k) (Obj y) (Obj x) ∷ door_atom k is_open ∷ []
 thing_atoms k (a_box r beside) = is_box (Obj k) ∷ in_room (Obj k) (Obj r) ∷ beside_atoms k beside
 
+-- the facts about an object, those of which it is the first argument
+abbrev pub atoms_of_thing : ℕ → Option Standing → List Atom
+atoms_of_thing k None = []
+atoms_of_thing k (Some one) = thing_atoms k one
+
+abbrev pub robot_atoms : RoomState → List Atom
+robot_atoms state = in_room robot (Obj state.robot_room) ∷ beside_atoms 0 state.robot_beside
+
+abbrev pub atoms_about : RoomState → ℕ → List Atom
+atoms_about state zero = robot_atoms state
+atoms_about state (suc k) = atoms_of_thing (suc k) (slice_get state.things k)
+
+-- the number of the first term, if it is an object
+abbrev pub number_first : List Term → Option ℕ
+number_first [] = None
+number_first (Obj n ∷ terms) = Some n
+number_first (Var v ∷ terms) = None
+number_first (WildCard ∷ terms) = None
+
 -- those of the things from that number on
 abbrev pub atoms_from : ℕ → List Standing → List Atom
 atoms_from k [] = []
@@ -109,3 +125,9 @@ rendering state = atom_set (in_room robot (Obj state.robot_room) ∷ (beside_ato
 -- a problem with the building's objects, axiom and operators; its limits are the least
 abbrev pub building_rules : RoomState → Problem
 building_rules state = building_problem (length state.things + 1) 1 1 2
+
+-- a world of a building: a problem with its rules, and its state
+pub record IsRoomWorld (problem : Problem) (state : RoomState) : Type 0 where
+  pub is_state : IsRoomState state
+  pub rules : problem ≡ building_rules state
+  pub few : length state.things < 4294967295

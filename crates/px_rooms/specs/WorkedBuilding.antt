@@ -11,7 +11,8 @@ use Rattle.px_world.specs.declared.thing.Thing.{Thing}
 use Rattle.px_world.specs.declared.thing.Thing.TheVariants as thing
 use Rattle.px_rooms.specs.Changes.{IsAdmitted, facts_edited, moved, state_edited}
 use Rattle.px_rooms.specs.Domain.{closed, connects, in_room, is_box, is_door, is_room, next_to, opened}
-use Rattle.px_rooms.specs.States.{IsBuilding, RoomState, a_box, a_door, a_room, building_rules, first_state, rendering}
+use Rattle.px_rooms.specs.declared.standing.Standing.TheVariants.{Room as a_room, Door as a_door, Box as a_box}
+use Rattle.px_rooms.specs.States.{IsBuilding, RoomState, building_rules, first_state, rendering}
 
 -- ---- the building
 

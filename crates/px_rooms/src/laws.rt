@@ -1,5 +1,6 @@
 //! Laws about the definitions. The calls do nothing.
 ghost use Rattle.px_rooms.specs.Domain.{BuildingsAreValid};
+ghost use Rattle.px_rooms.specs.Following.{ActionsAreResults, EditsAreEdits, FactsAreFew, RefusalsAreAllowed};
 ghost use Rattle.px_rooms.specs.WorkedBuilding.{ActionFacts, EditFacts, KindFacts, StateFacts};
 ghost use Rattle.px_rooms.specs.WorkedDomain.{DomainFacts};
 
@@ -19,4 +20,25 @@ pub fn worked_building()
     ensures kinds { KindFacts }
     ensures actions { ActionFacts }
     ensures edits { EditFacts }
+{}
+
+/// In every state: an action whose precondition is true leaves the facts that its operator says.
+pub fn actions_are_results()
+    ensures { ActionsAreResults }
+{}
+
+/// In every state: an edit that is admitted leaves the facts that it says.
+pub fn edits_are_edits()
+    ensures { EditsAreEdits }
+{}
+
+/// In every state: where an atom of the precondition isn't a fact, some state of the world has all facts, and the axiom, and
+/// the atom is false there.
+pub fn refusals_are_allowed()
+    ensures { RefusalsAreAllowed }
+{}
+
+/// In every state: each fact is ground, and there are at most four for each thing and two more.
+pub fn facts_are_few()
+    ensures { FactsAreFew }
 {}

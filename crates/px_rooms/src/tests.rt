@@ -1,16 +1,53 @@
-use crate::{Building, buildings_are_valid, worked_building, worked_domain};
-use px_terms::{NoMemory, Sequence};
+ghost use Rattle.std.specs.Prelude.{◌≡◌, IfOk};
+ghost use Rattle.px_rooms.specs.WorkedBuilding.{two_rooms as worked_rooms};
+
+use crate::{
+    Building, actions_are_results, buildings_are_valid, edits_are_edits, facts_are_few,
+    refusals_are_allowed, rooms_problem, worked_building, worked_domain,
+};
+use px_terms::{NoMemory, Sequence, is_valid};
 use px_world::Thing;
+use std::alloc::Global;
 use std::rt::HostRuntime;
 
+/// Two rooms with a closed door between them, and a box and the robot in the first room.
+fn two_rooms(alloc: Global) -> Result<Building, NoMemory>
+    ensures { IfOk result (λ building. building.things ≡ worked_rooms) }
+{
+    let door = Thing::Door {
+        a: 1,
+        b: 2,
+        is_open: false,
+    };
+    let things = [
+        Thing::Room,
+        Thing::Room,
+        door,
+        Thing::Box { room: 1 },
+        Thing::Robot { room: 1 },
+    ];
+    Ok(Building {
+        things: Sequence::from_slice(alloc, &things)?,
+    })
+}
+
 #[test]
-fn laws_are_calls(rt: HostRuntime) -> Result<(), NoMemory> {
+#[tactic(auto, using(crate::proofs::Wanted::two_rooms_by, crate::proofs::Wanted::two_rooms_short))]
+fn a_problem(rt: HostRuntime) -> Result<(), NoMemory> {
+    let building = two_rooms(rt.alloc())?;
+    let problem = rooms_problem(rt.alloc(), &building, 4, 10000, 10000)?;
+    assert!(&rt; problem.objects == 5 && problem.schemas.len() == 7);
+    assert!(&rt; is_valid(&problem));
+    Ok(())
+}
+
+#[test]
+fn laws_are_calls(_rt: HostRuntime) {
     buildings_are_valid();
     worked_domain();
     worked_building();
-    let building = Building {
-        things: Sequence::from_vec(Vec::from_array(rt.alloc(), [Thing::Room])?),
-    };
-    assert!(&rt; building.things.len() == 1);
-    Ok(())
+    actions_are_results();
+    edits_are_edits();
+    refusals_are_allowed();
+    facts_are_few();
 }

@@ -1,0 +1,244 @@
+-- Each action and each edit: the facts that it leaves, and that it leaves a state.
+use Rattle.std.specs.Prelude.{◌≡◌, ◌⊎◌, ◌↔◌, ◌<◌, ◌≤◌, ◌+◌, ◌==◌, ℕ, Bool, true, false, Option, Some, None, List, [], ◌∷◌, length, map, slice_get, slice_index_or, Contains, All, if◌then◌else◌}
+use Rattle.std.proofs.Common.{zero, suc, refl, sym, ap, ◌∙◌, subst, inl, inr, arith}
+use Rattle.std.proofs.lemmas.List.{length-set, length-map}
+use Rattle.std.proofs.lemmas.List.Elements.{All-head, All-tail}
+use Rattle.px_base.specs.ListLaws.{All-at}
+use Rattle.px_terms.specs.declared.atom.Atom.{Atom}
+use Rattle.px_terms.specs.declared.instance.OpInst.{OpInst}
+use Rattle.px_terms.specs.declared.problem.Problem.{Problem}
+use Rattle.px_terms.specs.declared.term.Term.{Term}
+use Rattle.px_terms.specs.declared.term.Term.TheVariants.{Obj, Var, Any as WildCard}
+use Rattle.px_terms.specs.OperatorLaws.{result_by-length}
+use Rattle.px_terms.specs.Operators.{atoms_of, no_schema, result_of}
+use Rattle.px_terms.specs.Validity.{IsInstanceOf, IsTermOf}
+use Rattle.px_world.specs.declared.edits.RoomEdit.{RoomEdit}
+use Rattle.px_world.specs.declared.edits.RoomEdit.TheVariants as edit
+use Rattle.px_rooms.specs.declared.standing.Standing.{Standing}
+use Rattle.px_rooms.specs.declared.standing.Standing.TheVariants.{Door as a_door, Box as a_box}
+use Rattle.px_rooms.specs.Changes.{IsAdmitted, edit_schema, facts_edited, moved, number_of, parted_from, put_beside, put_into, state_edited, things_with, turned, with_thing}
+use Rattle.px_rooms.specs.Domain.{building_problem, in_room, robot, room_schemas}
+use Rattle.px_rooms.specs.Following.{ActionsAreResults, EditsAreEdits, IsMet}
+use Rattle.px_rooms.specs.States.{IsBoxAt, IsBoxOrDoorOrNone, IsDoorAt, IsRoomAt, IsRoomState, RoomState, StandsRight, building_rules, rendering}
+use Rattle.px_rooms.proofs.ThingKinds.{admitted-same, kind_of}
+use Rattle.px_rooms.proofs.Kept.{KeepsKinds, all-right, box-stays, door-stays, put_beside-keeps, put_into-keeps, robot-stays, room-stays, same-kinds, turned-keeps, was-right}
+use Rattle.px_rooms.proofs.Steps.{beside-facts, box-facts, door-facts, into-facts, push-through-facts, push-to-facts}
+use Rattle.px_rooms.proofs.Telling.{IsBetween, box-fact, connects-fact, door-fact}
+
+-- ---- what is left is a state of the building
+
+-- the state has so many things, each number names a thing of the kind that is wanted there
+pub record IsLeft (old new : RoomState) : Type 0 where
+  pub state : IsRoomState new
+  pub count : length new.things ≡ length old.things
+  pub kinds : map kind_of new.things ≡ map kind_of old.things
+
+between-door : (state : RoomState) (d x y : ℕ) → IsBetween state d x y → IsDoorAt state.things d
+between-door state d x y (is_open, inl is) = (x, y, is_open, is)
+between-door state d x y (is_open, inr is) = (y, x, is_open, is)
+
+has_at : {X : Type 0} (xs : List X) (k : ℕ) (x : X) → slice_get xs k ≡ Some x → Contains xs x
+has_at [] k x is = absurd (cc)
+has_at (y ∷ xs) zero x is = (0, omega arith, cc)
+has_at (y ∷ xs) (suc k) x is = let found = has_at xs k x is in (suc found.0, omega (arith, found.1), found.2)
+
+-- both rooms of a door are rooms
+between-room : (state : RoomState) (d x y : ℕ) → IsRoomState state → IsBetween state d x y → IsRoomAt state.things y
+between-room state zero x y is (is_open, inl at) = absurd (cc)
+between-room state zero x y is (is_open, inr at) = absurd (cc)
+between-room state (suc k) x y is (is_open, inl at) = (All-at (StandsRight state.things) state.things (a_door x y is_open) is.things (has_at state.things k (a_door x y is_open) at)).1
+between-room state (suc k) x y is (is_open, inr at) = (All-at (StandsRight state.things) state.things (a_door y x is_open) is.things (has_at state.things k (a_door y x is_open) at)).0
+
+beside-left : (state : RoomState) (x : ℕ) → IsRoomState state → IsBoxAt state.things x ⊎ IsDoorAt state.things x → IsLeft state (record state { robot_beside = Some x })
+beside-left state x is at = record { state = record { robot_room = is.robot_room; robot_beside = at; things = is.things }; count = refl; kinds = refl }
+
+into-left : (state : RoomState) (r : ℕ) → IsRoomState state → IsRoomAt state.things r → IsLeft state (state_edited (edit.Robot r) state)
+into-left state r is at = record { state = record { robot_room = at; robot_beside = tt; things = is.things }; count = refl; kinds = refl }
+
+-- one thing changes, and the robot may too
+thing-left : (state : RoomState) (t : ℕ) (change : Standing → Standing) (was : Standing) (room : ℕ) (beside : Option ℕ) → KeepsKinds change → IsRoomState state → slice_get state.things t ≡ Some was
+    → IsRoomAt (things_with (suc t) change state.things) room → IsBoxOrDoorOrNone (things_with (suc t) change state.things) beside
+    → StandsRight (things_with (suc t) change state.things) (change was)
+    → IsLeft state (record { robot_room = room; robot_beside = beside; things = things_with (suc t) change state.things })
+thing-left state t change was room beside keeps is here in_room is_beside right = record {
+  state = record { robot_room = in_room; robot_beside = is_beside; things = all-right change keeps state.things t was here is.things right };
+  count = length-set state.things t _;
+  kinds = same-kinds change keeps state.things t was here;
+}
+
+turned-left : (state : RoomState) (t x y : ℕ) (was is_open : Bool) → IsRoomState state → slice_get state.things t ≡ Some (a_door x y was) → IsLeft state (with_thing (suc t) (turned is_open) state)
+turned-left state t x y was is_open is here =
+    let keeps = turned-keeps is_open in
+    let right = was-right (turned is_open) keeps state.things t (a_door x y was) here is.things in
+    let room = room-stays (turned is_open) keeps state.things t (a_door x y was) here in
+    thing-left state t (turned is_open) (a_door x y was) state.robot_room state.robot_beside keeps is here (room state.robot_room is.robot_room)
+    (robot-stays (turned is_open) keeps state.things t (a_door x y was) here state.robot_beside is.robot_beside)
+    (room x right.0, room y right.1, right.2)
+
+push-to-left : (state : RoomState) (t r d : ℕ) (beside : Option ℕ) → IsRoomState state → slice_get state.things t ≡ Some (a_box r beside) → IsDoorAt state.things d
+    → IsLeft state (record (with_thing (suc t) (put_beside d) state) { robot_beside = Some (suc t) })
+push-to-left state t r d beside is here at =
+    let keeps = put_beside-keeps d in
+    let right = was-right (put_beside d) keeps state.things t (a_box r beside) here is.things in
+    let room = room-stays (put_beside d) keeps state.things t (a_box r beside) here in
+    thing-left state t (put_beside d) (a_box r beside) state.robot_room (Some (suc t)) keeps is here (room state.robot_room is.robot_room)
+    (inl (box-stays (put_beside d) keeps state.things t (a_box r beside) here (suc t) (r, beside, here)))
+    (room r right.0, door-stays (put_beside d) keeps state.things t (a_box r beside) here d at)
+
+push-through-left : (state : RoomState) (t r s : ℕ) (beside : Option ℕ) → IsRoomState state → slice_get state.things t ≡ Some (a_box r beside) → IsRoomAt state.things s
+    → IsLeft state (record (with_thing (suc t) (put_into s) state) { robot_room = s; robot_beside = Some (suc t) })
+push-through-left state t r s beside is here at =
+    let keeps = put_into-keeps s in
+    let room = room-stays (put_into s) keeps state.things t (a_box r beside) here in
+    thing-left state t (put_into s) (a_box r beside) s (Some (suc t)) keeps is here (room s at)
+    (inl (box-stays (put_into s) keeps state.things t (a_box r beside) here (suc t) (r, beside, here))) (room s at, tt)
+
+parted-beside : (things : List Standing) (b : ℕ) (beside : Option ℕ) → IsBoxOrDoorOrNone things beside → IsBoxOrDoorOrNone things (parted_from b beside)
+parted-beside things b None is = tt
+parted-beside things b (Some x) is = elim (x == b) as (λ t. IsBoxOrDoorOrNone things (if t then None else Some x)) [ true ↦ tt | false ↦ is ]
+
+box-left : (state : RoomState) (t old r : ℕ) (beside : Option ℕ) → IsRoomState state → slice_get state.things t ≡ Some (a_box old beside) → IsRoomAt state.things r
+    → IsLeft state (state_edited (edit.Box (suc t) r) state)
+box-left state t old r beside is here at =
+    let keeps = put_into-keeps r in
+    let room = room-stays (put_into r) keeps state.things t (a_box old beside) here in
+    thing-left state t (put_into r) (a_box old beside) state.robot_room (parted_from (suc t) state.robot_beside) keeps is here (room state.robot_room is.robot_room)
+    (parted-beside _ (suc t) state.robot_beside (robot-stays (put_into r) keeps state.things t (a_box old beside) here state.robot_beside is.robot_beside)) (room r at, tt)
+
+-- ---- edits
+
+pub record EditLeaves (state : RoomState) (one : RoomEdit) : Type 0 where
+  pub left : IsLeft state (state_edited one state)
+  pub facts : rendering (state_edited one state) ≡ facts_edited one (rendering state)
+
+pub edit-leaves : (state : RoomState) (one : RoomEdit) → IsRoomState state → IsAdmitted state one → EditLeaves state one
+edit-leaves state (edit.Robot r) is admitted = record { left = into-left state r is admitted; facts = into-facts state r }
+edit-leaves state (edit.Box zero r) is ((old, beside, here), at) = absurd (cc)
+edit-leaves state (edit.Box (suc t) r) is ((old, beside, here), at) = record { left = box-left state t old r beside is here at; facts = box-facts t r state old beside here }
+edit-leaves state (edit.Door zero is_open) is (x, y, was, here) = absurd (cc)
+edit-leaves state (edit.Door (suc t) is_open) is (x, y, was, here) = record { left = turned-left state t x y was is_open is here; facts = door-facts state t x y was is_open here }
+
+-- ---- actions
+
+pub record ActionLeaves (state : RoomState) (inst : OpInst) : Type 0 where
+  pub left : IsLeft state (moved inst state)
+  pub facts : rendering (moved inst state) ≡ result_of (building_rules state) (rendering state) inst
+
+abbrev action : ℕ → List ℕ → OpInst
+action op objects = record { op = op; args = map Obj objects }
+
+one_of : (os : List ℕ) → length os ≡ 1 → (x : ℕ) × (os ≡ x ∷ [])
+one_of [] e = absurd (omega (arith, e))
+one_of (x ∷ []) e = (x, refl)
+one_of (x ∷ y ∷ os) e = absurd (omega (arith, e))
+
+two_of : (os : List ℕ) → length os ≡ 2 → (x : ℕ) × (y : ℕ) × (os ≡ x ∷ y ∷ [])
+two_of [] e = absurd (omega (arith, e))
+two_of (x ∷ os) e = let rest = one_of os (omega (arith, e)) in (x, rest.0, ap (λ ys. x ∷ ys) rest.1)
+
+three_of : (os : List ℕ) → length os ≡ 3 → (x : ℕ) × (y : ℕ) × (z : ℕ) × (os ≡ x ∷ y ∷ z ∷ [])
+three_of [] e = absurd (omega (arith, e))
+three_of (x ∷ os) e = let rest = two_of os (omega (arith, e)) in (x, rest.0, rest.1, ap (λ ys. x ∷ ys) rest.2)
+
+four_of : (os : List ℕ) → length os ≡ 4 → (w : ℕ) × (x : ℕ) × (y : ℕ) × (z : ℕ) × (os ≡ w ∷ x ∷ y ∷ z ∷ [])
+four_of [] e = absurd (omega (arith, e))
+four_of (x ∷ os) e = let rest = three_of os (omega (arith, e)) in (x, rest.0, rest.1, rest.2, ap (λ ys. x ∷ ys) rest.3)
+
+module _ (state : RoomState) (is : IsRoomState state) where
+  -- some atom
+  abbrev any : Atom
+  any = in_room robot robot
+
+  go-to-box : (b r : ℕ) → IsMet state (action 0 (b ∷ r ∷ [])) → ActionLeaves state (action 0 (b ∷ r ∷ []))
+  go-to-box b r met = record { left = beside-left state b is (inl (box-fact state b (met 0 any (omega arith)))); facts = beside-facts state b }
+
+  go-to-door : (d r s : ℕ) → IsMet state (action 1 (d ∷ r ∷ s ∷ [])) → ActionLeaves state (action 1 (d ∷ r ∷ s ∷ []))
+  go-to-door d r s met = record { left = beside-left state d is (inr (between-door state d r s (connects-fact state d r s (met 1 any (omega arith))))); facts = beside-facts state d }
+
+  turn-open : (d : ℕ) → IsDoorAt state.things d → ActionLeaves state (action 2 (d ∷ []))
+  turn-open zero (x, y, was, here) = absurd (cc)
+  turn-open (suc t) (x, y, was, here) = record { left = turned-left state t x y was true is here; facts = door-facts state t x y was true here }
+
+  turn-closed : (d : ℕ) → IsDoorAt state.things d → ActionLeaves state (action 3 (d ∷ []))
+  turn-closed zero (x, y, was, here) = absurd (cc)
+  turn-closed (suc t) (x, y, was, here) = record { left = turned-left state t x y was false is here; facts = door-facts state t x y was false here }
+
+  go-through : (d r s : ℕ) → IsMet state (action 4 (d ∷ r ∷ s ∷ [])) → ActionLeaves state (action 4 (d ∷ r ∷ s ∷ []))
+  go-through d r s met = record { left = into-left state s is (between-room state d r s is (connects-fact state d r s (met 0 any (omega arith)))); facts = into-facts state s }
+
+  push-to : (b d r s : ℕ) → IsBoxAt state.things b → IsDoorAt state.things d → ActionLeaves state (action 5 (b ∷ d ∷ r ∷ s ∷ []))
+  push-to zero d r s (old, beside, here) at = absurd (cc)
+  push-to (suc t) d r s (old, beside, here) at = record { left = push-to-left state t old d beside is here at; facts = push-to-facts state t old d beside here }
+
+  push-through : (b d r s : ℕ) → IsBoxAt state.things b → IsRoomAt state.things s → ActionLeaves state (action 6 (b ∷ d ∷ r ∷ s ∷ []))
+  push-through zero d r s (old, beside, here) at = absurd (cc)
+  push-through (suc t) d r s (old, beside, here) at = record { left = push-through-left state t old s beside is here at; facts = push-through-facts state t old s beside here }
+
+  of_objects : (op : ℕ) (os : List ℕ) → op < 7 → length os ≡ (slice_index_or room_schemas op no_schema).params → IsMet state (action op os) → ActionLeaves state (action op os)
+  of_objects zero os below count met =
+      let told = two_of os count in
+      subst (λ xs. ActionLeaves state (action 0 xs)) (sym told.2) (go-to-box told.0 told.1 (subst (λ xs. IsMet state (action 0 xs)) told.2 met))
+  of_objects (suc zero) os below count met =
+      let told = three_of os count in
+      subst (λ xs. ActionLeaves state (action 1 xs)) (sym told.3) (go-to-door told.0 told.1 told.2 (subst (λ xs. IsMet state (action 1 xs)) told.3 met))
+  of_objects (suc (suc zero)) os below count met =
+      let told = one_of os count in
+      subst (λ xs. ActionLeaves state (action 2 xs)) (sym told.1) (turn-open told.0 (door-fact state told.0 ((subst (λ xs. IsMet state (action 2 xs)) told.1 met) 0 any (omega arith))))
+  of_objects (suc (suc (suc zero))) os below count met =
+      let told = one_of os count in
+      subst (λ xs. ActionLeaves state (action 3 xs)) (sym told.1) (turn-closed told.0 (door-fact state told.0 ((subst (λ xs. IsMet state (action 3 xs)) told.1 met) 0 any (omega arith))))
+  of_objects (suc (suc (suc (suc zero)))) os below count met =
+      let told = three_of os count in
+      subst (λ xs. ActionLeaves state (action 4 xs)) (sym told.3) (go-through told.0 told.1 told.2 (subst (λ xs. IsMet state (action 4 xs)) told.3 met))
+  of_objects (suc (suc (suc (suc (suc zero))))) os below count met =
+      let told = four_of os count in
+      let here = subst (λ xs. IsMet state (action 5 xs)) told.4 met in
+      subst (λ xs. ActionLeaves state (action 5 xs)) (sym told.4) (push-to told.0 told.1 told.2 told.3 (box-fact state told.0 (here 0 any (omega arith)))
+      (between-door state told.1 told.2 told.3 (connects-fact state told.1 told.2 told.3 (here 4 any (omega arith)))))
+  of_objects (suc (suc (suc (suc (suc (suc zero)))))) os below count met =
+      let told = four_of os count in
+      let here = subst (λ xs. IsMet state (action 6 xs)) told.4 met in
+      subst (λ xs. ActionLeaves state (action 6 xs)) (sym told.4) (push-through told.0 told.1 told.2 told.3 (box-fact state told.0 (here 0 any (omega arith)))
+      (between-room state told.1 told.2 told.3 is (connects-fact state told.1 told.2 told.3 (here 3 any (omega arith)))))
+  of_objects (suc (suc (suc (suc (suc (suc (suc k))))))) os below count met = absurd (omega (arith, below))
+
+  -- the arguments of an instance are objects
+  as_objects : (problem : Problem) (args : List Term) → All (IsTermOf problem 0) args → map Obj (map number_of args) ≡ args
+  as_objects problem [] all = refl
+  as_objects problem (Obj n ∷ args) all = ap (λ rest. Obj n ∷ rest) (as_objects problem args (All-tail (IsTermOf problem 0) (Obj n) args all))
+  as_objects problem (Var v ∷ args) all = absurd (omega (arith, All-head (IsTermOf problem 0) (Var v) args all))
+  as_objects problem (WildCard ∷ args) all = absurd (All-head (IsTermOf problem 0) WildCard args all)
+
+  pub action-leaves : (inst : OpInst) → IsInstanceOf (building_rules state) inst → IsMet state inst → ActionLeaves state inst
+  action-leaves inst of_problem met =
+      let objects : map Obj (map number_of inst.args) ≡ inst.args = as_objects (building_rules state) inst.args of_problem.objects in
+      subst (λ args. ActionLeaves state (record { op = inst.op; args = args })) objects
+      (of_objects inst.op (map number_of inst.args) of_problem.op (length-map inst.args number_of ∙ of_problem.count)
+      (subst (λ args. IsMet state (record { op = inst.op; args = args })) (sym objects) met))
+
+-- ---- the laws
+
+pub actions-follow : ActionsAreResults
+actions-follow state inst is of_problem met = let leaves = action-leaves state is inst of_problem met in (leaves.left.state, leaves.facts)
+
+pub edits-follow : EditsAreEdits
+edits-follow state one is admitted = let leaves = edit-leaves state one is admitted in (leaves.left.state, leaves.facts)
+
+-- ---- how many facts there are after an edit, and which edits are admitted then
+
+added-one : (one : RoomEdit) → length (atoms_of (edit_schema one).add (record { op = 0; args = [] })) ≡ 1
+added-one (edit.Robot r) = refl
+added-one (edit.Box b r) = refl
+added-one (edit.Door d true) = refl
+added-one (edit.Door d false) = refl
+
+pub edit-number : (one : RoomEdit) (old new : RoomState) → rendering new ≡ facts_edited one (rendering old) → length (rendering new) ≤ length (rendering old) + 1
+edit-number one old new is =
+    let most = result_by-length (edit_schema one) (rendering old) (record { op = 0; args = [] }) in
+    omega (arith, ap length is, most, added-one one)
+
+pub left-admits : (old left new : RoomState) → new ≡ left → IsLeft old left → (one : RoomEdit) → IsAdmitted new one ↔ IsAdmitted old one
+left-admits old left new is kept = admitted-same old new (subst (λ (s : RoomState). map kind_of s.things ≡ map kind_of old.things) (sym is) kept.kinds)
+
+pub left-rules : (old left new : RoomState) → new ≡ left → IsLeft old left → building_rules new ≡ building_rules old
+left-rules old left new is kept = ap (λ n. building_problem (n + 1) 1 1 2) (ap (λ (s : RoomState). length s.things) is ∙ kept.count)

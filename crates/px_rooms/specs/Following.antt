@@ -1,0 +1,34 @@
+-- What actions and edits change in a state is what operators and edits say of its facts.
+use Rattle.std.specs.Prelude.{◌≡◌, ◌≤◌, ◌+◌, ◌*◌, length, All, Contains}
+use Rattle.px_terms.specs.declared.atom.Atom.{Atom}
+use Rattle.px_terms.specs.declared.instance.OpInst.{OpInst}
+use Rattle.px_terms.specs.Instances.{IsGround}
+use Rattle.px_terms.specs.Operators.{precondition, result_of}
+use Rattle.px_terms.specs.Validity.{IsInstanceOf}
+use Rattle.px_world.specs.declared.edits.RoomEdit.{RoomEdit}
+use Rattle.px_world.specs.Worlds.{IsRefused}
+use Rattle.px_rooms.specs.Changes.{IsAdmitted, facts_edited, moved, state_edited}
+use Rattle.px_rooms.specs.States.{IsRoomState, RoomState, building_rules, rendering}
+
+-- each atom of the precondition is a fact
+abbrev pub IsMet : RoomState → OpInst → Type 0
+IsMet state inst = All (Contains (rendering state)) (precondition (building_rules state) inst)
+
+-- an action whose precondition is met leaves a state of the building, whose facts are the operator's result
+abbrev pub ActionsAreResults : Type 0
+ActionsAreResults = (state : RoomState) (inst : OpInst) → IsRoomState state → IsInstanceOf (building_rules state) inst → IsMet state inst
+    → IsRoomState (moved inst state) × (rendering (moved inst state) ≡ result_of (building_rules state) (rendering state) inst)
+
+-- an edit that is admitted leaves a state of the building, whose facts are those that the edit leaves
+abbrev pub EditsAreEdits : Type 0
+EditsAreEdits = (state : RoomState) (one : RoomEdit) → IsRoomState state → IsAdmitted state one
+    → IsRoomState (state_edited one state) × (rendering (state_edited one state) ≡ facts_edited one (rendering state))
+
+-- where an atom of the precondition isn't a fact, a world may refuse the action: the axiom and the facts don't make it true
+abbrev pub RefusalsAreAllowed : Type 0
+RefusalsAreAllowed = (state : RoomState) (inst : OpInst) (atom : Atom) → IsRoomState state → IsInstanceOf (building_rules state) inst → Contains (precondition (building_rules state) inst) atom
+    → ¬ Contains (rendering state) atom → IsRefused (building_rules state) (rendering state) inst
+
+-- each fact is ground, and there are at most four for each thing and two more
+abbrev pub FactsAreFew : Type 0
+FactsAreFew = (state : RoomState) → IsRoomState state → All IsGround (rendering state) × (length (rendering state) ≤ 4 * length state.things + 2)
