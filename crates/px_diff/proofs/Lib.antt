@@ -4,6 +4,13 @@ mod Regaps
 pub mod GapLists
 pub mod GapAtoms
 pub mod Fewness
+mod AddableLaws
+mod AnswerRowLaws
+mod JoinSteps
+mod LeftSteps
+mod RowSteps
+mod KnownSteps
+mod StackLaws
 mod Limits
 pub mod GapLemmas
 pub mod PartialLemmas

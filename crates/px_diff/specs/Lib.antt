@@ -1,3 +1,5 @@
+pub mod Addable
+pub mod AnswerRows
 pub mod Apart
 pub mod Bindings
 pub mod Choices
@@ -9,9 +11,13 @@ pub mod Forms
 pub mod GapAnswers
 pub mod Gathering
 pub mod Instances
+pub mod Joined
+pub mod Known
+pub mod Learned
 pub mod Listed
 pub mod Outcomes
 pub mod Provable
 pub mod Pushes
 pub mod Questions
 pub mod Requests
+pub mod Stacks

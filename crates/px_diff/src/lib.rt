@@ -17,14 +17,24 @@
 //!   the gaps. `relevant` asks, of each entry that isn't on the stack and adds a wanted atom, whether a formula that it
 //!   needs has an answer, and where it has none, for its gaps. An `Ok` says that no question meets the limit. Whether
 //!   `relevant` meets it doesn't depend on the order in which it works.
-//! - Both answer `NoMemory` where there is none, of which nothing more is said.
+//! - What a search needs to know once of a world model: [`try_formula`] tells whether a formula has an answer ([`Tried`]),
+//!   [`known_formula`] what is known of one that has none, and [`known_entry`] what is known of an entry: that it can be applied,
+//!   that it is open, with the gaps, that it isn't open, or that a question about it meets the shape limit ([`Known`]). A
+//!   MACROP's rows are asked each from what the steps before leave of the model. The tables have to be learned ones
+//!   (`AreLearned`: at most 32, of at most 64 steps, which `check_table` of `px_table` accepts), as [`are_learned`] tests, and
+//!   the entry has to be one, as [`is_entry`] tests. The limit is an answer like the others, so their only error is `NoMemory`.
+//! - What `relevant` answers with an empty stack serves every stack: what may be pushed over a stack is its list without the
+//!   stack's entries ([`relevance_over_stacks`]). [`answers_support`] says what the prover's answers give to `build` of
+//!   `px_table`, and [`addable_alike`] that the prover takes for addable what an operator of the problem may add.
+//! - All calls answer `NoMemory` where there is none, of which nothing more is said.
 //! - [`relevant_measured`] is `relevant` with a number beside the entries, for benchmarks: how often the prover was asked.
 //!   Finding gaps asks it for the gap patterns, and of the atoms that these close whether they have a proof. No clause of the
 //!   call speaks of this number.
 //!
 //! The definitions are in `specs/`: `Entries` (what an entry needs, does and adds, and when it is open), `Pushes` (which
 //! entries are relevant, and which may be pushed) and `Questions` (what is asked of a list of needed formulas, and where
-//! that meets the limit). Laws about them for callers are in `proofs/`: `Opening` (when an operator's instance is open, and
+//! that meets the limit), `Known` (what is known of what is needed), `Learned` (which tables entries may come from), `Stacks`
+//! and `AnswerRows` (the laws). Laws about them for callers are in `proofs/`: `Opening` (when an operator's instance is open, and
 //! what is asked about it), `GapLemmas` (the gaps of a formula and their limit, by what one question of gaps tells of it),
 //! `Fewness` (few unfinished gap proofs exclude both limits), `GapLists`, `GapAtoms` and `PartialLemmas`.
 //!
@@ -49,9 +59,17 @@ mod asking;
 mod bindings;
 mod choices;
 mod differences;
+mod entry_rows;
 mod forms;
 mod gap_answer;
 mod instances;
+mod joining;
+mod knowing;
+mod known;
+#[cfg(test)]
+mod known_tests;
+mod laws;
+mod learned;
 mod matching;
 mod measured;
 mod missing;
@@ -68,5 +86,10 @@ mod tests;
 
 pub use ask_err::AskErr;
 pub use differences::gaps;
+pub use entry_rows::known_entry;
+pub use knowing::{known_formula, try_formula};
+pub use known::{Known, Tried};
+pub use laws::{addable_alike, answers_support, relevance_over_stacks};
+pub use learned::{are_learned, is_entry};
 pub use measured::Measured;
 pub use pushes::{relevant, relevant_measured};

@@ -1,0 +1,15 @@
+use Rattle.std.proofs.Common.{◌∙◌, List, sym, subst}
+use Rattle.std.specs.Prelude.{[], ◌∷◌, All, IfOk}
+use Rattle.px_terms.specs.Validity.{IsAtomOf}
+use Rattle.px_terms.specs.ValidityLaws.{precondition-is_of}
+use Rattle.px_terms.specs.declared.atom.Atom.{Atom}
+use Rattle.px_diff.specs.Known.{IsKnownOf}
+use Rattle.px_diff.proofs.entry_rows.known_instance.Goals as goal
+
+pub known_row-requires-clause-formula : goal.known_row-requires-clause-formula
+known_row-requires-clause-formula c =
+    subst (All (IsAtomOf c.args.problem.now 0)) (sym (c.deref.ensures.value ∙ c.in_ok-formula.ensures)) (precondition-is_of c.args.problem.now c.args.inst.now c.requires.problem c.requires.inst)
+
+pub returns : goal.returns
+returns c =
+    subst (λ (l : List Atom). IfOk c.known_row.result (IsKnownOf c.args.problem.now (record { formula = l; vars = 0; facts = c.args.model.now.atoms } ∷ []))) (c.deref.ensures.value ∙ c.in_ok-formula.ensures) c.known_row.ensures

@@ -1,0 +1,40 @@
+//! What is known of a formula, and of an entry, in a world model.
+
+use px_proof::Shape;
+use px_terms::{Atom, Sequence};
+
+/// Whether a formula has an answer.
+#[derive(Drop)]
+pub enum Tried {
+    /// Some objects for its variables make each of its atoms provable.
+    Answered,
+    /// No objects do.
+    Unanswered,
+    /// Proving it meets the shape limit.
+    Limited {
+        /// The formula itself.
+        formula: Sequence<Atom>,
+        /// As many shapes of unfinished lists of proofs as the limit, the first ones, in order.
+        shapes: Sequence<Shape>,
+    },
+}
+
+/// What is known of what an entry needs, or the goal, in a world model. What is needed is a list of formulas, each to be
+/// proved from facts of its own.
+#[derive(Drop)]
+pub enum Known {
+    /// Each has an answer: the entry can be applied.
+    Applicable,
+    /// Some have no answer, and each of these has a gap. These are their gaps, ascending, each once (the difference of Fikes
+    /// and Nilsson 1971).
+    Open(Sequence<Atom>),
+    /// One has neither an answer nor a gap.
+    Closed,
+    /// A question about one meets the shape limit: proving it, or where it has no answer finding its gaps.
+    Limited {
+        /// The formula, or the one atom that a gap would close, at which the limit is met.
+        formula: Sequence<Atom>,
+        /// As many shapes as the limit, the first ones, in order.
+        shapes: Sequence<Shape>,
+    },
+}
