@@ -3,8 +3,8 @@
 //!
 //! # Calling it
 //!
-//! - [`Matcher::reserve`] makes a matcher for a table of a problem, under a binding, for models of at most so many atoms. It
-//!   takes all memory that there is to take. It asks for a table of a valid problem (`check_table` of `px_table`) and for a
+//! - [`Matcher::reserve`] makes a matcher for a table of a problem, under a binding, for models of at most `room` atoms. It
+//!   takes all the memory that the matcher will need. It asks for a table of a valid problem (`check_table` of `px_table`) and for a
 //!   binding that binds no parameter twice and has objects of the problem. `BadParam` comes exactly where the table hasn't
 //!   some bound parameter, with the first such one.
 //! - A binding is a list of pairs, each a parameter, counted from 1, and its object. `first_bad` in `specs/Matching` is the
@@ -24,13 +24,13 @@
 //! # How it works
 //!
 //! A matcher keeps the atoms of the last sensing, and for each mark the list of those that it may become. The next sensing takes
-//! what is gone and puts what came, and changes no other list. That the lists are exactly these is the invariant of the type.
+//! away what is gone and adds what has come. That the lists are exactly these is the invariant of the type.
 //!
-//! A kernel is matched parameter by parameter, each from the first object up. A mark goes on to the least object that an atom of its
-//! list has there under the objects before, and a step that deletes a mark whatever comes later passes over an object. Each
-//! such passing over has its reasons, the earlier parameters on whose objects it rests. Where no object is left, the
-//! search goes back to the last reason, over all parameters between. So parameters that no mark and no deletion joins cost each
-//! other nothing, and what is found first is the first in the order of objects. Which marks and deletions are looked at, and when, is a
+//! A kernel is matched parameter by parameter, each from the first object up. Objects are passed over that no atom of a
+//! mark's list has there, given the objects before, and those with which a step deletes a mark whatever comes later. Each time this
+//! has its reasons, the earlier parameters on whose objects it rests. Where no object is left, the
+//! search goes back to the last reason, over all parameters between. What is found first is
+//! the first in the order of objects. Which marks and deletions are looked at, and when, is a
 //! hint: each passing over is proved by itself, and a full list of objects is tested.
 #![tactic(auto)]
 

@@ -18,7 +18,7 @@ use std::alloc::Global;
 
 /// Finds the highest kernel whose instance holds.
 ///
-/// Contracts see it as the problem, the table, the binding and the instance.
+/// Contracts see it as the problem, the table, the binding, the room and the instance.
 #[derive(Drop)]
 pub struct Matcher<'a> {
     problem: &'a Problem,

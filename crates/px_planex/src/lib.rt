@@ -13,7 +13,7 @@
 //!   kernel that it sensed. `Happens` in `specs/Execution` is the table of events and outcomes, line by line, and the clause
 //!   `happens` of `step`. A sensing remembers the highest kernel that fits; where it is the last one that is the goal. An action takes
 //!   the remembered step if each mark of its row is true, and slips if one isn't. The world is as it was unless it was disturbed or a
-//!   step was taken (`unchanged`). That a world refuses a step whose row is true can't be, so no outcome says it.
+//!   step was taken (`unchanged`). No world refuses a step whose row is true, so no outcome says it.
 //! - [`Planex::action`] is the remembered step, which is there exactly where an action wouldn't be told as not sensed;
 //!   [`Planex::instance`] has the objects of the last kernel that was sensed.
 //! - `Traces` is a list of events with their outcomes ([`traces_are_one`]: it is determined). `RunsTable` in `specs/Turns` is a run: turn by
@@ -22,8 +22,8 @@
 //! - The laws are about sets of atoms, whatever an edit leaves of them. Where nothing disturbs the world each sensed action is taken and
 //!   the next kernel is greater ([`acts_and_goes_on`]), so the goal is reached ([`goal_is_reached`]). By rules with the
 //!   problem's objects, axioms and operators no step may be refused whose row is true ([`guard_never`]). A run is determined
-//!   ([`runs_are_one`]), it is a trace ([`runs_are_traces`]), and it has few turns ([`turns_are_few`]). An event takes no more places than
-//!   it may ([`events_take_places`]).
+//!   ([`runs_are_one`]), it is a trace ([`runs_are_traces`]), and it has few turns ([`turns_are_few`]). Where an edit leaves at most one atom more, an event
+//!   leaves no more atoms than it may want places for ([`events_take_places`]).
 //! - Three runs are worked out in `specs/WorkedRuns` ([`danger_runs`]).
 #![tactic(auto)]
 

@@ -99,9 +99,11 @@ impl<'a> Planex<'a> {
         })
     }
 
-    /// The step that the next action will take, unless a mark of its row isn't true then. Takes no memory.
+    /// The step that the next action will take, unless a mark of its row isn't true then. `None` exactly where an action would be
+    /// told as not sensed. Takes no memory.
     pub fn action(&self) -> Option<StepInst>
-        ensures { result ≡ remembered_step self.now.table self.now.memory }
+        ensures step { result ≡ remembered_step self.now.table self.now.memory }
+        ensures sensed { (result ≡ None) ↔ (self.now.memory.remembered ≡ None) }
     {
         match self.remembered {
             None => None,
@@ -124,7 +126,7 @@ impl<'a> Planex<'a> {
     /// What comes of the event: the world is disturbed, or the executor senses, or it acts. Takes no memory.
     ///
     /// The world's objects, axioms and operators are those of the problem, and it has at most as many atoms as there is room
-    /// for. A disturbance is one that it admits, and it has the places that the event may take.
+    /// for. The world admits the disturbance, if the event is one, and has the places that the event may take.
     pub fn step<W: World>(&mut self, world: &mut W, event: Event<W::Edit>) -> Outcome
         requires rules { HaveSameRules (W.rules world.old) self.old.problem }
         requires room { length (W.atoms world.old) ≤ self.old.room }

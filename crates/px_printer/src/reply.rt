@@ -43,7 +43,7 @@ pub enum Reply {
     Plan {
         /// The number of the plan's name.
         name: u32,
-        /// How many moves the search made for it.
+        /// The length of its list of moves.
         moves: u32,
         /// The operator instances of the plan, in order.
         steps: Sequence<OpInst>,

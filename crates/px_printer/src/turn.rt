@@ -10,7 +10,7 @@ pub enum TurnEnd {
     Slipped,
     /// The goal is reached.
     Goal,
-    /// No kernel is true.
+    /// No kernel fits.
     NoKernel,
 }
 

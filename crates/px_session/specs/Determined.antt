@@ -21,7 +21,7 @@ use Rattle.px_session.specs.Lawful.{Lawful}
 use Rattle.px_session.specs.Sessions.{IsSession, SessionState, opening}
 use Rattle.px_session.specs.Transcripts.{AreAnswersTo, Transcript, texts}
 
--- a search that met the limit of shapes is told twice, by as many shapes, whatever the question was
+-- both say that the search met the limit of shapes, by as many shapes, perhaps at different questions
 pub record AreLimits (one other : Reply) : Type 0 where
   pub name : ℕ
   pub node : Node

@@ -17,7 +17,7 @@ pub fn sessions_are_kept()
     ensures { SessionsAreKept }
 {}
 
-/// A script with a valid problem has one list of lawful replies, but for questions at limits of shapes, and one text.
+/// A script with a valid problem, whose facts are a set, has one list of lawful replies, but for questions at limits of shapes, and one text.
 pub fn answers_are_one()
     ensures { AnswersAreOne }
 {}

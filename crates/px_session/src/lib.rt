@@ -18,12 +18,14 @@
 //!   several questions may be told, and the text is one).
 //! - `Transcript` in `specs/Transcripts` is what is to be written for the bytes of a script: the texts of lawful replies to its
 //!   commands, one after the other. `Summary` in `specs/Demo` is the line of the demo, with the script that is made from its
-//!   two numbers. Both are determined ([`answers_are_one`], [`transcripts_are_one`]).
+//!   two numbers. Both are determined ([`answers_are_one`], [`transcripts_are_one`]). They speak of scripts of the words that are built: of
+//!   other bytes, the demo's script among them, they say nothing yet, and what a building gives to its script isn't defined yet.
 //! - Which cause of a refusal comes first, and that nothing has changed after it, is told in `specs/Causes`
 //!   ([`causes_in_order`]), with some replies that aren't lawful ([`refused_replies`]).
 //! - What an executor does in a world of atoms, or in a building, is what a session's run does with the same disturbances
 //!   (`specs/Runs`, [`one_kind_runs`]).
-//! - A small script is worked out with its text ([`worked_session`]), and so is the demo of three rooms ([`worked_demo`]).
+//! - A small script is worked out with its text ([`worked_session`]). Of the demo of three rooms the targets, the script and the form of its
+//!   line are ([`worked_demo`]).
 //! - The laws are calls that do nothing.
 #![tactic(auto)]
 
