@@ -47,6 +47,12 @@ mod question;
 mod raising;
 mod reasons;
 #[cfg(test)]
+mod slow;
+#[cfg(test)]
+mod test_problems;
+#[cfg(test)]
+mod test_rooms;
+#[cfg(test)]
 mod tests;
 mod turns;
 
