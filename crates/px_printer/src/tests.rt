@@ -1,3 +1,4 @@
+//! The texts of usage, refusals and the first replies.
 ghost use Rattle.std.specs.Prelude.{◌≤◌, All, IfOk, length};
 ghost use Rattle.px_printer.specs.Replies.{IsNamed};
 ghost use Rattle.px_printer.specs.Texts.{IsNamedTerm, IsNamedAtom, IsNamedInstance};
