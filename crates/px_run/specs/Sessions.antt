@@ -1,5 +1,5 @@
 -- What answering a command takes and gives.
-use Rattle.std.specs.Prelude.{◌≡◌, ◌<◌, ◌≤◌, ℕ, [], length, All, Result, Ok, Err, slice_index_or}
+use Rattle.std.specs.Prelude.{◌≡◌, ◌<◌, ◌≤◌, ℕ, List, [], length, All, Result, Ok, Err, slice_index_or}
 use Rattle.px_names.specs.Lists.{NameLists}
 use Rattle.px_printer.specs.Replies.{reply_text}
 use Rattle.px_printer.specs.declared.reply.Reply.{Reply}
@@ -42,6 +42,10 @@ pub record IsReady (script : ScriptValue) : Type 0 where
 -- the reply is lawful for the command at the place, from the script's facts, which it leaves
 abbrev pub IsLawfulAt : ScriptValue → ℕ → Reply → Type 0
 IsLawfulAt script place answer = Lawful script.problem script.facts (slice_index_or script.commands place Facts) answer script.facts
+
+-- the text of a lawful reply to the command at the place
+abbrev pub IsAnswerText : ScriptValue → ℕ → List ℕ → Type 0
+IsAnswerText script place text = (answer : Reply) × IsLawfulAt script place answer × (text ≡ reply_text script.names answer)
 
 -- the outcomes of answering the command at the place
 abbrev pub AnswerRight : {T : Type 0} → ScriptValue → ℕ → SinkEnds → Result T AnswerErr → Type 0

@@ -1,8 +1,8 @@
 //! Answers commands in order, and writes the replies.
-ghost use Rattle.std.specs.Prelude.{◌≡◌, ◌<◌, length};
+ghost use Rattle.std.specs.Prelude.{◌≡◌, ◌<◌, IfOk, length};
 ghost use Rattle.px_reader.specs.LineReads.{content};
 ghost use Rattle.px_run.specs.Outcomes.{sink_ends, ExecutedRight};
-ghost use Rattle.px_run.specs.Sessions.{IsReady, AnswerRight};
+ghost use Rattle.px_run.specs.Sessions.{AnswerRight, IsAnswerText, IsReady};
 ghost use Rattle.px_run.specs.declared.running.AnswerErr.TheVariants.{Fault as failed, NoMemory as out_of_memory};
 
 use crate::session::answer;
@@ -53,10 +53,19 @@ fn put_answer<K: Sink>(
     ensures right { AnswerRight (content script.now) place (sink_ends K.written K.faults K.sure sink.old sink.new) result }
     ensures nature { K.sure sink.new ≡ K.sure sink.old }
 {
-    let reply = answer(alloc, script, place)?;
-    let text = reply_text(alloc, &reply, &script.names)?;
+    let text = answer_text(alloc, script, place)?;
     put(sink, &text)?;
     Ok(())
+}
+
+/// The text of a lawful reply to the command at the place.
+fn answer_text(alloc: Global, script: &Script, place: usize) -> Result<Vec<u8>, NoMemory>
+    requires ready { IsReady (content script.now) }
+    requires place { place < length script.now.commands }
+    ensures { IfOk result (λ text. IsAnswerText (content script.now) place text.items) }
+{
+    let reply = answer(alloc, script, place)?;
+    reply_text(alloc, &reply, &script.names)
 }
 
 /// Answers all commands of a script.
