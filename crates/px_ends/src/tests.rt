@@ -1,3 +1,4 @@
+//! The laws are calls.
 use crate::{asked_by_stop, ends_are_one, tables_are_one, worked_ends};
 use std::rt::HostRuntime;
 

@@ -1,3 +1,4 @@
+//! The laws are calls.
 use crate::{general_is_one, worked_general};
 use std::rt::HostRuntime;
 

@@ -27,7 +27,7 @@ pub fn transcripts_are_one()
     ensures { TranscriptsAreOne }
 {}
 
-/// Which cause of a refusal comes first, and that nothing has changed after it.
+/// Which of some causes of a refusal comes first, and that nothing has changed after a name or a parameter is told as unknown.
 pub fn causes_in_order()
     ensures { CausesInOrder }
 {}

@@ -20,7 +20,7 @@
 //!   commands, one after the other. `Summary` in `specs/Demo` is the line of the demo, with the script that is made from its
 //!   two numbers. Both are determined ([`answers_are_one`], [`transcripts_are_one`]). They speak of scripts of the words that are built: of
 //!   other bytes, the demo's script among them, they say nothing yet, and what a building gives to its script isn't defined yet.
-//! - Which cause of a refusal comes first, and that nothing has changed after it, is told in `specs/Causes`
+//! - Which of some causes of a refusal comes first, and that nothing has changed after a name or a parameter is unknown, is in `specs/Causes`
 //!   ([`causes_in_order`]), with some replies that aren't lawful ([`refused_replies`]).
 //! - What an executor does in a world of atoms, or in a building, is what a session's run does with the same disturbances
 //!   (`specs/Runs`, [`one_kind_runs`]).
