@@ -1,3 +1,4 @@
+//! The instances of a schema as entries that may be pushed: from a match with variables to all its objects.
 ghost use Rattle.std.specs.Prelude.{◌≡◌, ◌+◌, ◌<◌, ◌≤◌, ℕ, List, length, slice_index, All};
 ghost use Rattle.px_question.specs.Answers.{object_terms};
 ghost use Rattle.px_terms.specs.declared.problem.Problem.{Problem};

@@ -1,3 +1,4 @@
+//! What `relevant` answers, with the number of questions that it took.
 use px_table::Entry;
 
 /// The entries that `relevant` answers, and how many questions that took.

@@ -1,3 +1,4 @@
+//! Operator instances whose arguments are known in part.
 use px_terms::OpInst;
 
 /// An operator instance with variables, numbered from 0, for arguments that aren't known yet.

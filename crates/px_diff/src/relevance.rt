@@ -1,3 +1,4 @@
+//! Which entries may be pushed for wanted atoms: one operator after the other, each by its instances.
 ghost use Rattle.std.specs.Prelude.{◌≡◌, ◌<◌, ◌↔◌, length, Contains, IsTrue};
 ghost use Rattle.px_terms.specs.Operators.{adds};
 ghost use Rattle.px_terms.specs.Validity.{IsValid, IsInstanceOf};

@@ -1,3 +1,4 @@
+//! What is asked of `relevant`.
 use px_ops::Model;
 use px_table::{Entry, Table};
 use px_terms::{Atom, Problem};

@@ -1,3 +1,4 @@
+//! Gaps and entries beside a plain, slow program, and the benchmark's counts.
 use crate::reference::{Limit, Mark, ask, limit_of, plain_gaps, plain_relevant};
 use crate::request::Request;
 use crate::test_problems::{

@@ -1,3 +1,4 @@
+//! Sources and sinks over memory, byte by byte, and the standard streams.
 ghost use Rattle.std.specs.Prelude.{◌≡◌, IfOk};
 
 use crate::{MemSink, MemSource, NoMemory, ReadErr, StdSink, StdSource, put, read_all};

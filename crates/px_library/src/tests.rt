@@ -1,3 +1,4 @@
+//! A library that is filled to its last place.
 use crate::{LibErr, Library};
 use px_table::Table;
 use px_terms::Sequence;

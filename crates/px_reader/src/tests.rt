@@ -1,3 +1,4 @@
+//! Texts beside what is read of them: each refusal with its line, and whole scripts.
 use crate::{Command, Refused, Script, ScriptErr, read_script};
 use px_names::Kind;
 use px_terms::{Atom, Schema, Term};

@@ -1,3 +1,4 @@
+//! A building of two rooms, and its problem.
 ghost use Rattle.std.specs.Prelude.{◌≡◌, IfOk};
 ghost use Rattle.px_rooms.specs.WorkedBuilding.{two_rooms as worked_rooms};
 

@@ -1,3 +1,4 @@
+//! Scripts beside the status and the text that they end with, also where reads and writes fail.
 ghost use Rattle.std.specs.Prelude.{◌≤◌, ◌^◌, ◌-◌, Contains, IfOk};
 
 use crate::status::Status;

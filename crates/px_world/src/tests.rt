@@ -1,3 +1,4 @@
+//! A switch in a world of atoms: actions, edits and the guard.
 ghost use Rattle.std.specs.Prelude.{◌≡◌, IfOk, length, slice_index_or};
 ghost use Rattle.px_terms.specs.Operators.{no_schema};
 ghost use Rattle.px_terms.specs.Validity.{IsValid};
