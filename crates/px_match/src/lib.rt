@@ -32,6 +32,10 @@
 //! search goes back to the last reason, over all parameters between. What is found first is
 //! the first in the order of objects. Which marks and deletions are looked at, and when, is a
 //! hint: each passing over is proved by itself, and a full list of objects is tested.
+//!
+//! What contracts of public calls cite stands in `specs/Matching`, `specs/MatcherValue` and `specs/WorkedDanger`. The other files of
+//! `specs/` are cited by private functions: the reasons (`Reasons`), what the search looks for (`Asking`, `Filling`), its turns with
+//! the measure by which they end (`Turns`), and the lists (`Keeping`).
 #![tactic(auto)]
 
 mod checking;

@@ -1,0 +1,5 @@
+use Rattle.std.specs.Prelude.{◌≤◌}
+use Rattle.px_bench_match.proofs.sensing.sense_changes.Given as goal
+
+abbrev pub invariant-loop-turn : goal.invariant-loop-turn
+invariant-loop-turn l = 1000 ≤ l.matcher.room

@@ -1,0 +1,26 @@
+//! Numbers that look random.
+ghost use Rattle.std.specs.Prelude.{◌<◌, ◌≤◌};
+
+/// Numbers that look random, and are the same for the same seed.
+#[derive(Clone, Copy)]
+pub struct Dice {
+    state: u64,
+}
+
+impl Dice {
+    pub fn new(seed: u64) -> Dice {
+        Dice { state: seed }
+    }
+
+    /// A number below `sides`.
+    pub fn roll(&mut self, sides: u32) -> u32
+        requires { 1 ≤ sides }
+        ensures { result < sides }
+    {
+        self.state = self
+            .state
+            .wrapping_mul(6_364_136_223_846_793_005)
+            .wrapping_add(1_442_695_040_888_963_407);
+        (self.state >> 33) as u32 % sides
+    }
+}

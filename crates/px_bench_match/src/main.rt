@@ -1,0 +1,146 @@
+//! Asks a matcher about tables. `bench/matching` measures it.
+//!
+//! # Calling it
+//!
+//! Each line of standard input is a question, which makes its problem, facts, table and matcher anew, and is answered by a line.
+//!
+//! - `pairs`: twelve pairs of 24 parameters over 256 objects and 255 facts. The answer is the kernel, here and below.
+//! - `far`: no object is the last one for the first two parameters, and each pair between is free.
+//! - `chain` and `nochain`: a chain of 23 parameters to an end that is reached, and to one that isn't.
+//! - `improper`: the first proper choice, after all those that share one bad pair.
+//! - `steps`: a table of 64 steps over 500 facts.
+//! - `sensings`: the same, and a hundred sensings more, before each of which one atom changes. The answer is how many of these find
+//!   a kernel.
+//! - `agree FROM COUNT`: the matcher beside a plain one that tries all lists of objects in order, over so many small random tables
+//!   from that seed on, each with twelve models. The answer is how often both said the same, and how often there was a kernel.
+#![tactic(auto)]
+
+mod agreement;
+mod dice;
+mod drawing;
+mod plain;
+mod sensing;
+mod tables;
+mod walking;
+
+use agreement::{Tally, agree};
+use px_match::Matcher;
+use px_ops::Model;
+use px_table::{Table, check_table};
+use px_terms::{NoMemory, Problem, is_valid};
+use sensing::{ROOM, sense, sense_changes};
+use std::alloc::Global;
+use std::io;
+use tables::{STEPS, chain, far, improper, pairs, walk};
+use walking::{links, links_and_gifts, links_and_walker, links_apart, problem_of};
+
+/// A problem with its facts and a table.
+#[derive(Drop)]
+struct Scene {
+    problem: Problem,
+    model: Model,
+    table: Table,
+}
+
+/// The kernel that is found in the scene.
+fn found(alloc: Global, scene: &Scene) -> Option<u32> {
+    if !is_valid(&scene.problem) || !check_table(&scene.problem, &scene.table) {
+        return None;
+    }
+    match Matcher::reserve(alloc, &scene.problem, &scene.table, &[], ROOM) {
+        Ok(mut matcher) => sense(&mut matcher, &scene.model),
+        Err(_) => None,
+    }
+}
+
+/// What comes of the walk to object 64, and of so many changes if they are asked for.
+fn walked(alloc: Global, are_changes: bool) -> Result<Option<u32>, NoMemory> {
+    let problem = problem_of(alloc, 500)?;
+    let table = walk(alloc)?;
+    let mut model = links_and_walker(alloc)?;
+    if !is_valid(&problem) || !check_table(&problem, &table) || problem.objects <= STEPS {
+        return Ok(None);
+    }
+    match Matcher::reserve(alloc, &problem, &table, &[(STEPS + 1, STEPS)], ROOM) {
+        Err(_) => Ok(None),
+        Ok(mut matcher) => {
+            let first = sense(&mut matcher, &model);
+            if !are_changes {
+                return Ok(first);
+            }
+            Ok(Some(sense_changes(&mut matcher, &mut model)?))
+        }
+    }
+}
+
+/// A scene of 256 objects.
+fn scene_of(alloc: Global, model: Model, table: Table) -> Result<Scene, NoMemory> {
+    Ok(Scene {
+        problem: problem_of(alloc, 256)?,
+        model,
+        table,
+    })
+}
+
+/// What comes of the question, if it is one.
+fn answer(alloc: Global, question: &str) -> Result<Option<u32>, NoMemory> {
+    let scene = match question {
+        "pairs" => scene_of(alloc, links(alloc, 256)?, pairs(alloc)?)?,
+        "far" => scene_of(alloc, links_apart(alloc)?, far(alloc)?)?,
+        "chain" => scene_of(alloc, links(alloc, 256)?, chain(alloc, 200)?)?,
+        "nochain" => scene_of(alloc, links(alloc, 256)?, chain(alloc, 20)?)?,
+        "improper" => scene_of(alloc, links_and_gifts(alloc)?, improper(alloc)?)?,
+        "steps" => return walked(alloc, false),
+        "sensings" => return walked(alloc, true),
+        _ => return Ok(None),
+    };
+    Ok(found(alloc, &scene))
+}
+
+/// The numbers of `agree FROM COUNT`.
+fn range_of(line: &str) -> Option<(u64, u32)> {
+    let rest = line.strip_prefix("agree ")?;
+    let (from, count) = rest.split_once(' ')?;
+    Some((from.parse().ok()?, count.parse().ok()?))
+}
+
+/// Prints how often both matchers agreed.
+fn print_tally(rt: &HostRuntime, answered: Result<Tally, NoMemory>) -> io::Result<()> {
+    match answered {
+        Ok(
+            Tally {
+                tables,
+                sensings,
+                agreed,
+                found,
+            },
+        ) => println!(rt; "{agreed} of {sensings} agree, {found} kernels, {tables} tables"),
+        Err(NoMemory) => println!(rt; "out of memory"),
+    }
+}
+
+/// Prints the kernel that is found.
+fn print_kernel(rt: &HostRuntime, answered: Result<Option<u32>, NoMemory>) -> io::Result<()> {
+    match answered {
+        Ok(Some(number)) => println!(rt; "{number}"),
+        Ok(None) => println!(rt; "nothing"),
+        Err(NoMemory) => println!(rt; "out of memory"),
+    }
+}
+
+/// Answers the line.
+fn print_answer(rt: &HostRuntime, line: &str) -> io::Result<()> {
+    let alloc = rt.alloc();
+    match range_of(line) {
+        Some((from, count)) => print_tally(rt, agree(alloc, from, count)),
+        None => print_kernel(rt, answer(alloc, line)),
+    }
+}
+
+fn main(rt: HostRuntime) -> io::Result<()> {
+    for line in rt.lines(rt.alloc()) {
+        let line = line?;
+        print_answer(&rt, line.as_str())?;
+    }
+    Ok(())
+}

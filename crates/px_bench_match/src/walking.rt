@@ -1,0 +1,145 @@
+//! The problem that is asked about, its facts, and its atoms.
+ghost use Rattle.std.specs.Prelude.{◌≤◌, length};
+
+use px_base::Sequence;
+use px_ops::Model;
+use px_terms::{Atom, ClauseArena, NoMemory, Problem, Schema, Term, is_ground};
+use std::alloc::Global;
+
+/// Each object is followed by the next one.
+const NEXT: u32 = 0;
+
+/// Two relations that no object has with one and the same.
+const LEFT: u32 = 1;
+
+const RIGHT: u32 = 2;
+
+const WANTED: u32 = 3;
+
+const GIVEN: u32 = 4;
+
+const SPOILED: u32 = 5;
+
+const AT: u32 = 6;
+
+pub fn atom(pred: u32, args: &[Term]) -> Atom
+    requires { length args.now ≤ 6 }
+{
+    match Atom::new(pred, args) {
+        Some(atom) => atom,
+        None => unreachable!(),
+    }
+}
+
+pub fn next(one: Term, other: Term) -> Atom {
+    atom(NEXT, &[one, other])
+}
+
+pub fn left(one: Term, other: Term) -> Atom {
+    atom(LEFT, &[one, other])
+}
+
+pub fn right(one: Term, other: Term) -> Atom {
+    atom(RIGHT, &[one, other])
+}
+
+pub fn wanted(one: Term) -> Atom {
+    atom(WANTED, &[one])
+}
+
+pub fn given(one: Term) -> Atom {
+    atom(GIVEN, &[one])
+}
+
+pub fn spoiled(one: Term) -> Atom {
+    atom(SPOILED, &[one])
+}
+
+pub fn at(one: Term) -> Atom {
+    atom(AT, &[one])
+}
+
+const X: Term = Term::Var(0);
+
+const Y: Term = Term::Var(1);
+
+/// SPOIL(x) needs GIVEN(x), deletes WANTED(x) and adds SPOILED(x).
+fn spoil(alloc: Global) -> Result<Schema, NoMemory> {
+    Ok(Schema {
+        op: 0,
+        params: 1,
+        pre: Sequence::from_slice(alloc, &[given(X)])?,
+        del: Sequence::from_slice(alloc, &[wanted(X)])?,
+        add: Sequence::from_slice(alloc, &[spoiled(X)])?,
+    })
+}
+
+/// WALK(x,y) needs AT(x) and NEXT(x,y), deletes AT(x) and adds AT(y).
+fn walk(alloc: Global) -> Result<Schema, NoMemory> {
+    Ok(Schema {
+        op: 1,
+        params: 2,
+        pre: Sequence::from_slice(alloc, &[at(X), next(X, Y)])?,
+        del: Sequence::from_slice(alloc, &[at(X)])?,
+        add: Sequence::from_slice(alloc, &[at(Y)])?,
+    })
+}
+
+/// So many objects, these relations and these two operators.
+pub fn problem_of(alloc: Global, objects: u32) -> Result<Problem, NoMemory> {
+    let mut schemas = Vec::new(alloc);
+    schemas.push(spoil(alloc)?)?;
+    schemas.push(walk(alloc)?)?;
+    Ok(Problem {
+        objects,
+        arities: Sequence::from_slice(alloc, &[2u8, 2, 2, 1, 1, 1, 1])?,
+        axioms: ClauseArena::new(alloc),
+        schemas: Sequence::from_vec(schemas),
+        height: 8,
+        nodes: 100,
+        shapes: 100,
+    })
+}
+
+/// Takes the atom from the model, or puts it in where it isn't there.
+pub fn change(model: &mut Model, atom: Atom) -> Result<(), NoMemory> {
+    if !model.remove(&atom) && is_ground(&atom) {
+        model.insert(atom)?;
+    }
+    Ok(())
+}
+
+/// Each of so many objects is followed by the next one.
+pub fn links(alloc: Global, count: u32) -> Result<Model, NoMemory> {
+    let mut model = Model::new(alloc);
+    for here in 1..count {
+        change(&mut model, next(Term::Obj(here - 1), Term::Obj(here)))?;
+    }
+    Ok(model)
+}
+
+/// Beside these, 16 objects have a left one and a right one, and no two of these are the same.
+pub fn links_apart(alloc: Global) -> Result<Model, NoMemory> {
+    let mut model = links(alloc, 256)?;
+    for here in 0..16u32 {
+        change(&mut model, left(Term::Obj(here), Term::Obj(2 * here)))?;
+        change(&mut model, right(Term::Obj(here), Term::Obj(2 * here + 1)))?;
+    }
+    Ok(model)
+}
+
+/// Beside these, object 3 is wanted and given, and object 4 is given.
+pub fn links_and_gifts(alloc: Global) -> Result<Model, NoMemory> {
+    let mut model = links(alloc, 256)?;
+    change(&mut model, wanted(Term::Obj(3)))?;
+    change(&mut model, given(Term::Obj(3)))?;
+    change(&mut model, given(Term::Obj(4)))?;
+    Ok(model)
+}
+
+/// Beside these, the walker is at the first of 500 objects.
+pub fn links_and_walker(alloc: Global) -> Result<Model, NoMemory> {
+    let mut model = links(alloc, 500)?;
+    change(&mut model, at(Term::Obj(0)))?;
+    Ok(model)
+}
