@@ -1,6 +1,6 @@
 //! What a search over proofs is asked, how it ends, and the table of its moves.
 //!
-//! These are definitions and their laws, for the search that will meet them. The nodes are those of the goal stack of Fikes
+//! These are definitions and their laws, which the search of `px_search` meets. The nodes are those of the goal stack of Fikes
 //! and Nilsson 1971, with the first steps of learned tables among the entries (Fikes, Hart and Nilsson 1972).
 //!
 //! # Calling it

@@ -7,7 +7,7 @@ use Rattle.px_terms.specs.AtomSets.{atom_set, with_atom, IsAtomSet}
 use Rattle.px_terms.specs.Order.{atom_cmp}
 use Rattle.px_terms.specs.OrderLaws.{atom_cmp-total, atom_cmp-same}
 use Rattle.px_terms.specs.declared.atom.Atom.{Atom}
-use Rattle.px_script.proofs.FactSets.{one-more, set-more, set-grows, Counts, counts-none, counts-old, counts-new}
+use Rattle.px_reader.proofs.FactSets.{one-more, set-more, set-grows, Counts, counts-none, counts-old, counts-new}
 use Rattle.px_script.specs.Declarations.{Declared, atom_of}
 use Rattle.px_reader.specs.StatementViews.{signed_view}
 use Rattle.px_reader.specs.declared.statement.SignedAtom.{SignedAtom}

@@ -1,12 +1,25 @@
+-- characters and tokens
+pub mod Texts
+pub mod Numbers
+pub mod LineFronts
 pub mod TokenLemmas
+-- lists of tokens
+pub mod Steps
+pub mod Walks
 pub mod Parameters
+-- tests of a line
 pub mod AtomTests
 pub mod Variables
 pub mod Seen
 pub mod Bound
+pub mod FactSets
 pub mod Facts
+-- what a line adds
+pub mod Named
 pub mod Right
+pub mod Fresh
 pub mod Building
+-- lines, and the whole input
 pub mod LineLemmas
 pub mod LineSteps
 pub mod Outcomes

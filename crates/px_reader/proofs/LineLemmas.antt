@@ -1,7 +1,7 @@
 -- Lines without what ends them, and what reading a line shows.
 use Rattle.std.proofs.Common.{◌≡◌, ◌≢◌, ℕ, ◌+◌, ◌-◌, ◌<◌, true, false, List, [], ◌∷◌, ◌++◌, take, drop, length, get_or, refl, sym, ap, ◌∙◌, subst, inl, inr, arith}
 use Rattle.std.specs.Prelude.{Option, None, Some, Result, Ok, Err, OnOk, IfErr, encode_utf8, slice_index, ◌==◌}
-use Rattle.std.specs.Str.{bytes_eq}
+use Rattle.std.specs.Str.{all_scalars, bytes_eq}
 use Rattle.std.specs.Str.Pattern.{HasCharAt}
 use Rattle.std.proofs.lemmas.Bool.{eqb-true}
 use Rattle.std.proofs.lemmas.List.{take-append-drop, take_more, take_all}
@@ -11,7 +11,8 @@ use Rattle.px_script.specs.Lines.{mark, without_mark, without_return}
 use Rattle.px_script.specs.Statements.{Statement, line_of}
 use Rattle.px_script.specs.Forms.{Forms, begins_with_word, is_formed}
 use Rattle.px_script.specs.Declarations.{Declared, after_line}
-use Rattle.px_script.specs.Faults.{fault_of, coded}
+use Rattle.px_script.specs.Faults.{fault_at, coded}
+use Rattle.px_script.specs.Stages.{Stage}
 use Rattle.px_script.specs.Scripts.{Passes, Fails}
 use Rattle.px_script.proofs.Forms.{parse-sound, parse-complete}
 use Rattle.px_script.proofs.Fronts.{by_test}
@@ -20,7 +21,9 @@ use Rattle.px_reader.specs.declared.fault.LineErr.{LineErr}
 use Rattle.px_reader.specs.declared.fault.LineErr.TheVariants.{Fault, NoMemory}
 use Rattle.px_reader.specs.declared.token.Token.{Token}
 use Rattle.px_reader.specs.StatementViews.{lexemes_of}
+use Rattle.px_reader.specs.Checks.{DeclaresNames}
 use Rattle.px_reader.specs.LineReads.{StatementFails, LineFails}
+use Rattle.px_reader.proofs.Named.{declared-named}
 use lib.Utf8.{encode}
 
 mark-encoded : encode_utf8 0xFEFF ≡ mark
@@ -56,7 +59,7 @@ tail-all [] = refl
 tail-all (x ∷ xs) = ap (λ k. take k xs) (omega arith) ∙ take_all (length xs) xs (omega arith)
 
 -- A line has lexemes, and begins with a word; the parser was given the tokens past the word.
-module _ (d : Declared) (line : List ℕ) (tokens : List Token) (lexes : Lexes line (lexemes_of tokens)) (w : List ℕ)
+module _ (stage : Stage) (d : Declared) (line : List ℕ) (tokens : List Token) (lexes : Lexes line (lexemes_of tokens)) (w : List ℕ)
     (is : lexemes_of tokens ≡ name w ∷ lexemes_of (drop 1 tokens)) (now : List Token) (same : now ≡ tokens) where
   abbrev rest : List Lexeme
   rest = lexemes_of (drop 1 tokens)
@@ -76,18 +79,21 @@ module _ (d : Declared) (line : List ℕ) (tokens : List Token) (lexes : Lexes l
   pub formed : (s : Statement) → Some s ≡ parse d (name w ∷ given) → is_formed d (line_of s) ≡ true
   formed s e = (form s e).1
 
+  pub named : all_scalars line ≡ true → (s : Statement) → Some s ≡ parse d (name w ∷ given) → DeclaresNames s
+  named scalars s e = declared-named d line (name w ∷ rest) s scalars read (form s e)
+
   pub passes-read : (n : ℕ) (after : Declared) (r : Result (Unit {0}) LineErr) (s : Statement) → Some s ≡ parse d (name w ∷ given)
-      → OnOk r (fault_of d s ≡ None) → OnOk r (after ≡ after_line n d s) → OnOk r (Passes n d line after)
+      → OnOk r (fault_at stage d s ≡ None) → OnOk r (after ≡ after_line n d s) → OnOk r (Passes stage n d line after)
   passes-read n after (Ok x) s e right declared = (name w ∷ rest, read, (s, form s e, right, declared))
   passes-read n after (Err x) s e right declared = tt
 
   pub statement-fails : (r : Result (Unit {0}) LineErr) (s : Statement) → Some s ≡ parse d (name w ∷ given)
-      → IfErr r (StatementFails d s) → IfErr r (LineFails d line)
+      → IfErr r (StatementFails stage d s) → IfErr r (LineFails stage d line)
   statement-fails (Ok x) s e fails = tt
   statement-fails (Err (Fault fault)) s e fails = inr (name w ∷ rest, read, inr (inr (s, form s e, fails)))
   statement-fails (Err NoMemory) s e fails = tt
 
-  pub fails-form : begins_with_word d (lexemes_of tokens) ≡ true → None ≡ parse d (name w ∷ given) → Fails d line (coded 2)
+  pub fails-form : begins_with_word d (lexemes_of tokens) ≡ true → None ≡ parse d (name w ∷ given) → Fails stage d line (coded 2)
   fails-form word e =
       let no-form : (s : Statement) → Forms d (name w ∷ rest) s
       → ⊥ = λ s forms. let p = parse-complete d (name w ∷ rest) s forms in let q = parsed None e in cc in

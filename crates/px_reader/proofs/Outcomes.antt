@@ -12,25 +12,29 @@ use Rattle.px_script.specs.Content.{ScriptValue}
 use Rattle.px_script.specs.Declarations.{Declared, OpenBlock}
 use Rattle.px_script.specs.Faults.{Refusal}
 use Rattle.px_script.specs.Lines.{mark, without_mark, without_return, lines_of}
+use Rattle.px_script.specs.StageRanges.{IsOfStage}
+use Rattle.px_script.specs.Stages.{Stage}
 use Rattle.px_script.specs.Scripts.{PassAll, FailsIn, IsScript, FirstFault, ReadsOneWay}
 use Rattle.px_script.proofs.Fronts.{by_test}
 use Rattle.px_script.proofs.Law.{reads-one-way}
+use Rattle.px_script.proofs.Stage.{of-stage}
 use Rattle.px_reader.specs.declared.script.Script.{Script}
 use Rattle.px_reader.specs.declared.script.ScriptErr.{ScriptErr}
 use Rattle.px_reader.specs.declared.script.ScriptErr.TheVariants.{Refused, NoMemory}
 use Rattle.px_reader.specs.LineReads.{characters_of, LinesFail, HasFirstFault, IsRead, IsRefused, NamesFault, content, refusal_told}
 use denote.Ref.{Bor}
 
-pub text-fails : (text : List ℕ) (error : ScriptErr) → IsUtf8 text → LinesFail (lines_of text) error → HasFirstFault text error
-text-fails text (Refused refused) utf8 fails = inr (utf8, fails)
-text-fails text NoMemory utf8 fails = tt
+pub text-fails : (stage : Stage) (text : List ℕ) (error : ScriptErr) → IsUtf8 text → LinesFail stage (lines_of text) error
+    → HasFirstFault stage text error
+text-fails stage text (Refused refused) utf8 fails = inr (utf8, fails)
+text-fails stage text NoMemory utf8 fails = tt
 
 -- after lines without a fault an open block is the first
-pub left-open : (n : ℕ) (d : Declared) (lines : List (List ℕ)) (last : Declared) (block : OpenBlock) → PassAll n d lines last
-    → last.block ≡ Some block → FailsIn n d lines block.line (record { code = 10; limit = 0 })
-left-open n d [] last block same opened = (block, ap (λ e. e.block) (sym same) ∙ opened, refl, refl)
-left-open n d (line ∷ lines) last block passes opened
-    = inr (passes.0, passes.1, left-open (n + 1) passes.0 lines last block passes.2 opened)
+pub left-open : (stage : Stage) (n : ℕ) (d : Declared) (lines : List (List ℕ)) (last : Declared) (block : OpenBlock) → PassAll stage n d lines last
+    → last.block ≡ Some block → FailsIn stage n d lines block.line (record { code = 10; limit = 0 })
+left-open stage n d [] last block same opened = (block, ap (λ e. e.block) (sym same) ∙ opened, refl, refl)
+left-open stage n d (line ∷ lines) last block passes opened
+    = inr (passes.0, passes.1, left-open stage (n + 1) passes.0 lines last block passes.2 opened)
 
 -- the lines of a text by its parts
 pub parts-lines : (parts : List (Bor (List ℕ))) (text : List ℕ)
@@ -55,25 +59,30 @@ pub err-carried : {A : Type 0} (r : Result A ScriptErr) (P : ScriptErr → Type 
 err-carried (Ok a) P x is p = tt
 err-carried (Err e) P x is p = subst P (sym is) p
 
-module _ (bytes : List ℕ) where
-  law : ReadsOneWay bytes
-  law = reads-one-way bytes
+module _ (stage : Stage) (bytes : List ℕ) where
+  law : ReadsOneWay stage bytes
+  law = reads-one-way stage bytes
 
-  error-read : (error : ScriptErr) → HasFirstFault bytes error → (value : ScriptValue) → IsScript bytes value → error ≡ NoMemory
+  error-read : (error : ScriptErr) → HasFirstFault stage bytes error → (value : ScriptValue) → IsScript stage bytes value → error ≡ NoMemory
   error-read (Refused refused) fault value is = absurd (law.not_both is.last refused.line (refusal_told refused) is.spells fault)
   error-read NoMemory fault value is = refl
 
-  error-named : (error : ScriptErr) → HasFirstFault bytes error → (line : ℕ) (refusal : Refusal) → FirstFault bytes line refusal
+  error-named : (error : ScriptErr) → HasFirstFault stage bytes error → (line : ℕ) (refusal : Refusal) → FirstFault stage bytes line refusal
       → NamesFault error line refusal
   error-named (Refused refused) fault line refusal first = law.one_fault refused.line line (refusal_told refused) refusal fault first
   error-named NoMemory fault line refusal first = tt
 
-  pub all-scripts : (r : Result Script ScriptErr) → IfOk r (λ s. IsScript bytes (content s)) → IfErr r (HasFirstFault bytes)
-      → (value : ScriptValue) → IsScript bytes value → IsRead r value
+  pub all-scripts : (r : Result Script ScriptErr) → IfOk r (λ s. IsScript stage bytes (content s)) → IfErr r (HasFirstFault stage bytes)
+      → (value : ScriptValue) → IsScript stage bytes value → IsRead r value
   all-scripts (Ok s) script fault value is = law.one_content (content s) value script is
   all-scripts (Err error) script fault value is = error-read error fault value is
 
-  pub all-faults : (r : Result Script ScriptErr) → IfOk r (λ s. IsScript bytes (content s)) → IfErr r (HasFirstFault bytes)
-      → (line : ℕ) (refusal : Refusal) → FirstFault bytes line refusal → IsRefused r line refusal
+  pub all-faults : (r : Result Script ScriptErr) → IfOk r (λ s. IsScript stage bytes (content s)) → IfErr r (HasFirstFault stage bytes)
+      → (line : ℕ) (refusal : Refusal) → FirstFault stage bytes line refusal → IsRefused r line refusal
   all-faults (Ok s) script fault line refusal first = law.not_both script.last line refusal script.spells first
   all-faults (Err error) script fault line refusal first = error-named error fault line refusal first
+
+  -- what a script has of the stage
+  pub of-stage-read : (r : Result Script ScriptErr) → IfOk r (λ s. IsScript stage bytes (content s)) → IfOk r (λ s. IsOfStage stage (content s))
+  of-stage-read (Ok s) script = of-stage stage bytes (content s) script
+  of-stage-read (Err error) script = tt

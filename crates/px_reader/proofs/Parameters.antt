@@ -14,7 +14,7 @@ use Rattle.px_script.specs.Items.{is_parameter_number, parameter_name}
 use Rattle.px_script.proofs.Parsing.{parameter_if, parameter_of}
 use Rattle.px_script.proofs.Fronts.{by_test}
 use Rattle.px_script.proofs.Firsts.{and_both}
-use Rattle.px_script.proofs.Numbers.{own}
+use Rattle.px_reader.proofs.Numbers.{own}
 
 -- the text of a number above 0 doesn't begin with a zero or a sign
 abbrev BeginsAbove : ℕ → List ℕ → Type 0

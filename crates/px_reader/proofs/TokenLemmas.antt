@@ -3,8 +3,8 @@ use Rattle.std.proofs.Common.{◌≡◌, ℕ, ◌+◌, ◌≤◌, ◌<◌, List,
 use Rattle.std.specs.Prelude.{Option, None, Some, Result, Ok, Err, IfOk, OnOk}
 use Rattle.std.proofs.lemmas.List.{map-append, drop-drop, drop-map, length-drop, length-map, drop_all}
 use Rattle.px_script.specs.Lexemes.{Lexeme, name}
-use Rattle.px_script.proofs.Parsing.{all_of, items_at, name_of, operator_form}
-use Rattle.px_script.proofs.Walks.{Advances, before, walk-more, walk-stuck, walk-end}
+use Rattle.px_script.proofs.Parsing.{all_of, names_at, operator_form}
+use Rattle.px_reader.proofs.Walks.{Advances, before, walk-more, walk-stuck, walk-end}
 use Rattle.px_reader.specs.StatementViews.{lexemes_of}
 use Rattle.px_reader.specs.Views.{lexeme_of}
 use Rattle.px_reader.specs.declared.token.Token.{Token}
@@ -56,7 +56,7 @@ things-end view one advances tokens at got whole ended =
 
 -- parameters that aren't the end of the line
 pub no-operator : (n : List ℕ) (rest : List Lexeme) (parameters : List (List ℕ)) (after : List Lexeme)
-    → Some (parameters, after) ≡ items_at name_of rest → 0 < length after
+    → Some (parameters, after) ≡ names_at rest → 0 < length after
     → None ≡ operator_form (name n ∷ rest)
 no-operator n rest parameters [] e more = let no : ⊥ = omega (arith, more) in elim no [ ]
 no-operator n rest parameters (x ∷ xs) e more = rw (← e) refl

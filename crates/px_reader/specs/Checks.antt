@@ -1,14 +1,23 @@
 -- Tests of the code's statements, and of what it has of them.
-use Rattle.std.specs.Prelude.{◌≤◌, ℕ, Bool, List, All, length, not, nat_lt, if◌then◌else◌, fold, Option}
-use Rattle.std.specs.List.{list_any}
+use Rattle.std.specs.Prelude.{◌≡◌, ◌≤◌, ℕ, Bool, true, List, All, length, not, nat_lt, if◌then◌else◌, fold, Option}
+use Rattle.std.specs.List.{AllByRecursion, list_any}
 use Rattle.px_names.specs.Lists.{has_name}
+use Rattle.px_names.specs.Name.{is_name_text}
 use Rattle.px_script.specs.Causes.{is_known_argument, takes}
-use Rattle.px_script.specs.Declarations.{Declared, OpenOperator, parameters_here, names_here, with_variable}
+use Rattle.px_script.specs.Declarations.{Declared, OpenOperator, parameters_here, names_here, declared_by, with_variable}
 use Rattle.px_script.specs.Faults.{grown}
 use Rattle.px_script.specs.Statements.{Statement, Manner, line_of, pre, delete, add}
 use Rattle.px_script.specs.Items as spec
 use Rattle.px_reader.specs.StatementViews.{argument_view}
 use Rattle.px_reader.specs.declared.statement.SignedAtom.{SignedAtom}
+
+-- the names of a group are names
+abbrev pub IsNamedGroup : spec.Named × List (List ℕ) → Type 0
+IsNamedGroup group = All (λ n. is_name_text n ≡ true) group.1
+
+-- The names that a line declares are names.
+abbrev pub DeclaresNames : Statement → Type 0
+DeclaresNames s = AllByRecursion IsNamedGroup (declared_by (line_of s))
 
 -- an atom with a variable
 abbrev pub varies : SignedAtom → Bool

@@ -2,6 +2,7 @@ pub mod CommandViews
 pub mod Classes
 pub mod StatementViews
 pub mod LineViews
+pub mod Progress
 pub mod Tokens
 pub mod Views
 pub mod Words

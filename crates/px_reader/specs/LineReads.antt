@@ -3,8 +3,9 @@ use Rattle.std.specs.Prelude.{◌≡◌, ℕ, List, map, Some, Ok, Err, Result, 
 use Rattle.std.specs.Str.{chars}
 use Rattle.px_script.specs.Content.{ScriptValue}
 use Rattle.px_script.specs.Declarations.{Declared, nothing_declared}
-use Rattle.px_script.specs.Faults.{Refusal, fault_of}
+use Rattle.px_script.specs.Faults.{Refusal, fault_at}
 use Rattle.px_script.specs.Lines.{without_return}
+use Rattle.px_script.specs.Stages.{Stage}
 use Rattle.px_script.specs.Scripts.{Fails, FailsIn, FirstFault}
 use Rattle.px_script.specs.Statements.{Statement}
 use Rattle.px_reader.specs.declared.fault.Fault.{Fault}
@@ -16,17 +17,22 @@ use Rattle.px_reader.specs.declared.script.ScriptErr.TheVariants as script
 use Rattle.px_reader.specs.declared.script.Script.{Script}
 use Rattle.px_reader.specs.FaultViews.{refusal_of}
 use Rattle.px_reader.specs.CommandViews.{script_of}
+use Rattle.px_reader.specs.StatementViews.{text_of}
 use denote.Ref.{Bor}
 
+-- the words of a stage
+abbrev pub stage_view : List (Bor (List ℕ)) → Stage
+stage_view words = map text_of words
+
 -- a statement's fault is the first, unless memory ran out
-abbrev pub StatementFails : Declared → Statement → LineErr → Type 0
-StatementFails d s (line.Fault fault) = fault_of d s ≡ Some (refusal_of fault)
-StatementFails d s line.NoMemory = Unit {0}
+abbrev pub StatementFails : Stage → Declared → Statement → LineErr → Type 0
+StatementFails stage d s (line.Fault fault) = fault_at stage d s ≡ Some (refusal_of fault)
+StatementFails stage d s line.NoMemory = Unit {0}
 
 -- a line's fault is the first, unless memory ran out
-abbrev pub LineFails : Declared → List ℕ → LineErr → Type 0
-LineFails d characters (line.Fault fault) = Fails d characters (refusal_of fault)
-LineFails d characters line.NoMemory = Unit {0}
+abbrev pub LineFails : Stage → Declared → List ℕ → LineErr → Type 0
+LineFails stage d characters (line.Fault fault) = Fails stage d characters (refusal_of fault)
+LineFails stage d characters line.NoMemory = Unit {0}
 
 -- the characters of lines without what ends them
 abbrev pub characters_of : List (Bor (List ℕ)) → List (List ℕ)
@@ -40,14 +46,14 @@ abbrev pub told : ℕ → Fault → ScriptErr
 told line fault = script.Refused (record { line = line; code = (refusal_of fault).code; limit = (refusal_of fault).limit })
 
 -- the lines have this first fault, unless memory ran out
-abbrev pub LinesFail : List (List ℕ) → ScriptErr → Type 0
-LinesFail lines (script.Refused refused) = FailsIn 1 nothing_declared lines refused.line (refusal_told refused)
-LinesFail lines script.NoMemory = Unit {0}
+abbrev pub LinesFail : Stage → List (List ℕ) → ScriptErr → Type 0
+LinesFail stage lines (script.Refused refused) = FailsIn stage 1 nothing_declared lines refused.line (refusal_told refused)
+LinesFail stage lines script.NoMemory = Unit {0}
 
 -- the bytes have this first fault, unless memory ran out
-abbrev pub HasFirstFault : List ℕ → ScriptErr → Type 0
-HasFirstFault bytes (script.Refused refused) = FirstFault bytes refused.line (refusal_told refused)
-HasFirstFault bytes script.NoMemory = Unit {0}
+abbrev pub HasFirstFault : Stage → List ℕ → ScriptErr → Type 0
+HasFirstFault stage bytes (script.Refused refused) = FirstFault stage bytes refused.line (refusal_told refused)
+HasFirstFault stage bytes script.NoMemory = Unit {0}
 
 -- what a script is about, as contracts see it
 abbrev pub content : Script → ScriptValue

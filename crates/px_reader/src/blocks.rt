@@ -1,6 +1,7 @@
 //! What the lines of blocks add.
-ghost use Rattle.std.specs.Prelude.{◌≡◌, ◌≢◌, ◌≤◌, ◌<◌, ◌^◌, ◌++◌, ◌∷◌, [], length, map, All, IfOk, OnOk};
+ghost use Rattle.std.specs.Prelude.{◌≡◌, ◌≢◌, ◌≤◌, ◌<◌, ◌^◌, ◌++◌, ◌∷◌, [], None, length, map, All, IfOk, OnOk};
 ghost use Rattle.std.specs.String.{string_bytes};
+ghost use Rattle.px_names.specs.Lists.{refusal};
 ghost use Rattle.px_script.specs.Declarations.{parameters_here, with_thing};
 ghost use Rattle.px_script.specs.Statements as spec;
 ghost use Rattle.px_script.proofs.States.{AreInRange};
@@ -37,6 +38,7 @@ impl Reader {
         name: &str,
         parameters: &[&str],
     ) -> Result<(), NoMemory>
+        requires { refusal Kind.Operator self.old.names name.now ≡ None }
         ensures { OnOk result (declared_of self.new
             ≡ leaves line (declared_of self.old) (spec.operator name.now (map text_of parameters.now))) }
     {
@@ -116,6 +118,8 @@ impl Reader {
 
     /// Opens the building's block, and declares the names that a building gives to its script.
     pub fn open_building(&mut self, line: u32) -> Result<(), NoMemory>
+        requires objects { self.old.names.objects ≡ [] }
+        requires predicates { self.old.names.predicates ≡ [] }
         ensures { OnOk result (declared_of self.new ≡ leaves line (declared_of self.old) (spec.building)) }
     {
         self.add_name(Kind::Object, "ROBOT")?;
@@ -129,6 +133,7 @@ impl Reader {
     }
 
     fn declare_building_predicates(&mut self) -> Result<(), NoMemory>
+        requires { self.old.names.predicates ≡ [] }
         ensures { OnOk result (declared_of self.new ≡ with_building_predicates (declared_of self.old)) }
     {
         self.declare_predicate("INROOM", 2)?;
@@ -142,6 +147,7 @@ impl Reader {
     }
 
     pub fn add_room(&mut self, name: &str) -> Result<(), NoMemory>
+        requires { refusal Kind.Object self.old.names name.now ≡ None }
         ensures { OnOk result (declared_of self.new ≡ leaves 0 (declared_of self.old) (spec.room name.now)) }
     {
         self.add_name(Kind::Object, name)?;
@@ -156,6 +162,7 @@ impl Reader {
         other: &str,
         is_open: bool,
     ) -> Result<(), NoMemory>
+        requires { refusal Kind.Object self.old.names name.now ≡ None }
         ensures { OnOk result (declared_of self.new ≡ leaves 0 (declared_of self.old) (spec.door name.now one.now other.now is_open)) }
     {
         let a = self.object(one);
@@ -166,6 +173,7 @@ impl Reader {
     }
 
     pub fn add_box(&mut self, name: &str, room: &str) -> Result<(), NoMemory>
+        requires { refusal Kind.Object self.old.names name.now ≡ None }
         ensures { OnOk result (declared_of self.new ≡ leaves 0 (declared_of self.old) (spec.box name.now room.now)) }
     {
         let room = self.object(room);

@@ -2,12 +2,12 @@
 ghost use Rattle.std.specs.Prelude.{◌≡◌, ◌++◌};
 ghost use Rattle.std.specs.Str.{IsUtf8, chars};
 ghost use Rattle.px_reader.specs.Classes.{is_of};
-ghost use Rattle.px_script.proofs.Progress.{Skips};
+ghost use Rattle.px_reader.specs.Progress.{Skips};
 ghost use Rattle.px_script.proofs.Scanning.{front_while, after_while};
 
 use px_names::split_first;
 
-#[derive(Clone, Copy, Debug, PartialEq, Eq)]
+#[derive(Clone, Copy)]
 pub enum Class {
     Blank,
     Continues,

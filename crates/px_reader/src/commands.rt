@@ -1,5 +1,6 @@
 //! The commands that lines add.
-ghost use Rattle.std.specs.Prelude.{◌≡◌, ◌≤◌, ◌<◌, ◌∷◌, [], length, map, IfOk, OnOk};
+ghost use Rattle.std.specs.Prelude.{◌≡◌, ◌≤◌, ◌<◌, ◌∷◌, [], None, length, map, IfOk, OnOk};
+ghost use Rattle.px_names.specs.Lists.{refusal};
 ghost use Rattle.px_script.specs.Declarations.{parameters_here, number_in, variables_of, with_command, with_names};
 ghost use Rattle.px_script.specs.Items.{a_plan};
 ghost use Rattle.px_script.specs.Statements as spec;
@@ -26,6 +27,7 @@ impl Reader {
     pub fn add_plan(&mut self, name: &str, goal: &[SignedAtom<'_>]) -> Result<(), NoMemory>
         requires few_variables { length (variables_of (map signed_view goal.now)) ≤ 12 }
         requires readable { AreReadable (declared_of self.old) goal.now }
+        requires fresh { refusal Kind.Result self.old.names name.now ≡ None }
         ensures { OnOk result (declared_of self.new ≡ leaves 0 (declared_of self.old) (spec.plan name.now (map signed_view goal.now))) }
     {
         let variables = few_variables(self.alloc, goal)?;
@@ -40,6 +42,7 @@ impl Reader {
 
     /// Adds the name of a plan, and answers its number.
     fn add_plan_name(&mut self, name: &str) -> Result<u32, NoMemory>
+        requires { refusal Kind.Result self.old.names name.now ≡ None }
         ensures number { IfOk result (λ number. number ≡ length self.old.names.results) }
         ensures declared { OnOk result (declared_of self.new ≡ with_names a_plan (name.now ∷ []) (declared_of self.old)) }
     {
@@ -49,6 +52,7 @@ impl Reader {
     }
 
     pub fn add_learned(&mut self, name: &str, source: &str) -> Result<(), NoMemory>
+        requires { refusal Kind.Result self.old.names name.now ≡ None }
         ensures { OnOk result (declared_of self.new ≡ leaves 0 (declared_of self.old) (spec.learn name.now source.now)) }
     {
         let source = self.result(source);

@@ -1,16 +1,18 @@
 //! What a line without a fault adds.
-ghost use Rattle.std.specs.Prelude.{◌≡◌, ◌≤◌, ◌++◌, [], true, None, length, map, All, IfOk, OnOk};
-ghost use Rattle.px_names.specs.Lists.{names_of, with_name};
+ghost use Rattle.std.specs.Prelude.{◌≡◌, ◌≤◌, ◌+◌, ◌++◌, [], true, false, None, length, map, All, IfOk, OnOk};
+ghost use Rattle.px_names.specs.Lists.{names_of, refusal, with_name};
+ghost use Rattle.px_names.specs.Name.{is_name_text};
 ghost use Rattle.px_terms.specs.AtomSets.{atom_set, with_atom, IsAtomSet};
 ghost use Rattle.px_terms.specs.Clauses.{ArePlainBelow};
 ghost use Rattle.px_terms.specs.Instances.{IsGround};
 ghost use Rattle.px_script.specs.Declarations.{parameters_here, atom_of, literal_of, variables_of};
-ghost use Rattle.px_script.specs.Faults.{fault_of};
+ghost use Rattle.px_script.specs.Causes.{repeats};
 ghost use Rattle.px_script.specs.Forms.{is_formed};
 ghost use Rattle.px_script.specs.Statements as spec;
 ghost use Rattle.px_script.specs.Statements.{line_of};
+ghost use Rattle.px_script.proofs.Faultless.{IsFaultless};
 ghost use Rattle.px_script.proofs.States.{AreInRange};
-ghost use Rattle.px_reader.specs.Checks.{AreReadable};
+ghost use Rattle.px_reader.specs.Checks.{AreReadable, DeclaresNames};
 ghost use Rattle.px_reader.specs.Readers.{declared_of, leaves};
 ghost use Rattle.px_reader.specs.StatementViews.{signed_view, statement_view, text_of};
 
@@ -20,7 +22,7 @@ use crate::reader::Reader;
 use crate::statement::{SignedAtom, Statement};
 use crate::terms::few_variables;
 use px_base::NoMemory;
-use px_names::Kind;
+use px_names::{Kind, NameErr};
 use px_terms::Atom;
 
 impl Reader {
@@ -28,7 +30,8 @@ impl Reader {
     pub fn declare(&mut self, line: u32, statement: Statement<'_>) -> Result<(), NoMemory>
         requires range { AreInRange (declared_of self.old) }
         requires formed { is_formed (declared_of self.old) (line_of (statement_view statement)) ≡ true }
-        requires faultless { fault_of (declared_of self.old) (statement_view statement) ≡ None }
+        requires faultless { IsFaultless (declared_of self.old) (statement_view statement) }
+        requires named { DeclaresNames (statement_view statement) }
         ensures { OnOk result (declared_of self.new ≡ leaves line (declared_of self.old) (statement_view statement.entry)) }
     {
         match statement {
@@ -82,16 +85,23 @@ impl Reader {
 
     /// Adds a name that its kind hasn't and has room for.
     pub fn add_name(&mut self, kind: Kind, name: &str) -> Result<u32, NoMemory>
+        requires { refusal kind self.old.names name.now ≡ None }
         ensures number { IfOk result (λ number. number ≡ length (names_of kind self.old.names)) }
         ensures declared { OnOk result (self.new ≡ record self.old { names = with_name kind name.now self.old.names }) }
     {
         match self.names.declare(kind, name) {
             Ok(number) => Ok(number),
-            Err(_) => Err(NoMemory),
+            Err(error) => {
+                prove!(matches!(error, NameErr::NoMemory));
+                Err(NoMemory)
+            }
         }
     }
 
     fn declare_objects(&mut self, names: &[&str]) -> Result<(), NoMemory>
+        requires named { All (λ name. is_name_text name.now ≡ true) names.now }
+        requires single { repeats self.old.names.objects (map text_of names.now) ≡ false }
+        requires few { length self.old.names.objects + length names.now ≤ 256 }
         ensures { OnOk result (self.new
             ≡ record self.old { names = record self.old.names { objects = self.old.names.objects ++ map text_of names.now } }) }
     {
@@ -102,6 +112,7 @@ impl Reader {
     }
 
     pub fn declare_predicate(&mut self, name: &str, arity: u8) -> Result<(), NoMemory>
+        requires { refusal Kind.Predicate self.old.names name.now ≡ None }
         ensures { OnOk result (declared_of self.new ≡ leaves 0 (declared_of self.old) (spec.predicate name.now arity)) }
     {
         self.add_name(Kind::Predicate, name)?;

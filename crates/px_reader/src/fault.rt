@@ -6,7 +6,7 @@ ghost use Rattle.px_reader.specs.FaultViews.{limit_number, refusal_of, line_erro
 use crate::lexing::LexErr;
 
 /// What a script has limits of, in the order of their numbers.
-#[derive(Clone, Copy, Debug, PartialEq, Eq)]
+#[derive(Clone, Copy)]
 pub enum Limit {
     /// Bytes of a name that has a number in its kind.
     NameBytes,
@@ -60,7 +60,7 @@ impl Limit {
 }
 
 /// What is wrong with a line.
-#[derive(Clone, Copy, Debug, PartialEq, Eq)]
+#[derive(Clone, Copy)]
 pub enum Fault {
     /// A byte belongs to no character.
     NotText,
@@ -109,7 +109,7 @@ impl Fault {
 }
 
 /// Why a line isn't read.
-#[derive(Clone, Copy, Debug, PartialEq, Eq)]
+#[derive(Clone, Copy)]
 pub enum LineErr {
     Fault(Fault),
     NoMemory,

@@ -14,7 +14,7 @@ use px_base::NoMemory;
 use std::alloc::Global;
 
 /// What a line of one number sets.
-#[derive(Clone, Copy, Debug, PartialEq, Eq)]
+#[derive(Clone, Copy)]
 pub enum Setting {
     Version,
     Height,
@@ -230,7 +230,7 @@ pub fn run<'a>(alloc: Global, tokens: &[Token<'a>]) -> Result<Option<Statement<'
 }
 
 /// What the atoms of a line are that has nothing else.
-#[derive(Clone, Copy, Debug, PartialEq, Eq)]
+#[derive(Clone, Copy)]
 pub enum Role {
     Axiom,
     Pre,

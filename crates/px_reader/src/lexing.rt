@@ -9,7 +9,7 @@ ghost use Rattle.px_reader.specs.Views.{lexeme_of};
 use crate::token::{Token, first_token};
 use std::alloc::{AllocFailed, Global};
 
-#[derive(Clone, Copy, Debug, PartialEq, Eq)]
+#[derive(Clone, Copy)]
 pub enum LexErr {
     BadToken,
     NoMemory,

@@ -6,15 +6,17 @@
 //!   problem, its facts, its building if it has one, and its commands. What it is about follows from the bytes alone
 //!   (`IsScript` of `px_script`). The problem is valid, each of its numbers has a name, the facts are ground atoms of it, the
 //!   numbers in the commands are in range, and all is within the limits. A `Script` keeps that (`in_range`, by `IsInRange` of
-//!   `px_script`), and that it has only what is built (`of_stage`, by `IsOfStage`), so a caller may hand its parts on to the
-//!   search and the printer.
+//!   `px_script`), so a caller may hand its parts on to the search and the printer. One that is read has only commands of words
+//!   that are built (`of_stage`, by `IsOfStage`).
 //! - Where the bytes are no script it answers [`ScriptErr::Refused`] with the first fault: its line from 1, its code, and
 //!   the number of the limit that is passed, or 0. That comes exactly where `FirstFault` of `px_script` holds.
 //! - [`Command`] is what a script asks for, in its order.
-//! - All words of version 1 are read, and what they say is declared and checked. Which of them are built is told in one place,
-//!   `is_unbuilt`: a line of another word is refused with code 11 where no cause stands before it. A bad form has code 2, as
-//!   the bare word `room`; and a line out of order has code 9, as those of `room`, `door`, `box` and `robot` that have their
-//!   form always are, since no building's block can be open.
+//! - All words of version 1 are read, and what they say is declared and checked, but for what a building gives to its
+//!   script, its problem and its first facts: that comes with buildings. Which words are built is told in one place, the list
+//!   `STAGE` of `reading` (`stage_now` of `px_script`); below it all is proved for whatever words are built. A line of another
+//!   word is refused with code 11 where no cause stands before it. A bad form has code 2, as the bare word `room`; and a line out
+//!   of order has code 9, as those of `room`, `door`, `box` and `robot` that have their form always are, since no building's
+//!   block can be open.
 //! - Tokens and names borrow from the input. How fast it reads is measured (`bench/reading`).
 //!
 //! # How it is made

@@ -12,14 +12,14 @@ ghost use Rattle.px_reader.specs.StatementViews.{argument_view, sign_view, signe
 use crate::statement::{Argument, Sign, SignedAtom, Statement};
 
 /// What a block is of.
-#[derive(Clone, Copy, Debug, PartialEq, Eq)]
+#[derive(Clone, Copy)]
 pub enum Block {
     Operator,
     Building,
 }
 
 /// Where a line may stand.
-#[derive(Clone, Copy, Debug, PartialEq, Eq)]
+#[derive(Clone, Copy)]
 pub enum Place {
     /// Only as the first line with tokens.
     First,
@@ -42,7 +42,7 @@ impl Place {
 }
 
 /// What the atoms of a line may be, and of which scripts its edits are.
-#[derive(Clone, Copy, Debug, PartialEq, Eq)]
+#[derive(Clone, Copy)]
 pub enum Manner {
     /// Names as arguments.
     Plain,
@@ -91,6 +91,38 @@ impl Argument<'_> {
 }
 
 impl<'a> Statement<'a> {
+    /// The word that begins the line.
+    pub fn word(&self) -> &'static str
+        ensures { result.now ≡ (line_of (statement_view self.now)).word }
+    {
+        match self {
+            Statement::Script(_) => "script",
+            Statement::Object(_) => "object",
+            Statement::Predicate(_, _) => "predicate",
+            Statement::Axiom(_) => "axiom",
+            Statement::Operator(_, _) => "operator",
+            Statement::Pre(_) => "pre",
+            Statement::Delete(_) => "delete",
+            Statement::Add(_) => "add",
+            Statement::Building => "building",
+            Statement::Room(_) => "room",
+            Statement::Door(_, _, _, _) => "door",
+            Statement::Box(_, _) => "box",
+            Statement::Robot(_) => "robot",
+            Statement::End => "end",
+            Statement::Fact(_) => "fact",
+            Statement::Height(_) => "height",
+            Statement::Nodes(_) => "nodes",
+            Statement::Shapes(_) => "shapes",
+            Statement::Plan(_, _) => "plan",
+            Statement::Learn(_, _) => "learn",
+            Statement::Show(_) => "show",
+            Statement::DisturbAtoms(_, _, _) | Statement::DisturbRooms(_, _, _) => "disturb",
+            Statement::Run(_, _) => "run",
+            Statement::Facts => "facts",
+        }
+    }
+
     pub fn place(&self) -> Place
         ensures { place_view result ≡ (line_of (statement_view self.now)).place }
     {

@@ -2,7 +2,7 @@
 ghost use Rattle.std.specs.Prelude.{◌≡◌, ◌≤◌, ◌<◌, ◌+◌, drop, length, IfOk, IfSome, IsTrue, map};
 ghost use Rattle.std.specs.Option.{option_map};
 ghost use Rattle.px_script.specs.Lexemes.{sign};
-ghost use Rattle.px_script.proofs.Parsing.{argument_of, name_of, names_of, item_at, items_after, items_at, opens};
+ghost use Rattle.px_script.proofs.Parsing.{argument_of, names_of, names_among, names_at, item_at, items_after, items_at, opens};
 ghost use Rattle.px_reader.specs.Views.{lexeme_of};
 ghost use Rattle.px_reader.specs.StatementViews.{lexemes_of, argument_view, text_of, list_view, front_view, items_view};
 
@@ -19,16 +19,6 @@ fn argument_of(token: Token<'_>) -> Option<Argument<'_>>
         Token::Name(name) => Some(Argument::Named(name)),
         Token::Variable(name) => Some(Argument::Variable(name)),
         Token::Sign('$') => Some(Argument::Anything),
-        _ => None,
-    }
-}
-
-/// The name that a token is.
-fn name_of(token: Token<'_>) -> Option<&str>
-    ensures { option_map text_of result ≡ name_of (lexeme_of token.entry) }
-{
-    match token {
-        Token::Name(name) => Some(name),
         _ => None,
     }
 }
@@ -72,30 +62,6 @@ fn argument_at<'a>(tokens: &[Token<'a>], at: usize) -> Option<(Argument<'a>, cha
     argument_and_sign(&tokens[at..])
 }
 
-/// A name in front, and the sign after it.
-fn name_and_sign<'a>(tokens: &[Token<'a>]) -> Option<(&'a str, char)>
-    ensures item { option_map (λ p. (text_of p.0, p.1, lexemes_of (drop 2 tokens.now))) result ≡ item_at name_of (lexemes_of tokens.now) }
-    ensures two { IfSome result (λ p. 2 ≤ length tokens.now) }
-{
-    match tokens {
-        [item, Token::Sign(sign), ..] => match name_of(*item) {
-            Some(name) => Some((name, *sign)),
-            None => None,
-        },
-        _ => None,
-    }
-}
-
-/// The same at a place.
-fn name_at<'a>(tokens: &[Token<'a>], at: usize) -> Option<(&'a str, char)>
-    requires { at ≤ length tokens.now }
-    ensures item { option_map (λ p. (text_of p.0, p.1, lexemes_of (drop (at + 2) tokens.now))) result
-        ≡ item_at name_of (lexemes_of (drop at tokens.now)) }
-    ensures two { IfSome result (λ p. at + 2 ≤ length tokens.now) }
-{
-    name_and_sign(&tokens[at..])
-}
-
 /// The arguments from a place on, between commas and up to a closing parenthesis, and the place after it.
 fn arguments_after<'a>(
     alloc: Global,
@@ -122,32 +88,6 @@ fn arguments_after<'a>(
     Ok(None)
 }
 
-/// The same for names.
-fn names_after<'a>(
-    alloc: Global,
-    tokens: &[Token<'a>],
-    start: usize,
-) -> Result<Option<(Vec<&'a str>, usize)>, NoMemory>
-    requires { start ≤ length tokens.now }
-    ensures found { IfOk result (λ found. front_view (items_view text_of) tokens.now found
-        ≡ items_after name_of (lexemes_of (drop start tokens.now))) }
-    ensures within { IfOk result (λ found. IfSome found (λ p. (start ≤ p.1) × (p.1 ≤ length tokens.now))) }
-{
-    let mut names = Vec::new(alloc);
-    let mut at = start;
-    while let Some((name, sign)) = name_at(tokens, at) {
-        names.push(name)?;
-        at += 2;
-        if sign == ')' {
-            return Ok(Some((names, at)));
-        }
-        if sign != ',' {
-            return Ok(None);
-        }
-    }
-    Ok(None)
-}
-
 /// The arguments in parentheses at a place, or none, and the place after them.
 pub fn arguments_at<'a>(
     alloc: Global,
@@ -166,21 +106,39 @@ pub fn arguments_at<'a>(
     }
 }
 
-/// The same for names.
+/// The names that arguments are, where they are all names.
+fn names_among<'a>(
+    alloc: Global,
+    arguments: &[Argument<'a>],
+) -> Result<Option<Vec<&'a str>>, NoMemory>
+    ensures { IfOk result (λ found. list_view text_of found ≡ names_among (map argument_view arguments.now)) }
+{
+    let mut names = Vec::new(alloc);
+    for argument in arguments {
+        let Argument::Named(name) = *argument else {
+            return Ok(None);
+        };
+        names.push(name)?;
+    }
+    Ok(Some(names))
+}
+
+/// The names in parentheses at a place, or none, and the place after them.
 pub fn names_at<'a>(
     alloc: Global,
     tokens: &[Token<'a>],
     at: usize,
 ) -> Result<Option<(Vec<&'a str>, usize)>, NoMemory>
     requires { at ≤ length tokens.now }
-    ensures found { IfOk result (λ found. front_view (items_view text_of) tokens.now found
-        ≡ items_at name_of (lexemes_of (drop at tokens.now))) }
+    ensures found { IfOk result (λ found. front_view (items_view text_of) tokens.now found ≡ names_at (lexemes_of (drop at tokens.now))) }
     ensures within { IfOk result (λ found. IfSome found (λ p. (at ≤ p.1) × (p.1 ≤ length tokens.now))) }
 {
-    if opens(tokens, at) {
-        names_after(alloc, tokens, at + 1)
-    } else {
-        Ok(Some((Vec::new(alloc), at)))
+    let Some((arguments, next)) = arguments_at(alloc, tokens, at)? else {
+        return Ok(None);
+    };
+    match names_among(alloc, &arguments)? {
+        Some(names) => Ok(Some((names, next))),
+        None => Ok(None),
     }
 }
 

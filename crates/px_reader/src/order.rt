@@ -2,20 +2,21 @@
 ghost use Rattle.std.specs.Prelude.{◌≡◌, ◌||◌};
 ghost use Rattle.std.specs.List.{list_any};
 ghost use Rattle.std.specs.Option.{option_map};
-ghost use Rattle.std.specs.Str.{bytes_eq};
 ghost use Rattle.px_script.specs.Causes.{is_out_of_order, declares_after_command, may_stand, is_late, has_two_domains, varies, varies_too_early, is_robot, has_robot, lacks_robot};
-ghost use Rattle.px_script.specs.Declarations.{has_building, block_here, operator_here};
+ghost use Rattle.px_script.specs.Declarations.{has_building, block_here};
 ghost use Rattle.px_script.specs.Items.{has_parameter};
-ghost use Rattle.px_script.specs.Stages.{is_unbuilt, precondition_length, stage_now};
+ghost use Rattle.px_script.specs.Stages.{is_unbuilt};
 ghost use Rattle.px_script.specs.Statements.{line_of};
 ghost use Rattle.px_reader.specs.Checks as checks;
 ghost use Rattle.px_reader.specs.LineViews.{block_view, place_view};
+ghost use Rattle.px_reader.specs.LineReads.{stage_view};
 ghost use Rattle.px_reader.specs.Readers.{declared_of};
 ghost use Rattle.px_reader.specs.StatementViews.{statement_view};
 
 use crate::line::{Block, Place};
 use crate::reader::Reader;
 use crate::statement::{SignedAtom, Statement};
+use crate::terms::is_one_of;
 use px_names::Kind;
 use px_world::Thing;
 
@@ -65,25 +66,11 @@ impl Statement<'_> {
         any_varies(self.atoms()) || self.has_parameter()
     }
 
-    /// The line's word is built.
-    fn is_built(&self) -> bool
-        ensures { result ≡ list_any (bytes_eq (line_of (statement_view self.now)).word) stage_now.built }
+    /// The line's word is none of those that are built.
+    pub fn is_unbuilt(&self, stage: &[&str]) -> bool
+        ensures { result ≡ is_unbuilt (stage_view stage.now) (statement_view self.now) }
     {
-        matches!(
-            self,
-            Statement::Script(_)
-                | Statement::Object(_)
-                | Statement::Predicate(_, _)
-                | Statement::Operator(_, _)
-                | Statement::Pre(_)
-                | Statement::Delete(_)
-                | Statement::Add(_)
-                | Statement::End
-                | Statement::Fact(_)
-                | Statement::Nodes(_)
-                | Statement::Plan(_, _)
-                | Statement::Facts
-        )
+        !is_one_of(stage, self.word())
     }
 }
 
@@ -179,27 +166,6 @@ impl Reader {
         match (self.block_here(), place) {
             (Some(Block::Building), Place::Closes) => !self.has_robot(),
             _ => false,
-        }
-    }
-
-    /// How many atoms the open operator's precondition has.
-    fn precondition_length(&self) -> usize
-        ensures { result ≡ precondition_length (operator_here (declared_of self.now).block) }
-    {
-        match self.open_operator() {
-            Some(operator) => operator.pre.len(),
-            None => 0,
-        }
-    }
-
-    /// The word isn't built, or the line has what isn't built of it.
-    pub fn is_unbuilt(&self, statement: &Statement<'_>) -> bool
-        ensures { result ≡ is_unbuilt stage_now (declared_of self.now) (statement_view statement.now) }
-    {
-        match statement {
-            Statement::Plan(_, goal) => any_varies(goal) || goal.len() > 12,
-            Statement::Pre(atoms) => self.precondition_length() + atoms.len() > 12,
-            _ => !statement.is_built(),
         }
     }
 }

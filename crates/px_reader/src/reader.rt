@@ -4,16 +4,16 @@ ghost use Rattle.std.specs.Option.{option_map};
 ghost use Rattle.std.specs.Str.{chars};
 ghost use Rattle.px_script.specs.Content.{content_of};
 ghost use Rattle.px_script.specs.Declarations.{OpenBlock as Opened, nothing_declared, after_line};
-ghost use Rattle.px_script.specs.Faults.{fault_of};
+ghost use Rattle.px_script.specs.Faults.{fault_at};
 ghost use Rattle.px_script.specs.Forms.{begins_with_word, is_formed};
 ghost use Rattle.px_script.specs.Lexemes.{name};
 ghost use Rattle.px_script.specs.Ranges.{IsInRange};
 ghost use Rattle.px_script.specs.Scripts.{Passes};
-ghost use Rattle.px_script.specs.StageRanges.{IsOfStage};
 ghost use Rattle.px_script.specs.Statements.{line_of};
 ghost use Rattle.px_script.proofs.States.{AreInRange};
+ghost use Rattle.px_reader.specs.Checks.{DeclaresNames};
 ghost use Rattle.px_reader.specs.FaultViews.{refusal_of};
-ghost use Rattle.px_reader.specs.LineReads.{StatementFails, LineFails, content};
+ghost use Rattle.px_reader.specs.LineReads.{StatementFails, LineFails, content, stage_view};
 ghost use Rattle.px_reader.specs.Readers.{declared_of};
 ghost use Rattle.px_reader.specs.StatementViews.{lexemes_of, statement_view};
 ghost use Rattle.px_reader.specs.Words.{word_text};
@@ -107,10 +107,10 @@ impl Reader {
     }
 
     /// Reads the next line.
-    pub fn read_line(&mut self, number: u32, line: &str) -> Result<(), LineErr>
+    pub fn read_line(&mut self, stage: &[&str], number: u32, line: &str) -> Result<(), LineErr>
         requires { AreInRange (declared_of self.old) }
-        ensures ok { OnOk result (Passes number (declared_of self.old) (chars line.now) (declared_of self.new)) }
-        ensures err { IfErr result (LineFails (declared_of self.old) (chars line.now)) }
+        ensures ok { OnOk result (Passes (stage_view stage.now) number (declared_of self.old) (chars line.now) (declared_of self.new)) }
+        ensures err { IfErr result (LineFails (stage_view stage.now) (declared_of self.old) (chars line.now)) }
     {
         let tokens = tokens(self.alloc, line)?;
         if tokens.is_empty() {
@@ -120,19 +120,25 @@ impl Reader {
             return Err(LineErr::Fault(Fault::UnknownWord));
         };
         match statement(self.alloc, self.has_building(), word, &tokens[1..])? {
-            Some(statement) => self.read_statement(number, statement),
+            Some(statement) => self.read_statement(stage, number, statement),
             None => Err(LineErr::Fault(Fault::BadToken)),
         }
     }
 
-    fn read_statement(&mut self, number: u32, statement: Statement<'_>) -> Result<(), LineErr>
+    fn read_statement(
+        &mut self,
+        stage: &[&str],
+        number: u32,
+        statement: Statement<'_>,
+    ) -> Result<(), LineErr>
         requires range { AreInRange (declared_of self.old) }
         requires formed { is_formed (declared_of self.old) (line_of (statement_view statement)) ≡ true }
-        ensures passes { OnOk result (fault_of (declared_of self.old) (statement_view statement.entry) ≡ None) }
+        requires named { DeclaresNames (statement_view statement) }
+        ensures passes { OnOk result (fault_at (stage_view stage.now) (declared_of self.old) (statement_view statement.entry) ≡ None) }
         ensures declared { OnOk result (declared_of self.new ≡ after_line number (declared_of self.old) (statement_view statement.entry)) }
-        ensures err { IfErr result (StatementFails (declared_of self.old) (statement_view statement.entry)) }
+        ensures err { IfErr result (StatementFails (stage_view stage.now) (declared_of self.old) (statement_view statement.entry)) }
     {
-        match self.fault(&statement)? {
+        match self.fault(stage, &statement)? {
             Some(fault) => Err(LineErr::Fault(fault)),
             None => {
                 let own_domain = self.own_domain || statement.place().excludes_building();
@@ -145,14 +151,15 @@ impl Reader {
     }
 
     /// The first fault of a line by what it says, in the order of the causes.
-    fn fault(&self, statement: &Statement<'_>) -> Result<Option<Fault>, NoMemory>
+    fn fault(&self, stage: &[&str], statement: &Statement<'_>) -> Result<Option<Fault>, NoMemory>
         requires { AreInRange (declared_of self.now) }
-        ensures { IfOk result (λ fault. option_map refusal_of fault ≡ fault_of (declared_of self.now) (statement_view statement.now)) }
+        ensures { IfOk result (λ fault. option_map refusal_of fault
+            ≡ fault_at (stage_view stage.now) (declared_of self.now) (statement_view statement.now)) }
     {
         if self.is_out_of_order(statement) {
             return Ok(Some(Fault::Order));
         }
-        if self.is_unbuilt(statement) {
+        if statement.is_unbuilt(stage) {
             return Ok(Some(Fault::NotBuilt));
         }
         if self.has_unknown_name(statement) {
@@ -186,8 +193,7 @@ impl Reader {
 
     /// The script, where no block is open, or the line that opened the block.
     pub fn finish(self) -> Result<Script, u32>
-        requires range { (declared_of self).block ≡ None → IsInRange (content_of (declared_of self)) }
-        requires stage { IsOfStage (content_of (declared_of self)) }
+        requires { (declared_of self).block ≡ None → IsInRange (content_of (declared_of self)) }
         ensures { MatchResult result
             (λ script. ((declared_of self).block ≡ None) × (content script ≡ content_of (declared_of self)))
             (λ line. (block : Opened) × ((declared_of self).block ≡ Some block) × (line ≡ block.line)) }

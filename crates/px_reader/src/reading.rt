@@ -3,8 +3,10 @@ ghost use Rattle.std.specs.Prelude.{◌≡◌, ℕ, ◌<◌, ◌+◌, ◌-◌, �
 ghost use Rattle.px_script.specs.Content.{ScriptValue};
 ghost use Rattle.px_script.specs.Declarations.{nothing_declared};
 ghost use Rattle.px_script.specs.Faults.{Refusal};
+ghost use Rattle.px_script.specs.StageRanges.{IsOfStage};
+ghost use Rattle.px_script.specs.Stages.{stage_now};
 ghost use Rattle.px_script.specs.Scripts.{PassAll, IsScript, FirstFault};
-ghost use Rattle.px_reader.specs.LineReads.{characters_of, refusal_told, LinesFail, HasFirstFault, IsRead, IsRefused, content, told};
+ghost use Rattle.px_reader.specs.LineReads.{characters_of, refusal_told, stage_view, LinesFail, HasFirstFault, IsRead, IsRefused, content, told};
 ghost use Rattle.px_reader.specs.Readers.{declared_of};
 
 use crate::fault::{Fault, LineErr};
@@ -13,6 +15,26 @@ use crate::reader::Reader;
 use crate::script::{Refused, Script, ScriptErr};
 use std::alloc::Global;
 use std::str;
+
+/// The words that are built.
+const STAGE: [&str; 16] = [
+    "script",
+    "object",
+    "predicate",
+    "axiom",
+    "operator",
+    "pre",
+    "delete",
+    "add",
+    "end",
+    "fact",
+    "height",
+    "nodes",
+    "shapes",
+    "plan",
+    "show",
+    "facts",
+];
 
 fn refused(line: u32, fault: Fault) -> ScriptErr
     ensures { result ≡ told line fault }
@@ -25,15 +47,15 @@ fn refused(line: u32, fault: Fault) -> ScriptErr
 }
 
 /// Reads the lines in turn.
-fn read_each(reader: &mut Reader, lines: &[&str]) -> Result<(), ScriptErr>
+fn read_each(stage: &[&str], reader: &mut Reader, lines: &[&str]) -> Result<(), ScriptErr>
     requires start { declared_of reader.old ≡ nothing_declared }
     requires few { length lines.now < 2 ^ 32 }
-    ensures passes { OnOk result (PassAll 1 nothing_declared (characters_of lines.now) (declared_of reader.new)) }
-    ensures fails { IfErr result (LinesFail (characters_of lines.now)) }
+    ensures passes { OnOk result (PassAll (stage_view stage.now) 1 nothing_declared (characters_of lines.now) (declared_of reader.new)) }
+    ensures fails { IfErr result (LinesFail (stage_view stage.now) (characters_of lines.now)) }
 {
     for (index, line) in lines.iter().enumerate() {
         let number = index as u32 + 1;
-        match reader.read_line(number, without_return(line)) {
+        match reader.read_line(stage, number, without_return(line)) {
             Ok(()) => {}
             Err(LineErr::Fault(fault)) => return Err(refused(number, fault)),
             Err(LineErr::NoMemory) => return Err(ScriptErr::NoMemory),
@@ -43,10 +65,10 @@ fn read_each(reader: &mut Reader, lines: &[&str]) -> Result<(), ScriptErr>
 }
 
 /// Reads the lines of a text.
-fn read_text(alloc: Global, text: &str) -> Result<Script, ScriptErr>
+fn read_text(alloc: Global, stage: &[&str], text: &str) -> Result<Script, ScriptErr>
     requires { length text.now < 2 ^ 32 - 1 }
-    ensures script { IfOk result (λ script. IsScript text.now (content script)) }
-    ensures refused { IfErr result (HasFirstFault text.now) }
+    ensures script { IfOk result (λ script. IsScript (stage_view stage.now) text.now (content script)) }
+    ensures refused { IfErr result (HasFirstFault (stage_view stage.now) text.now) }
 {
     let Ok(lines) = parts(alloc, without_mark(text)) else {
         return Err(ScriptErr::NoMemory);
@@ -54,7 +76,7 @@ fn read_text(alloc: Global, text: &str) -> Result<Script, ScriptErr>
     let Ok(mut reader) = Reader::new(alloc) else {
         return Err(ScriptErr::NoMemory);
     };
-    read_each(&mut reader, &lines)?;
+    read_each(stage, &mut reader, &lines)?;
     match reader.finish() {
         Ok(script) => Ok(script),
         Err(line) => Err(refused(line, Fault::MissingEnd)),
@@ -69,6 +91,18 @@ fn line_after(front: &[u8]) -> u32
     front.iter().filter(|byte| **byte == b'\n').count() as u32 + 1
 }
 
+/// Reads a script of version 1 where these words are built, or finds its first fault.
+fn read_at(alloc: Global, stage: &[&str], bytes: &[u8]) -> Result<Script, ScriptErr>
+    requires { length bytes.now < 2 ^ 32 - 1 }
+    ensures script { IfOk result (λ script. IsScript (stage_view stage.now) bytes.now (content script)) }
+    ensures refused { IfErr result (HasFirstFault (stage_view stage.now) bytes.now) }
+{
+    match str::from_utf8(bytes) {
+        Ok(text) => read_text(alloc, stage, text),
+        Err(error) => Err(refused(line_after(&bytes[..error.valid_up_to()]), Fault::NotText)),
+    }
+}
+
 /// Reads a script of version 1, or finds its first fault.
 ///
 /// # Errors
@@ -76,13 +110,11 @@ fn line_after(front: &[u8]) -> u32
 /// comes.
 pub fn read_script(alloc: Global, bytes: &[u8]) -> Result<Script, ScriptErr>
     requires { length bytes.now < 2 ^ 32 - 1 }
-    ensures script { IfOk result (λ script. IsScript bytes.now (content script)) }
-    ensures refused { IfErr result (HasFirstFault bytes.now) }
-    ensures all_scripts { (value : ScriptValue) → IsScript bytes.now value → IsRead result value }
-    ensures all_faults { (line : ℕ) (refusal : Refusal) → FirstFault bytes.now line refusal → IsRefused result line refusal }
+    ensures script { IfOk result (λ script. IsScript stage_now bytes.now (content script)) }
+    ensures of_stage { IfOk result (λ script. IsOfStage stage_now (content script)) }
+    ensures refused { IfErr result (HasFirstFault stage_now bytes.now) }
+    ensures all_scripts { (value : ScriptValue) → IsScript stage_now bytes.now value → IsRead result value }
+    ensures all_faults { (line : ℕ) (refusal : Refusal) → FirstFault stage_now bytes.now line refusal → IsRefused result line refusal }
 {
-    match str::from_utf8(bytes) {
-        Ok(text) => read_text(alloc, text),
-        Err(error) => Err(refused(line_after(&bytes[..error.valid_up_to()]), Fault::NotText)),
-    }
+    read_at(alloc, &STAGE, bytes)
 }

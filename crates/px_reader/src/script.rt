@@ -1,7 +1,6 @@
 //! What a script is about, and why an input is none.
 ghost use Rattle.px_script.specs.Ranges.{IsInRange};
-ghost use Rattle.px_script.specs.RangeLaws.{IsInRange-prop, IsOfStage-prop};
-ghost use Rattle.px_script.specs.StageRanges.{IsOfStage};
+ghost use Rattle.px_script.specs.RangeLaws.{IsInRange-prop};
 ghost use Rattle.px_reader.specs.CommandViews.{script_of};
 
 use crate::command::Command;
@@ -14,8 +13,7 @@ use thiserror::Error;
 
 /// A script that was read. It keeps that its problem is valid, that each of its numbers has a name and no name stands twice in
 /// its kind, that the facts and the commands are over its numbers, that all is within the limits, and that no result is given
-/// twice (`in_range`); and that it has no axioms, that its goals have no variables, and that these and its preconditions have
-/// at most 12 atoms (`of_stage`). That each name is one is kept by `Names`.
+/// twice (`in_range`). That each name is one is kept by `Names`.
 #[derive(Drop)]
 pub struct Script {
     pub version: u32,
@@ -25,7 +23,6 @@ pub struct Script {
     pub building: Option<Sequence<Thing>>,
     pub commands: Sequence<Command>,
     pub ghost in_range: { IsInRange (script_of version names problem facts building commands) } by { IsInRange-prop (script_of version names problem facts building commands) },
-    pub ghost of_stage: { IsOfStage (script_of version names problem facts building commands) } by { IsOfStage-prop (script_of version names problem facts building commands) },
 }
 
 /// The first fault of an input: its line from 1, its code, and the number of the limit that is passed, or 0.

@@ -1,7 +1,7 @@
 //! What a line says.
 
 /// An argument of an atom.
-#[derive(Clone, Copy, Debug, PartialEq, Eq)]
+#[derive(Clone, Copy)]
 pub enum Argument<'a> {
     Named(&'a str),
     Variable(&'a str),
@@ -9,7 +9,7 @@ pub enum Argument<'a> {
 }
 
 /// What stands before an atom: nothing, `~` of a literal, `+` or `-` of an edit.
-#[derive(Clone, Copy, Debug, PartialEq, Eq)]
+#[derive(Clone, Copy)]
 pub enum Sign {
     Bare,
     Negated,
@@ -18,7 +18,7 @@ pub enum Sign {
 }
 
 /// An atom by names, with its sign.
-#[derive(Debug, Drop)]
+#[derive(Drop)]
 pub struct SignedAtom<'a> {
     pub sign: Sign,
     pub predicate: &'a str,
@@ -26,7 +26,7 @@ pub struct SignedAtom<'a> {
 }
 
 /// An edit of a building: the robot to a room, a box to a room, a door open or not.
-#[derive(Clone, Copy, Debug, PartialEq, Eq)]
+#[derive(Clone, Copy)]
 pub enum WrittenRoomEdit<'a> {
     RobotTo(&'a str),
     BoxTo(&'a str, &'a str),
@@ -34,14 +34,14 @@ pub enum WrittenRoomEdit<'a> {
 }
 
 /// A parameter of a learned table, by its number from 1, and an object's name.
-#[derive(Clone, Copy, Debug, PartialEq, Eq)]
+#[derive(Clone, Copy)]
 pub struct WrittenBinding<'a> {
     pub parameter: u32,
     pub object: &'a str,
 }
 
 /// A line by its form.
-#[derive(Debug, Drop)]
+#[derive(Drop)]
 pub enum Statement<'a> {
     Script(u32),
     Object(Vec<&'a str>),

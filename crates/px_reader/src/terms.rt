@@ -17,19 +17,19 @@ use px_terms::{Atom, Lit, Term};
 use px_world::{AtomEdit, RoomEdit};
 use std::alloc::Global;
 
-/// Where a variable stands among these.
-fn variable_place(variables: &[&str], name: &str) -> Option<usize>
-    ensures number { result ≡ position (λ other. bytes_eq name.now other.now) variables.now }
-    ensures within { IfSome result (λ number. number < length variables.now) }
+/// Where a name stands among these.
+fn place_among(names: &[&str], name: &str) -> Option<usize>
+    ensures number { result ≡ position (λ other. bytes_eq name.now other.now) names.now }
+    ensures within { IfSome result (λ number. number < length names.now) }
 {
-    variables.iter().position(|other| name == *other)
+    names.iter().position(|other| name == *other)
 }
 
-/// The variable is one of these.
-fn is_variable_of(variables: &[&str], name: &str) -> bool
-    ensures { result ≡ has_name name.now (map text_of variables.now) }
+/// The name is one of these.
+pub fn is_one_of(names: &[&str], name: &str) -> bool
+    ensures { result ≡ has_name name.now (map text_of names.now) }
 {
-    variable_place(variables, name).is_some()
+    place_among(names, name).is_some()
 }
 
 /// Adds a variable that isn't there yet, where there are no more than twelve.
@@ -43,7 +43,7 @@ fn add_variable<'a>(variables: &mut Vec<&'a str>, argument: &Argument<'a>) -> Re
     if variables.len() > 12 {
         return Ok(());
     }
-    if is_variable_of(variables, name) {
+    if is_one_of(variables, name) {
         return Ok(());
     }
     variables.push(*name)?;
@@ -96,7 +96,7 @@ fn variable_number(variables: &[&str], name: &str) -> u32
     requires { length variables.now ≤ 12 }
     ensures { result ≡ number_in name.now (map text_of variables.now) }
 {
-    match variable_place(variables, name) {
+    match place_among(variables, name) {
         Some(number) => number as u32,
         None => 0,
     }

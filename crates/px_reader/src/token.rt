@@ -9,7 +9,7 @@ ghost use Rattle.px_reader.specs.Views.{Scans, NameAt};
 use crate::class::{Class, split_while};
 use px_names::{split_first, starts_name};
 
-#[derive(Clone, Copy, Debug, PartialEq, Eq)]
+#[derive(Clone, Copy)]
 pub enum Token<'a> {
     Name(&'a str),
     Variable(&'a str),
@@ -17,7 +17,7 @@ pub enum Token<'a> {
     Sign(char),
 }
 
-#[derive(Clone, Copy, Debug, PartialEq, Eq)]
+#[derive(Clone, Copy)]
 pub struct BadToken;
 
 /// The first token of a line, and what follows it.

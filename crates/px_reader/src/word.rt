@@ -4,7 +4,7 @@ ghost use Rattle.px_script.specs.Limits.{is_word};
 ghost use Rattle.px_reader.specs.Words.{word_text};
 
 /// A word that begins a line.
-#[derive(Clone, Copy, Debug, PartialEq, Eq)]
+#[derive(Clone, Copy)]
 pub enum Word {
     Script,
     Object,

@@ -1,6 +1,4 @@
 pub mod AnswerLemmas
-pub mod Fewness
-pub mod Named
+pub mod Carried
 pub mod OneText
 pub mod OutcomeLemmas
-pub mod Ready

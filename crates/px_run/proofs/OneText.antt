@@ -1,96 +1,79 @@
--- A script has one transcript: each command has one lawful reply.
+-- The bytes determine what is written, and what is written for the first commands begins it.
 use Rattle.std.proofs.Common.{◌≡◌, ℕ, ◌≤◌, List, [], ◌∷◌, ◌++◌, length, refl, sym, ap, subst, ◌∙◌, arith, length-append}
 use Rattle.std.proofs.lemmas.List.Concat.{flat_map-append}
+use Rattle.std.specs.List.{AllZip}
+use Rattle.px_names.specs.Lists.{NameLists}
+use Rattle.px_terms.specs.declared.problem.Problem.{Problem}
+use Rattle.px_terms.specs.Validity.{IsValid}
 use Rattle.px_printer.specs.Replies.{reply_text}
 use Rattle.px_printer.specs.declared.reply.Reply.{Reply}
-use Rattle.px_printer.specs.declared.reply.Reply.TheVariants as reply
-use Rattle.px_script.specs.Commands as command
+use Rattle.px_script.specs.Commands.{Command}
 use Rattle.px_script.specs.Content.{ScriptValue}
+use Rattle.px_script.specs.Stages.{stage_now}
+use Rattle.px_script.proofs.Kept.{in-range}
 use Rattle.px_script.proofs.Law.{reads-one-way}
-use Rattle.px_search.specs.Ends.{Task, task_of}
-use Rattle.px_search.specs.Nodes.{steps_of}
-use Rattle.px_search.proofs.Exclusion.{one_found, one_limit, found_or_limit, found_or_exhausted, limit_or_exhausted}
-use Rattle.px_terms.specs.declared.atom.Atom.{Atom}
-use Rattle.px_terms.specs.declared.problem.Problem.{Problem}
-use Rattle.px_run.specs.Replies.{TellsSearch, TellsFacts, Lawful, AreAnswers, texts}
-use Rattle.px_run.specs.Transcripts.{Transcript, IsTextOf, IsBegunOf}
+use Rattle.px_session.specs.Determined.{SameReply}
+use Rattle.px_session.specs.Sessions.{IsSession, SessionState, opening}
+use Rattle.px_session.specs.Transcripts.{AreAnswers, Transcript, texts}
+use Rattle.px_session.proofs.Kept.{sessions_are_kept}
+use Rattle.px_session.proofs.OneReply.{lawful_is_one}
+use Rattle.px_session.proofs.OneTranscript.{answers_are_one, transcripts_are_one}
+use Rattle.px_run.specs.Laws.{TextsAreOne}
+use Rattle.px_run.specs.Transcripts.{Begun}
 
-one-search : (task : Task) (name vars : ℕ) (a b : Reply) → TellsSearch task name vars a → TellsSearch task name vars b → a ≡ b
-one-search task name vars (reply.Plan n c s) (reply.Plan m d t) p q =
-    let moves = one_found task p.1.moves q.1.moves p.1.found q.1.found in
-    let names : n ≡ m = p.0 ∙ sym q.0 in
-    let counts : c ≡ d = p.1.counted ∙ ap length moves ∙ sym q.1.counted in
-    let steps : s ≡ t = p.1.taken ∙ ap (steps_of []) moves ∙ sym q.1.taken in
-    λ i. reply.Plan (names i) (counts i) (steps i)
-one-search task name vars (reply.Plan n c s) (reply.Exhausted m) p q = absurd (found_or_exhausted task p.1.moves p.1.found q.1)
-one-search task name vars (reply.Plan n c s) (reply.NodeLimit m nodes d) p q = absurd (found_or_limit task p.1.moves nodes d p.1.found q.1)
-one-search task name vars (reply.Exhausted n) (reply.Plan m d t) p q = absurd (found_or_exhausted task q.1.moves q.1.found p.1)
-one-search task name vars (reply.Exhausted n) (reply.Exhausted m) p q = ap reply.Exhausted (p.0 ∙ sym q.0)
-one-search task name vars (reply.Exhausted n) (reply.NodeLimit m nodes d) p q = absurd (limit_or_exhausted task nodes d q.1 p.1)
-one-search task name vars (reply.NodeLimit n nodes c) (reply.Plan m d t) p q = absurd (found_or_limit task q.1.moves nodes c q.1.found p.1)
-one-search task name vars (reply.NodeLimit n nodes c) (reply.Exhausted m) p q = absurd (limit_or_exhausted task nodes c p.1 q.1)
-one-search task name vars (reply.NodeLimit n nodes c) (reply.NodeLimit m more d) p q =
-    let limits = one_limit task nodes c more d p.1 q.1 in
-    let names : n ≡ m = p.0 ∙ sym q.0 in
-    λ i. reply.NodeLimit (names i) (limits.0 i) (limits.1 i)
-one-search task name vars (reply.Plan n c s) b p q = absurd q
-one-search task name vars (reply.Exhausted n) b p q = absurd q
-one-search task name vars (reply.NodeLimit n nodes c) b p q = absurd q
-one-search task name vars a b p q = absurd p
+-- what replies begin with: those to the first commands, but for questions at limits of shapes
+record BeginsLike (xs ys : List Reply) : Type 0 where
+  front : List Reply
+  rest : List Reply
+  whole : ys ≡ front ++ rest
+  alike : AllZip SameReply xs front
 
-one-facts : (facts : List Atom) (a b : Reply) → TellsFacts facts a → TellsFacts facts b → a ≡ b
-one-facts facts (reply.FactsAre atoms) (reply.FactsAre others) p q = ap reply.FactsAre (p.0 ∙ sym q.0)
-one-facts facts (reply.FactsAre atoms) b p q = absurd q
-one-facts facts a b p q = absurd p
+begins-more : (a b : Reply) (xs ys : List Reply) → SameReply a b → BeginsLike xs ys → BeginsLike (a ∷ xs) (b ∷ ys)
+begins-more a b xs ys same begins = record { front = b ∷ begins.front; rest = begins.rest; whole = ap (λ (t : List Reply). b ∷ t) begins.whole; alike = (same, begins.alike) }
 
-one-answer : (p : Problem) (facts : List Atom) (c : command.Command) (a b : Reply) (l m : List Atom) → Lawful p facts c a l → Lawful p facts c b m → (a ≡ b) × (l ≡ m)
-one-answer p facts (command.Plan name goal vars) a b l m x y = (one-search (task_of p facts goal) name vars a b x.0 y.0, x.1 ∙ sym y.1)
-one-answer p facts command.Facts a b l m x y = (one-facts facts a b x.0 y.0, x.1 ∙ sym y.1)
-one-answer p facts (command.Learn name source) a b l m x y = elim x [ ]
-one-answer p facts (command.Show name) a b l m x y = elim x [ ]
-one-answer p facts (command.DisturbAtoms turn between edits) a b l m x y = elim x [ ]
-one-answer p facts (command.DisturbRooms turn between edits) a b l m x y = elim x [ ]
-one-answer p facts (command.Run name bindings) a b l m x y = elim x [ ]
+-- the replies to the first commands begin the replies to all
+module _ (problem : Problem) (valid : IsValid problem) where
+  front-of : (old : SessionState) → IsSession problem old → (before after : List Command) (xs ys : List Reply) (last later : SessionState)
+      → AreAnswers problem old before xs last → AreAnswers problem old (before ++ after) ys later → BeginsLike xs ys
+  front-of old session [] after [] ys last later p q = record { front = []; rest = ys; whole = refl; alike = tt }
+  front-of old session [] after (a ∷ xs) ys last later p q = absurd p
+  front-of old session (c ∷ before) after [] ys last later p q = absurd p
+  front-of old session (c ∷ before) after (a ∷ xs) [] last later p q = absurd q
+  front-of old session (c ∷ before) after (a ∷ xs) (b ∷ ys) last later p q =
+      let same = lawful_is_one.replies problem old c a b p.0 q.0 valid session p.1 q.1 in
+      let next = sessions_are_kept.kept problem old c b q.0 session q.1 in
+      let here = subst (λ (s : SessionState). AreAnswers problem s before xs last) same.1 p.2 in
+      begins-more a b xs ys same.0 (front-of q.0 next before after xs ys last later here q.2)
 
--- the answers to the first commands begin the answers to all
-front-of : (p : Problem) (facts : List Atom) (before after : List command.Command) (xs ys : List Reply) (l m : List Atom)
-    → AreAnswers p facts before xs l → AreAnswers p facts (before ++ after) ys m → (rest : List Reply) × (ys ≡ xs ++ rest)
-front-of p facts [] after [] ys l m x y = (ys, refl)
-front-of p facts [] after (a ∷ xs) ys l m x y = elim x [ ]
-front-of p facts (c ∷ before) after [] ys l m x y = elim x [ ]
-front-of p facts (c ∷ before) after (a ∷ xs) [] l m x y = elim y [ ]
-front-of p facts (c ∷ before) after (a ∷ xs) (b ∷ ys) l m x y =
-    let one = one-answer p facts c a b x.0 y.0 x.1 y.1 in
-    let rest = front-of p x.0 before after xs ys l m x.2 (subst (λ f. AreAnswers p f (before ++ after) ys m) (sym one.1) y.2) in
-    let heads : b ≡ a = sym one.0 in
-    (rest.0, λ i. heads i ∷ rest.1 i)
+text-begins : (names : NameLists) (xs ys : List Reply) → BeginsLike xs ys → (rest : List ℕ) × (texts names ys ≡ texts names xs ++ rest)
+text-begins names xs ys begins = (
+  texts names begins.rest,
+  ap (texts names) begins.whole ∙ flat_map-append (reply_text names) begins.front begins.rest
+      ∙ ap (λ (t : List ℕ). t ++ texts names begins.rest) (sym (answers_are_one.texts names xs begins.front begins.alike)),
+)
 
-one-answers : (p : Problem) (facts : List Atom) (commands : List command.Command) (xs ys : List Reply) (l m : List Atom) → AreAnswers p facts commands xs l → AreAnswers p facts commands ys m → xs ≡ ys
-one-answers p facts [] [] [] l m x y = refl
-one-answers p facts [] (a ∷ xs) ys l m x y = elim x [ ]
-one-answers p facts [] [] (b ∷ ys) l m x y = elim y [ ]
-one-answers p facts (c ∷ commands) [] ys l m x y = elim x [ ]
-one-answers p facts (c ∷ commands) (a ∷ xs) [] l m x y = elim y [ ]
-one-answers p facts (c ∷ commands) (a ∷ xs) (b ∷ ys) l m x y =
-    let one = one-answer p facts c a b x.0 y.0 x.1 y.1 in
-    let rest = one-answers p x.0 commands xs ys l m x.2 (subst (λ f. AreAnswers p f commands ys m) (sym one.1) y.2) in
-    λ i. one.0 i ∷ rest i
-
-pub one-text : (script : ScriptValue) (text other : List ℕ) → IsTextOf script text → IsTextOf script other → text ≡ other
-one-text script text other x y = x.text_is ∙ ap (texts script.names) (one-answers script.problem script.facts script.commands x.answers y.answers x.last y.last x.lawful y.lawful) ∙ sym y.text_is
-
-pub one-transcript : (bytes text other : List ℕ) → Transcript bytes text → Transcript bytes other → text ≡ other
-one-transcript bytes text other x y =
-    let same : x.0 ≡ y.0 = (reads-one-way bytes).one_content x.0 y.0 x.1 y.1 in
-    one-text y.0 text other (subst (λ s. IsTextOf s text) same x.2) y.2
+front-text : (bytes begun text : List ℕ) → Begun bytes begun → Transcript bytes text → (rest : List ℕ) × (text ≡ begun ++ rest)
+front-text bytes begun text (script, is, of) whole =
+    let same : whole.script ≡ script = (reads-one-way stage_now bytes).one_content whole.script script whole.spelt is in
+    by (subst (λ (s : ScriptValue). (last : SessionState) × AreAnswers s.problem (opening s.facts) s.commands whole.answers last × (text ≡ texts s.names whole.answers)) same (whole.lawful.last, whole.lawful.lawful, whole.text_is))
+  where
+    by : ((last : SessionState) × AreAnswers script.problem (opening script.facts) script.commands whole.answers last × (text ≡ texts script.names whole.answers))
+        → (rest : List ℕ) × (text ≡ begun ++ rest)
+    by (last, lawful, text_is) =
+        let range = in-range stage_now bytes script is in
+        let session = sessions_are_kept.opened script.problem script.facts range.facts.fact_set in
+        let all = subst (λ (cs : List Command). AreAnswers script.problem (opening script.facts) cs whole.answers last) of.whole lawful in
+        let begins = front-of script.problem range.problem.valid (opening script.facts) session of.before of.after of.answers whole.answers of.last last of.lawful all in
+        let texts_begin = text-begins script.names of.answers whole.answers begins in
+        (texts_begin.0, text_is ∙ texts_begin.1 ∙ ap (λ (t : List ℕ). t ++ texts_begin.0) (sym of.text_is))
 
 -- a text of the first commands is no longer than the whole text
-pub begun-short : (script : ScriptValue) (begun text : List ℕ) → IsBegunOf script begun → IsTextOf script text → length begun ≤ length text
-begun-short script begun text x y =
-    let whole = subst (λ cs. AreAnswers script.problem script.facts cs y.answers y.last) x.whole y.lawful in
-    let rest = front-of script.problem script.facts x.before x.after x.answers y.answers x.last y.last x.lawful whole in
-    let grown : texts script.names y.answers ≡ texts script.names x.answers ++ texts script.names rest.0 = ap (texts script.names) rest.1 ∙ flat_map-append (reply_text script.names) x.answers rest.0 in
-    let long = ap length (y.text_is ∙ grown) in
-    let sum = length-append (texts script.names x.answers) (texts script.names rest.0) in
-    let short = ap length x.text_is in
-    omega (arith, long, sum, short)
+begun-short : (bytes begun text : List ℕ) → Begun bytes begun → Transcript bytes text → length begun ≤ length text
+begun-short bytes begun text first whole =
+    let front = front-text bytes begun text first whole in
+    let long = ap length front.1 in
+    let sum = length-append begun front.0 in
+    omega (arith, long, sum)
+
+pub texts_are_one : TextsAreOne
+texts_are_one = record { whole = transcripts_are_one.transcripts; front = front-text; short = begun-short }

@@ -7,8 +7,10 @@ use Rattle.px_io.specs.Writing.{HasNoRoomFor}
 use Rattle.px_reader.specs.declared.script.Refused.{Refused}
 use Rattle.px_script.specs.Content.{ScriptValue}
 use Rattle.px_script.specs.Faults.{Refusal}
+use Rattle.px_script.specs.Stages.{stage_now}
 use Rattle.px_script.specs.Scripts.{IsScript}
 use Rattle.px_script.proofs.Law.{reads-one-way}
+use Rattle.px_session.specs.Opened.{opened}
 use Rattle.px_run.specs.Transcripts.{IsNextOf, IsRefused, refusal_text}
 use Rattle.px_run.specs.Outcomes.{SourceEnds, SinkEnds, Came, ExecutedRight, RefusalRight, RunRight, Completes, CompletesSurely, Refuses, limit}
 use Rattle.px_run.specs.declared.status.Status.{Status}
@@ -22,8 +24,10 @@ came-short source bytes came =
     let short = came.short in
     omega (arith, count, short)
 
-pub run-executed : (source : SourceEnds) (sink : SinkEnds) (bytes : List ℕ) (script : ScriptValue) (result : Status) → Came source bytes → IsScript bytes script → ExecutedRight script sink result → RunRight source sink result
-run-executed source sink bytes script status.Done came is right = (bytes, right.0, came, (script, is, right.1), right.2)
+pub run-executed : (source : SourceEnds) (sink : SinkEnds) (bytes : List ℕ) (script : ScriptValue) (result : Status) → Came source bytes → IsScript stage_now bytes script → ExecutedRight (opened script) sink result → RunRight source sink result
+run-executed source sink bytes script status.Done came is right =
+    let text = right.1 in
+    (bytes, right.0, came, record { script = script; spelt = is; answers = text.answers; lawful = record { last = text.last; lawful = text.lawful }; text_is = text.text_is }, right.2)
 run-executed source sink bytes script status.WriteFault came is right = (bytes, right.0, right.1, came, inr (script, is, right.2), right.3)
 run-executed source sink bytes script status.NoMemory came is right = (came.no_fault, came-short source bytes came, inr (bytes, right.0, came, (script, is, right.1), right.2))
 run-executed source sink bytes script status.Usage came is right = elim right [ ]
@@ -62,15 +66,15 @@ not-too-long source bytes came told short gone count long =
     let few : length came ≤ length bytes = told-length source.left source.left_after bytes came told gone in
     omega (arith, long, count, few, short)
 
-told-script : (source : SourceEnds) (bytes came : List ℕ) (script : ScriptValue) → source.left ≡ Some bytes → Came source came → IsScript bytes script → IsScript came script
-told-script source bytes came script told all is = subst (λ b. IsScript b script) (told-all source.left source.left_after bytes came told all.all all.at_end) is
+told-script : (source : SourceEnds) (bytes came : List ℕ) (script : ScriptValue) → source.left ≡ Some bytes → Came source came → IsScript stage_now bytes script → IsScript stage_now came script
+told-script source bytes came script told all is = subst (λ b. IsScript stage_now b script) (told-all source.left source.left_after bytes came told all.all all.at_end) is
 
 told-refused : (source : SourceEnds) (bytes came : List ℕ) (refused : Refused) → source.left ≡ Some bytes → Came source came → IsRefused bytes refused → IsRefused came refused
 told-refused source bytes came refused told all fault = subst (λ b. IsRefused b refused) (told-all source.left source.left_after bytes came told all.all all.at_end) fault
 
 -- a script has no first fault
-not-both : (bytes : List ℕ) (script : ScriptValue) (refused : Refused) → IsScript bytes script → IsRefused bytes refused → ⊥
-not-both bytes script refused is fault = (reads-one-way bytes).not_both is.last refused.line (record { code = refused.code; limit = refused.limit }) is.spells fault
+not-both : (bytes : List ℕ) (script : ScriptValue) (refused : Refused) → IsScript stage_now bytes script → IsRefused bytes refused → ⊥
+not-both bytes script refused is fault = (reads-one-way stage_now bytes).not_both is.last refused.line (record { code = refused.code; limit = refused.limit }) is.spells fault
 
 abbrev code_of : Refusal → ℕ
 code_of r = r.code
@@ -81,7 +85,7 @@ limit_of r = r.limit
 -- bytes have one first fault
 one-fault : (bytes : List ℕ) (a b : Refused) → IsRefused bytes a → IsRefused bytes b → a ≡ b
 one-fault bytes a b p q =
-    let same = (reads-one-way bytes).one_fault a.line b.line (record { code = a.code; limit = a.limit }) (record { code = b.code; limit = b.limit }) p q in
+    let same = (reads-one-way stage_now bytes).one_fault a.line b.line (record { code = a.code; limit = a.limit }) (record { code = b.code; limit = b.limit }) p q in
     let codes : a.code ≡ b.code = ap code_of same.1 in
     let limits : a.limit ≡ b.limit = ap limit_of same.1 in
     λ i. record { line = same.0 i; code = codes i; limit = limits i }
@@ -121,15 +125,15 @@ run-completes_surely source sink status.WriteFault came right gone count bytes s
     elim right.4 [
       | inl refusal ↦ absurd (not-both right.0 script refusal.0 here refusal.1)
       | inr next ↦
-          let same : next.0 ≡ script = (reads-one-way right.0).one_content next.0 script next.1 here in
-          let of : IsNextOf script right.1 right.2 = subst (λ s. IsNextOf s right.1 right.2) same next.2 in
-          absurd (no-room sink.sure sink.written (right.1 ++ right.2) held room sure written right.5.no_room (fits (right.1 ++ right.2) (begun-next script right.1 right.2 of)))
+          let same : next.0 ≡ script = (reads-one-way stage_now right.0).one_content next.0 script next.1 here in
+          let of : IsNextOf (opened script) right.1 right.2 = subst (λ s. IsNextOf (opened s) right.1 right.2) same next.2 in
+          absurd (no-room sink.sure sink.written (right.1 ++ right.2) held room sure written right.5.no_room (fits (right.1 ++ right.2) (begun-next (opened script) right.1 right.2 of)))
     ]
 
 pub run-refuses : (source : SourceEnds) (sink : SinkEnds) (result : Status) (came : List ℕ) → RunRight source sink result
     → Consumes source.left source.left_after came → source.taken_after ≡ source.taken + length came → Refuses source sink result
 run-refuses source sink status.Done came right gone count bytes refused told short fault quiet =
-    absurd (not-both right.0 right.3.0 refused right.3.1 (told-refused source bytes right.0 refused told right.2 fault))
+    absurd (not-both right.0 right.3.script refused right.3.spelt (told-refused source bytes right.0 refused told right.2 fault))
 run-refuses source sink status.NoMemory came right gone count bytes refused told short fault quiet = inr (inl refl)
 run-refuses source sink status.WriteFault came right gone count bytes refused told short fault quiet = inr (inr refl)
 run-refuses source sink status.Usage came right gone count bytes refused told short fault quiet = elim right [ ]

@@ -1,5 +1,5 @@
-pub mod Replies
 pub mod Transcripts
 pub mod Outcomes
 pub mod Exits
-pub mod Sessions
+pub mod Answers
+pub mod Laws

@@ -8,8 +8,11 @@ use Rattle.px_io.specs.Writing.{HasNoRoomFor}
 use Rattle.px_printer.specs.Notices.{usage_text}
 use Rattle.px_reader.specs.declared.script.Refused.{Refused}
 use Rattle.px_script.specs.Content.{ScriptValue}
+use Rattle.px_script.specs.Stages.{stage_now}
 use Rattle.px_script.specs.Scripts.{IsScript}
-use Rattle.px_run.specs.Transcripts.{Transcript, Begun, IsTextOf, IsBegunOf, IsNextOf, IsRefused, IsWritten, refusal_text}
+use Rattle.px_session.specs.Opened.{SessionValue, opened}
+use Rattle.px_session.specs.Transcripts.{Transcript}
+use Rattle.px_run.specs.Transcripts.{Begun, IsTextOf, IsBegunOf, IsNextOf, IsRefused, IsWritten, refusal_text}
 use Rattle.px_run.specs.declared.status.Status.{Status}
 use Rattle.px_run.specs.declared.status.Status.TheVariants as status
 
@@ -106,13 +109,13 @@ StatusRight true source sink result = RunRight source sink result
 
 -- A script of told bytes, and no count that rose, give the whole transcript, or memory ran out.
 abbrev pub Completes : SourceEnds → SinkEnds → Status → Type 0
-Completes source sink result = (bytes : List ℕ) (script : ScriptValue) → source.left ≡ Some bytes → length bytes ≤ limit → IsScript bytes script
+Completes source sink result = (bytes : List ℕ) (script : ScriptValue) → source.left ≡ Some bytes → length bytes ≤ limit → IsScript stage_now bytes script
     → (Rose source.faults source.faults_after → ⊥) → (Rose sink.faults sink.faults_after → ⊥) → (result ≡ status.Done) ⊎ (result ≡ status.NoMemory)
 
 -- So do a source that never fails, and a sink that is sure to take all that may be written.
 abbrev pub CompletesSurely : SourceEnds → SinkEnds → Status → Type 0
-CompletesSurely source sink result = (bytes : List ℕ) (script : ScriptValue) (held : List ℕ) (room : ℕ) → source.left ≡ Some bytes → length bytes ≤ limit → IsScript bytes script
-    → source.never_fails ≡ true → sink.written ≡ Some held → sink.sure ≡ Some room → ((text : List ℕ) → IsBegunOf script text → length held + length text ≤ room)
+CompletesSurely source sink result = (bytes : List ℕ) (script : ScriptValue) (held : List ℕ) (room : ℕ) → source.left ≡ Some bytes → length bytes ≤ limit → IsScript stage_now bytes script
+    → source.never_fails ≡ true → sink.written ≡ Some held → sink.sure ≡ Some room → ((text : List ℕ) → IsBegunOf (opened script) text → length held + length text ≤ room)
     → (result ≡ status.Done) ⊎ (result ≡ status.NoMemory)
 
 -- Told bytes that are no script are refused, if no read failed, no write failed and memory didn't run out.
@@ -120,12 +123,12 @@ abbrev pub Refuses : SourceEnds → SinkEnds → Status → Type 0
 Refuses source sink result = (bytes : List ℕ) (refused : Refused) → source.left ≡ Some bytes → length bytes ≤ limit → IsRefused bytes refused
     → (Rose source.faults source.faults_after → ⊥) → (result ≡ status.Refused refused) ⊎ (result ≡ status.NoMemory) ⊎ (result ≡ status.WriteFault)
 
--- the outcomes of answering the commands of a script
-abbrev pub ExecutedRight : ScriptValue → SinkEnds → Status → Type 0
-ExecutedRight script sink status.Done = (text : List ℕ) × IsTextOf script text × Wrote sink text
-ExecutedRight script sink status.WriteFault = (done : List ℕ) × (next : List ℕ) × IsNextOf script done next × Broke sink done next
-ExecutedRight script sink status.NoMemory = (text : List ℕ) × IsBegunOf script text × Wrote sink text
-ExecutedRight script sink _ = ⊥
+-- the outcomes of answering the commands of a session
+abbrev pub ExecutedRight : SessionValue → SinkEnds → Status → Type 0
+ExecutedRight session sink status.Done = (text : List ℕ) × IsTextOf session text × Wrote sink text
+ExecutedRight session sink status.WriteFault = (done : List ℕ) × (next : List ℕ) × IsNextOf session done next × Broke sink done next
+ExecutedRight session sink status.NoMemory = (text : List ℕ) × IsBegunOf session text × Wrote sink text
+ExecutedRight session sink _ = ⊥
 
 -- the outcomes of writing a refusal
 abbrev pub RefusalRight : Refused → SinkEnds → Status → Type 0

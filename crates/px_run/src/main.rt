@@ -7,9 +7,11 @@
 //! - [`top::planex_main`] is the program without its streams: it takes the words, a source and a sink, which may be
 //!   in memory, and answers a `Status`. Its contract is one table over the statuses (`specs/Outcomes`): what each
 //!   status says of what came from the source and of what was written.
-//! - What is written for a script is a transcript (`specs/Transcripts`): one lawful reply for each command, in order.
-//!   Which replies are lawful is told by `Lawful` (`specs/Replies`). A `plan` is answered by how the search for it ends,
-//!   and the facts carry the steps of a plan that is found to its goal. `facts` is answered by the facts, which ascend.
+//! - What is written for a script is a transcript (`px_session/specs/Transcripts`): one lawful reply for each command, in
+//!   order, each in the state that the one before left. Which replies are lawful is told by `Lawful` of `px_session`.
+//! - The bytes determine it, and what is written for the first commands begins it ([`laws::texts_are_one`]). Each plan in it
+//!   carries, and so does each table that is stored or learned on the way, from each proper instance of each of its kernels
+//!   ([`laws::transcripts_carry`]).
 //! - Bytes that aren't a script are refused with the line, the code and the limit of their first fault, as `px_script`
 //!   defines it. Nothing is answered before the whole script was read.
 //! - After a write that failed, the replies before it and a proper front of the next text were written. Each reply is put
@@ -17,8 +19,8 @@
 //! - A script has at most 1,048,576 bytes. Where more came, the answer is `TooLong`.
 #![tactic(auto)]
 
+mod laws;
 mod running;
-mod session;
 mod status;
 #[cfg(test)]
 mod tests;

@@ -1,15 +1,13 @@
 //! Answers commands in order, and writes the replies.
 ghost use Rattle.std.specs.Prelude.{◌≡◌, ◌<◌, IfOk, length};
-ghost use Rattle.px_reader.specs.LineReads.{content};
+ghost use Rattle.px_printer.specs.Replies.{IsNamed, reply_text};
+ghost use Rattle.px_run.specs.Answers.{AnswerRight, IsAnswerText, IsAnswered, PutRight};
 ghost use Rattle.px_run.specs.Outcomes.{sink_ends, ExecutedRight};
-ghost use Rattle.px_run.specs.Sessions.{AnswerRight, IsAnswerText, IsReady};
-ghost use Rattle.px_run.specs.declared.running.AnswerErr.TheVariants.{Fault as failed, NoMemory as out_of_memory};
 
-use crate::session::answer;
 use crate::status::Status;
-use px_io::{Fault, Sink, put};
-use px_printer::reply_text;
-use px_reader::Script;
+use px_io::{Sink, put};
+use px_printer::{Reply, reply_text};
+use px_session::Session;
 use px_terms::NoMemory;
 use std::alloc::Global;
 use thiserror::Error;
@@ -25,57 +23,71 @@ pub enum AnswerErr {
     NoMemory,
 }
 
-impl From<Fault> for AnswerErr {
-    ghost from_gives = { λ _ error. error ≡ failed };
-
-    fn from(_fault: Fault) -> AnswerErr {
-        AnswerErr::Fault
-    }
-}
-
-impl From<NoMemory> for AnswerErr {
-    ghost from_gives = { λ _ error. error ≡ out_of_memory };
-
-    fn from(_refused: NoMemory) -> AnswerErr {
-        AnswerErr::NoMemory
-    }
-}
-
-/// Answers the command at the place, and puts the text of the reply.
+/// Answers the command at the place, the next one, and puts the text of the reply.
 fn put_answer<K: Sink>(
     alloc: Global,
-    script: &Script,
+    session: &mut Session,
     place: usize,
     sink: &mut K,
 ) -> Result<(), AnswerErr>
-    requires ready { IsReady (content script.now) }
-    requires place { place < length script.now.commands }
-    ensures right { AnswerRight (content script.now) place (sink_ends K.written K.faults K.sure sink.old sink.new) result }
+    requires place { place < length session.old.commands }
+    requires next { place ≡ session.old.done }
+    ensures right { AnswerRight session.old session.new (sink_ends K.written K.faults K.sure sink.old sink.new) result }
     ensures nature { K.sure sink.new ≡ K.sure sink.old }
 {
-    let text = answer_text(alloc, script, place)?;
-    put(sink, &text)?;
-    Ok(())
+    match answer_text(alloc, session, place) {
+        Ok(text) => put_text(sink, &text),
+        Err(NoMemory) => Err(AnswerErr::NoMemory),
+    }
 }
 
-/// The text of a lawful reply to the command at the place.
-fn answer_text(alloc: Global, script: &Script, place: usize) -> Result<Vec<u8>, NoMemory>
-    requires ready { IsReady (content script.now) }
-    requires place { place < length script.now.commands }
-    ensures { IfOk result (λ text. IsAnswerText (content script.now) place text.items) }
-{
-    let reply = answer(alloc, script, place)?;
-    reply_text(alloc, &reply, &script.names)
-}
-
-/// Answers all commands of a script.
-pub fn execute<K: Sink>(alloc: Global, script: &Script, sink: &mut K) -> Status
-    requires ready { IsReady (content script.now) }
-    ensures right { ExecutedRight (content script.now) (sink_ends K.written K.faults K.sure sink.old sink.new) result }
+/// Puts the text of a reply.
+fn put_text<K: Sink>(sink: &mut K, text: &[u8]) -> Result<(), AnswerErr>
+    ensures right { PutRight text.now (sink_ends K.written K.faults K.sure sink.old sink.new) result }
     ensures nature { K.sure sink.new ≡ K.sure sink.old }
 {
-    for place in 0..script.commands.len() {
-        match put_answer(alloc, script, place, sink) {
+    match put(sink, text) {
+        Ok(()) => Ok(()),
+        Err(_) => Err(AnswerErr::Fault),
+    }
+}
+
+/// The text of a lawful reply to the command at the place, the next one.
+fn answer_text(alloc: Global, session: &mut Session, place: usize) -> Result<Vec<u8>, NoMemory>
+    requires place { place < length session.old.commands }
+    requires next { place ≡ session.old.done }
+    ensures { IfOk result (λ text. IsAnswerText session.old session.new text.items) }
+{
+    let reply = lawful_reply(session, place)?;
+    text_of(alloc, &reply, session)
+}
+
+/// A lawful reply to the command at the place, the next one.
+fn lawful_reply(session: &mut Session, place: usize) -> Result<Reply, NoMemory>
+    requires place { place < length session.old.commands }
+    requires next { place ≡ session.old.done }
+    ensures answered { IfOk result (λ reply. IsAnswered session.old reply session.new) }
+    ensures named { IfOk result (IsNamed session.new.names) }
+{
+    session.execute(place)
+}
+
+/// The text of a reply of the session.
+fn text_of(alloc: Global, reply: &Reply, session: &Session) -> Result<Vec<u8>, NoMemory>
+    requires named { IsNamed session.now.names reply.now }
+    ensures text { IfOk result (λ text. text.items ≡ reply_text session.now.names reply.now) }
+{
+    reply_text(alloc, reply, session.names())
+}
+
+/// Answers all commands of a session of which none is done.
+pub fn execute<K: Sink>(alloc: Global, session: &mut Session, sink: &mut K) -> Status
+    requires start { session.old.done ≡ 0 }
+    ensures right { ExecutedRight session.old (sink_ends K.written K.faults K.sure sink.old sink.new) result }
+    ensures nature { K.sure sink.new ≡ K.sure sink.old }
+{
+    for place in 0..session.count() {
+        match put_answer(alloc, session, place, sink) {
             Ok(()) => {}
             Err(AnswerErr::Fault) => return Status::WriteFault,
             Err(AnswerErr::NoMemory) => return Status::NoMemory,

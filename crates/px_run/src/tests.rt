@@ -1,6 +1,7 @@
 //! Scripts beside the status and the text that they end with, also where reads and writes fail.
 ghost use Rattle.std.specs.Prelude.{◌≤◌, ◌^◌, ◌-◌, Contains, IfOk};
 
+use crate::laws::{texts_are_one, transcripts_carry};
 use crate::status::Status;
 use crate::top::planex_main;
 use px_io::{MemSink, MemSource, NoMemory};
@@ -220,4 +221,10 @@ fn other_words_are_answered_by_the_usage(rt: HostRuntime) -> Result<(), NoMemory
     assert!(&rt; is_usage(alloc, &["run", "x"])?);
     assert!(&rt; is_usage(alloc, &[])?);
     Ok(())
+}
+
+#[test]
+fn laws_are_calls(_rt: HostRuntime) {
+    texts_are_one();
+    transcripts_carry();
 }

@@ -1,13 +1,19 @@
 //! The top call.
 ghost use Rattle.std.specs.Prelude.{◌≡◌, ◌+◌, Bool, List, ℕ, map, false, true, length};
 ghost use Rattle.std.specs.Io.KnownBytes.{Consumes};
-ghost use Rattle.px_run.specs.Outcomes.{source_ends, sink_ends, takes, UsageRight, RefusalRight, RunRight, StatusRight, Completes, CompletesSurely, Refuses};
+ghost use Rattle.px_reader.specs.LineReads.{content};
+ghost use Rattle.px_script.specs.StageRanges.{IsOfStage};
+ghost use Rattle.px_script.specs.Stages.{stage_now};
+ghost use Rattle.px_session.specs.Opened.{opened};
+ghost use Rattle.px_run.specs.Outcomes.{source_ends, sink_ends, takes, UsageRight, RefusalRight, ExecutedRight, RunRight, StatusRight, Completes, CompletesSurely, Refuses};
 
 use crate::running::execute;
 use crate::status::Status;
 use px_io::{ReadErr, Sink, Source, put, read_all};
 use px_printer::{refused_text, usage_text};
-use px_reader::{Refused, ScriptErr, read_script};
+use px_reader::{Refused, Script, ScriptErr, read_script};
+use px_session::Session;
+use px_terms::NoMemory;
 use std::alloc::Global;
 
 /// How many bytes a script has at most.
@@ -85,9 +91,21 @@ fn run<S: Source, K: Sink>(alloc: Global, source: &mut S, sink: &mut K) -> Statu
         Err(ReadErr::NoMemory) => return Status::NoMemory,
     };
     match read_script(alloc, &bytes) {
-        Ok(script) => execute(alloc, &script, sink),
+        Ok(script) => answer(alloc, script, sink),
         Err(ScriptErr::Refused(refused)) => refuse(alloc, refused, sink),
         Err(ScriptErr::NoMemory) => Status::NoMemory,
+    }
+}
+
+/// Answers the commands of a script.
+fn answer<K: Sink>(alloc: Global, script: Script, sink: &mut K) -> Status
+    requires stage { IsOfStage stage_now (content script) }
+    ensures right { ExecutedRight (opened (content script)) (sink_ends K.written K.faults K.sure sink.old sink.new) result }
+    ensures nature { K.sure sink.new ≡ K.sure sink.old }
+{
+    match Session::new(alloc, script) {
+        Ok(mut session) => execute(alloc, &mut session, sink),
+        Err(NoMemory) => Status::NoMemory,
     }
 }
 

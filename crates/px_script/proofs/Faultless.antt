@@ -29,12 +29,12 @@ pub record IsFaultless (d : Declared) (s : Statement) : Type 0 where
 -- a line that has no fault where this much is built
 pub record HasNoFault (stage : Stage) (d : Declared) (s : Statement) : Type 0 where
   pub faultless : IsFaultless d s
-  pub built : is_unbuilt stage d s ≡ false
+  pub built : is_unbuilt stage s ≡ false
 
 pub no-fault : (stage : Stage) (d : Declared) (s : Statement) → fault_at stage d s ≡ None → HasNoFault stage d s
 no-fault stage d s e =
     let a = passes-test (is_out_of_order d (line_of s)) _ _ e in
-    let b = passes-test (is_unbuilt stage d s) _ _ a.1 in
+    let b = passes-test (is_unbuilt stage s) _ _ a.1 in
     let c = passes-test (has_unknown_name d (line_of s)) _ _ b.1 in
     let f = passes-test (has_duplicate d s) _ _ c.1 in
     let g = passes-test (has_wrong_arity d (line_of s)) _ _ f.1 in
@@ -45,45 +45,45 @@ no-fault stage d s e =
       built = b.0;
     }
 
-pub fault-none : (stage : Stage) (d : Declared) (s : Statement) → IsFaultless d s → is_unbuilt stage d s ≡ false → fault_at stage d s ≡ None
+pub fault-none : (stage : Stage) (d : Declared) (s : Statement) → IsFaultless d s → is_unbuilt stage s ≡ false → fault_at stage d s ≡ None
 fault-none stage d s f built = rw (f.right.order, built, f.right.known, f.right.single, f.right.arity, f.right.bound, f.short) f.limits
 
 -- each line of version 1 is built in the whole language
-pub whole-built : (d : Declared) (s : Statement) → is_unbuilt whole_language d s ≡ false
-whole-built d (script n) = refl
-whole-built d (object ns) = refl
-whole-built d (predicate n arity) = refl
-whole-built d («axiom» xs) = refl
-whole-built d (operator n ps) = refl
-whole-built d (pre xs) = refl
-whole-built d (delete xs) = refl
-whole-built d (add xs) = refl
-whole-built d building = refl
-whole-built d (room n) = refl
-whole-built d (door n one other is_open) = refl
-whole-built d (box n r) = refl
-whole-built d (robot r) = refl
-whole-built d end = refl
-whole-built d (fact xs) = refl
-whole-built d (height n) = refl
-whole-built d (nodes n) = refl
-whole-built d (shapes n) = refl
-whole-built d (plan n xs) = refl
-whole-built d (learn n source) = refl
-whole-built d (show n) = refl
-whole-built d (disturb_atoms turn between xs) = refl
-whole-built d (disturb_rooms turn between es) = refl
-whole-built d (run n bs) = refl
-whole-built d facts = refl
+pub whole-built : (s : Statement) → is_unbuilt whole_language s ≡ false
+whole-built (script n) = refl
+whole-built (object ns) = refl
+whole-built (predicate n arity) = refl
+whole-built («axiom» xs) = refl
+whole-built (operator n ps) = refl
+whole-built (pre xs) = refl
+whole-built (delete xs) = refl
+whole-built (add xs) = refl
+whole-built building = refl
+whole-built (room n) = refl
+whole-built (door n one other is_open) = refl
+whole-built (box n r) = refl
+whole-built (robot r) = refl
+whole-built end = refl
+whole-built (fact xs) = refl
+whole-built (height n) = refl
+whole-built (nodes n) = refl
+whole-built (shapes n) = refl
+whole-built (plan n xs) = refl
+whole-built (learn n source) = refl
+whole-built (show n) = refl
+whole-built (disturb_atoms turn between xs) = refl
+whole-built (disturb_rooms turn between es) = refl
+whole-built (run n bs) = refl
+whole-built facts = refl
 
 pub only-takes-away : (stage : Stage) (d : Declared) (s : Statement) → OnlyTakesAway stage d s
-only-takes-away stage d s = by_test (is_unbuilt stage d s)
+only-takes-away stage d s = by_test (is_unbuilt stage s)
     (λ unbuilt. by_test (is_out_of_order d (line_of s)) (λ late. inl (rw late refl)) (λ right. inr (rw (right, unbuilt) refl)))
-    (λ built. inl (rw (built, whole-built d s) refl))
+    (λ built. inl (rw (built, whole-built s) refl))
 
 -- a line that has no fault there has none in the whole language
 pub stage-takes-away : (stage : Stage) (d : Declared) (s : Statement) → fault_at stage d s ≡ None → fault_at whole_language d s ≡ None
-stage-takes-away stage d s e = fault-none whole_language d s (no-fault stage d s e).faultless (whole-built d s)
+stage-takes-away stage d s e = fault-none whole_language d s (no-fault stage d s e).faultless (whole-built s)
 
 -- the cases of order, one by one
 pub record StandsRight (d : Declared) (l : Line) : Type 0 where

@@ -4,7 +4,6 @@ use Rattle.std.specs.Prelude.{Option, None, Some, IfSome, All, count_by, if◌th
 use Rattle.std.specs.List.{list_any}
 use Rattle.std.specs.List.Sorted.{IsStrictlySortedBy}
 use Rattle.std.proofs.lemmas.List.Sums.{sum_by-append}
-use Rattle.px_names.specs.Lists.{AreDistinct}
 use Rattle.px_terms.specs.AtomSets.{IsAtomSet}
 use Rattle.px_world.specs.declared.thing.Thing.{Thing}
 use Rattle.px_script.specs.Lexemes.{Lexeme}
@@ -13,10 +12,10 @@ use Rattle.px_script.specs.Statements.{Statement, line_of, script, object, predi
 use Rattle.px_script.specs.Declarations.{Declared, OpenBlock, operator_here, nothing_declared, after_line, block_here}
 use Rattle.px_script.specs.Content.{ScriptValue, problem_of, content_of}
 use Rattle.px_script.specs.Causes.{is_robot}
-use Rattle.px_script.specs.Stages.{stage_now, whole_language}
+use Rattle.px_script.specs.Stages.{Stage, whole_language}
 use Rattle.px_script.specs.Faults.{fault_at}
 use Rattle.px_script.specs.Forms.{is_formed}
-use Rattle.px_script.specs.Ranges.{BuildingInRange, IsInRange}
+use Rattle.px_script.specs.Ranges.{AreNamesOf, BuildingInRange, IsInRange}
 use Rattle.px_script.specs.Scripts.{PassesLexemes, PassAll, IsScript}
 use Rattle.px_script.proofs.States.{AreInRange, OperatorsInRange}
 use Rattle.px_script.proofs.Fronts.{by_test, true_not_false}
@@ -59,16 +58,41 @@ pub line-in-range : (n : ℕ) (d : Declared) (s : Statement) → AreInRange d �
     → fault_at whole_language d s ≡ None → AreInRange (after_line n d s)
 line-in-range n d s r formed none = line-kept n d r s (well-formed d (line_of s) formed) (no-fault whole_language d s none).faultless
 
-pub passes-kept : (n : ℕ) (d : Declared) (lexemes : List Lexeme) (after : Declared) → AreInRange d → PassesLexemes n d lexemes after
+pub passes-kept : (stage : Stage) (n : ℕ) (d : Declared) (lexemes : List Lexeme) (after : Declared) → AreInRange d → PassesLexemes stage n d lexemes after
     → AreInRange after
-passes-kept n d [] after r passes = subst AreInRange (sym passes) r
-passes-kept n d (x ∷ xs) after r passes =
-    subst AreInRange (sym passes.3) (line-in-range n d passes.0 r passes.1.1 (stage-takes-away stage_now d passes.0 passes.2))
+passes-kept stage n d [] after r passes = subst AreInRange (sym passes) r
+passes-kept stage n d (x ∷ xs) after r passes =
+    subst AreInRange (sym passes.3) (line-in-range n d passes.0 r passes.1.1 (stage-takes-away stage d passes.0 passes.2))
 
-pub lines-kept : (n : ℕ) (d : Declared) (lines : List (List ℕ)) (after : Declared) → AreInRange d → PassAll n d lines after
+pub lines-kept : (stage : Stage) (n : ℕ) (d : Declared) (lines : List (List ℕ)) (after : Declared) → AreInRange d → PassAll stage n d lines after
     → AreInRange after
-lines-kept n d [] after r pass = subst AreInRange (sym pass) r
-lines-kept n d (line ∷ lines) after r pass = lines-kept (n + 1) pass.0 lines after (passes-kept n d pass.1.0 pass.0 r pass.1.2) pass.2
+lines-kept stage n d [] after r pass = subst AreInRange (sym pass) r
+lines-kept stage n d (line ∷ lines) after r pass = lines-kept stage (n + 1) pass.0 lines after (passes-kept stage n d pass.1.0 pass.0 r pass.1.2) pass.2
+
+-- a script is one in the whole language, too
+
+passes-there : (stage : Stage) (n : ℕ) (d : Declared) (lexemes : List Lexeme) (after : Declared) → PassesLexemes stage n d lexemes after
+    → PassesLexemes whole_language n d lexemes after
+passes-there stage n d [] after passes = passes
+passes-there stage n d (x ∷ xs) after passes = (passes.0, passes.1, stage-takes-away stage d passes.0 passes.2, passes.3)
+
+pass-there : (stage : Stage) (n : ℕ) (d : Declared) (lines : List (List ℕ)) (after : Declared) → PassAll stage n d lines after
+    → PassAll whole_language n d lines after
+pass-there stage n d [] after pass = pass
+pass-there stage n d (line ∷ lines) after pass =
+    (pass.0, (pass.1.0, pass.1.1, passes-there stage n d pass.1.0 pass.0 pass.1.2), pass-there stage (n + 1) pass.0 lines after pass.2)
+
+pub script-there : (stage : Stage) (bytes : List ℕ) (content : ScriptValue) → IsScript stage bytes content
+    → IsScript whole_language bytes content
+script-there stage bytes content is = record {
+  last = is.last;
+  spells = record {
+    text = is.spells.text;
+    lines = pass-there stage 1 nothing_declared (lines_of bytes) is.last is.spells.lines;
+    closed = is.spells.closed;
+  };
+  is = is.is;
+}
 
 -- before all lines
 
@@ -79,21 +103,17 @@ no-facts = tt
 nothing-all : {A : Type 0} (P : A → Type 0) → All P []
 nothing-all P = λ k t below. absurd (omega (arith, below))
 
-no-name-twice : AreDistinct []
-no-name-twice = λ i j t before below. absurd (omega (arith, below))
+no-names : AreNamesOf 1 []
+no-names = record { distinct = λ i j t before below. absurd (omega (arith, below)); short = nothing-all _ }
 
 pub start-in-range : AreInRange nothing_declared
 start-in-range = record {
   version = refl;
   names = record {
-    distinct_objects = no-name-twice;
-    distinct_predicates = no-name-twice;
-    distinct_operators = no-name-twice;
-    distinct_results = no-name-twice;
-    short_objects = nothing-all _;
-    short_predicates = nothing-all _;
-    short_operators = nothing-all _;
-    short_results = nothing-all _;
+    objects = no-names;
+    predicates = no-names;
+    operators = no-names;
+    results = no-names;
     few_objects = omega arith;
     few_predicates = omega arith;
     few_operators = omega arith;
@@ -170,7 +190,7 @@ declared-in-range d r closed =
       commands = r.commands;
     }
 
-pub in-range : (bytes : List ℕ) (content : ScriptValue) → IsScript bytes content → IsInRange content
-in-range bytes content is =
-    let r = lines-kept 1 nothing_declared (lines_of bytes) is.last start-in-range is.spells.lines in
+pub in-range : (stage : Stage) (bytes : List ℕ) (content : ScriptValue) → IsScript stage bytes content → IsInRange content
+in-range stage bytes content is =
+    let r = lines-kept stage 1 nothing_declared (lines_of bytes) is.last start-in-range is.spells.lines in
     subst IsInRange (sym is.is) (declared-in-range is.last r is.spells.closed)

@@ -9,8 +9,8 @@ use Rattle.px_terms.specs.declared.problem.Problem.{Problem}
 use Rattle.px_terms.specs.declared.problem.Schema.{Schema}
 use Rattle.px_world.specs.declared.thing.Thing.{Thing}
 use Rattle.px_script.specs.Items.{SignedAtom}
-use Rattle.px_script.specs.Statements.{Statement, plain, inside, operator_block, building_block, line_of, pre, delete, add, end}
-use Rattle.px_script.specs.Declarations.{Declared, OpenBlock, BlockKind, OpenOperator, of_operator, of_building, atom_of, after_line}
+use Rattle.px_script.specs.Statements.{Statement, plain, inside, operator_block, building_block, table_steps, table_rows, line_of, pre, delete, add, end}
+use Rattle.px_script.specs.Declarations.{Declared, OpenBlock, BlockKind, OpenOperator, of_operator, of_building, of_table_steps, of_table_rows, atom_of, after_line}
 use Rattle.px_script.specs.Content.{problem_of}
 use Rattle.px_script.specs.Causes.{is_robot, may_stand}
 use Rattle.px_script.proofs.States.{AreInRange, IsOperatorInRange}
@@ -145,21 +145,22 @@ robot-there : (o : Option (List Thing)) → elim o [ None ↦ false | Some thing
 robot-there None e = tt
 robot-there (Some things) e = e
 
-end-building : (n : ℕ) (d : Declared) (line : ℕ) → AreInRange (opened d line of_building) → IsFaultless (opened d line of_building) end
-    → AreInRange (after_line n (opened d line of_building) end)
-end-building n d line r f =
-    let right = stands-right (opened d line of_building) (line_of end) f.right.order in
+-- another block than an operator's is closed
+end-other : (d : Declared) (line : ℕ) (kind : BlockKind) → AreInRange (opened d line kind)
+    → length d.names.operators ≡ length d.schemas → IfSome d.things (λ things. list_any is_robot things ≡ true)
+    → AreInRange (record d { schemas = d.schemas ++ []; block = None; own_domain = d.own_domain || false; begun = true })
+end-other d line kind r operators robot =
     let P : List Schema → Type 0 = λ schemas. AreInRange (record d { schemas = schemas; block = None; own_domain = d.own_domain || false; begun = true }) in
     subst P (sym (append-nil d.schemas)) (record {
       version = r.version;
       names = r.names;
       problem = r.problem;
-      operators = r.operators;
+      operators = operators;
       facts = r.facts;
       building = r.building;
       roles = r.roles;
       in_building = λ is. let no : ⊥ = cc in elim no [ ];
-      robot = λ closed. robot-there d.things (not-false _ right.robot);
+      robot = λ closed. robot;
       own_domain = λ own none. r.own_domain (or-false d.own_domain false own).0 none;
       commands = r.commands;
       results = r.results;
@@ -183,6 +184,12 @@ module _ (n : ℕ) (d : Declared) (s : Statement) where
       by_kind line of_building = λ r f.
           let stands = (stands-right (opened d line of_building) (line_of s) f.right.order).stands in
           true_not_false true refl (sym stands ∙ ap (may_stand (Some building_block)) place)
+      by_kind line (of_table_steps t) = λ r f.
+          let stands = (stands-right (opened d line (of_table_steps t)) (line_of s) f.right.order).stands in
+          true_not_false true refl (sym stands ∙ ap (may_stand (Some table_steps)) place)
+      by_kind line (of_table_rows t) = λ r f.
+          let stands = (stands-right (opened d line (of_table_rows t)) (line_of s) f.right.order).stands in
+          true_not_false true refl (sym stands ∙ ap (may_stand (Some table_rows)) place)
 
 module _ (n : ℕ) (d : Declared) (r : AreInRange d) where
   pub pre-line : (xs : List SignedAtom) → IsFaultless d (pre xs) → AreInRange (after_line n d (pre xs))
@@ -201,7 +208,12 @@ module _ (n : ℕ) (d : Declared) (r : AreInRange d) where
     where
       by_kind : (line : ℕ) (kind : BlockKind) → IsKept n d end (Some (record { line = line; kind = kind }))
       by_kind line (of_operator o) = λ r f. end-operator n d line o r f
-      by_kind line of_building = λ r f. end-building n d line r f
+      by_kind line of_building = λ r f. end-other d line of_building r r.operators
+          (robot-there d.things (not-false _ (stands-right (opened d line of_building) (line_of end) f.right.order).robot))
+      by_kind line (of_table_steps t) = λ r f.
+          end-other d line (of_table_steps t) r r.operators (r.robot (λ is. let no : ⊥ = cc in no))
+      by_kind line (of_table_rows t) = λ r f.
+          end-other d line (of_table_rows t) r r.operators (r.robot (λ is. let no : ⊥ = cc in no))
 
   pub end-line : IsFaultless d end → AreInRange (after_line n d end)
   end-line f = end-at d.block r f

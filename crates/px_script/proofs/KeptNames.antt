@@ -15,7 +15,7 @@ use Rattle.px_script.specs.Limits.{greatest}
 use Rattle.px_script.specs.Causes.{repeats, is_robot}
 use Rattle.px_script.specs.Declarations.{Roles, number_in}
 use Rattle.px_script.specs.Things.{numbered_things, thing_at, is_a_room, is_a_door, is_a_box}
-use Rattle.px_script.specs.Ranges.{NamesInRange, AreShort}
+use Rattle.px_script.specs.Ranges.{AreNamesOf, NamesInRange}
 use Rattle.px_script.proofs.States.{AreRolesOf}
 use Rattle.px_script.proofs.Fronts.{by_test, true_not_false}
 use Rattle.px_script.proofs.Tests.{each-fails, at-most}
@@ -29,26 +29,24 @@ one-all P x h = All-cons P x [] h (λ k d below. absurd (omega (arith, below)))
 abbrev pub is_long : ℕ → List ℕ → Bool
 is_long version n = nat_lt (greatest version limit.name_bytes) (length n)
 
+-- names of a kind with more of them
+names-more : (version : ℕ) (old ns : List (List ℕ)) → AreNamesOf version old → repeats old ns ≡ false
+    → list_any (is_long version) ns ≡ false → AreNamesOf version (old ++ ns)
+names-more version old ns r new short = record {
+  distinct = more-distinct old ns r.distinct new;
+  short = All-append (λ n. length n ≤ greatest version limit.name_bytes) old ns r.short (each-fails (is_long version)
+      (λ n. length n ≤ greatest version limit.name_bytes) (λ n long. at-most (greatest version limit.name_bytes) (length n) long) ns short);
+}
+
 module _ (version : ℕ) (names : NameLists) (r : NamesInRange version names) (ns : List (List ℕ)) where
-  short-all : list_any (is_long version) ns ≡ false → AreShort version ns
-  short-all e = each-fails (is_long version)
-      (λ n. length n ≤ greatest version limit.name_bytes) (λ n long. at-most (greatest version limit.name_bytes) (length n) long) ns e
-
-  with-more : (old : List (List ℕ)) → AreShort version old → list_any (is_long version) ns ≡ false → AreShort version (old ++ ns)
-  with-more old short new = All-append (λ n. length n ≤ greatest version limit.name_bytes) old ns short (short-all new)
-
   pub objects-more : repeats names.objects ns ≡ false → list_any (is_long version) ns ≡ false
       → length names.objects + length ns ≤ greatest version limit.objects
       → NamesInRange version (record names { objects = names.objects ++ ns })
   objects-more new short few = record {
-    distinct_objects = more-distinct names.objects ns r.distinct_objects new;
-    distinct_predicates = r.distinct_predicates;
-    distinct_operators = r.distinct_operators;
-    distinct_results = r.distinct_results;
-    short_objects = with-more names.objects r.short_objects short;
-    short_predicates = r.short_predicates;
-    short_operators = r.short_operators;
-    short_results = r.short_results;
+    objects = names-more version names.objects ns r.objects new short;
+    predicates = r.predicates;
+    operators = r.operators;
+    results = r.results;
     few_objects = rw length-append few;
     few_predicates = r.few_predicates;
     few_operators = r.few_operators;
@@ -58,14 +56,10 @@ module _ (version : ℕ) (names : NameLists) (r : NamesInRange version names) (n
       → length names.predicates + length ns ≤ greatest version limit.predicates
       → NamesInRange version (record names { predicates = names.predicates ++ ns })
   predicates-more new short few = record {
-    distinct_objects = r.distinct_objects;
-    distinct_predicates = more-distinct names.predicates ns r.distinct_predicates new;
-    distinct_operators = r.distinct_operators;
-    distinct_results = r.distinct_results;
-    short_objects = r.short_objects;
-    short_predicates = with-more names.predicates r.short_predicates short;
-    short_operators = r.short_operators;
-    short_results = r.short_results;
+    objects = r.objects;
+    predicates = names-more version names.predicates ns r.predicates new short;
+    operators = r.operators;
+    results = r.results;
     few_objects = r.few_objects;
     few_predicates = rw length-append few;
     few_operators = r.few_operators;
@@ -75,14 +69,10 @@ module _ (version : ℕ) (names : NameLists) (r : NamesInRange version names) (n
       → length names.operators + length ns ≤ greatest version limit.operators
       → NamesInRange version (record names { operators = names.operators ++ ns })
   operators-more new short few = record {
-    distinct_objects = r.distinct_objects;
-    distinct_predicates = r.distinct_predicates;
-    distinct_operators = more-distinct names.operators ns r.distinct_operators new;
-    distinct_results = r.distinct_results;
-    short_objects = r.short_objects;
-    short_predicates = r.short_predicates;
-    short_operators = with-more names.operators r.short_operators short;
-    short_results = r.short_results;
+    objects = r.objects;
+    predicates = r.predicates;
+    operators = names-more version names.operators ns r.operators new short;
+    results = r.results;
     few_objects = r.few_objects;
     few_predicates = r.few_predicates;
     few_operators = rw length-append few;
@@ -91,14 +81,10 @@ module _ (version : ℕ) (names : NameLists) (r : NamesInRange version names) (n
   pub results-more : repeats names.results ns ≡ false → list_any (is_long version) ns ≡ false
       → NamesInRange version (record names { results = names.results ++ ns })
   results-more new short = record {
-    distinct_objects = r.distinct_objects;
-    distinct_predicates = r.distinct_predicates;
-    distinct_operators = r.distinct_operators;
-    distinct_results = more-distinct names.results ns r.distinct_results new;
-    short_objects = r.short_objects;
-    short_predicates = r.short_predicates;
-    short_operators = r.short_operators;
-    short_results = with-more names.results r.short_results short;
+    objects = r.objects;
+    predicates = r.predicates;
+    operators = r.operators;
+    results = names-more version names.results ns r.results new short;
     few_objects = r.few_objects;
     few_predicates = r.few_predicates;
     few_operators = r.few_operators;

@@ -1,6 +1,5 @@
 -- the parser, and what it needs
 pub mod Scanning
-pub mod Progress
 pub mod Parsing
 -- what the lines so far keep
 pub mod States
@@ -8,9 +7,6 @@ pub mod States
 pub mod Fronts
 pub mod Firsts
 pub mod Readings
-pub mod Texts
-pub mod Numbers
-pub mod Reading
 -- numbers of names, and of variables
 pub mod Numbered
 pub mod Numbering
@@ -21,15 +17,12 @@ pub mod Tests
 pub mod ListLemmas
 pub mod Twice
 pub mod Distinct
-pub mod FactSets
 -- forms
 pub mod Repeats
 pub mod ReadBack
 pub mod SoundItems
 pub mod Sound
 pub mod Forms
-pub mod Walks
-pub mod Steps
 -- lines without a fault, and what they keep
 pub mod Faultless
 pub mod KeptNames
@@ -42,8 +35,6 @@ pub mod KeptBuilding
 pub mod KeptRuns
 pub mod Kept
 pub mod Stage
-pub mod Right
-pub mod Named
 -- the law of one reading
 pub mod OneWay
 pub mod Law

@@ -5,6 +5,7 @@ use Rattle.std.specs.Prelude.{encode_utf8_all, count_by, ◌==◌}
 use Rattle.std.specs.Str.{IsUtf8, all_scalars}
 use Rattle.std.specs.Str.Lossy.{utf8_valid_len}
 use Rattle.std.proofs.lemmas.Str.{IsUtf8-nil, utf8_valid_len-IsValidUpTo}
+use Rattle.px_script.specs.Stages.{stage_now}
 use Rattle.px_script.specs.Scripts.{FirstFault}
 use Rattle.px_script.proofs.Fronts.{by_test}
 use Rattle.px_script.proofs.Firsts.{and_both}
@@ -43,5 +44,5 @@ fronts (suc m) positive u = not-text (take m []) u
 nothing-valid : utf8_valid_len (255 ∷ []) ≡ 0
 nothing-valid = utf8_valid_len-IsValidUpTo (255 ∷ []) 0 (record { short = omega arith; front = IsUtf8-nil; longest = fronts })
 
-pub byte_of_no_character : FirstFault (255 ∷ []) 1 (record { code = 1; limit = 0 })
+pub byte_of_no_character : FirstFault stage_now (255 ∷ []) 1 (record { code = 1; limit = 0 })
 byte_of_no_character = inl (not-text [], ap (λ n. 1 + count_by (λ b. b == 10) (take n (255 ∷ []))) (sym nothing-valid), refl)

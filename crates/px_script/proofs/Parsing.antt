@@ -15,11 +15,6 @@ argument_of (variable v) = Some (open_variable v)
 argument_of (sign s) = if s == 36 then Some anything else None
 argument_of _ = None
 
--- the name of a lexeme
-abbrev pub name_of : Lexeme → Option (List ℕ)
-name_of (name n) = Some n
-name_of _ = None
-
 -- an item, the sign after it, and what follows
 abbrev pub item_at : {A : Type 0} → (Lexeme → Option A) → List Lexeme → Option (A × ℕ × List Lexeme)
 item_at item (x ∷ sign s ∷ rest) = option_map (λ a. (a, s, rest)) (item x)
@@ -145,8 +140,18 @@ abbrev pub predicate_form : List Lexeme → Option Statement
 predicate_form (name n ∷ number arity ∷ []) = Some (predicate n arity)
 predicate_form _ = None
 
+-- the names that arguments are, where they are all names
+abbrev pub names_among : List Argument → Option (List (List ℕ))
+names_among [] = Some []
+names_among (named n ∷ more) = option_map (λ ns. n ∷ ns) (names_among more)
+names_among _ = None
+
+-- names in parentheses, or none, and what follows
+abbrev pub names_at : List Lexeme → Option (List (List ℕ) × List Lexeme)
+names_at lexemes = option_and_then (λ front. option_map (λ ns. (ns, front.1)) (names_among front.0)) (items_at argument_of lexemes)
+
 abbrev pub operator_form : List Lexeme → Option Statement
-operator_form = after_name (λ n rest. option_and_then (λ items. at_end (operator n items.0, items.1)) (items_at name_of rest))
+operator_form = after_name (λ n rest. option_and_then (λ items. at_end (operator n items.0, items.1)) (names_at rest))
 
 abbrev pub plan_form : List Lexeme → Option Statement
 plan_form = after_name (λ n rest. option_map (plan n) (atoms_of rest))

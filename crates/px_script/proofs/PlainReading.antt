@@ -148,10 +148,14 @@ scan-sound (suc n) line xs e = scanned-sound n line (first line) xs refl e (λ r
 abbrev scan : List ℕ → Option (List Lexeme)
 scan line = scan_by first (length line + 1) line
 
+-- the plain scan finds these, so they are the lexemes of the line
+pub written-so : (line : List ℕ) (xs : List Lexeme) → is_plain line ≡ true → plain_scan line ≡ Some xs → Lexes line xs
+written-so line xs plain e = scan-sound (length line + 1) line xs (sym (scan-same (length line + 1) line plain) ∙ e)
+
 -- what a reading of one line says
 abbrev Says : ℕ → Declared → List ℕ → Reading → Type 0
-Says n d line (passes next) = Passes n d line next
-Says n d line (fails at refusal) = Fails d line refusal × (at ≡ n)
+Says n d line (passes next) = Passes stage_now n d line next
+Says n d line (fails at refusal) = Fails stage_now d line refusal × (at ≡ n)
 
 module _ (n : ℕ) (d : Declared) (line : List ℕ) where
   fault-says : (x : Lexeme) (xs : List Lexeme) (s : Statement) (f : Option Refusal) → Lexes line (x ∷ xs) → Forms d (x ∷ xs) s
@@ -183,15 +187,15 @@ module _ (n : ℕ) (d : Declared) (line : List ℕ) where
 
 -- what a reading of lines says
 abbrev LinesSay : ℕ → Declared → List (List ℕ) → Reading → Type 0
-LinesSay n d lines (passes after) = PassAll n d lines after × (after.block ≡ None)
-LinesSay n d lines (fails at refusal) = FailsIn n d lines at refusal
+LinesSay n d lines (passes after) = PassAll stage_now n d lines after × (after.block ≡ None)
+LinesSay n d lines (fails at refusal) = FailsIn stage_now n d lines at refusal
 
 end-says : (n : ℕ) (d : Declared) (o : Option OpenBlock) → d.block ≡ o
     → LinesSay n d [] (elim o [ None ↦ passes d | Some block ↦ refused block.line 10 0 ])
 end-says n d None e = (refl, e)
 end-says n d (Some block) e = (block, e, refl, refl)
 
-more-say : (n : ℕ) (d next : Declared) (line : List ℕ) (lines : List (List ℕ)) (r : Reading) → Passes n d line next
+more-say : (n : ℕ) (d next : Declared) (line : List ℕ) (lines : List (List ℕ)) (r : Reading) → Passes stage_now n d line next
     → LinesSay (n + 1) next lines r → LinesSay n d (line ∷ lines) r
 more-say n d next line lines (passes after) pass say = ((next, pass, say.0), say.1)
 more-say n d next line lines (fails at refusal) pass say = inr (next, pass, say)
@@ -226,8 +230,8 @@ lines-same (part ∷ parts) plain =
 
 -- what a reading of bytes says
 abbrev pub TextSays : List ℕ → Reading → Type 0
-TextSays bytes (passes script) = Spells bytes script
-TextSays bytes (fails line refusal) = FirstFault bytes line refusal
+TextSays bytes (passes script) = Spells stage_now bytes script
+TextSays bytes (fails line refusal) = FirstFault stage_now bytes line refusal
 
 lines-text : (bytes : List ℕ) (r : Reading) → IsUtf8 bytes → LinesSay 1 nothing_declared (lines_of bytes) r → TextSays bytes r
 lines-text bytes (passes script) u say = record { text = u; lines = say.0; closed = say.1 }
@@ -252,24 +256,24 @@ text-says bytes plain =
 
 -- the plain reader finds this fault, so it is the first
 pub refused-so : (bytes : List ℕ) (line : ℕ) (refusal : Refusal) → is_plain_text bytes ≡ true
-    → bytes_read stage_now bytes ≡ fails line refusal → FirstFault bytes line refusal
+    → bytes_read stage_now bytes ≡ fails line refusal → FirstFault stage_now bytes line refusal
 refused-so bytes line refusal plain e = subst (TextSays bytes) e (text-says bytes plain)
 
 -- the plain reader reads this, so it is the script
 pub spelled-so : (bytes : List ℕ) (script : Declared) → is_plain_text bytes ≡ true → bytes_read stage_now bytes ≡ passes script
-    → Spells bytes script
+    → Spells stage_now bytes script
 spelled-so bytes script plain e = subst (TextSays bytes) e (text-says bytes plain)
 
 -- the same where the bytes are these characters
 pub spelled-after : (bytes cs : List ℕ) (script : Declared) → all_scalars cs ≡ true → encode_utf8_all cs ≡ bytes
     → list_all is_plain (plain_lines bytes) ≡ true → bytes_read stage_now bytes ≡ passes script
-    → Spells bytes script
+    → Spells stage_now bytes script
 spelled-after bytes cs script scalars are plain e = subst (TextSays bytes) e (plain-lines-say bytes (cs, (scalars, are)) plain)
 
 -- any text, read by the definitions of lexemes
 pub refused-by : (bytes cs : List ℕ) (line : ℕ) (refusal : Refusal) → all_scalars cs ≡ true → encode_utf8_all cs ≡ bytes
     → lines_read stage_now 1 nothing_declared (map scan (lines_of bytes)) ≡ fails line refusal
-    → FirstFault bytes line refusal
+    → FirstFault stage_now bytes line refusal
 refused-by bytes cs line refusal scalars are e =
     subst (TextSays bytes) e (lines-text bytes (lines_read stage_now 1 nothing_declared (map scan (lines_of bytes))) (cs, (scalars, are))
     (lines-say 1 nothing_declared (lines_of bytes)))

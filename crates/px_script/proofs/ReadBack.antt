@@ -1,6 +1,7 @@
 -- The parser reads each kind of item back.
-use Rattle.std.proofs.Common.{◌≡◌, ℕ, ◌<◌, true, false, Bool, List, [], ◌∷◌, ◌++◌, map, length, refl, ap, ◌∙◌, arith, append_assoc}
+use Rattle.std.proofs.Common.{◌≡◌, ℕ, ◌<◌, true, false, Bool, List, [], ◌∷◌, ◌++◌, map, length, refl, sym, ap, ◌∙◌, arith, append_assoc}
 use Rattle.std.specs.Prelude.{Option, Some, nat_lt, ◌==◌}
+use Rattle.std.specs.Option.{option_map, option_and_then}
 use Rattle.std.specs.List.{flat_map, list_all}
 use Rattle.std.specs.Str.Parse.{digits_value}
 use Rattle.std.specs.Fmt.{decimal}
@@ -11,7 +12,7 @@ use Rattle.std.proofs.lemmas.Slice.Eq.{bytes_eq-Decides}
 use Rattle.px_script.specs.Lexemes.{Lexeme, name, variable, number, sign}
 use Rattle.px_script.specs.Items.{Argument, Sign, WrittenAtom, SignedAtom, WrittenRoomEdit, Binding, named, open_variable, anything, bare, negated, added, removed, robot_to, box_to, door_to, spell_argument, spell_atom, spell_room_edit, spell_binding, is_parameter_number, parameter_name, open_word, with_commas, in_parentheses}
 use Rattle.px_script.specs.Statements.{time_word}
-use Rattle.px_script.proofs.Parsing.{argument_of, name_of, items_after, items_at, all_of, atom_at, room_edit_at, binding_at, parameter_of, open_of, time_of, names_of}
+use Rattle.px_script.proofs.Parsing.{argument_of, names_among, names_at, items_after, items_at, all_of, atom_at, room_edit_at, binding_at, parameter_of, open_of, time_of, names_of}
 use Rattle.px_script.proofs.Fronts.{by_test, true_not_false}
 use Rattle.px_script.proofs.Firsts.{and_both}
 use Rattle.px_script.proofs.Repeats.{not_open, ReadsBack, each, good-again, all-again}
@@ -44,11 +45,20 @@ items-at-again : {A : Type 0} (item : Lexeme → Option A) (spell : A → Lexeme
 items-at-again item spell again [] rest closed = items-none item rest closed
 items-at-again item spell again (a ∷ more) rest closed = rw append_assoc (items-again item spell again a more rest)
 
-name-again : (n : List ℕ) → name_of (name n) ≡ Some n
-name-again n = refl
+names-spelled : (ns : List (List ℕ)) → map spell_argument (map named ns) ≡ map name ns
+names-spelled [] = refl
+names-spelled (n ∷ ns) = ap (λ t. name n ∷ t) (names-spelled ns)
 
-pub parameters-again : (ps : List (List ℕ)) → items_at name_of (in_parentheses (map name ps) ++ []) ≡ Some (ps, [])
-parameters-again ps = items-at-again name_of name name-again ps [] refl
+names-among-again : (ns : List (List ℕ)) → names_among (map named ns) ≡ Some ns
+names-among-again [] = refl
+names-among-again (n ∷ ns) = rw (names-among-again ns) refl
+
+pub parameters-again : (ps : List (List ℕ)) → names_at (in_parentheses (map name ps) ++ []) ≡ Some (ps, [])
+parameters-again ps =
+    ap (λ t. names_at (in_parentheses t ++ [])) (sym (names-spelled ps))
+    ∙ ap (option_and_then (λ front. option_map (λ ns. (ns, front.1)) (names_among front.0)))
+    (items-at-again argument_of spell_argument argument-again (map named ps) [] refl)
+    ∙ ap (option_map (λ ns. (ns, []))) (names-among-again ps)
 
 abbrev signed : Sign → WrittenAtom → SignedAtom
 signed before atom = record { sign = before; atom = atom }

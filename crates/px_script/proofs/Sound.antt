@@ -8,10 +8,10 @@ use Rattle.std.proofs.lemmas.List.{append-nil}
 use Rattle.px_script.specs.Lexemes.{Lexeme, name, variable, number, sign}
 use Rattle.px_script.specs.Items.{SignedAtom, spell_atom, spell_room_edit, spell_binding, open_word, in_parentheses}
 use Rattle.px_script.specs.Statements.{Statement, script, object, predicate, «axiom», operator, pre, delete, add, building, room, door, box, robot, end, fact, height, nodes, shapes, plan, learn, show, disturb_atoms, disturb_rooms, run, facts, spelling, time_word}
-use Rattle.px_script.proofs.Parsing.{name_of, items_at, all_of, atom_at, after_name, after_number, nothing_form, open_of, time_of, room_edit_at, binding_at, names_of, at_end, number_form, name_form, predicate_form, edits_form, rest_form}
+use Rattle.px_script.proofs.Parsing.{names_at, all_of, atom_at, after_name, after_number, nothing_form, open_of, time_of, room_edit_at, binding_at, names_of, at_end, number_form, name_form, predicate_form, edits_form, rest_form}
 use Rattle.px_script.proofs.Tests.{chosen}
 use Rattle.px_script.proofs.Repeats.{and_then_some, map_some, all-sound}
-use Rattle.px_script.proofs.SoundItems.{name-sound, items-at-sound, atom-sound, room-edit-sound, binding-sound, names-sound, same_word, after-name-some, after-number-some, open-sound, time-sound}
+use Rattle.px_script.proofs.SoundItems.{names-at-sound, atom-sound, room-edit-sound, binding-sound, names-sound, same_word, after-name-some, after-number-some, open-sound, time-sound}
 
 nothing-some : {A : Type 0} (a y : A) (lexemes : List Lexeme) → nothing_form a lexemes ≡ Some y → (lexemes ≡ []) × (a ≡ y)
 nothing-some a y [] e = (refl, cc)
@@ -107,12 +107,12 @@ predicate-line (name n ∷ number a ∷ x ∷ more) s e = let no : ⊥ = cc in e
 predicate-line (name n ∷ number a ∷ []) s e = let is : predicate n a ≡ s = cc in ap spelling is
 
 parameters-next : (n : List ℕ) (rest : List Lexeme)
-    → Sound (λ t. name (codes "operator") ∷ name n ∷ t) rest (option_and_then (λ items. at_end (operator n items.0, items.1)) (items_at name_of rest))
+    → Sound (λ t. name (codes "operator") ∷ name n ∷ t) rest (option_and_then (λ items. at_end (operator n items.0, items.1)) (names_at rest))
 unfolding Sound
 parameters-next n rest s e =
-    let step = and_then_some _ (items_at name_of rest) s e in
+    let step = and_then_some _ (names_at rest) s e in
     let ended = at-end-some (operator n step.0.0, step.0.1) s step.2 in
-    let front = items-at-sound name_of name name-sound rest step.0 step.1 in
+    let front = names-at-sound rest step.0 step.1 in
     ap (λ t. name (codes "operator") ∷ name n ∷ t) (front ∙ ap (λ t. in_parentheses (map name step.0.0) ++ t) ended.1) ∙ ap spelling ended.0
 
 -- the word from, in front of the last name

@@ -9,7 +9,7 @@ use Rattle.std.proofs.lemmas.Slice.Eq.{bytes_eq-Decides}
 use Rattle.px_script.specs.Lexemes.{Lexeme, name, variable, number, sign}
 use Rattle.px_script.specs.Items.{Argument, Sign, SignedAtom, WrittenRoomEdit, Binding, named, open_variable, anything, bare, negated, added, removed, robot_to, box_to, door_to, spell_argument, spell_sign, spell_atom, spell_room_edit, spell_binding, parameter_name, open_word, with_commas, in_parentheses, is_parameter_number}
 use Rattle.px_script.specs.Statements.{time_word}
-use Rattle.px_script.proofs.Parsing.{argument_of, name_of, items_after, items_at, sign_of, atom_after, atom_at, after_name, after_number, after_sign, which, open_of, time_of, room_edit_for, room_edit_at, parameter_if, parameter_of, binding_at, names_of}
+use Rattle.px_script.proofs.Parsing.{argument_of, names_among, names_at, items_after, items_at, sign_of, atom_after, atom_at, after_name, after_number, after_sign, which, open_of, time_of, room_edit_for, room_edit_at, parameter_if, parameter_of, binding_at, names_of}
 use Rattle.px_script.proofs.Tests.{chosen}
 use Rattle.px_script.proofs.Repeats.{and_then_some, map_some, ReadsSpelled}
 
@@ -25,12 +25,6 @@ argument-sound (sign s) a e = elim (chosen (s == 36) (Some anything) None (Some 
   | inl w ↦ (let code = eqb-true s 36 w.0 in let is : anything ≡ a = cc in ap sign code ∙ ap spell_argument is)
   | inr w ↦ (let no : ⊥ = let f = w.1 in cc in elim no [ ])
 ]
-
-pub name-sound : (x : Lexeme) (n : List ℕ) → name_of x ≡ Some n → x ≡ name n
-name-sound (name m) n e = cc
-name-sound (variable v) n e = let no : ⊥ = cc in elim no [ ]
-name-sound (number v) n e = let no : ⊥ = cc in elim no [ ]
-name-sound (sign v) n e = let no : ⊥ = cc in elim no [ ]
 
 -- a read list has an item and is spelled so
 record ReadItems {A : Type 0} (spell : A → Lexeme) (lexemes : List Lexeme) (items : List A) (rest : List Lexeme) : Type 0 where
@@ -96,7 +90,7 @@ opened : {A : Type 0} (spell : A → Lexeme) (s : ℕ) (rest : List Lexeme) (ite
 opened spell s rest items after code read = rw (code, read.some, read.spelled, append_assoc) refl
 
 -- items in parentheses, or none
-pub items-at-sound : {A : Type 0} (item : Lexeme → Option A) (spell : A → Lexeme)
+items-at-sound : {A : Type 0} (item : Lexeme → Option A) (spell : A → Lexeme)
     (sound : (x : Lexeme) (a : A) → item x ≡ Some a → x ≡ spell a) (lexemes : List Lexeme) (r : List A × List Lexeme)
     → items_at item lexemes ≡ Some r → lexemes ≡ in_parentheses (map spell r.0) ++ r.1
 items-at-sound {A = A} item spell sound [] r e =
@@ -117,6 +111,25 @@ items-at-sound {A = A} item spell sound
       | inr w ↦ (let is : ([], sign s ∷ rest) ≡ r = let f = w.1 in cc in
           let P : List A × List Lexeme → Type 0 = λ q. sign s ∷ rest ≡ in_parentheses (map spell q.0) ++ q.1 in subst P is refl)
     ]
+
+names-among-sound : (arguments : List Argument) (ns : List (List ℕ)) → names_among arguments ≡ Some ns
+    → map spell_argument arguments ≡ map name ns
+names-among-sound [] ns e = let is : [] ≡ ns = cc in ap (map name) is
+names-among-sound (open_variable v ∷ more) ns e = let no : ⊥ = cc in elim no [ ]
+names-among-sound (anything ∷ more) ns e = let no : ⊥ = cc in elim no [ ]
+names-among-sound (named n ∷ more) ns e =
+    let mapped = map_some _ (names_among more) ns e in
+    ap (λ t. name n ∷ t) (names-among-sound more mapped.0 mapped.1) ∙ ap (map name) (sym mapped.2)
+
+-- names in parentheses, or none
+pub names-at-sound : (lexemes : List Lexeme) (r : List (List ℕ) × List Lexeme) → names_at lexemes ≡ Some r
+    → lexemes ≡ in_parentheses (map name r.0) ++ r.1
+names-at-sound lexemes r e =
+    let step = and_then_some _ (items_at argument_of lexemes) r e in
+    let mapped = map_some _ (names_among step.0.0) r step.2 in
+    let P : List (List ℕ) × List Lexeme → Type 0 = λ q. lexemes ≡ in_parentheses (map name q.0) ++ q.1 in
+    subst P (sym mapped.2) (items-at-sound argument_of spell_argument argument-sound lexemes step.0 step.1
+    ∙ ap (λ t. in_parentheses t ++ step.0.1) (names-among-sound step.0.0 mapped.0 mapped.1))
 
 sign-sound : (s : ℕ) (before : Sign) → sign_of s ≡ Some before → sign s ∷ [] ≡ spell_sign before
 sign-sound s before e =

@@ -2,10 +2,11 @@
 use Rattle.std.proofs.Common.{◌∷◌, ◌++◌, refl}
 use Rattle.std.specs.Prelude.{codes}
 use Rattle.std.specs.Str.{chars}
+use Rattle.std.specs.Fmt.{digits}
 use Rattle.unicode_ident.proofs.Computing.{unicode_ident}
 use lib.Utf8.{encode}
 use Rattle.px_base.specs.Sets.{with_item, set_of}
-use Rattle.px_script.specs.Worked.{WorkedScripts, WorkedRefusals, danger_text, blanks_text, marked_text}
+use Rattle.px_script.specs.Worked.{WorkedScripts, WorkedRefusals, danger_text, blanks_text, marked_text, shown_text}
 use Rattle.px_script.proofs.Parsing.{all_within, items_after}
 use Rattle.px_script.proofs.Plain.{lines_read, scan_by}
 use Rattle.px_script.proofs.PlainReading.{refused-so, spelled-so, spelled-after, refused-by}
@@ -17,10 +18,11 @@ worked-scripts = record {
   danger = record { last = _; spells = spelled-so danger_text _ refl refl; is = refl };
   blanks = record { last = _; spells = spelled-so blanks_text _ refl refl; is = refl };
   marked = record { last = _; spells = spelled-after marked_text (0xFEFF ∷ codes "object a\nfacts\n") _ refl refl refl refl; is = refl };
+  shown = record { last = _; spells = spelled-so shown_text _ refl refl; is = refl };
 }
 
 pub worked-refusals : WorkedRefusals
-unfolding lines_read scan_by all_within items_after encode chars unicode_ident
+unfolding lines_read scan_by all_within items_after encode chars unicode_ident digits
 worked-refusals = record {
   no_character = byte_of_no_character;
   no_name = refused-so _ _ _ refl refl;
@@ -38,6 +40,13 @@ worked-refusals = record {
   late_mark = refused-by _ (codes "object a\n" ++ 0xFEFF ∷ codes "facts") _ _ refl refl refl;
   cut_line = refused-so _ _ _ refl refl;
   cut_block = refused-so _ _ _ refl refl;
+  no_source = refused-so _ _ _ refl refl;
+  no_time = refused-so _ _ _ refl refl;
+  no_state = refused-so _ _ _ refl refl;
+  parameter_zero = refused-so _ _ _ refl refl;
+  zero_before_parameter = refused-so _ _ _ refl refl;
+  no_such_parameter = refused-so _ _ _ refl refl;
+  sign_of_an_edit = refused-so _ _ _ refl refl;
   token_before_word = refused-so _ _ _ refl refl;
   form_before_order = refused-so _ _ _ refl refl;
   order_before_unbuilt = refused-so _ _ _ refl refl;

@@ -1,10 +1,21 @@
 -- What the definitions say of small lines, computed.
-use Rattle.std.proofs.Common.{refl}
+use Rattle.std.proofs.Common.{◌≡◌, ℕ, true, List, refl}
+use Rattle.std.specs.Prelude.{Some}
+use Rattle.std.specs.Fmt.{digits}
 use Rattle.px_base.specs.Sets.{with_item, set_of}
+use Rattle.px_script.specs.Statements.{Statement, spelling}
 use Rattle.px_script.specs.WorkedDomains.{WorkedDomains}
 use Rattle.px_script.specs.WorkedBuildings.{WorkedBuildings}
 use Rattle.px_script.specs.WorkedCommands.{WorkedCommands}
+use Rattle.px_script.specs.WorkedSpellings.{Spell, WorkedSpellings}
+use Rattle.px_script.specs.WorkedLimits.{WorkedLimits}
 use Rattle.px_script.specs.WorkedLater.{WorkedLater}
+use Rattle.px_script.proofs.Plain.{scan_by, is_plain, plain_scan}
+use Rattle.px_script.proofs.PlainReading.{written-so}
+
+-- the plain scan finds its spelling
+spell : (characters : List ℕ) (s : Statement) → is_plain characters ≡ true → plain_scan characters ≡ Some (spelling s) → Spell characters s
+spell characters s plain e = record { lexes = written-so characters (spelling s) plain e }
 
 pub worked-domains : WorkedDomains
 unfolding with_item set_of
@@ -30,6 +41,7 @@ worked-domains = record {
   wide_predicate = ((refl, refl), refl, refl);
   predicate_beside_building = ((refl, refl), refl, refl);
   axioms = ((refl, refl), refl);
+  numbers_variables = ((refl, refl), refl);
   no_literal = ((refl, refl), refl);
   literal_of_an_edit = ((refl, refl), refl);
   early_variable = ((refl, refl), refl, refl);
@@ -91,16 +103,13 @@ worked-domains = record {
   many_shapes = ((refl, refl), refl, refl);
   setting_in_block = ((refl, refl), refl, refl);
   late_setting = ((refl, refl), refl, refl);
-  axiom_kept_back = (refl, refl);
-  height_kept_back = (refl, refl);
-  shapes_kept_back = (refl, refl);
-  long_precondition_kept_back = (refl, refl);
 }
 
 pub worked-buildings : WorkedBuildings
 unfolding with_item set_of
 worked-buildings = record {
   names = (((refl, refl), refl), refl);
+  predicates = ((refl, refl), refl);
   beside_object = ((refl, refl), refl, refl);
   beside_predicate = ((refl, refl), refl, refl);
   beside_setting = ((refl, refl), refl);
@@ -136,17 +145,18 @@ worked-buildings = record {
   goal = ((refl, refl), refl);
   goal_arity = ((refl, refl), refl, refl);
   goal_unknown = ((refl, refl), refl, refl);
-  building_kept_back = (refl, refl);
-  room_kept_back = (refl, refl);
-  door_kept_back = (refl, refl);
-  box_kept_back = (refl, refl);
-  robot_kept_back = (refl, refl);
+  building_kept_back = ((refl, refl), refl);
+  room_kept_back = ((refl, refl), refl);
+  door_kept_back = ((refl, refl), refl);
+  box_kept_back = ((refl, refl), refl);
+  robot_kept_back = ((refl, refl), refl);
 }
 
 pub worked-commands : WorkedCommands
 unfolding with_item set_of
 worked-commands = record {
   plans = (((refl, refl), refl), refl);
+  numbers_variables = ((refl, refl), refl);
   no_goal = ((refl, refl), refl);
   denied_goal = ((refl, refl), refl);
   early_variable = ((refl, refl), refl, refl);
@@ -204,17 +214,71 @@ worked-commands = record {
   many_runs = refl;
   tells_facts = ((refl, refl), refl);
   many_told = refl;
-  variable_kept_back = (refl, refl);
-  long_goal_kept_back = (refl, refl);
-  learn_kept_back = (refl, refl);
-  show_kept_back = (refl, refl);
-  disturb_kept_back = (refl, refl);
-  disturb_rooms_kept_back = (refl, refl);
-  run_kept_back = (refl, refl);
+  learn_kept_back = ((refl, refl), refl);
+  disturb_kept_back = ((refl, refl), refl);
+  disturb_rooms_kept_back = ((refl, refl), refl);
+  run_kept_back = ((refl, refl), refl);
+}
+
+pub worked-spellings : WorkedSpellings
+unfolding scan_by digits
+worked-spellings = record {
+  an_axiom = spell _ _ refl refl;
+  an_operator = spell _ _ refl refl;
+  without_parameters = spell _ _ refl refl;
+  a_pattern = spell _ _ refl refl;
+  a_building = spell _ _ refl refl;
+  a_room = spell _ _ refl refl;
+  an_open_door = spell _ _ refl refl;
+  a_closed_door = spell _ _ refl refl;
+  a_box = spell _ _ refl refl;
+  a_robot = spell _ _ refl refl;
+  a_height = spell _ _ refl refl;
+  many_shapes = spell _ _ refl refl;
+  a_goal = spell _ _ refl refl;
+  learning = spell _ _ refl refl;
+  showing = spell _ _ refl refl;
+  edits_before = spell _ _ refl refl;
+  edits_between = spell _ _ refl refl;
+  edits_of_rooms = spell _ _ refl refl;
+  bindings = spell _ _ refl refl;
+}
+
+pub worked-limits : WorkedLimits
+unfolding with_item set_of
+worked-limits = record {
+  long_enough = ((refl, refl), refl);
+  last_object = refl;
+  last_predicate = refl;
+  last_axiom = refl;
+  axiom_variables = refl;
+  last_operator = refl;
+  long_precondition = refl;
+  long_deletes = refl;
+  long_adds = refl;
+  last_fact = refl;
+  facts_counted_once = refl;
+  fact_that_is_there = refl;
+  goal_variables = refl;
+  long_goal = refl;
+  last_command = refl;
+  last_disturbance = refl;
+  last_room_edits = refl;
+  least_numbers = (((refl, refl), refl), refl);
+  predicates_first = refl;
+  axioms_first = refl;
+  literals_first = ((refl, refl), refl, refl);
+  operators_first = refl;
+  name_first = ((refl, refl), refl, refl);
+  variables_first = ((refl, refl), refl, refl);
+  atoms_first = refl;
+  commands_first = refl;
+  disturbs_first = refl;
+  edits_first = ((refl, refl), refl, refl);
 }
 
 pub worked-later : WorkedLater
-unfolding with_item set_of
+unfolding with_item set_of digits
 worked-later = record {
   later_limits = refl;
   same_limits = refl;
@@ -237,14 +301,34 @@ worked-later = record {
   table_in_a_building = refl;
   table_like_a_result = refl;
   late_table = refl;
-  step_in_place = refl;
-  step_after_goal = refl;
-  second_goal = refl;
-  early_proof = refl;
-  proof_in_place = refl;
-  ends_early = refl;
-  proof_spelled = refl;
   step_spelled = refl;
+  plain_step_spelled = refl;
+  new_step = (refl, refl);
+  step_fits = refl;
+  step_of_no_operator = refl;
+  step_with_unknown = refl;
+  third_parameter = refl;
+  no_parameter = refl;
+  zero_in_front = refl;
+  goal_variable_in_step = refl;
+  early_step = refl;
+  step_outside = refl;
+  step_after_goal = refl;
+  goal_fits = refl;
+  far_goal_variable = refl;
+  other_variable = refl;
+  wild_table_goal = refl;
+  table_goal_arity = refl;
+  second_goal = refl;
+  proof_spelled = refl;
+  whole_proofs = refl;
+  no_proofs = refl;
+  cut_proof = refl;
+  proof_fits = refl;
+  third_parameter_in_proof = refl;
+  goal_variable_in_proof = refl;
+  early_proof = refl;
+  ends_early = refl;
   saves = refl;
   saves_no_table = refl;
   certifies = refl;

@@ -1,14 +1,15 @@
 -- The causes to refuse a line that follow from its description alone.
-use Rattle.std.specs.Prelude.{ℕ, Bool, true, false, List, length, Option, None, Some, not, ◌||◌, ◌&&◌, ◌==◌, nat_lt, slice_index}
-use Rattle.std.specs.List.{list_any, flat_map, filter}
+use Rattle.std.specs.Prelude.{ℕ, Bool, true, false, List, ◌∷◌, length, Option, None, Some, not, ◌||◌, ◌&&◌, ◌==◌, nat_lt, slice_index}
+use Rattle.std.specs.Fmt.{decimal}
+use Rattle.std.specs.List.{list_any, flat_map, filter, range_with_len}
 use Rattle.std.specs.Str.{bytes_eq}
 use Rattle.px_names.specs.Lists.{has_name}
 use Rattle.px_world.specs.declared.thing.Thing.{Thing}
 use Rattle.px_world.specs.declared.thing.Thing.TheVariants as thing
 use Rattle.px_script.specs.Items.{Named, Argument, named, open_variable, anything, a_parameter, a_room, a_door, a_box, a_plan, a_table, is_variable, has_parameter, wanted_in, is_empty}
-use Rattle.px_script.specs.Statements.{Line, Place, Block, Manner, first, opens, inside, closes, command, operator_block, building_block, table_steps, table_rows, patterns, literals, goals}
-use Rattle.px_script.specs.Limits.{greatest, name_bytes}
-use Rattle.px_script.specs.Declarations.{Declared, has_building, block_here, names_here, declared_by, excludes_building, parameters_here, number_in}
+use Rattle.px_script.specs.Statements.{Line, Place, Block, Manner, first, opens, inside, closes, command, operator_block, building_block, table_steps, table_rows, patterns, literals, goals, table_terms, table_goals}
+use Rattle.px_script.specs.Limits.{greatest, name_bytes, variables}
+use Rattle.px_script.specs.Declarations.{Declared, has_building, block_here, names_here, declared_by, excludes_building, parameters_here, table_parameters_here, number_in}
 use Rattle.px_script.specs.Forms.{atoms_of, arguments_of}
 
 -- the six cases of a line that is out of order
@@ -118,12 +119,26 @@ has_wrong_arity d l =
 
 -- variables and wild cards
 
--- Whether an argument may stand in a line's atoms; in a block of version 2 that depends on the block.
+-- the letter directly followed by a number from 1 to this, without a leading zero
+abbrev pub is_numbered_by : ℕ → ℕ → List ℕ → Bool
+is_numbered_by letter most v = list_any (λ k. bytes_eq v (letter ∷ decimal k)) (range_with_len 1 most)
+
+-- ?pK, where K is from 1 to how many parameters the table has whose block is open
+abbrev pub is_table_parameter : Declared → List ℕ → Bool
+is_table_parameter d v = is_numbered_by 112 (table_parameters_here d.block) v
+
+-- ?gK, where K is from 1 to how many variables a goal may have
+abbrev pub is_goal_variable : Declared → List ℕ → Bool
+is_goal_variable d v = is_numbered_by 103 (greatest d.version variables) v
+
+-- whether an argument may stand in a line
 abbrev pub takes : Declared → Manner → Argument → Bool
 takes d _ (named n) = true
 takes d literals (open_variable v) = true
 takes d goals (open_variable v) = true
 takes d patterns anything = true
+takes d table_terms (open_variable v) = is_table_parameter d v
+takes d table_goals (open_variable v) = is_table_parameter d v || is_goal_variable d v
 takes d _ _ = false
 
 abbrev pub is_unbound : Declared → Line → Bool

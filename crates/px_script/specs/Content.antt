@@ -26,6 +26,8 @@ problem_of d = record {
   shapes = unwrap_or d.shapes 10000;
 }
 
+-- A building's problem (its operators and its axiom) and its first facts aren't given here: they come with buildings, and until then
+-- the stage keeps back their block.
 abbrev pub content_of : Declared → ScriptValue
 content_of d = record {
   version = d.version;

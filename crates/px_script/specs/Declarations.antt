@@ -18,7 +18,7 @@ use Rattle.px_world.specs.declared.edits.RoomEdit.TheVariants as room_edit
 use Rattle.px_world.specs.declared.thing.Thing.{Thing}
 use Rattle.px_world.specs.declared.thing.Thing.TheVariants as thing
 use Rattle.px_script.specs.Items.{Named, Argument, SignedAtom, Sign, WrittenRoomEdit, Binding, named, open_variable, anything, bare, added, robot_to, box_to, door_to, declared_in, an_object, a_predicate, an_operator, a_result, a_parameter, a_sort, a_room, a_door, a_box, a_plan, a_table}
-use Rattle.px_script.specs.Statements.{Statement, Line, Place, Block, line_of, domain, opens, operator_block, building_block, script, object, predicate, «axiom», operator, pre, delete, add, building, room, door, box, robot, end, fact, height, nodes, shapes, plan, learn, show, disturb_atoms, disturb_rooms, run, facts}
+use Rattle.px_script.specs.Statements.{Statement, Line, Place, Block, line_of, domain, opens, operator_block, building_block, table_steps, table_rows, script, object, predicate, «axiom», operator, pre, delete, add, building, room, door, box, robot, end, fact, height, nodes, shapes, plan, learn, show, disturb_atoms, disturb_rooms, run, facts}
 use Rattle.px_script.specs.Commands.{Command, Plan, Learn, Show, DisturbAtoms, DisturbRooms, Run, Facts}
 use Rattle.px_script.specs.Domain.{the_robot, building_predicates}
 
@@ -27,9 +27,15 @@ pub record OpenOperator : Type 0 where
   pub parameters : List (List ℕ)
   pub schema : Schema
 
+-- the table whose block is open: how many parameters it has
+pub record OpenTable : Type 0 where
+  pub parameters : ℕ
+
+-- A table's block, of version 2, is one of steps up to its goal, and one of rows after it.
 pub data BlockKind : Type 0 where
   of_operator : OpenOperator → BlockKind
   of_building : BlockKind
+  of_table_steps of_table_rows : OpenTable → BlockKind
 
 -- a block that isn't closed, and the line that opened it
 pub record OpenBlock : Type 0 where
@@ -98,13 +104,15 @@ has_building d = is_some d.things
 abbrev pub kind_of_block : BlockKind → Block
 kind_of_block (of_operator o) = operator_block
 kind_of_block of_building = building_block
+kind_of_block (of_table_steps t) = table_steps
+kind_of_block (of_table_rows t) = table_rows
 
 abbrev pub block_here : Declared → Option Block
 block_here d = option_map (λ block. kind_of_block block.kind) d.block
 
 abbrev pub operator_in : BlockKind → Option OpenOperator
 operator_in (of_operator o) = Some o
-operator_in of_building = None
+operator_in _ = None
 
 -- the operator whose block is open
 abbrev pub operator_here : Option OpenBlock → Option OpenOperator
@@ -117,6 +125,16 @@ parameters_of (Some o) = o.parameters
 
 abbrev pub parameters_here : Declared → List (List ℕ)
 parameters_here d = parameters_of (operator_here d.block)
+
+abbrev pub table_parameters : BlockKind → ℕ
+table_parameters (of_table_steps t) = t.parameters
+table_parameters (of_table_rows t) = t.parameters
+table_parameters _ = 0
+
+-- how many parameters the table has whose block is open
+abbrev pub table_parameters_here : Option OpenBlock → ℕ
+table_parameters_here None = 0
+table_parameters_here (Some block) = table_parameters block.kind
 
 -- the names of a kind
 abbrev pub names_here : Declared → Named → List (List ℕ)
@@ -218,7 +236,7 @@ binding_of d binding = (binding.parameter, number_in binding.object d.names.obje
 -- the schema changed of the operator whose block is open
 abbrev pub change_schema : (Schema → Schema) → BlockKind → BlockKind
 change_schema change (of_operator o) = of_operator (record o { schema = change o.schema })
-change_schema change of_building = of_building
+change_schema change kind = kind
 
 abbrev pub change_block : (Schema → Schema) → OpenBlock → OpenBlock
 change_block change block = record block { kind = change_schema change block.kind }

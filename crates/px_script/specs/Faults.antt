@@ -7,7 +7,7 @@ use Rattle.px_terms.specs.AtomSets.{atom_set}
 use Rattle.px_script.specs.Items.{SignedAtom, Binding}
 use Rattle.px_script.specs.Statements.{Statement, line_of, script, object, predicate, «axiom», operator, pre, delete, add, building, room, door, box, robot, end, fact, height, nodes, shapes, plan, learn, show, disturb_atoms, disturb_rooms, run, facts}
 use Rattle.px_script.specs.Limits as limit
-use Rattle.px_script.specs.Limits.{Limit, Bounds, greatest, number_of, of_version, of_height, of_nodes, of_shapes, of_turn}
+use Rattle.px_script.specs.Limits.{Limit, Bounds, greatest, number_of, number_of_numbers, of_version, of_height, of_nodes, of_shapes, of_turn}
 use Rattle.px_script.specs.Declarations.{Declared, OpenOperator, operator_here, has_building, variables_of, atom_of}
 use Rattle.px_script.specs.Stages.{Stage, stage_now, whole_language, is_unbuilt}
 use Rattle.px_script.specs.Causes.{is_out_of_order, has_unknown_name, repeats_name, has_wrong_arity, is_unbound, has_long_name, has_robot}
@@ -47,7 +47,7 @@ abbrev pub over : Declared → Limit → ℕ → Bool × ℕ
 over d limit n = (nat_lt (greatest d.version limit) n, number_of limit)
 
 abbrev pub outside : Bounds → ℕ → Bool × ℕ
-outside bounds n = (nat_lt n bounds.least || nat_lt bounds.most n, 16)
+outside bounds n = (nat_lt n bounds.least || nat_lt bounds.most n, number_of_numbers)
 
 abbrev pub one_more_object : Declared → Bool × ℕ
 one_more_object d = over d limit.objects (length d.names.objects + 1)
@@ -89,7 +89,7 @@ own_limits d (run n bs) = one_more_command d ∷ []
 own_limits d facts = one_more_command d ∷ []
 
 abbrev pub limits : Declared → Statement → List (Bool × ℕ)
-limits d s = (has_long_name d (line_of s), 1) ∷ own_limits d s
+limits d s = (has_long_name d (line_of s), number_of limit.name_bytes) ∷ own_limits d s
 
 -- the causes in their order
 
@@ -103,7 +103,7 @@ passed test = (test.0, record { code = 8; limit = test.1 })
 abbrev pub causes : Stage → Declared → Statement → List (Bool × Refusal)
 causes stage d s = let l = line_of s in
     (is_out_of_order d l, coded 9)
-    ∷ (is_unbuilt stage d s, coded 11)
+    ∷ (is_unbuilt stage s, coded 11)
     ∷ (has_unknown_name d l, coded 4)
     ∷ (has_duplicate d s, coded 5)
     ∷ (has_wrong_arity d l, coded 6)

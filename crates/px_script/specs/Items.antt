@@ -1,5 +1,5 @@
 -- What may stand in a line after its word, how it is spelled, and what it is there for.
-use Rattle.std.specs.Prelude.{ℕ, Bool, true, false, List, [], ◌∷◌, ◌++◌, map, codes, not, nat_lt, ◌&&◌}
+use Rattle.std.specs.Prelude.{ℕ, ◌+◌, Bool, true, false, List, [], ◌∷◌, ◌++◌, map, codes, not, nat_lt, ◌&&◌}
 use Rattle.std.specs.List.{flat_map, list_all}
 use Rattle.std.specs.Fmt.{decimal}
 use Rattle.px_script.specs.Lexemes.{Lexeme, name, variable, number, sign}
@@ -59,7 +59,9 @@ pub data Item : Type 0 where
   bindings : List Binding → Item
   -- one or more edits of a building
   room_edits : List WrittenRoomEdit → Item
-  -- terms in parentheses with commas, () for none; one or more pairs of numbers. They stand in lines of version 2 alone.
+  -- These stand in lines of version 2 alone: arguments in parentheses with commas, nothing where there are none; terms in parentheses
+  -- with commas, () for none; one or more pairs of numbers.
+  arguments : List Argument → Item
   terms : List Argument → Item
   pairs : List (ℕ × ℕ) → Item
 
@@ -129,17 +131,21 @@ spell (wanted kind ns) = map name ns
 spell (atoms xs) = flat_map spell_atom xs
 spell (bindings bs) = flat_map spell_binding bs
 spell (room_edits es) = flat_map spell_room_edit es
+spell (arguments ts) = in_parentheses (map spell_argument ts)
 spell (terms ts) = sign 40 ∷ (with_commas (map spell_argument ts) ++ sign 41 ∷ [])
 spell (pairs ps) = flat_map spell_pair ps
 
--- Where an item is one or more things, there is one, and parameters have numbers from 1 to 9999.
+-- Where an item is one or more things, there is one, and parameters have numbers from 1 to the last.
 
 abbrev pub is_empty : {A : Type 0} → List A → Bool
 is_empty [] = true
 is_empty (x ∷ xs) = false
 
+abbrev pub last_parameter : ℕ
+last_parameter = 9999
+
 abbrev pub is_parameter_number : ℕ → Bool
-is_parameter_number k = nat_lt 0 k && nat_lt k 10000
+is_parameter_number k = nat_lt 0 k && nat_lt k (last_parameter + 1)
 
 abbrev pub is_filled : Item → Bool
 is_filled (amounts ns) = not (is_empty ns)
@@ -159,6 +165,7 @@ atoms_in _ = []
 
 abbrev pub arguments_in : Item → List Argument
 arguments_in (atoms xs) = flat_map (λ signed. signed.atom.arguments) xs
+arguments_in (arguments ts) = ts
 arguments_in (terms ts) = ts
 arguments_in _ = []
 

@@ -18,6 +18,8 @@ pub mod WorkedLines
 pub mod WorkedDomains
 pub mod WorkedBuildings
 pub mod WorkedCommands
+pub mod WorkedSpellings
+pub mod WorkedLimits
 pub mod WorkedLater
 pub mod Worked
 -- what a script keeps

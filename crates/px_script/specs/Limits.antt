@@ -74,7 +74,10 @@ greatest version commands = if version == 2 then 1024 else 512
 greatest version disturbs = 64
 greatest version edits = 16
 
--- the numbers that a script may give: limit 16
+-- The number of the limit of numbers, those that a script may give.
+abbrev pub number_of_numbers : ℕ
+number_of_numbers = 16
+
 pub record Bounds : Type 0 where
   pub least : ℕ
   pub most : ℕ

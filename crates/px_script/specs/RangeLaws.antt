@@ -18,7 +18,8 @@ use Rattle.px_script.specs.Commands.{Command, Plan, Learn, Show, DisturbAtoms, D
 use Rattle.px_script.specs.Content.{ScriptValue}
 use Rattle.px_script.specs.Things.{IsThingAfter}
 use Rattle.px_script.specs.Ranges.{IsEditOf, IsRoomEditOf, AreRoomEditsOf, IsCommandOf, NamesEarlier, IsInRange}
-use Rattle.px_script.specs.StageRanges.{IsBuiltCommand, IsOfStage}
+use Rattle.px_script.specs.StageRanges.{IsOfStage}
+use Rattle.px_script.specs.Stages.{Stage}
 
 ruleset sums = (⊎_set, props)
 
@@ -95,16 +96,7 @@ ruleset all_parts = (IsCommandOf-prop, NamesEarlier-prop, IsValid-prop, Term-set
 pub IsInRange-prop : (script : ScriptValue) → IsProp (IsInRange script)
 IsInRange-prop script = Prim.hlevel all_parts
 
-IsBuiltCommand-prop : (command : Command) → IsProp (IsBuiltCommand command)
-IsBuiltCommand-prop (Plan name goal vars) = Prim.hlevel props
-IsBuiltCommand-prop (Learn name source) = Prim.hlevel props
-IsBuiltCommand-prop (Show name) = Prim.hlevel props
-IsBuiltCommand-prop (DisturbAtoms turn between edits) = Prim.hlevel props
-IsBuiltCommand-prop (DisturbRooms turn between edits) = Prim.hlevel props
-IsBuiltCommand-prop (Run name bindings) = Prim.hlevel props
-IsBuiltCommand-prop Facts = Prim.hlevel props
+ruleset built = (Term-set, props)
 
-ruleset built = (IsBuiltCommand-prop, Term-set, props)
-
-pub IsOfStage-prop : (script : ScriptValue) → IsProp (IsOfStage script)
-IsOfStage-prop script = Prim.hlevel built
+pub IsOfStage-prop : (stage : Stage) (script : ScriptValue) → IsProp (IsOfStage stage script)
+IsOfStage-prop stage script = Prim.hlevel built

@@ -15,6 +15,7 @@ use Rattle.px_world.specs.declared.edits.RoomEdit.{RoomEdit}
 use Rattle.px_world.specs.declared.edits.RoomEdit.TheVariants as room_edit
 use Rattle.px_world.specs.declared.thing.Thing.{Thing}
 use Rattle.px_world.specs.declared.thing.Thing.TheVariants.{Room}
+use Rattle.px_script.specs.Items.{last_parameter}
 use Rattle.px_script.specs.Limits as limit
 use Rattle.px_script.specs.Limits.{Bounds, greatest, of_turn}
 use Rattle.px_script.specs.Commands.{Command, Plan, Learn, Show, DisturbAtoms, DisturbRooms, Run, Facts}
@@ -25,19 +26,17 @@ use Rattle.px_script.specs.Things.{numbered_things, IsRoomOf, IsDoorOf, IsBoxOf,
 
 -- names
 
-abbrev pub AreShort : ℕ → List (List ℕ) → Type 0
-AreShort version names = All (λ n. length n ≤ greatest version limit.name_bytes) names
+-- No name of a kind stands twice, and none is too long.
+pub record AreNamesOf (version : ℕ) (names : List (List ℕ)) : Type 0 where
+  pub distinct : AreDistinct names
+  pub short : All (λ n. length n ≤ greatest version limit.name_bytes) names
 
--- No name stands twice in its kind or is too long, and there are not too many.
+-- Each kind is so, and has not too many names.
 pub record NamesInRange (version : ℕ) (names : NameLists) : Type 0 where
-  pub distinct_objects : AreDistinct names.objects
-  pub distinct_predicates : AreDistinct names.predicates
-  pub distinct_operators : AreDistinct names.operators
-  pub distinct_results : AreDistinct names.results
-  pub short_objects : AreShort version names.objects
-  pub short_predicates : AreShort version names.predicates
-  pub short_operators : AreShort version names.operators
-  pub short_results : AreShort version names.results
+  pub objects : AreNamesOf version names.objects
+  pub predicates : AreNamesOf version names.predicates
+  pub operators : AreNamesOf version names.operators
+  pub results : AreNamesOf version names.results
   pub few_objects : length names.objects ≤ greatest version limit.objects
   pub few_predicates : length names.predicates ≤ greatest version limit.predicates
   pub few_operators : length names.operators ≤ greatest version limit.operators
@@ -126,9 +125,9 @@ pub record IsGoalOf (version : ℕ) (problem : Problem) (goal : List Atom) (vars
   pub atoms : All (IsAtomOf problem vars) goal
   pub numbered : AreNumbered vars goal
 
--- a parameter has a number from 1 to 9999, and an object of the problem
+-- a parameter has a number from 1 to the last, and an object of the problem
 abbrev pub IsBindingOf : Problem → ℕ × ℕ → Type 0
-IsBindingOf problem binding = (1 ≤ binding.0) × (binding.0 ≤ 9999) × (binding.1 < problem.objects)
+IsBindingOf problem binding = (1 ≤ binding.0) × (binding.0 ≤ last_parameter) × (binding.1 < problem.objects)
 
 -- The command's atoms and objects are the problem's, and its names are among so many results. With a building its edits are of rooms,
 -- and without one of atoms. No parameter is bound twice.

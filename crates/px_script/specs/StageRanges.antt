@@ -1,28 +1,23 @@
 -- What a script has of the language as far as it is built.
-use Rattle.std.specs.Prelude.{◌≡◌, ◌≤◌, [], length, None, All}
-use Rattle.px_terms.specs.declared.problem.Schema.{Schema}
+use Rattle.std.specs.Prelude.{◌≡◌, ℕ, true, List, codes, All, is_some}
 use Rattle.px_script.specs.Commands.{Command, Plan, Learn, Show, DisturbAtoms, DisturbRooms, Run, Facts}
 use Rattle.px_script.specs.Content.{ScriptValue}
-use Rattle.px_script.specs.Stages.{most_atoms}
+use Rattle.px_script.specs.Stages.{Stage, is_built}
 
--- a plan for a goal of at most twelve atoms without variables, or the facts
-abbrev pub IsBuiltCommand : Command → Type 0
-IsBuiltCommand (Plan name goal vars) = (vars ≡ 0) × (length goal ≤ most_atoms)
-IsBuiltCommand (Learn name source) = ⊥
-IsBuiltCommand (Show name) = ⊥
-IsBuiltCommand (DisturbAtoms turn between edits) = ⊥
-IsBuiltCommand (DisturbRooms turn between edits) = ⊥
-IsBuiltCommand (Run name bindings) = ⊥
-IsBuiltCommand Facts = Unit {0}
+-- the word of a command
+abbrev pub word_of : Command → List ℕ
+word_of (Plan name goal vars) = codes "plan"
+word_of (Learn name source) = codes "learn"
+word_of (Show name) = codes "show"
+word_of (DisturbAtoms turn between edits) = codes "disturb"
+word_of (DisturbRooms turn between edits) = codes "disturb"
+word_of (Run name bindings) = codes "run"
+word_of Facts = codes "facts"
 
-abbrev pub HasShortPrecondition : Schema → Type 0
-HasShortPrecondition schema = length schema.pre ≤ most_atoms
+abbrev pub IsBuiltCommand : Stage → Command → Type 0
+IsBuiltCommand stage command = is_built stage (word_of command) ≡ true
 
--- The script has no building and no axioms, short goals without variables and short preconditions; two limits are at their defaults.
-pub record IsOfStage (script : ScriptValue) : Type 0 where
-  pub no_building : script.building ≡ None
-  pub no_axioms : script.problem.axioms ≡ []
-  pub schemas : All HasShortPrecondition script.problem.schemas
-  pub height : script.problem.height ≡ 4
-  pub shapes : script.problem.shapes ≡ 10000
-  pub commands : All IsBuiltCommand script.commands
+-- The script has built commands alone, and a building only where buildings are built.
+pub record IsOfStage (stage : Stage) (script : ScriptValue) : Type 0 where
+  pub building : is_some script.building ≡ true → is_built stage (codes "building") ≡ true
+  pub commands : All (IsBuiltCommand stage) script.commands

@@ -56,6 +56,8 @@ pub data Manner : Type 0 where
   atom_changes : Manner
   -- edits of a building
   room_changes : Manner
+  -- of the steps and proofs of a table's block: names and the parameters of the table; of its goal: with variables of the goal, too
+  table_terms table_goals : Manner
 
 pub record Line : Type 0 where
   pub word : List ℕ

@@ -3,14 +3,16 @@ use Rattle.std.specs.Prelude.{ℕ, List, [], ◌∷◌, ◌++◌, codes, None}
 use Rattle.px_terms.specs.declared.atom.Atom.{Atom}
 use Rattle.px_terms.specs.declared.term.Term.{Term}
 use Rattle.px_terms.specs.declared.term.Term.TheVariants.{Obj, Var}
-use Rattle.px_script.specs.Commands.{Plan, Facts}
+use Rattle.px_script.specs.Commands.{Plan, Show, Facts}
 use Rattle.px_script.specs.Content.{ScriptValue}
 use Rattle.px_script.specs.Lines.{mark}
+use Rattle.px_script.specs.Stages.{stage_now}
 use Rattle.px_script.specs.Scripts.{IsScript, FirstFault}
+use Rattle.px_script.specs.WorkedLines.{asserted, denied}
 
 -- the first fault of the bytes: its line, its code and its limit
 abbrev pub IsRefused : List ℕ → ℕ → ℕ → ℕ → Type 0
-IsRefused bytes line code limit = FirstFault bytes line (record { code = code; limit = limit })
+IsRefused bytes line code limit = FirstFault stage_now bytes line (record { code = code; limit = limit })
 
 -- The predicate of this number, with one argument.
 abbrev pub of_one : ℕ → Term → Atom
@@ -76,11 +78,37 @@ marked = record {
   commands = Facts ∷ [];
 }
 
+-- an axiom, the numbers of the search, a goal with a variable, and a plan that is shown
+abbrev pub shown_text : List ℕ
+shown_text = codes "object a b\npredicate P 2\naxiom ~P(?x,?y) P(?y,?x)\nheight 3\nshapes 900\nfact P(a,b)\nplan N P(?z,a)\nshow N"
+
+abbrev pub of_two : Term → Term → Atom
+of_two x y = record { pred = 0; args = x ∷ y ∷ [] }
+
+abbrev pub shown : ScriptValue
+shown = record {
+  version = 1;
+  names = record { objects = codes "a" ∷ codes "b" ∷ []; predicates = codes "P" ∷ []; operators = []; results = codes "N" ∷ [] };
+  problem = record {
+    objects = 2;
+    arities = 2 ∷ [];
+    axioms = record { vars = 2; lits = denied (of_two (Var 0) (Var 1)) ∷ asserted (of_two (Var 1) (Var 0)) ∷ [] } ∷ [];
+    schemas = [];
+    height = 3;
+    nodes = 10000;
+    shapes = 900;
+  };
+  facts = of_two (Obj 0) (Obj 1) ∷ [];
+  building = None;
+  commands = Plan 0 (of_two (Var 0) (Obj 0) ∷ []) 1 ∷ Show 0 ∷ [];
+}
+
 -- texts that are scripts, with what they are about
 pub record WorkedScripts : Type 0 where
-  pub danger : IsScript danger_text danger
-  pub blanks : IsScript blanks_text blanks
-  pub marked : IsScript marked_text marked
+  pub danger : IsScript stage_now danger_text danger
+  pub blanks : IsScript stage_now blanks_text blanks
+  pub marked : IsScript stage_now marked_text marked
+  pub shown : IsScript stage_now shown_text shown
 
 -- texts that are no scripts, with the line, the code and the limit of their first fault
 pub record WorkedRefusals : Type 0 where
@@ -100,16 +128,22 @@ pub record WorkedRefusals : Type 0 where
   pub late_mark : IsRefused (codes "object a\n" ++ mark ++ codes "facts") 2 2 0
   pub cut_line : IsRefused (codes "object a\n\noperator A(x)\ndelete\n") 4 2 0
   pub cut_block : IsRefused (codes "object a\n\noperator A(x)\n") 3 10 0
+  pub no_source : IsRefused (codes "learn M of N") 1 2 0
+  pub no_time : IsRefused (codes "disturb 1 while +P") 1 2 0
+  pub no_state : IsRefused (codes "door D R S ajar") 1 2 0
+  pub parameter_zero : IsRefused (codes "run N p0=a") 1 2 0
+  pub zero_before_parameter : IsRefused (codes "run N p01=a") 1 2 0
+  pub no_such_parameter : IsRefused (codes "run N p10000=a") 1 2 0
+  pub sign_of_an_edit : IsRefused (codes "axiom +P") 1 2 0
   pub token_before_word : IsRefused (codes "fly %") 1 2 0
   pub form_before_order : IsRefused (codes "operator A\nobject") 2 2 0
-  pub order_before_unbuilt : IsRefused (codes "operator A\nshow N") 2 9 0
-  pub unbuilt_before_name : IsRefused (codes "axiom Q(a)") 1 11 0
+  pub order_before_unbuilt : IsRefused (codes "operator A\nrun N") 2 9 0
+  pub unbuilt_before_name : IsRefused (codes "run N") 1 11 0
   pub name_before_duplicate : IsRefused (codes "object a\npredicate P 1\nplan N P(a)\nplan N P(b)") 4 4 0
   pub duplicate_before_arity : IsRefused (codes "object a\npredicate P 1\nplan N P(a)\nplan N P(a,a)") 4 5 0
   pub unbound_before_limit : IsRefused (codes "object a\npredicate P 1\n"
       ++ codes "plan aaaaaaaaaaaaaaaaaaaaaaaaaaaaaaaaaaaaaaaaaaaaaaaaaaaaaaaaaaaaaaaaa P($)") 3 7 0
   pub duplicate_before_limit : IsRefused (codes "nodes 5\nnodes 0") 2 5 0
   pub arity_before_unbound : IsRefused (codes "object a\npredicate P 1\nfact P(?x,a)") 3 6 0
-  pub not_built : IsRefused (codes "object ROBOT R1 R2 R3 D1 D2 B1\npredicate INROOM 2\npredicate CONNECTS 3\npredicate BOX 1\n"
-      ++ codes "axiom ~CONNECTS(?d,?x,?y) CONNECTS(?d,?y,?x)\n"
-      ++ codes "operator GOTHRU(d,r1,r2)\npre INROOM(ROBOT,r1) CONNECTS(d,r1,r2)\ndelete INROOM(ROBOT,$)\n") 5 11 0
+  pub not_built : IsRefused (codes "object a b\npredicate P 2\naxiom ~P(?x,?y) P(?y,?x)\nheight 3\nshapes 900\n"
+      ++ codes "plan N P(?x,a)\nshow N\nlearn M from N\n") 8 11 0

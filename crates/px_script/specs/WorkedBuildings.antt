@@ -24,6 +24,8 @@ full_building = open_block 1 of_building (record nothing_declared {
 pub record WorkedBuildings : Type 0 where
   -- `building`
   pub names : LeaveBoth (building ∷ []) (λ d. d.names.objects) (codes "ROBOT" ∷ []) (λ d. d.arities) (2 ∷ 2 ∷ 3 ∷ 1 ∷ 1 ∷ 1 ∷ 1 ∷ 1 ∷ [])
+  pub predicates : Leave (building ∷ []) (λ d. d.names.predicates) (codes "INROOM" ∷ codes "NEXTTO" ∷ codes "CONNECTS" ∷ codes "OPENED"
+      ∷ codes "CLOSED" ∷ codes "ROOM" ∷ codes "DOOR" ∷ codes "BOX" ∷ [])
   pub beside_object : Fails (object (r ∷ []) ∷ []) building 9
   pub beside_predicate : Fails (predicate r 0 ∷ []) building 9
   pub beside_setting : Leave (height 4 ∷ building ∷ []) (λ d. d.names.objects) (codes "ROBOT" ∷ [])

@@ -39,6 +39,9 @@ pub record WorkedCommands : Type 0 where
       (λ d. d.names.results) (n ∷ m ∷ [])
       (λ d. d.commands) (Plan 0 (numbered 0 (Var 0 ∷ []) ∷ numbered 0 (Obj 1 ∷ []) ∷ numbered 0 (Var 0 ∷ []) ∷ []) 1
       ∷ Plan 1 (numbered 1 [] ∷ []) 0 ∷ [])
+  pub numbers_variables : Leave (object (codes "a" ∷ []) ∷ predicate (codes "R") 2
+      ∷ plan n (of_variables (codes "R") (codes "y" ∷ codes "x" ∷ []) ∷ of_variables (codes "R") (codes "x" ∷ codes "z" ∷ []) ∷ []) ∷ [])
+      (λ d. d.commands) (Plan 0 (numbered 0 (Var 0 ∷ Var 1 ∷ []) ∷ numbered 0 (Var 1 ∷ Var 2 ∷ []) ∷ []) 3 ∷ [])
   pub no_goal : HasNoForm small (plan n [])
   pub denied_goal : HasNoForm small (plan n (with_sign negated (codes "Q") [] ∷ []))
   pub early_variable : Fails (predicate (codes "P") 1 ∷ []) (plan n (of_variables (codes "P") (codes "x" ∷ []) ∷ [])) 9
@@ -112,10 +115,7 @@ pub record WorkedCommands : Type 0 where
   pub tells_facts : Leave (facts ∷ []) (λ d. d.commands) (Facts ∷ [])
   pub many_told : Exceeds (full []) facts 13
   -- what isn't built
-  pub variable_kept_back : IsKeptBack small (plan n (of_variables (codes "P") (codes "x" ∷ []) ∷ []))
-  pub long_goal_kept_back : IsKeptBack small (plan n (replicate 13 q))
   pub learn_kept_back : IsKeptBack learned (learn (codes "L") n)
-  pub show_kept_back : IsKeptBack learned (show n)
   pub disturb_kept_back : IsKeptBack small (disturb_atoms 1 false (adds_q ∷ []))
   pub disturb_rooms_kept_back : IsKeptBack closed_building (disturb_rooms 1 false (robot_to (codes "R1") ∷ []))
   pub run_kept_back : IsKeptBack learned (run n [])

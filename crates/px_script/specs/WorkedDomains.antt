@@ -7,7 +7,7 @@ use Rattle.px_terms.specs.declared.term.Term.TheVariants.{Obj, Var, Any}
 use Rattle.px_script.specs.Items.{SignedAtom, bare, negated, added, open_variable, anything}
 use Rattle.px_script.specs.Statements.{Statement, script, object, predicate, «axiom», operator, pre, delete, add, end, fact, height, nodes, shapes, facts}
 use Rattle.px_script.specs.Declarations.{nothing_declared}
-use Rattle.px_script.specs.WorkedLines.{Leave, LeaveBoth, FailsAfter, Fails, HasNoForm, Exceeds, IsKeptBack, left_by, with_sign, of_names, of_variables, numbered, asserted, denied, small, closed_building, p_of, q, long_name}
+use Rattle.px_script.specs.WorkedLines.{Leave, LeaveBoth, FailsAfter, Fails, HasNoForm, Exceeds, left_by, with_sign, of_names, of_variables, numbered, asserted, denied, small, closed_building, p_of, q, long_name}
 
 abbrev a : List ℕ
 a = codes "a"
@@ -73,6 +73,14 @@ pub record WorkedDomains : Type 0 where
         vars = 1;
         lits = denied (numbered 0 (Var 0 ∷ [])) ∷ asserted (numbered 0 (Obj 0 ∷ [])) ∷ asserted (numbered 0 (Var 0 ∷ [])) ∷ [];
       } ∷ [])
+  -- variables are numbered by first occurrence
+  pub numbers_variables : Leave (object (a ∷ []) ∷ predicate (codes "R") 2
+      ∷ «axiom» (of_variables (codes "R") (codes "y" ∷ x ∷ []) ∷ of_variables (codes "R") (x ∷ codes "z" ∷ []) ∷ []) ∷ [])
+      (λ d. d.axioms)
+      (record {
+        vars = 3;
+        lits = asserted (numbered 0 (Var 0 ∷ Var 1 ∷ [])) ∷ asserted (numbered 0 (Var 1 ∷ Var 2 ∷ [])) ∷ [];
+      } ∷ [])
   pub no_literal : HasNoForm small («axiom» [])
   pub literal_of_an_edit : HasNoForm small («axiom» (with_sign added (codes "Q") [] ∷ []))
   pub early_variable : Fails (predicate (codes "P") 1 ∷ []) («axiom» (p_of_variable x ∷ [])) 9
@@ -98,7 +106,7 @@ pub record WorkedDomains : Type 0 where
   pub long_operator : FailsAfter [] (operator long_name []) 8 1
   pub long_parameter : Leave (object (a ∷ []) ∷ operator x (long_name ∷ []) ∷ []) (λ d. d.names.operators) (x ∷ [])
   pub many_operators : Exceeds (record nothing_declared { names = record no_names { operators = replicate 32 x } }) (operator a []) 8
-  pub nine_parameters : FailsAfter small (operator a (lettered x ++ lettered (codes "y"))) 8 9
+  pub nine_parameters : FailsAfter small (operator a (map (λ letter. codes "y" ++ letter ∷ []) (codes "abcdefghi"))) 8 9
   pub operator_beside_building : Fails closed_building (operator a []) 9
   pub no_block : Fails small (pre (q ∷ [])) 9
   pub no_precondition : HasNoForm in_operator (pre [])
@@ -140,8 +148,3 @@ pub record WorkedDomains : Type 0 where
   pub many_shapes : FailsAfter [] (shapes 70001) 8 16
   pub setting_in_block : Fails in_operator (nodes 5) 9
   pub late_setting : Fails (facts ∷ []) (nodes 5) 9
-  -- what isn't built
-  pub axiom_kept_back : IsKeptBack small («axiom» (q ∷ []))
-  pub height_kept_back : IsKeptBack small (height 4)
-  pub shapes_kept_back : IsKeptBack small (shapes 4)
-  pub long_precondition_kept_back : IsKeptBack in_operator (pre (replicate 13 q))

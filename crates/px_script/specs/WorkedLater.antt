@@ -1,15 +1,17 @@
 -- Lines of version 2, which no statement says yet: how they would be described, and what follows from that alone.
-use Rattle.std.specs.Prelude.{◌≡◌, ℕ, true, false, List, [], ◌∷◌, ◌++◌, codes, Option, None, Some}
+use Rattle.std.specs.Prelude.{◌≡◌, ℕ, ◌+◌, ◌-◌, ◌==◌, Bool, true, false, List, [], ◌∷◌, ◌++◌, codes, fold, Option, None, Some}
+use Rattle.std.specs.Fmt.{decimal}
+use Rattle.std.specs.List.{flat_map}
 use Rattle.px_script.specs.Lexemes.{name, variable, number, sign}
-use Rattle.px_script.specs.Items.{Argument, SignedAtom, named, open_variable, the, amount, amounts, new, declared, known, wanted, atoms, terms, pairs, an_object, an_operator, a_parameter, a_result, a_sort, a_plan, a_table}
-use Rattle.px_script.specs.Statements.{Line, line, spelling_of, opens, inside, closes, domain, command, plain, goals, operator_block, table_steps, table_rows, operator, facts}
+use Rattle.px_script.specs.Items.{Item, Argument, SignedAtom, named, open_variable, anything, bare, the, amount, amounts, new, declared, known, wanted, atoms, arguments, terms, pairs, an_object, an_operator, a_parameter, a_result, a_sort, a_plan, a_table}
+use Rattle.px_script.specs.Statements.{Line, line, line_of, spelling_of, opens, inside, domain, command, plain, goals, table_terms, table_goals, operator_block, table_steps, table_rows, operator, end, facts}
 use Rattle.px_script.specs.Limits as limit
 use Rattle.px_script.specs.Limits.{greatest}
-use Rattle.px_script.specs.Declarations.{Declared, with_all_names, declared_by}
+use Rattle.px_script.specs.Declarations.{Declared, with_all_names, declared_by, open_block, of_table_steps, of_table_rows}
 use Rattle.px_script.specs.Forms.{is_formed}
-use Rattle.px_script.specs.Causes.{is_out_of_order, has_unknown_name, repeats_name, has_wrong_arity, is_unbound, has_long_name, may_stand}
+use Rattle.px_script.specs.Causes.{is_out_of_order, has_unknown_name, repeats_name, has_wrong_arity, is_unbound, has_long_name}
 use Rattle.px_script.specs.Faults.{Refusal, coded, passed, first_of}
-use Rattle.px_script.specs.WorkedLines.{left_by, small, closed_building, of_variables, p_of, q, long_name}
+use Rattle.px_script.specs.WorkedLines.{left_by, small, closed_building, with_sign, of_variables, p_of, q, long_name}
 
 abbrev sort : List ℕ → List (List ℕ) → Line
 sort n ns = line (codes "sort") domain plain (new a_sort n ∷ declared an_object ns ∷ [])
@@ -21,15 +23,35 @@ abbrev table : List ℕ → ℕ → Line
 table n parameters = line (codes "table") (opens table_steps) plain (new a_table n ∷ amount parameters ∷ [])
 
 abbrev step : List ℕ → List Argument → Line
-step o ts = line (codes "step") (inside table_steps) goals (known an_operator o ∷ terms ts ∷ [])
+step o ts = line (codes "step") (inside table_steps) table_terms (known an_operator o ∷ arguments ts ∷ [])
 
 abbrev goal : List SignedAtom → Line
-goal xs = line (codes "goal") (inside table_steps) goals (atoms xs ∷ [])
+goal xs = line (codes "goal") (inside table_steps) table_goals (atoms xs ∷ [])
 
--- a row of one proof, by an axiom and two facts
-abbrev proof : List Argument → SignedAtom → Line
-proof ts x = line (codes "proof") (inside table_rows) goals (the (codes "s") ∷ amount 0 ∷ amount 1 ∷ amount 2 ∷ terms ts
-    ∷ the (codes "f") ∷ amount 1 ∷ amount 0 ∷ atoms (x ∷ []) ∷ the (codes "a") ∷ amount 1 ∷ [])
+-- What a proof begins with: a fact with its column and its index, an ancestor by its number, or a step of an axiom at a place, with its
+-- terms, which so many proofs follow.
+pub data Part : Type 0 where
+  a_fact : ℕ → ℕ → SignedAtom → Part
+  an_ancestor : ℕ → Part
+  an_axiom : ℕ → ℕ → ℕ → List Argument → Part
+
+abbrev items_of : Part → List Item
+items_of (a_fact column index x) = the (codes "f") ∷ amounts (column ∷ index ∷ []) ∷ atoms (x ∷ []) ∷ []
+items_of (an_ancestor k) = the (codes "a") ∷ amount k ∷ []
+items_of (an_axiom k place proofs ts) = the (codes "s") ∷ amounts (k ∷ place ∷ proofs ∷ []) ∷ terms ts ∷ []
+
+-- the proofs of one row, possibly none
+abbrev proof : List Part → Line
+proof parts = line (codes "proof") (inside table_rows) table_terms (flat_map items_of parts)
+
+-- how many proofs are still to come after the part, of so many
+abbrev owed : ℕ → Part → ℕ
+owed n (an_axiom k place proofs ts) = n - 1 + proofs
+owed n _ = n - 1
+
+-- the parts are whole proofs
+abbrev are_proofs : List Part → Bool
+are_proofs parts = fold owed 0 parts == 0
 
 abbrev save : List ℕ → Line
 save n = line (codes "save") command plain (known a_table n ∷ [])
@@ -68,6 +90,22 @@ sorted = record (left_by small) { sorts = codes "S" ∷ [] }
 abbrev with_results : Declared
 with_results = with_all_names ((a_plan, n ∷ []) ∷ (a_table, codes "M" ∷ []) ∷ (a_result, codes "L" ∷ []) ∷ []) (left_by small)
 
+abbrev p : ℕ → Argument
+p k = open_variable (112 ∷ decimal k)
+
+abbrev g : ℕ → Argument
+g k = open_variable (103 ∷ decimal k)
+
+-- `operator O(x)` and `end`, and the block of a table with two parameters, up to its goal and after it
+abbrev in_steps : Declared
+in_steps = open_block 6 (of_table_steps (record { parameters = 2 })) (left_by (small ++ operator (codes "O") (codes "x" ∷ []) ∷ end ∷ []))
+
+abbrev in_rows : Declared
+in_rows = open_block 6 (of_table_rows (record { parameters = 2 })) (left_by small)
+
+abbrev p_of_term : Argument → SignedAtom
+p_of_term t = with_sign bare (codes "P") (t ∷ [])
+
 -- the operator O(x) is open, and the sort S is there
 abbrev in_operator : Declared
 in_operator = record (left_by (small ++ operator (codes "O") (codes "x" ∷ []) ∷ [])) { sorts = codes "S" ∷ [] }
@@ -94,18 +132,41 @@ pub record WorkedLater : Type 0 where
   pub table_in_a_building : fault (left_by closed_building) (table n 2) ≡ None
   pub table_like_a_result : fault with_results (table n 2) ≡ Some (coded 5)
   pub late_table : fault (left_by (facts ∷ [])) (table n 2) ≡ Some (coded 9)
-  pub step_in_place : may_stand (Some table_steps) (step n []).place ≡ true
-  pub step_after_goal : may_stand (Some table_rows) (step n []).place ≡ false
-  pub second_goal : may_stand (Some table_rows) (goal []).place ≡ false
-  pub early_proof : may_stand (Some table_steps) (proof [] q).place ≡ false
-  pub proof_in_place : may_stand (Some table_rows) (proof [] q).place ≡ true
-  pub ends_early : may_stand (Some table_steps) closes ≡ true
-  pub proof_spelled : spelling_of (proof [] q) ≡ name (codes "proof") ∷ name (codes "s") ∷ number 0 ∷ number 1 ∷ number 2 ∷ sign 40
-      ∷ sign 41
-      ∷ name (codes "f") ∷ number 1 ∷ number 0 ∷ name (codes "Q") ∷ name (codes "a") ∷ number 1 ∷ []
-  pub step_spelled : spelling_of (step n (open_variable (codes "p1") ∷ named (codes "a") ∷ [])) ≡ name (codes "step") ∷ name n ∷ sign 40
+  -- `step O(?p1,a)` and `step MAKE`
+  pub step_spelled : spelling_of (step (codes "O") (p 1 ∷ named (codes "a") ∷ [])) ≡ name (codes "step") ∷ name (codes "O") ∷ sign 40
       ∷ variable (codes "p1") ∷ sign 44
       ∷ name (codes "a") ∷ sign 41 ∷ []
+  pub plain_step_spelled : spelling_of (step (codes "MAKE") []) ≡ name (codes "step") ∷ name (codes "MAKE") ∷ []
+  pub new_step : IsNew in_steps (step (codes "O") (p 2 ∷ []))
+  pub step_fits : fault in_steps (step (codes "O") (p 2 ∷ [])) ≡ None
+  pub step_of_no_operator : fault in_steps (step (codes "MAKE") []) ≡ Some (coded 4)
+  pub step_with_unknown : fault in_steps (step (codes "O") (named (codes "c") ∷ [])) ≡ Some (coded 4)
+  pub third_parameter : fault in_steps (step (codes "O") (p 3 ∷ [])) ≡ Some (coded 7)
+  pub no_parameter : fault in_steps (step (codes "O") (p 0 ∷ [])) ≡ Some (coded 7)
+  pub zero_in_front : fault in_steps (step (codes "O") (open_variable (codes "p01") ∷ [])) ≡ Some (coded 7)
+  pub goal_variable_in_step : fault in_steps (step (codes "O") (g 1 ∷ [])) ≡ Some (coded 7)
+  pub early_step : fault (record in_steps { names = record in_steps.names { objects = [] } }) (step (codes "O") (p 1 ∷ []))
+      ≡ Some (coded 9)
+  pub step_outside : fault sorted (step (codes "O") []) ≡ Some (coded 9)
+  pub step_after_goal : fault in_rows (step (codes "O") (p 1 ∷ [])) ≡ Some (coded 9)
+  pub goal_fits : fault in_steps (goal (p_of_term (p 1) ∷ p_of_term (g 12) ∷ [])) ≡ None
+  pub far_goal_variable : fault in_steps (goal (p_of_term (g 13) ∷ [])) ≡ Some (coded 7)
+  pub other_variable : fault in_steps (goal (p_of_term (open_variable (codes "x")) ∷ [])) ≡ Some (coded 7)
+  pub wild_table_goal : fault in_steps (goal (p_of_term anything ∷ [])) ≡ Some (coded 7)
+  pub table_goal_arity : fault in_steps (goal (of_variables (codes "P") [] ∷ [])) ≡ Some (coded 6)
+  pub second_goal : fault in_rows (goal (q ∷ [])) ≡ Some (coded 9)
+  -- `proof s 0 1 2 () f 1 0 Q a 1`
+  pub proof_spelled : spelling_of (proof (an_axiom 0 1 2 [] ∷ a_fact 1 0 q ∷ an_ancestor 1 ∷ [])) ≡ name (codes "proof") ∷ name (codes "s")
+      ∷ number 0 ∷ number 1 ∷ number 2 ∷ sign 40 ∷ sign 41
+      ∷ name (codes "f") ∷ number 1 ∷ number 0 ∷ name (codes "Q") ∷ name (codes "a") ∷ number 1 ∷ []
+  pub whole_proofs : are_proofs (a_fact 0 0 q ∷ an_axiom 0 1 2 [] ∷ a_fact 1 0 q ∷ an_ancestor 1 ∷ []) ≡ true
+  pub no_proofs : are_proofs [] ≡ true
+  pub cut_proof : are_proofs (an_axiom 0 1 2 [] ∷ a_fact 1 0 q ∷ []) ≡ false
+  pub proof_fits : fault in_rows (proof (an_axiom 0 0 1 (p 1 ∷ p 2 ∷ []) ∷ a_fact 0 0 (p_of_term (p 1)) ∷ [])) ≡ None
+  pub third_parameter_in_proof : fault in_rows (proof (an_axiom 0 0 0 (p 3 ∷ []) ∷ [])) ≡ Some (coded 7)
+  pub goal_variable_in_proof : fault in_rows (proof (a_fact 0 0 (p_of_term (g 1)) ∷ [])) ≡ Some (coded 7)
+  pub early_proof : fault in_steps (proof []) ≡ Some (coded 9)
+  pub ends_early : fault in_steps (line_of end) ≡ None
   pub saves : fault with_results (save (codes "M")) ≡ None
   pub saves_no_table : fault with_results (save (codes "L")) ≡ Some (coded 4)
   pub certifies : fault with_results (certify n) ≡ None

@@ -1,5 +1,5 @@
 -- How small lines are worked: after lines that have no fault, what the next one leaves, or its fault, where all of version 1 is built.
-use Rattle.std.specs.Prelude.{◌≡◌, ℕ, ◌+◌, Bool, true, false, ◌&&◌, List, [], ◌∷◌, map, replicate, codes, Option, None, Some}
+use Rattle.std.specs.Prelude.{◌≡◌, ℕ, ◌+◌, Bool, true, false, ◌&&◌, List, [], ◌∷◌, ◌++◌, map, replicate, codes, Option, None, Some}
 use Rattle.px_terms.specs.declared.atom.Atom.{Atom}
 use Rattle.px_terms.specs.declared.clause.Lit.{Lit}
 use Rattle.px_terms.specs.declared.term.Term.{Term}
@@ -53,14 +53,17 @@ Fails before s code = FailsAfter before s code 0
 abbrev pub HasNoForm : List Statement → Statement → Type 0
 HasNoForm before s = ArePassed before × (is_formed (left_by before) (line_of s) ≡ false)
 
+-- The next line has no fault, where so much is declared.
+abbrev pub Fits : Declared → Statement → Type 0
+Fits d s = fault_at whole_language d s ≡ None
+
 -- The next line would pass this limit, where so much is declared.
 abbrev pub Exceeds : Declared → Statement → ℕ → Type 0
 Exceeds d s limit = fault_at whole_language d s ≡ Some (record { code = 8; limit = limit })
 
--- These lines have no fault, but the next one is not built now.
+-- These lines and the next one have no fault, but the next one is not built now.
 abbrev pub IsKeptBack : List Statement → Statement → Type 0
-IsKeptBack before s =
-    (fault_at whole_language (left_by before) s ≡ None) × (fault_at stage_now (left_by before) s ≡ Some (record { code = 11; limit = 0 }))
+IsKeptBack before s = ArePassed (before ++ s ∷ []) × (fault_at stage_now (left_by before) s ≡ Some (record { code = 11; limit = 0 }))
 
 -- an atom with a sign, over these arguments
 abbrev pub with_sign : Sign → List ℕ → List Argument → SignedAtom

@@ -13,7 +13,7 @@
 //! 6. `Stages`, `Causes` and `Faults`: what is built; the causes to refuse a line that follow from its description alone; and all
 //!    causes in their order (`causes`), of which the first that is there is the fault (`fault_at`).
 //! 7. `Content` and `Scripts`: what a script is about, which bytes are a script (`IsScript`), and which fault is the first
-//!    (`FirstFault`).
+//!    (`FirstFault`). What a building gives to its script comes with buildings; until then the stage keeps back its block, with code 11.
 //!
 //! Beside it stand small lines and small texts with what the definition says of them (`Worked..`), and what each script keeps
 //! (`Things`, `Ranges`, `StageRanges`; `RangeLaws` has that these are facts with one proof at most, so that a type can keep them).
@@ -23,15 +23,17 @@
 //! There is no code here but laws, as functions without a body. `px_reader` reads what is defined here.
 //!
 //! - [`reads_one_way`]: bytes are a script (`Spells`, and `IsScript` with what it is about), or they have a first fault
-//!   (`FirstFault`), never both, and there is one of each at most.
-//! - [`only_takes_away`]: where only some of version 1 is built, a line is refused as in the whole of it, or as not built.
-//! - [`is_in_range`]: what a script is about is in range, and of the language as far as it is built, so a caller may hand its
-//!   numbers on.
+//!   (`FirstFault`), never both, and there is one of each at most. Each of these takes the stage, which is how much is built
+//!   (`stage_now`), and the law holds for every stage, so for the whole of version 1 (`whole_language`), too.
+//! - [`only_takes_away`]: where only some of version 1 is built, a line is refused as in the whole of it, or as not built, and a
+//!   script is a script of the whole of it.
+//! - [`is_in_range`]: what a script is about is in range, and of the language as far as it is built (`IsOfStage`), so a caller may
+//!   hand its numbers on. What is built is one list of words: with one more word in `stage_now` all laws hold as they stand.
 //! - [`worked_lines`] and [`worked_texts`]: what the definition says of small lines, and of small texts from their bytes, to be
 //!   compared with what one expects.
 //!
-//! The modules of `proofs` that px_reader cites (`Scanning`, `Parsing`, `Progress`, `States` and lemmas) are no part of what a script
-//! is: no promise speaks of them.
+//! The modules of `proofs` that px_reader cites (`Scanning`, `Parsing`, `States` and lemmas) are no part of what a script is: no
+//! promise speaks of them.
 #![tactic(auto)]
 
 ghost use Rattle.std.specs.Prelude.{List, ℕ};
@@ -40,45 +42,51 @@ ghost use Rattle.px_script.specs.Declarations.{Declared};
 ghost use Rattle.px_script.specs.Faults.{OnlyTakesAway};
 ghost use Rattle.px_script.specs.Ranges.{IsInRange};
 ghost use Rattle.px_script.specs.StageRanges.{IsOfStage};
-ghost use Rattle.px_script.specs.Stages.{Stage};
+ghost use Rattle.px_script.specs.Stages.{Stage, whole_language};
 ghost use Rattle.px_script.specs.Statements.{Statement};
 ghost use Rattle.px_script.specs.Scripts.{ReadsOneWay, IsScript};
 ghost use Rattle.px_script.specs.Worked.{WorkedScripts, WorkedRefusals};
 ghost use Rattle.px_script.specs.WorkedDomains.{WorkedDomains};
 ghost use Rattle.px_script.specs.WorkedBuildings.{WorkedBuildings};
 ghost use Rattle.px_script.specs.WorkedCommands.{WorkedCommands};
+ghost use Rattle.px_script.specs.WorkedSpellings.{WorkedSpellings};
+ghost use Rattle.px_script.specs.WorkedLimits.{WorkedLimits};
 ghost use Rattle.px_script.specs.WorkedLater.{WorkedLater};
 
-/// Small lines of all of version 1, each behind lines that have no fault: what it leaves, or its first fault; and of lines of version 2
-/// what follows from their description.
+/// Small lines of all of version 1, each behind lines that have no fault: what it leaves, or its first fault; how lines are written; the
+/// greatest that may be, and the least limit of those that are passed; and of lines of version 2 what follows from their description.
 pub fn worked_lines()
     ensures domains { WorkedDomains }
     ensures buildings { WorkedBuildings }
     ensures commands { WorkedCommands }
+    ensures spellings { WorkedSpellings }
+    ensures limits { WorkedLimits }
     ensures later { WorkedLater }
 {}
 
-/// All bytes are a script or have a first fault, and never both; each determines what it names.
+/// All bytes are a script or have a first fault, and never both; each determines what it names. That holds whatever is built, so also of
+/// the whole of version 1.
 pub fn reads_one_way()
-    ensures { (bytes : List ℕ) → ReadsOneWay bytes }
+    ensures { (stage : Stage) (bytes : List ℕ) → ReadsOneWay stage bytes }
 {}
 
 /// A stage only takes away: where less is built, a line either has the fault that it has in the whole of version 1, and none where it
-/// has none there, or is refused as not built.
+/// has none there, or is refused as not built. A script stays one, and about the same.
 pub fn only_takes_away()
-    ensures { (stage : Stage) (d : Declared) (s : Statement) → OnlyTakesAway stage d s }
+    ensures lines { (stage : Stage) (d : Declared) (s : Statement) → OnlyTakesAway stage d s }
+    ensures scripts { (stage : Stage) (bytes : List ℕ) (script : ScriptValue)
+        → IsScript stage bytes script → IsScript whole_language bytes script }
 {}
 
 /// The problem of a script is valid, each of its numbers has a name and no name stands twice in its kind, the facts, the building and
-/// the commands are over its numbers, all is within the limits, and each result is given once and named by later commands alone. As far
-/// as the language is built, it has no axioms and no building, its goals have no variables, and these and its preconditions have at most
-/// 12 atoms.
+/// the commands are over its numbers, all is within the limits, and each result is given once and named by later commands alone. Whatever
+/// is built, its commands are of words that are built, and it has a building only where buildings are built.
 pub fn is_in_range()
-    ensures range { (bytes : List ℕ) (script : ScriptValue) → IsScript bytes script → IsInRange script }
-    ensures stage { (bytes : List ℕ) (script : ScriptValue) → IsScript bytes script → IsOfStage script }
+    ensures range { (stage : Stage) (bytes : List ℕ) (script : ScriptValue) → IsScript stage bytes script → IsInRange script }
+    ensures stage { (stage : Stage) (bytes : List ℕ) (script : ScriptValue) → IsScript stage bytes script → IsOfStage stage script }
 {}
 
-/// Small texts, from their bytes: what three scripts are about, and the first faults of texts that are none.
+/// Small texts, from their bytes: what some scripts are about, and the first faults of texts that are none.
 pub fn worked_texts()
     ensures scripts { WorkedScripts }
     ensures refusals { WorkedRefusals }

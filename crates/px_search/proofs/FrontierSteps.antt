@@ -1,22 +1,10 @@
 -- The steps of a search: the start, a move to a node that was found, a move to a new node, and the end of a node's moves.
 use Rattle.std.proofs.Common.{◌≡◌, ℕ, zero, suc, ◌<◌, ◌⊎◌, List, [], ◌∷◌, ◌++◌, length, refl, sym, ◌∙◌, ap, subst, inl, inr, arith, Some, slice_get, Contains}
 use Rattle.std.proofs.lemmas.List.Elements.{Contains-append_left, Contains-push, Contains-push_cases}
-use Rattle.px_search.specs.Moves.{CanMake}
-use Rattle.px_search.proofs.Frontier.{IsMoveOrder, Frontier, goes, IsTried, IsBeyond, leaves_tried, reached-append, CanMake-append, contains_place, place-within, order_of}
-
-pub last_or_before : {A : Type 0} (xs : List A) (y x : A) (k : ℕ) → slice_get (xs ++ y ∷ []) k ≡ Some x → (slice_get xs k ≡ Some x) ⊎ ((k ≡ length xs) × (y ≡ x))
-last_or_before [] y x zero e = inr (refl, cc)
-last_or_before [] y x (suc k) e = absurd (cc)
-last_or_before (z ∷ xs) y x zero e = inl e
-last_or_before (z ∷ xs) y x (suc k) e = elim (last_or_before xs y x k e) [
-  | inl h ↦ inl h
-  | inr h ↦ inr (ap suc h.0, h.1)
-]
-
-still_at : {A : Type 0} (xs ys : List A) (k : ℕ) (x : A) → slice_get xs k ≡ Some x → slice_get (xs ++ ys) k ≡ Some x
-still_at [] ys k x e = absurd (cc)
-still_at (z ∷ xs) ys zero x e = e
-still_at (z ∷ xs) ys (suc k) x e = still_at xs ys k x e
+use Rattle.px_ops.specs.KeepLaws.{push-cases}
+use Rattle.px_ends.specs.Moves.{CanMake}
+use Rattle.px_ends.proofs.Exclusion.{still_there}
+use Rattle.px_ends.proofs.Frontier.{IsMoveOrder, Frontier, goes, IsTried, IsBeyond, leaves_tried, reached-append, CanMake-append, contains_place, place-within, order_of}
 
 module _ {N M : Type 0} (may : N → M → Type 0) (after : N → M → N) (before : List M → List M → Type 0) (start : N)
     (order : IsMoveOrder before) (same : (m n : M) → (m ≡ n) ⊎ (m ≡ n → ⊥)) where
@@ -105,7 +93,7 @@ module _ {N M : Type 0} (may : N → M → Type 0) (after : N → M → N) (befo
     pub frontier-add : ((q : List M) → Contains found q → goes may after before start order same q ≡ after (goes may after before start order same p) m → ⊥) →
         Known (found ++ (p ++ m ∷ []) ∷ []) next (tried ++ m ∷ [])
     frontier-add new = record {
-      root = still_at found _ 0 [] f.root;
+      root = still_there found _ 0 [] f.root;
       can = λ x has. elim (Contains-push_cases found (p ++ m ∷ []) x has) [
         | inl old ↦ f.can x old
         | inr e ↦ subst (λ (y : List M). CanMake may after start y) e (CanMake-append may after before start order same start p m (f.can p (contains_place found next p at)) can)
@@ -113,16 +101,16 @@ module _ {N M : Type 0} (may : N → M → Type 0) (after : N → M → N) (befo
       tried_from = λ x has. elim (Contains-push_cases found (p ++ m ∷ []) x has) [
         | inl old ↦ elim (f.tried_from x old) [
           | inl e ↦ inl e
-          | inr from ↦ inr (from.0, from.1, from.2, still_at found _ from.0 from.1 from.3, more_tried from.0 from.2 from.4, from.5)
+          | inr from ↦ inr (from.0, from.1, from.2, still_there found _ from.0 from.1 from.3, more_tried from.0 from.2 from.4, from.5)
         ]
-        | inr e ↦ inr (next, p, m, still_at found _ next p at, inr (refl, Contains-push tried m), sym e)
+        | inr e ↦ inr (next, p, m, still_there found _ next p at, inr (refl, Contains-push tried m), sym e)
       ];
-      ascending = λ i j q r less at_q at_r. elim (last_or_before found (p ++ m ∷ []) r j at_r) [
-        | inl old ↦ elim (last_or_before found (p ++ m ∷ []) q i at_q) [
+      ascending = λ i j q r less at_q at_r. elim (push-cases found (p ++ m ∷ []) r j at_r) [
+        | inl old ↦ elim (push-cases found (p ++ m ∷ []) q i at_q) [
           | inl old_q ↦ f.ascending i j q r less old_q old
           | inr e ↦ absurd (omega (arith, place-within found j r old, e.0))
         ]
-        | inr e ↦ elim (last_or_before found (p ++ m ∷ []) q i at_q) [
+        | inr e ↦ elim (push-cases found (p ++ m ∷ []) q i at_q) [
           | inl old_q ↦ subst (λ (x : List M). before q x) e.1 (beyond q (contains_place found i q old_q))
           | inr e' ↦ absurd (omega (arith, e.0, e'.0))
         ]
@@ -137,14 +125,14 @@ module _ {N M : Type 0} (may : N → M → Type 0) (after : N → M → N) (befo
           | inr e_r ↦ sym e_q ∙ e_r
         ]
       ];
-      covered = λ i r n at_r tried_n can_n. elim (last_or_before found (p ++ m ∷ []) r i at_r) [
+      covered = λ i r n at_r tried_n can_n. elim (push-cases found (p ++ m ∷ []) r i at_r) [
         | inl old_r ↦ elim (tried_before i n tried_n) [
           | inl old ↦ let c = f.covered i r n old_r old can_n in (c.0, Contains-append_left found _ c.0 c.1, c.2, c.3)
           | inr e ↦ new_covered i r n old_r e.0 e.1
         ]
         | inr e ↦ absurd (later_untried i n e.0 tried_n)
       ];
-      pending = λ q k n at_q can_k not_yet has. elim (last_or_before found (p ++ m ∷ []) q next at_q) [
+      pending = λ q k n at_q can_k not_yet has. elim (push-cases found (p ++ m ∷ []) q next at_q) [
         | inl old ↦ pending_after q k n old can_k not_yet has
         | inr e ↦ absurd (omega (arith, e.0, place-within found next p at))
       ];

@@ -1,18 +1,27 @@
--- What the search knows at each turn.
-use Rattle.std.proofs.Common.{◌≡◌, ℕ, zero, suc, ◌+◌, ◌<◌, ◌≤◌, ◌↔◌, List, [], ◌∷◌, ◌++◌, map, take, length, refl, sym, ◌∙◌, ap, subst, inl, inr, arith, Some, slice_get, slice_index_or, Contains, AllPairs, get_or}
+-- What the search keeps at each turn, over the nodes in the order in which they were found, and what it may answer then. Nothing here
+-- speaks of how nodes are kept.
+use Rattle.std.proofs.Common.{◌≡◌, ℕ, zero, suc, ◌+◌, ◌<◌, ◌≤◌, ◌⊎◌, List, [], ◌∷◌, ◌++◌, map, take, length, refl, sym, ◌∙◌, ap, subst, inl, inr, arith, Some, slice_get, slice_index_or, Contains, get_or}
 use Rattle.std.specs.declared.cmp.Ordering.TheVariants.{Less, Equal}
 use Rattle.std.specs.Ordering.{ordering_then}
 use Rattle.std.specs.Cmp.{nat_cmp_is, tied_itself}
 use Rattle.std.specs.Cmp.Lexicographic.{slice_cmp}
 use Rattle.std.proofs.lemmas.List.{length-map, map-append, length-append, take_more}
 use Rattle.std.proofs.lemmas.List.Elements.{Contains-append_left, Contains-push, Contains-push_cases}
+use Rattle.px_terms.specs.declared.atom.Atom.{Atom}
+use Rattle.px_proof.specs.declared.shape.Tick.{Tick}
 use Rattle.px_table.specs.declared.entry.Move.{Move}
 use Rattle.px_table.specs.declared.node.Node.{Node}
-use Rattle.px_search.specs.Nodes.{initial_node, IsSolved, IsAllowed, after, move_cmp, IsBefore}
-use Rattle.px_search.specs.Ends.{Task, AreMoves, node_of, BeginsWith, NoneSolved, IsFound, IsExhausted, IsNodeLimit}
-use Rattle.px_search.proofs.Frontier.{Frontier, frontier-beginning, frontier-all, frontier-reaches, contains_place, place_of, at_index, place-within, reached-append, order_of}
+use Rattle.px_diff.specs.Questions.{Question, MeetsLimit}
+use Rattle.px_ops.specs.KeepLaws.{push-cases}
+use Rattle.px_ends.specs.Order.{move_cmp, IsBefore}
+use Rattle.px_ends.specs.Tasks.{Task, initial_node, IsSolved, IsAllowed, after, AsksAt, goal_question}
+use Rattle.px_ends.specs.Ends.{AreMoves, node_of, IsFound, IsExhausted, IsNodeLimit, IsShapeLimit}
+use Rattle.px_ends.proofs.Frontier.{Frontier, contains_place, place_of, at_index, place-within, reached-append, order_of}
 use Rattle.px_search.proofs.FrontierSteps.{frontier-start, frontier-skip, frontier-add, frontier-next}
-use Rattle.px_search.proofs.MoveLaws.{order, same_move, move_cmp-total}
+use Rattle.px_search.specs.Going.{AreMovesOf, IsUnlimitedAt}
+use Rattle.px_search.specs.Looping.{Walking}
+use Rattle.px_ends.proofs.MoveLaws.{order, same_move, move_cmp-total}
+use Rattle.px_search.proofs.Endings.{NoLimit, ends-found, ends-node_limit, ends-exhausted, ends-shape_limit, ends-shape_limit_at_goal, ends-found_at_start, ends-shape_limit_at_start}
 
 slice_cmp-last : (p : List Move) (m n : Move) → move_cmp m n ≡ Less → slice_cmp move_cmp (p ++ m ∷ []) (p ++ n ∷ []) ≡ Less
 slice_cmp-last [] m n h = ap (λ r. ordering_then r Equal) h
@@ -37,45 +46,24 @@ take-get (suc n) (suc k) (y ∷ xs) x e h = take-get n k xs x e (omega arith)
 index_is : {A : Type 0} (xs : List A) (k : ℕ) (x d : A) → slice_get xs k ≡ Some x → slice_index_or xs k d ≡ x
 index_is xs k x d e = cc (at_index xs k d (place-within xs k x e), e)
 
-pub still_there : {A : Type 0} (xs ys : List A) (k : ℕ) (x : A) → slice_get xs k ≡ Some x → slice_get (xs ++ ys) k ≡ Some x
-still_there [] ys k x e = absurd (cc)
-still_there (y ∷ xs) ys zero x e = e
-still_there (y ∷ xs) ys (suc k) x e = still_there xs ys k x e
-
-pub at_end : {A : Type 0} (xs : List A) (x : A) → slice_get (xs ++ x ∷ []) (length xs) ≡ Some x
-at_end [] x = refl
-at_end (y ∷ xs) x = at_end xs x
-
 never_less : (m : Move) → move_cmp m m ≡ Less → ⊥
 never_less m h = let e : Less ≡ Equal = sym h ∙ tied_itself move_cmp-total m in cc
 
 module _ (task : Task) where
   abbrev may : Node → Move → Type 0
-  may = IsAllowed task.problem task.goal
+  may = IsAllowed task
 
   abbrev next_node : Node → Move → Node
-  next_node = after task.problem
+  next_node = after task
 
   abbrev start : Node
-  start = initial_node task.initial
+  start = initial_node task
 
   abbrev pub goes : List Move → Node
   goes moves = node_of task moves
 
   abbrev pub Known : List (List Move) → ℕ → List Move → Type 0
-  Known found next tried = Frontier (IsAllowed task.problem task.goal) (after task.problem) IsBefore (initial_node task.initial) order same_move found next tried
-
-  -- the nodes in the order in which they were found are those of the found lists, none of them solved
-  pub record Walking (found : List (List Move)) (nodes : List Node) (next : ℕ) (tried : List Move) : Type 0 where
-    pub known : Known found next tried
-    pub nodes_are : nodes ≡ map goes found
-    pub unsolved : NoneSolved task found
-    pub room : length nodes ≤ task.problem.nodes
-
-  -- the moves of a node, in order
-  pub record AreMovesOf (node : Node) (moves : List Move) : Type 0 where
-    pub all : (m : Move) → may node m ↔ Contains moves m
-    pub ordered : AllPairs (λ m n. move_cmp m n ≡ Less) moves
+  Known found next tried = Frontier (IsAllowed task) (after task) IsBefore (initial_node task) order same_move found next tried
 
   at_map : (found : List (List Move)) (next : ℕ) (node : Node) → slice_get (map goes found) next ≡ Some node → (p : List Move) × (slice_get found next ≡ Some p) × (goes p ≡ node)
   at_map [] next node e = absurd (cc)
@@ -93,17 +81,30 @@ module _ (task : Task) where
       there (p ∷ found) zero q e = cc
       there (p ∷ found) (suc k) q e = there found k q e
 
-  pub here_in : (found : List (List Move)) (nodes : List Node) (next : ℕ) (tried : List Move) (node : Node) → Walking found nodes next tried → slice_get nodes next ≡ Some node
+  pub here_in : (found : List (List Move)) (nodes : List Node) (next : ℕ) (tried : List Move) (node : Node) → Walking task found nodes next tried → slice_get nodes next ≡ Some node
       → (p : List Move) × (slice_get found next ≡ Some p) × (goes p ≡ node)
   here_in found nodes next tried node w at = at_map found next node (subst (λ (x : List Node). slice_get x next ≡ Some node) w.nodes_are at)
 
   -- each node that was found is reached by moves
-  pub reached_by : (found : List (List Move)) (nodes : List Node) (next : ℕ) (tried : List Move) (node : Node) → Walking found nodes next tried → slice_get nodes next ≡ Some node
+  pub reached_by : (found : List (List Move)) (nodes : List Node) (k next : ℕ) (tried : List Move) (node : Node) → Walking task found nodes next tried → slice_get nodes k ≡ Some node
       → (p : List Move) × AreMoves task p × (goes p ≡ node)
-  reached_by found nodes next tried node w at = let h = here_in found nodes next tried node w at in (h.0, w.known.can h.0 (contains_place found next h.0 h.1), h.2)
+  reached_by found nodes k next tried node w at =
+      let h = at_map found k node (subst (λ (x : List Node). slice_get x k ≡ Some node) w.nodes_are at) in
+      (h.0, w.searching.known.can h.0 (contains_place found k h.0 h.1), h.2)
 
-  module _ (found : List (List Move)) (nodes : List Node) (next : ℕ) (moves : List Move) (i : ℕ) (node : Node) (m : Move) (w : Walking found nodes next (take i moves)) (at : slice_get nodes next ≡ Some node)
-      (are : AreMovesOf node moves) (inside : i < length moves) (m_is : m ≡ get_or moves i m) where
+  pub counted : (found : List (List Move)) (nodes : List Node) (next : ℕ) (tried : List Move) → Walking task found nodes next tried → length found ≡ length nodes
+  counted found nodes next tried w = sym (length-map found goes) ∙ sym (ap length w.nodes_are)
+
+  -- a question of the node that is gone through meets the limit
+  pub walk-shape_limit : (found : List (List Move)) (nodes : List Node) (next : ℕ) (tried : List Move) (node : Node) → Walking task found nodes next tried → slice_get nodes next ≡ Some node
+      → (question : Question) (formula : List Atom) (shapes : List (List Tick)) → AsksAt task node question → MeetsLimit task.problem question formula shapes → IsShapeLimit task node formula shapes
+  walk-shape_limit found nodes next tried node w at question formula shapes asks met =
+      let here = here_in found nodes next tried node w at in
+      subst (λ (x : Node). IsShapeLimit task x formula shapes) here.2
+      (ends-shape_limit task found next tried w.searching here.0 question formula shapes here.1 (subst (λ (x : Node). AsksAt task x question) (sym here.2) asks) met)
+
+  module _ (found : List (List Move)) (nodes : List Node) (next : ℕ) (moves : List Move) (i : ℕ) (node : Node) (m : Move) (w : Walking task found nodes next (take i moves)) (at : slice_get nodes next ≡ Some node)
+      (are : AreMovesOf task node moves) (inside : i < length moves) (m_is : m ≡ get_or moves i m) where
     pub here : (p : List Move) × (slice_get found next ≡ Some p) × (goes p ≡ node)
     here = here_in found nodes next (take i moves) node w at
 
@@ -142,106 +143,143 @@ module _ (task : Task) where
           ]
         ]
 
-    pub walking-seen : Contains nodes (next_node node m) → Walking found nodes next (take (i + 1) moves)
+    -- the move leads to a node that was found
+    pub walking-seen : Contains nodes (next_node node m) → Walking task found nodes next (take (i + 1) moves)
     walking-seen has =
         let q = from_map found (next_node node m) (subst (λ (x : List Node). Contains x (next_node node m)) w.nodes_are has) in
         record {
-          known = rw tried_after (frontier-skip may next_node IsBefore start order same_move found next (take i moves) w.known here.0 here.1 m can untried least q.0 q.1
-              (q.2 ∙ ap (λ (x : Node). next_node x m) (sym here.2)));
+          searching = record {
+            known = rw tried_after (frontier-skip may next_node IsBefore start order same_move found next (take i moves) w.searching.known here.0 here.1 m can untried least q.0 q.1
+                (q.2 ∙ ap (λ (x : Node). next_node x m) (sym here.2)));
+            room = w.searching.room;
+            unsolved = w.searching.unsolved;
+            tested = w.searching.tested;
+            gone_through = w.searching.gone_through;
+          };
           nodes_are = w.nodes_are;
-          unsolved = w.unsolved;
-          room = w.room;
         }
 
     abbrev pub new_list : List Move
     new_list = here.0 ++ m ∷ []
 
-    pub new_known : (Contains nodes (next_node node m) → ⊥) → Known (found ++ new_list ∷ []) next (take (i + 1) moves)
-    new_known not_seen = rw tried_after (frontier-add may next_node IsBefore start order same_move found next (take i moves) w.known here.0 here.1 m can untried least
-        (λ q has e. not_seen (subst (λ (x : List Node). Contains x (next_node node m)) (sym w.nodes_are)
-        (subst (λ (x : Node). Contains (map goes found) x) (e ∙ ap (λ (x : Node). next_node x m) here.2) (to_map found q has)))))
+    module _ (not_seen : Contains nodes (next_node node m) → ⊥) where
+      new_known : Known (found ++ new_list ∷ []) next (take (i + 1) moves)
+      new_known = rw tried_after (frontier-add may next_node IsBefore start order same_move found next (take i moves) w.searching.known here.0 here.1 m can untried least
+          (λ q has e. not_seen (subst (λ (x : List Node). Contains x (next_node node m)) (sym w.nodes_are)
+          (subst (λ (x : Node). Contains (map goes found) x) (e ∙ ap (λ (x : Node). next_node x m) here.2) (to_map found q has)))))
 
-    pub new_goes : goes new_list ≡ next_node node m
-    new_goes = reached-append may next_node IsBefore start order same_move start here.0 (m ∷ []) ∙ ap (λ (x : Node). next_node x m) here.2
+      new_goes : goes new_list ≡ next_node node m
+      new_goes = reached-append may next_node IsBefore start order same_move start here.0 (m ∷ []) ∙ ap (λ (x : Node). next_node x m) here.2
 
-    pub walking-new : (Contains nodes (next_node node m) → ⊥) → length nodes < task.problem.nodes → (IsSolved task.goal (next_node node m) → ⊥) → Walking (found ++ new_list ∷ []) (nodes ++ next_node node m ∷ []) next (take (i + 1) moves)
-    walking-new not_seen room unsolved = record {
-      known = new_known not_seen;
-      nodes_are = ap (λ (x : List Node). x ++ next_node node m ∷ []) w.nodes_are ∙ ap (λ (y : Node). map goes found ++ y ∷ []) (sym new_goes) ∙ sym (map-append goes found (new_list ∷ []));
-      unsolved = λ x has is_solved. elim (Contains-push_cases found new_list x has) [
-        | inl old ↦ w.unsolved x old is_solved
-        | inr e ↦ unsolved (subst (IsSolved task.goal) new_goes (subst (λ (y : List Move). IsSolved task.goal (goes y)) (sym e) is_solved))
-      ];
-      room = omega (arith, length-append nodes (next_node node m ∷ []));
-    }
+      same_count : length found ≡ length nodes
+      same_count = counted found nodes next (take i moves) w
 
-    new_begins : (Contains nodes (next_node node m) → ⊥) → BeginsWith task (found ++ new_list ∷ [])
-    new_begins not_seen = frontier-beginning may next_node IsBefore start order same_move _ next (take (i + 1) moves) (new_known not_seen)
+      goal_unlimited : NoLimit task (goal_question task (next_node node m)) → NoLimit task (goal_question task (goes new_list))
+      goal_unlimited unlimited = subst (λ (x : Node). NoLimit task (goal_question task x)) (sym new_goes) unlimited
 
-    counted : length found ≡ length nodes
-    counted = sym (length-map found goes) ∙ sym (ap length w.nodes_are)
+      here_unlimited : IsUnlimitedAt task node → IsUnlimitedAt task (goes here.0)
+      here_unlimited unlimited = subst (IsUnlimitedAt task) (sym here.2) unlimited
 
-    pub walk-found : (Contains nodes (next_node node m) → ⊥) → length nodes < task.problem.nodes → IsSolved task.goal (next_node node m) → IsFound task new_list
-    walk-found not_seen room is_solved = record {
-      earlier = found;
-      beginning = new_begins not_seen;
-      unsolved = w.unsolved;
-      room = omega (arith, counted, room);
-      solved = subst (IsSolved task.goal) (sym new_goes) is_solved;
-    }
+      -- it is new and not solved, and may be kept
+      pub walking-new : length nodes < task.problem.nodes → (IsSolved task (next_node node m) → ⊥) → ((next_node node m).stack ≡ [] → NoLimit task (goal_question task (next_node node m)))
+          → Walking task (found ++ new_list ∷ []) (nodes ++ next_node node m ∷ []) next (take (i + 1) moves)
+      walking-new room unsolved tested = record {
+        searching = record {
+          known = new_known;
+          room = omega (arith, room, same_count, length-append found (new_list ∷ []));
+          unsolved = λ x has is_solved. elim (Contains-push_cases found new_list x has) [
+            | inl old ↦ w.searching.unsolved x old is_solved
+            | inr e ↦ unsolved (subst (IsSolved task) new_goes (subst (λ (y : List Move). IsSolved task (goes y)) (sym e) is_solved))
+          ];
+          tested = λ x has empty. elim (Contains-push_cases found new_list x has) [
+            | inl old ↦ w.searching.tested x old empty
+            | inr e ↦ new_tested x e empty
+          ];
+          gone_through = λ k p question below at_k. elim (last_place k p below at_k) [
+            | inl old ↦ w.searching.gone_through k p question below old
+            | inr wrong ↦ absurd wrong
+          ];
+        };
+        nodes_are = ap (λ (x : List Node). x ++ next_node node m ∷ []) w.nodes_are ∙ ap (λ (y : Node). map goes found ++ y ∷ []) (sym new_goes) ∙ sym (map-append goes found (new_list ∷ []));
+      }
+        where
+          new_tested : (x : List Move) → new_list ≡ x → (goes x).stack ≡ [] → NoLimit task (goal_question task (goes x))
+          new_tested x e empty =
+              subst (λ (y : List Move). NoLimit task (goal_question task (goes y))) e (goal_unlimited (tested (subst (λ (y : Node). y.stack ≡ []) (ap goes (sym e) ∙ new_goes) empty)))
 
-    pub walk-full : (count : ℕ) → (Contains nodes (next_node node m) → ⊥) → length nodes ≡ task.problem.nodes → count ≡ length new_list → IsNodeLimit task nodes count
-    walk-full count not_seen full count_is = record {
-      earlier = found;
-      last = new_list;
-      beginning = new_begins not_seen;
-      unsolved = w.unsolved;
-      full = counted ∙ full;
-      nodes_are = w.nodes_are;
-      moves_are = count_is;
-    }
+          last_place : (k : ℕ) (p : List Move) → k < next → slice_get (found ++ new_list ∷ []) k ≡ Some p → (slice_get found k ≡ Some p) ⊎ ⊥
+          last_place k p below at_k = elim (push-cases found new_list p k at_k) [
+            | inl old ↦ inl old
+            | inr e ↦ inr (omega (arith, e.0, below, place-within found next here.0 here.1))
+          ]
 
-  pub walking-next : (found : List (List Move)) (nodes : List Node) (next : ℕ) (moves : List Move) (node : Node) → Walking found nodes next moves → slice_get nodes next ≡ Some node → AreMovesOf node moves → Walking found nodes (next + 1) []
-  walking-next found nodes next moves node w at are =
+      -- it is the first solved one
+      pub walk-found : length nodes < task.problem.nodes → IsSolved task (next_node node m) → IsUnlimitedAt task node → NoLimit task (goal_question task (next_node node m)) → IsFound task new_list
+      walk-found room is_solved unlimited tested =
+          ends-found task found next (take i moves) w.searching here.0 here.1 m (take (i + 1) moves) new_known (omega (arith, same_count, room)) (subst (IsSolved task) (sym new_goes) is_solved)
+          (here_unlimited unlimited) (goal_unlimited tested)
+
+      -- it is one more than may be kept
+      pub walk-full : (count : ℕ) → length nodes ≡ task.problem.nodes → count ≡ length new_list → IsUnlimitedAt task node → IsNodeLimit task nodes count
+      walk-full count full count_is unlimited =
+          subst (λ (n : ℕ). IsNodeLimit task nodes n) (sym count_is)
+          (subst (λ (l : List Node). IsNodeLimit task l (length new_list)) (sym w.nodes_are)
+          (ends-node_limit task found next (take i moves) w.searching here.0 here.1 m (take (i + 1) moves) new_known (same_count ∙ full) (here_unlimited unlimited)))
+
+      -- trying the goal there meets the limit
+      pub walk-shape_limit_at_goal : length nodes < task.problem.nodes → (next_node node m).stack ≡ [] → (formula : List Atom) (shapes : List (List Tick))
+          → MeetsLimit task.problem (goal_question task (next_node node m)) formula shapes → IsShapeLimit task (next_node node m) formula shapes
+      walk-shape_limit_at_goal room empty formula shapes met =
+          subst (λ (x : Node). IsShapeLimit task x formula shapes) new_goes
+          (ends-shape_limit_at_goal task found next (take i moves) w.searching here.0 here.1 m (take (i + 1) moves) new_known (omega (arith, same_count, room))
+          (subst (λ (x : Node). x.stack ≡ []) (sym new_goes) empty) formula shapes (subst (λ (x : Node). MeetsLimit task.problem (goal_question task x) formula shapes) (sym new_goes) met))
+
+  -- all moves of the node were tried
+  pub walking-next : (found : List (List Move)) (nodes : List Node) (next : ℕ) (moves : List Move) (node : Node) → Walking task found nodes next moves → slice_get nodes next ≡ Some node
+      → AreMovesOf task node moves → IsUnlimitedAt task node → Walking task found nodes (next + 1) []
+  walking-next found nodes next moves node w at are unlimited =
       let here = here_in found nodes next moves node w at in
       let number : suc next ≡ next + 1 = omega arith in
       record {
-        known = subst (λ (k : ℕ). Known found k []) number (frontier-next may next_node IsBefore start order same_move found next moves here.0 w.known here.1
-            (λ m can. (are.all m).0 (subst (λ (x : Node). may x m) here.2 can)));
+        searching = record {
+          known = subst (λ (k : ℕ). Known found k []) number (frontier-next may next_node IsBefore start order same_move found next moves here.0 w.searching.known here.1
+              (λ m can. (are.all m).0 (subst (λ (x : Node). may x m) here.2 can)));
+          room = w.searching.room;
+          unsolved = w.searching.unsolved;
+          tested = w.searching.tested;
+          gone_through = λ k p question below at_k asks. elim (order_of k next) [
+            | inl earlier ↦ w.searching.gone_through k p question earlier at_k asks
+            | inr not_earlier ↦ unlimited question (subst (λ (x : Node). AsksAt task x question) (ap goes (the_same k p (omega (arith, below, not_earlier)) at_k here.0 here.1) ∙ here.2) asks)
+          ];
+        };
         nodes_are = w.nodes_are;
-        unsolved = w.unsolved;
-        room = w.room;
       }
+    where
+      the_same : (k : ℕ) (p : List Move) → k ≡ next → slice_get found k ≡ Some p → (q : List Move) → slice_get found next ≡ Some q → p ≡ q
+      the_same k p number at_k q at_q = cc (ap (slice_get found) number, at_k, at_q)
 
-  pub walk-exhausted : (found : List (List Move)) (nodes : List Node) (next : ℕ) → Walking found nodes next [] → length nodes ≤ next → IsExhausted task
-  walk-exhausted found nodes next w all =
-      let counted : length found ≡ length nodes = sym (length-map found goes) ∙ sym (ap length w.nodes_are) in
-      record {
-        lists = found;
-        whole = frontier-all may next_node IsBefore start order same_move found next [] w.known (omega (arith, counted, all));
-        unsolved = λ moves can is_solved.
-            let q = frontier-reaches may next_node IsBefore start order same_move found next [] w.known (omega (arith, counted, all)) moves can in
-            w.unsolved q.0 q.1 (subst (IsSolved task.goal) (sym q.2) is_solved);
-        room = omega (arith, counted, w.room);
-      }
+  pub walk-exhausted : (found : List (List Move)) (nodes : List Node) (next : ℕ) → Walking task found nodes next [] → length nodes ≤ next → IsExhausted task
+  walk-exhausted found nodes next w all = ends-exhausted task found next [] w.searching (omega (arith, counted found nodes next [] w, all))
 
   only_start : (x : List Move) → Contains ([] ∷ []) x → [] ≡ x
   only_start x (zero, h, e) = e
   only_start x (suc k, h, e) = absurd (omega (arith, h))
 
-  pub walking-start : (IsSolved task.goal start → ⊥) → 1 ≤ task.problem.nodes → Walking ([] ∷ []) (start ∷ []) 0 []
-  walking-start unsolved room = record {
-    known = frontier-start may next_node IsBefore start order same_move;
+  pub walking-start : (IsSolved task start → ⊥) → NoLimit task (goal_question task start) → 1 ≤ task.problem.nodes → Walking task ([] ∷ []) (start ∷ []) 0 []
+  walking-start unsolved tested room = record {
+    searching = record {
+      known = frontier-start may next_node IsBefore start order same_move;
+      room = room;
+      unsolved = λ x has is_solved. unsolved (subst (λ (y : List Move). IsSolved task (goes y)) (sym (only_start x has)) is_solved);
+      tested = λ x has empty. subst (λ (y : List Move). NoLimit task (goal_question task (goes y))) (only_start x has) tested;
+      gone_through = λ k p question below. absurd (omega (arith, below));
+    };
     nodes_are = refl;
-    unsolved = λ x has is_solved. unsolved (subst (λ (y : List Move). IsSolved task.goal (goes y)) (sym (only_start x has)) is_solved);
-    room = room;
   }
 
-  pub walk-found_at_start : 1 ≤ task.problem.nodes → IsSolved task.goal start → IsFound task []
-  walk-found_at_start room is_solved = record {
-    earlier = [];
-    beginning = frontier-beginning may next_node IsBefore start order same_move ([] ∷ []) 0 [] (frontier-start may next_node IsBefore start order same_move);
-    unsolved = λ x has. absurd (omega (arith, has.1));
-    room = omega (arith, room);
-    solved = is_solved;
-  }
+  pub walk-found_at_start : 1 ≤ task.problem.nodes → IsSolved task start → NoLimit task (goal_question task start) → IsFound task []
+  walk-found_at_start room is_solved tested = ends-found_at_start task (omega (arith, room)) is_solved tested
+
+  pub walk-shape_limit_at_start : 1 ≤ task.problem.nodes → (formula : List Atom) (shapes : List (List Tick)) → MeetsLimit task.problem (goal_question task start) formula shapes
+      → IsShapeLimit task start formula shapes
+  walk-shape_limit_at_start room formula shapes met = ends-shape_limit_at_start task (omega (arith, room)) formula shapes met

@@ -1,8 +1,6 @@
-pub mod Ends
-pub mod Entries
-pub mod Limits
-pub mod Matching
-pub mod Moves
-pub mod Nodes
-pub mod Origins
-pub mod Pushes
+pub mod Asking
+pub mod Caches
+pub mod Going
+pub mod Looping
+pub mod Steps
+pub mod Planned

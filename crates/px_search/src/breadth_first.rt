@@ -1,196 +1,245 @@
-ghost use Rattle.std.specs.Prelude.{◌≡◌, ◌<◌, ◌≤◌, ◌^◌, ◌↔◌, ◌⊎◌, ℕ, List, [], length, slice_get, take, All, IsTrue, IsErrOf, IfOk, IfErr};
-ghost use Rattle.px_terms.specs.Plans.{Carries};
-ghost use Rattle.px_terms.specs.Validity.{IsAtomOf, IsValid};
-ghost use Rattle.px_search.specs.Ends.{IsFound, IsExhausted, IsNodeLimit, task_of};
-ghost use Rattle.px_search.specs.Limits.{HasFewAtoms, AllowsFewAtoms};
-ghost use Rattle.px_search.specs.Nodes.{IsSolved, steps_of};
-ghost use Rattle.px_search.specs.Origins.{AreEarlier, Trace};
-ghost use Rattle.px_search.specs.declared.breadth_first.SearchErr.TheVariants.{NoMemory as OutOfMemory};
+//! The search, breadth first.
+ghost use Rattle.std.specs.Prelude.{◌≡◌, ◌+◌, ◌<◌, ◌≤◌, ◌^◌, ℕ, List, [], length, slice_get, take, Some, MatchBool, IfOk, IfErr};
+ghost use Rattle.px_table.specs.declared.entry.Move.{Move};
+ghost use Rattle.px_table.specs.declared.node.Node.{Node};
+ghost use Rattle.px_numbers.specs.Numbers.{AllStand, IsKeyOf, KeepsAll};
+ghost use Rattle.px_ends.specs.Ends.{IsFound, IsShapeLimit};
+ghost use Rattle.px_ends.specs.Tasks.{initial_node};
+ghost use Rattle.px_search.specs.Asking.{IsAskable, IsTriedAt, task_for};
+ghost use Rattle.px_search.specs.Caches.{IsCache};
+ghost use Rattle.px_search.specs.Looping.{Going, IsEnd, IsReached, Trying};
+ghost use Rattle.px_search.specs.Steps.{AreEarlier, Trace};
+ghost use Rattle.px_search.specs.declared.step.Step.{Step};
 
-use crate::needs::has_all;
-use crate::node::{after, start_node};
-use crate::origins::{Origin, moves_to, steps_of_moves};
-use crate::pushes::moves_from;
-use indexmap::IndexSet;
-use px_ops::Model;
-use px_table::{Move, Node};
-use px_terms::{Atom, NoMemory, OpInst, Problem, Sequence};
-use std::alloc::{AllocFailed, Global};
-use std::fmt;
-use thiserror::Error;
+use crate::after::after;
+use crate::asked::Asked;
+use crate::cache::Cache;
+use crate::ends::SearchErr;
+use crate::moves::steps_from;
+use crate::node_at::{first_nodes, node_at};
+use crate::origins::moves_to;
+use crate::step::{Origin, Step};
+use crate::tried::try_node;
+use px_diff::{AskErr, Tried};
+use px_numbers::{NodeKey, NodeSet, Numbers};
+use px_proof::Shape;
+use px_table::Move;
+use px_terms::{Atom, NoMemory, Sequence};
+use std::alloc::Global;
 
-/// A plan: the moves to the first solved node, and the operator instances that they apply, in order.
-#[derive(Drop)]
-pub struct Found {
-    /// The moves, from the initial node on.
-    pub moves: Sequence<Move>,
-    /// The operator instances, in the order in which they are applied.
-    pub steps: Sequence<OpInst>,
-}
-
-/// Why no plan is answered.
-#[derive(Drop, Error)]
-pub enum SearchErr {
-    /// No list of moves reaches a solved node.
-    #[error("no list of moves reaches a solved node")]
-    Exhausted,
-    /// The first nodes were found, as many as the problem allows. None of them is solved, and there is a further one.
-    #[error("as many nodes were found as may be kept, and {moves} moves reach a further one")]
-    NodeLimit {
-        /// The nodes, in the order in which they were found.
-        nodes: Sequence<Node>,
-        /// How many moves reach the further one.
-        moves: u32,
-    },
-    /// There is no memory for the search.
-    #[error("out of memory")]
-    NoMemory,
-}
-
-impl fmt::Debug for SearchErr {
-    fn fmt<W: fmt::Write>(&self, f: &mut fmt::Formatter<W>) -> fmt::Result {
-        write!(f, "{self}")
-    }
-}
-
-impl<T: Drop> From<AllocFailed<T>> for SearchErr {
-    ghost from_gives = { λ _ e. e ≡ OutOfMemory };
-
-    fn from(_refused: AllocFailed<T>) -> SearchErr {
-        SearchErr::NoMemory
-    }
-}
-
-impl From<NoMemory> for SearchErr {
-    ghost from_gives = { λ _ e. e ≡ OutOfMemory };
-
-    fn from(_refused: NoMemory) -> SearchErr {
-        SearchErr::NoMemory
-    }
-}
-
-/// Is the stack empty, and the goal in the model?
-fn is_solved(goal: &[Atom], node: &Node) -> bool
-    ensures { IsTrue result ↔ IsSolved goal.now node.now }
+/// The end at a node where a question meets the limit.
+fn limit_at(
+    asked: &Asked,
+    numbers: &Numbers,
+    key: NodeKey,
+    formula: Sequence<Atom>,
+    shapes: Sequence<Shape>,
+) -> SearchErr
+    requires { (node : Node) × IsKeyOf numbers.now key node }
+    ensures { (node : Node) → IsKeyOf numbers.now key node → IsShapeLimit (task_for asked.now) node formula shapes → IsEnd (task_for asked.now) result }
 {
-    node.stack().is_empty() && has_all(node.model(), goal)
+    match node_at(asked.alloc, numbers, key) {
+        Ok(node) => SearchErr::ShapeLimit {
+            node,
+            formula,
+            shapes,
+        },
+        Err(_) => SearchErr::NoMemory,
+    }
 }
 
-/// Searches for a plan from the initial model to the goal, breadth first, by means-ends moves over goal stacks (Fikes and
-/// Nilsson 1971).
-///
-/// Nodes are found in the order of their least lists of moves, and the first solved one is answered.
-///
-/// It is for questions that never meet the limit of shapes: the goal and each precondition have at most twelve atoms
-/// (`few_atoms`), which have fewer shapes of unfinished gap proofs than the problem allows (`no_limit`). Where the limit
-/// may be met, an answer would have to tell of it, and no answer here does.
-///
-/// # Errors
-/// - `Exhausted` where no list of moves reaches a solved node.
-/// - `NodeLimit` where none of the first nodes is solved, as many as the problem allows, and there is a further one.
-/// - `NoMemory` where there is no memory for the search.
-pub fn search(
+/// The node of the initial model.
+fn start_key(asked: &Asked, numbers: &mut Numbers) -> Result<NodeKey, NoMemory>
+    ensures { IfOk result (λ key. IsKeyOf numbers.new key (initial_node (task_for asked.now))) }
+{
+    let model = numbers.model_number(asked.alloc, asked.initial)?;
+    Ok(NodeKey { model, stack: 0 })
+}
+
+/// The step at the place.
+fn step_at(steps: &Vec<Step>, place: usize) -> Step
+    requires { place < length steps.now.items }
+    ensures { slice_get steps.now.items place ≡ Some result }
+{
+    steps[place]
+}
+
+/// The moves to the last of the nodes.
+fn path_to(
     alloc: Global,
-    problem: &Problem,
-    initial: &Model,
-    goal: &[Atom],
-) -> Result<Found, SearchErr>
-    requires valid { IsValid problem.now }
-    requires no_axioms { problem.now.axioms ≡ [] }
-    requires goal { All (IsAtomOf problem.now 0) goal.now }
-    requires few_atoms { HasFewAtoms problem.now goal.now }
-    requires no_limit { AllowsFewAtoms problem.now }
-    ensures found { IfOk result (λ found. IsFound (task_of problem.now initial.now.atoms goal.now) found.moves) }
-    ensures steps { IfOk result (λ found. found.steps ≡ steps_of [] found.moves) }
-    ensures carries { IfOk result (λ found. Carries problem.now initial.now.atoms found.steps 0 goal.now) }
-    ensures exhausted { IsErrOf result SearchErr.Exhausted → IsExhausted (task_of problem.now initial.now.atoms goal.now) }
-    ensures node_limit { (nodes : List Node) (moves : ℕ) → IsErrOf result (SearchErr.NodeLimit nodes moves) → IsNodeLimit (task_of problem.now initial.now.atoms goal.now) nodes moves }
-    ensures always_found { (moves : List Move) → IsFound (task_of problem.now initial.now.atoms goal.now) moves → IfOk result (λ found. found.moves ≡ moves) × IfErr result (λ e. e ≡ SearchErr.NoMemory) }
-    ensures always_exhausted { IsExhausted (task_of problem.now initial.now.atoms goal.now) → IsErrOf result SearchErr.Exhausted ⊎ IsErrOf result SearchErr.NoMemory }
-    ensures always_node_limit { (nodes : List Node) (moves : ℕ) → IsNodeLimit (task_of problem.now initial.now.atoms goal.now) nodes moves → IsErrOf result (SearchErr.NodeLimit nodes moves) ⊎ IsErrOf result SearchErr.NoMemory }
+    numbers: &Numbers,
+    origins: &Vec<Origin>,
+) -> Result<Sequence<Move>, NoMemory>
+    requires earlier { AreEarlier origins.now.items }
+    requires traced { (found : List (List Move)) × Trace numbers.now origins.now.items found }
+    ensures trace { IfOk result (λ path. (found : List (List Move)) → Trace numbers.now origins.now.items found → slice_get found (length origins.now.items) ≡ Some path) }
+    ensures few { IfOk result (λ path. length path ≤ length origins.now.items) }
 {
-    found_by_moves(alloc, problem, initial, goal)
+    let moves = moves_to(alloc, numbers, origins, origins.len())?;
+    Ok(Sequence::from_vec(moves))
 }
 
-/// The same without what the plan means.
-fn found_by_moves(
-    alloc: Global,
-    problem: &Problem,
-    initial: &Model,
-    goal: &[Atom],
-) -> Result<Found, SearchErr>
-    requires { IsValid problem.now }
-    ensures found { IfOk result (λ found. IsFound (task_of problem.now initial.now.atoms goal.now) found.moves) }
-    ensures steps { IfOk result (λ found. found.steps ≡ steps_of [] found.moves) }
-    ensures exhausted { result ≡ Err SearchErr.Exhausted → IsExhausted (task_of problem.now initial.now.atoms goal.now) }
-    ensures node_limit { (nodes : List Node) (moves : ℕ) → result ≡ Err (SearchErr.NodeLimit nodes moves) → IsNodeLimit (task_of problem.now initial.now.atoms goal.now) nodes moves }
+/// How many moves reach the last of the nodes.
+fn count_to(alloc: Global, numbers: &Numbers, origins: &Vec<Origin>) -> Result<u32, NoMemory>
+    requires earlier { AreEarlier origins.now.items }
+    requires traced { (found : List (List Move)) × Trace numbers.now origins.now.items found }
+    requires few { length origins.now.items < 2 ^ 32 }
+    ensures { IfOk result (λ count. (moves : List Move) × (count ≡ length moves) × ((found : List (List Move)) → Trace numbers.now origins.now.items found → slice_get found (length origins.now.items) ≡ Some moves)) }
 {
-    let start = start_node(alloc, initial)?;
-    if is_solved(goal, &start) {
-        return Ok(plan_of(alloc, &[])?);
+    let path = path_to(alloc, numbers, origins)?;
+    Ok(path.len() as u32)
+}
+
+/// The end where there is no room for the last of the nodes.
+fn full(
+    asked: &Asked,
+    numbers: &Numbers,
+    nodes: &NodeSet,
+    origins: &Vec<Origin>,
+) -> Result<SearchErr, NoMemory>
+    requires earlier { AreEarlier origins.now.items }
+    requires traced { (found : List (List Move)) × Trace numbers.now origins.now.items found }
+    requires few { length origins.now.items < 2 ^ 32 }
+    requires count { asked.now.problem.now.nodes ≤ length nodes.now }
+    requires stand { (all : List Node) × AllStand numbers.now nodes.now all }
+    ensures { IfOk result (λ error. (firsts : List Node) × (count : ℕ) × (moves : List Move) × (error ≡ SearchErr.NodeLimit firsts count) × ((all : List Node) → AllStand numbers.now nodes.now all → firsts ≡ take asked.now.problem.now.nodes all) × (count ≡ length moves) × ((found : List (List Move)) → Trace numbers.now origins.now.items found → slice_get found (length origins.now.items) ≡ Some moves)) }
+{
+    let moves = count_to(asked.alloc, numbers, origins)?;
+    let firsts = first_nodes(asked.alloc, numbers, nodes, asked.problem.nodes as usize)?;
+    Ok(SearchErr::NodeLimit {
+        nodes: firsts,
+        moves,
+    })
+}
+
+/// Makes the move from the node at the place `next`, and keeps the node that it leads to where that is new. Ok(true) where it is
+/// solved.
+fn make_move(
+    asked: &Asked,
+    numbers: &mut Numbers,
+    nodes: &mut NodeSet,
+    origins: &mut Vec<Origin>,
+    next: usize,
+    step: Step,
+) -> Result<bool, SearchErr>
+    requires asked { IsAskable asked.now }
+    requires trying { (steps : List Step) × (i : ℕ) × Trying (task_for asked.now) numbers.old nodes.old origins.old.items next steps i × (slice_get steps i ≡ Some step) }
+    ensures keeps { KeepsAll numbers.old numbers.new }
+    ensures made { IfOk result (λ is_solved. MatchBool is_solved (IsReached (task_for asked.now) numbers.new origins.new.items) ((steps : List Step) (i : ℕ) → Trying (task_for asked.now) numbers.old nodes.old origins.old.items next steps i → slice_get steps i ≡ Some step → Trying (task_for asked.now) numbers.new nodes.new origins.new.items next steps (i + 1))) }
+    ensures ends { IfErr result (IsEnd (task_for asked.now)) }
+{
+    let key = nodes.node(next);
+    let there = after(asked, numbers, key, step)?;
+    numbers.sound();
+    let count = nodes.count();
+    let place = nodes.intern(there)?;
+    if (place as usize) < count {
+        return Ok(false);
     }
-    let mut nodes = IndexSet::new(alloc);
-    nodes.insert(start)?;
-    let mut origins = Vec::new(alloc);
+    origins.push(Origin {
+        parent: next,
+        last: step,
+    })?;
+    if count >= asked.problem.nodes as usize {
+        let limit = full(asked, numbers, nodes, origins)?;
+        return Err(limit);
+    }
+    let tried = try_node(asked, numbers, there)?;
+    match tried {
+        Tried::Answered => Ok(true),
+        Tried::Unanswered => Ok(false),
+        Tried::Limited { formula, shapes } => {
+            Err(limit_at(asked, numbers, there, formula, shapes))
+        }
+    }
+}
+
+/// Makes all moves from the node at the place `next`, or those up to the first that leads to a solved node: then Ok(true).
+fn go_through(
+    asked: &Asked,
+    numbers: &mut Numbers,
+    cache: &mut Cache,
+    nodes: &mut NodeSet,
+    origins: &mut Vec<Origin>,
+    next: usize,
+) -> Result<bool, SearchErr>
+    requires asked { IsAskable asked.now }
+    requires going { Going (task_for asked.now) numbers.old nodes.old origins.old.items next [] }
+    requires next { next < length nodes.old }
+    requires cache { IsCache (task_for asked.now) numbers.old cache.old }
+    ensures gone { IfOk result (λ is_solved. MatchBool is_solved (IsReached (task_for asked.now) numbers.new origins.new.items) (Going (task_for asked.now) numbers.new nodes.new origins.new.items (next + 1) [] × IsCache (task_for asked.now) numbers.new cache.new)) }
+    ensures ends { IfErr result (IsEnd (task_for asked.now)) }
+{
+    let key = nodes.node(next);
+    let steps = match steps_from(asked, numbers, cache, key) {
+        Ok(steps) => steps,
+        Err(AskErr::ShapeLimit { formula, shapes }) => {
+            return Err(limit_at(asked, numbers, key, formula, shapes));
+        }
+        Err(AskErr::NoMemory) => return Err(SearchErr::NoMemory),
+    };
+    for turn in 0..steps.len() {
+        let step = step_at(&steps, turn);
+        let is_solved = make_move(asked, numbers, nodes, origins, next, step)?;
+        if is_solved {
+            return Ok(true);
+        }
+    }
+    Ok(false)
+}
+
+/// Searches from the start, which isn't solved.
+fn found_from(
+    asked: &Asked,
+    numbers: &mut Numbers,
+    start: NodeKey,
+) -> Result<Sequence<Move>, SearchErr>
+    requires asked { IsAskable asked.now }
+    requires start { IsKeyOf numbers.old start (initial_node (task_for asked.now)) }
+    requires tried { IsTriedAt (task_for asked.now) (initial_node (task_for asked.now)) Tried.Unanswered }
+    ensures found { IfOk result (IsFound (task_for asked.now)) }
+    ensures ends { IfErr result (IsEnd (task_for asked.now)) }
+{
+    let mut nodes = NodeSet::new(asked.alloc);
+    nodes.intern(start)?;
+    let mut origins = Vec::new(asked.alloc);
+    let mut cache = Cache::new(asked.alloc);
     let mut next = 0;
-    while next < nodes.len() {
-        let moves = moves_from(alloc, problem, goal, &nodes.as_slice()[next])?;
-        for last in &moves {
-            let there = after(alloc, problem, &nodes.as_slice()[next], last)?;
-            let solved = is_solved(goal, &there);
-            if !nodes.insert(there)? {
-                continue;
-            }
-            origins.push(Origin {
-                parent: next,
-                last: last.try_copy()?,
-            })?;
-            if nodes.len() > problem.nodes as usize {
-                let moves = count_to(alloc, &origins)?;
-                let nodes = first_nodes(alloc, nodes, problem.nodes as usize)?;
-                return Err(SearchErr::NodeLimit { nodes, moves });
-            }
-            if solved {
-                return Ok(plan_of(alloc, &origins)?);
-            }
+    while next < nodes.count() {
+        let is_solved = go_through(asked, numbers, &mut cache, &mut nodes, &mut origins, next)?;
+        if is_solved {
+            let path = path_to(asked.alloc, numbers, &origins)?;
+            return Ok(path);
         }
         next += 1;
     }
     Err(SearchErr::Exhausted)
 }
 
-/// So many of the nodes, in the order in which they were found. None of them is copied.
-fn first_nodes(
-    alloc: Global,
-    nodes: IndexSet<Node>,
-    count: usize,
-) -> Result<Sequence<Node>, NoMemory>
-    ensures { IfOk result (λ first. first ≡ take count nodes.keys) }
+/// The same from the initial node, which may be solved.
+fn found_with(asked: &Asked, numbers: &mut Numbers) -> Result<Sequence<Move>, SearchErr>
+    requires { IsAskable asked.now }
+    ensures found { IfOk result (IsFound (task_for asked.now)) }
+    ensures ends { IfErr result (IsEnd (task_for asked.now)) }
 {
-    let mut nodes = nodes;
-    nodes.truncate(count);
-    Ok(Sequence::from_vec(nodes.into_iter().collect(alloc)?))
+    let start = start_key(asked, numbers)?;
+    let tried = try_node(asked, numbers, start)?;
+    match tried {
+        Tried::Answered => Ok(Sequence::from_vec(Vec::new(asked.alloc))),
+        Tried::Unanswered => found_from(asked, numbers, start),
+        Tried::Limited { formula, shapes } => Err(limit_at(asked, numbers, start, formula, shapes)),
+    }
 }
 
-/// The number of moves to the last of the nodes.
-fn count_to(alloc: Global, origins: &[Origin]) -> Result<u32, NoMemory>
-    requires earlier { AreEarlier origins.now }
-    requires few { length origins.now < 2 ^ 32 }
-    ensures { IfOk result (λ count. (found : List (List Move)) → Trace origins.now found → (last : List Move) × (slice_get found (length origins.now) ≡ Some last) × (count ≡ length last)) }
+/// Searches for a plan, breadth first: the moves to the first solved node.
+///
+/// # Errors
+/// Those of `SearchErr`.
+pub fn found_by_moves(asked: &Asked) -> Result<Sequence<Move>, SearchErr>
+    requires { IsAskable asked.now }
+    ensures found { IfOk result (IsFound (task_for asked.now)) }
+    ensures ends { IfErr result (IsEnd (task_for asked.now)) }
 {
-    Ok(moves_to(alloc, origins, origins.len())?.len() as u32)
-}
-
-/// The plan of the last of the nodes.
-fn plan_of(alloc: Global, origins: &[Origin]) -> Result<Found, NoMemory>
-    requires { AreEarlier origins.now }
-    ensures trace { IfOk result (λ plan. (found : List (List Move)) → Trace origins.now found → slice_get found (length origins.now) ≡ Some plan.moves) }
-    ensures steps { IfOk result (λ plan. plan.steps ≡ steps_of [] plan.moves) }
-{
-    let moves = moves_to(alloc, origins, origins.len())?;
-    let steps = steps_of_moves(alloc, &moves)?;
-    Ok(Found {
-        moves: Sequence::from_vec(moves),
-        steps: Sequence::from_vec(steps),
-    })
+    let mut numbers = Numbers::new(asked.alloc);
+    found_with(asked, &mut numbers)
 }

@@ -1,43 +1,44 @@
-//! The means-ends search over goal stacks (Fikes and Nilsson 1971), for problems without axioms.
+//! The search over proofs: means-ends search over goal stacks (Fikes and Nilsson 1971), with the first steps of learned tables,
+//! MACROPs, among what may be pushed (Fikes, Hart and Nilsson 1972).
 //!
 //! # Calling it
 //!
-//! [`search`] takes a valid problem without axioms, the initial model, and a goal of the problem's atoms without
-//! variables. The goal and each operator's precondition have at most twelve atoms, and the problem's limit of shapes is at
-//! least 4,096, so that no question which the search asks meets that limit (below). It answers one of these.
+//! - [`search`] asks for a valid problem, a goal over at most 12 variables, an object where there is a variable, and learned tables
+//!   (`AreLearned` of `px_diff`), of which there must be none so far. What it answers is said over the task of these (`task_of` of
+//!   `px_ends`).
+//! - It answers a plan: the moves to the first solved node, by the fewest moves (`IsFound`), the steps that they take, and the rows
+//!   of the table of the moves (`MovesRows`). The rows are a support of the steps, which carry the initial model to the goal
+//!   (`Supports`, `Carries`): `build` of `px_table` makes the plan's table of them.
+//! - Or `Exhausted`, where no list of moves reaches a solved node and all nodes fit the limit (`IsExhausted`); `NodeLimit` with the
+//!   first nodes themselves (`IsNodeLimit`); `ShapeLimit` with the node of a question that meets the limit of shapes, the formula
+//!   and its first shapes (`IsShapeLimit`); or `NoMemory`.
+//! - Each of these comes exactly where its definition holds, but for `NoMemory`: where a task has an end of the first three, that is
+//!   the answer, or memory ran out; and where a question that is asked meets the limit, some such question is answered.
+//! - Which questions are asked is what the definition says (`IsAsked`): those of each node up to the one from which the stop is
+//!   reached, and the goal at each node with an empty stack before the stop, and at the stop itself if there is room for it.
 //!
-//! - [`Found`]: the moves to the first solved node, and the steps that they take. The clause `carries` says what the
-//!   steps are worth: in each run of them that begins where the initial model holds, each precondition is met where it
-//!   is reached, and a run of all steps ends in the goal.
-//! - `Exhausted`: no list of moves reaches a solved node, and all nodes that moves reach may be kept.
-//! - `NodeLimit`: `nodes` are the first nodes, in order, as many as the problem allows. None of them is solved, and
-//!   `moves` moves reach a further one.
-//! - `NoMemory`, of which nothing more is said.
+//! # Inside
 //!
-//! The clauses `found`, `exhausted` and `node_limit` say what each answer means, and the clauses `always_..` that where
-//! this holds, the answer is that one, if memory suffices. The definitions are in `specs/`:
-//!
-//! - `Entries`: an entry of a stack is an operator instance over the problem's objects. (No table is learned, so no MACROP
-//!   is an entry.) A formula has an answer where
-//!   each of its atoms is a fact; it has gaps where each atom is a fact, or missing and of a predicate that some operator
-//!   adds, and one is missing. What has an answer or a gap is open.
-//! - `Nodes`: a node is a model with a stack of entries, and is solved where the stack is empty and the goal has an
-//!   answer. `Apply` applies the top entry, where its precondition has an answer. `Push` puts an entry on the stack that
-//!   isn't there, adds a gap of the top entry's precondition (or of the goal, where the stack is empty), and is open.
-//! - `Ends`: nodes come in the order of their least lists of moves: fewer moves first, and then, at the first different
-//!   push, the lesser entry (`order_of` of `px_table`: by the number of its operator, then by its arguments).
-//! - `Limits`: why no limit of shapes is met. A formula without variables, where there are no axioms, has its unfinished
-//!   lists of gap proofs by a fact or a gap for each atom before the first open one: at most 2^n - 1 for n atoms, so at most
-//!   4,095 for twelve. (The clauses ask for what this count needs. That the count is right, no clause says.)
+//! Models, entries, stacks and nodes are numbers (`px_numbers`). What an entry allows in a model doesn't depend on what is below it
+//! on the stack, but for the entries that are there: what is learned of a pair of entry and model is kept (`cache`), unless a
+//! question about it meets the limit of shapes.
 #![tactic(auto)]
 
+mod after;
+mod asked;
 mod breadth_first;
-mod matching;
-mod needs;
-mod node;
+mod cache;
+mod effects;
+mod ends;
+mod moves;
+mod node_at;
 mod origins;
-mod pushes;
+mod picks;
+mod planning;
+mod step;
 #[cfg(test)]
 mod tests;
+mod tried;
 
-pub use breadth_first::{Found, SearchErr, search};
+pub use ends::{Found, SearchErr};
+pub use planning::search;

@@ -1,63 +1,54 @@
-ghost use Rattle.std.specs.Prelude.{◌≡◌, ◌≤◌, ◌++◌, List, [], length, slice_get, IfOk, OnOk};
-ghost use Rattle.px_search.specs.Entries.{effect_of};
-ghost use Rattle.px_search.specs.Nodes.{steps_of};
-ghost use Rattle.px_search.specs.Origins.{Trace, AreEarlier};
+//! The moves that lead to a node.
+ghost use Rattle.std.specs.Prelude.{◌≡◌, ◌<◌, ◌≤◌, List, length, slice_get, Some, IfOk};
+ghost use Rattle.px_table.specs.declared.entry.Move.{Move};
+ghost use Rattle.px_search.specs.Steps.{AreEarlier, IsStepOf, Trace};
 
-use px_table::{Entry, Move};
-use px_terms::{NoMemory, OpInst};
+use crate::step::{Origin, Step};
+use px_numbers::Numbers;
+use px_table::Move;
+use px_terms::NoMemory;
 use std::alloc::Global;
 
-/// How a node was found: by a move from the node at the place `parent`.
-#[derive(Drop)]
-pub struct Origin {
-    pub parent: usize,
-    pub last: Move,
+/// The move of the step.
+fn move_of(numbers: &Numbers, step: &Step) -> Result<Move, NoMemory>
+    requires { (m : Move) × IsStepOf numbers.now step.now m }
+    ensures { IfOk result (λ made. (m : Move) → IsStepOf numbers.now step.now m → made ≡ m) }
+{
+    match step {
+        Step::Apply => Ok(Move::Apply),
+        Step::Push(entry) => Ok(Move::Push(numbers.entry(*entry).try_copy()?)),
+    }
+}
+
+/// The origin at the place.
+fn origin_at(origins: &[Origin], place: usize) -> Origin
+    requires { place < length origins.now }
+    ensures { slice_get origins.now place ≡ Some result }
+{
+    origins[place]
 }
 
 /// The moves to the node at the place, where `origins` has the origins of all nodes but the first.
-pub fn moves_to(alloc: Global, origins: &[Origin], place: usize) -> Result<Vec<Move>, NoMemory>
+pub fn moves_to(
+    alloc: Global,
+    numbers: &Numbers,
+    origins: &[Origin],
+    place: usize,
+) -> Result<Vec<Move>, NoMemory>
     requires place { place ≤ length origins.now }
     requires earlier { AreEarlier origins.now }
-    ensures trace { IfOk result (λ moves. (found : List (List Move)) → Trace origins.now found → slice_get found place ≡ Some moves.items) }
+    requires traced { (found : List (List Move)) × Trace numbers.now origins.now found }
+    ensures trace { IfOk result (λ moves. (found : List (List Move)) → Trace numbers.now origins.now found → slice_get found place ≡ Some moves.items) }
     ensures few { IfOk result (λ moves. length moves.items ≤ place) }
 {
     let mut moves = Vec::new(alloc);
     let mut here = place;
     while here > 0 {
-        let origin = &origins[here - 1];
-        moves.push(origin.last.try_copy()?)?;
+        let origin = origin_at(origins, here - 1);
+        let last = move_of(numbers, &origin.last)?;
+        moves.push(last)?;
         here = origin.parent;
     }
     moves.reverse();
     Ok(moves)
-}
-
-/// The steps that the moves take from an empty stack.
-pub fn steps_of_moves(alloc: Global, moves: &[Move]) -> Result<Vec<OpInst>, NoMemory>
-    ensures { IfOk result (λ steps. steps.items ≡ steps_of [] moves.now) }
-{
-    let mut steps = Vec::new(alloc);
-    let mut stack = Vec::new(alloc);
-    for last in moves {
-        match last {
-            Move::Push(entry) => stack.push(entry.try_copy()?)?,
-            Move::Apply => {
-                if let Some(top) = stack.pop() {
-                    push_effect(&mut steps, &top)?;
-                }
-            }
-        }
-    }
-    Ok(steps)
-}
-
-/// Appends the steps that applying the entry takes.
-fn push_effect(steps: &mut Vec<OpInst>, entry: &Entry) -> Result<(), NoMemory>
-    ensures { OnOk result (steps.new.items ≡ steps.old.items ++ effect_of entry.now) }
-{
-    match entry {
-        Entry::Op(inst) => steps.push(*inst)?,
-        Entry::Macro { .. } => {}
-    }
-    Ok(())
 }

@@ -1,107 +1,127 @@
-ghost use Rattle.std.specs.Prelude.{◌≡◌, ◌≤◌, [], ◌∷◌, All, IfOk};
-ghost use Rattle.px_terms.specs.Validity.{IsValid};
-ghost use Rattle.px_search.specs.Limits.{NeedsFewAtoms, AllowsFewAtoms};
-
+//! Going through doors, after the example of 1972: a door that leads there leads back.
 use crate::{Found, SearchErr, search};
+use px_diff::are_learned;
 use px_ops::Model;
-use px_terms::{Atom, ClauseArena, NoMemory, OpInst, Problem, Schema, Sequence, Term};
+use px_terms::{
+    Atom, ClauseArena, Lit, NoMemory, Problem, Schema, Sequence, Term, are_atoms_of,
+    are_plain_below, is_ground, is_valid,
+};
 use std::alloc::Global;
 use std::process::Abort;
 use std::rt::HostRuntime;
 
-fn sequence_of<T: Copy>(alloc: Global, items: &[T]) -> Result<Sequence<T>, NoMemory>
-    ensures { IfOk result (λ made. made ≡ items.now) }
-{
-    let mut made = Vec::new(alloc);
-    made.extend_from_slice(items)?;
-    Ok(Sequence::from_vec(made))
+/// The robot is in the room.
+fn robot_in(rt: &impl Abort, room: Term) -> Atom {
+    Atom::new(0, &[room]).expect(rt, "one argument")
 }
 
-/// The operator MOVE(x,y), which needs AT(x), deletes AT($) and adds AT(y), over two objects.
-fn moving(alloc: Global, rt: &impl Abort, nodes: u32) -> Result<Problem, NoMemory>
-    requires { (1 ≤ nodes) × (nodes ≤ 50000) }
-    ensures valid { IfOk result IsValid }
-    ensures axioms { IfOk result (λ p. p.axioms ≡ []) }
-    ensures shape { IfOk result (λ p. (p.objects ≡ 2) × (p.arities ≡ 1 ∷ [])) }
-    ensures few_atoms { IfOk result (λ p. All NeedsFewAtoms p.schemas) }
-    ensures no_limit { IfOk result AllowsFewAtoms }
-{
-    let here = Atom::new(0, &[Term::Var(0)]).expect(rt, "one argument");
-    let there = Atom::new(0, &[Term::Var(1)]).expect(rt, "one argument");
-    let any = Atom::new(0, &[Term::Any]).expect(rt, "one argument");
-    let schema = Schema {
+/// A door leads from a room to another.
+fn door(rt: &impl Abort, from: Term, to: Term) -> Atom {
+    Atom::new(1, &[from, to]).expect(rt, "two arguments")
+}
+
+/// A door that leads there leads back.
+fn both_ways(alloc: Global, rt: &impl Abort) -> Result<ClauseArena, NoMemory> {
+    let mut axioms = ClauseArena::new(alloc);
+    let there = Lit {
+        positive: false,
+        atom: door(rt, Term::Var(0), Term::Var(1)),
+    };
+    let back = Lit {
+        positive: true,
+        atom: door(rt, Term::Var(1), Term::Var(0)),
+    };
+    let lits = [there, back];
+    assert!(rt; are_plain_below(2, &lits));
+    match axioms.push(2, &lits) {
+        Ok(_) => Ok(axioms),
+        Err(_) => Err(NoMemory),
+    }
+}
+
+/// Going through a door.
+fn go(alloc: Global, rt: &impl Abort) -> Result<Schema, NoMemory> {
+    let here = robot_in(rt, Term::Var(0));
+    let through = door(rt, Term::Var(0), Term::Var(1));
+    Ok(Schema {
         op: 0,
         params: 2,
-        pre: sequence_of(alloc, &[here])?,
-        del: sequence_of(alloc, &[any])?,
-        add: sequence_of(alloc, &[there])?,
-    };
-    let mut schemas = Vec::new(alloc);
-    if schemas.push(schema).is_err() {
-        return Err(NoMemory);
-    }
-    Ok(Problem {
-        objects: 2,
-        arities: sequence_of(alloc, &[1u8])?,
-        axioms: ClauseArena::new(alloc),
-        schemas: Sequence::from_vec(schemas),
-        height: 4,
-        nodes,
-        shapes: 10000,
+        pre: Sequence::from_slice(alloc, &[here, through])?,
+        del: Sequence::from_slice(alloc, &[robot_in(rt, Term::Any)])?,
+        add: Sequence::from_slice(alloc, &[robot_in(rt, Term::Var(1))])?,
     })
 }
 
-/// Is a plan found of so many moves, with these steps?
-fn is_plan(found: &Result<Found, SearchErr>, count: usize, expected: &[OpInst]) -> bool {
-    match found {
-        Ok(plan) => plan.moves.len() == count && plan.steps.as_slice() == expected,
-        Err(_) => false,
+/// Three rooms.
+fn rooms(alloc: Global, rt: &impl Abort, nodes: u32, shapes: u32) -> Result<Problem, NoMemory> {
+    let mut schemas = Vec::new(alloc);
+    schemas.push(go(alloc, rt)?)?;
+    Ok(Problem {
+        objects: 3,
+        arities: Sequence::from_slice(alloc, &[1u8, 2])?,
+        axioms: both_ways(alloc, rt)?,
+        schemas: Sequence::from_vec(schemas),
+        height: 4,
+        nodes,
+        shapes,
+    })
+}
+
+/// The robot in room 0, and doors from room 1 to these rooms.
+fn opening(alloc: Global, rt: &impl Abort, doors: &[u32]) -> Result<Model, NoMemory> {
+    let mut model = Model::new(alloc);
+    let here = robot_in(rt, Term::Obj(0));
+    assert!(rt; is_ground(&here));
+    model.insert(here)?;
+    for room in doors {
+        let way = door(rt, Term::Obj(1), Term::Obj(*room));
+        assert!(rt; is_ground(&way));
+        model.insert(way)?;
     }
+    Ok(model)
 }
 
-/// Is the limit met with so many nodes, the last of them with an entry on its stack, and so many moves to the next one?
-fn is_limit(found: &Result<Found, SearchErr>, count: usize, to_next: u32) -> bool {
-    match found {
-        Err(SearchErr::NodeLimit { nodes, moves }) => {
-            let last = nodes.as_slice().last();
-            nodes.len() == count
-                && *moves == to_next
-                && match last {
-                    Some(node) => node.stack().len() == 1,
-                    None => false,
-                }
-        }
-        _ => false,
-    }
-}
-
-#[test]
-fn a_plan_of_one_step(rt: HostRuntime) -> Result<(), NoMemory> {
-    let problem = moving(rt.alloc(), &rt, 10000)?;
-    let start = Atom::new(0, &[Term::Obj(0)]).expect(&rt, "one argument");
-    let end = Atom::new(0, &[Term::Obj(1)]).expect(&rt, "one argument");
-    let mut facts = Model::new(rt.alloc());
-    facts.insert(start)?;
-    let step = OpInst::new(0, &[Term::Obj(0), Term::Obj(1)]).expect(&rt, "two arguments");
-    let found = search(rt.alloc(), &problem, &facts, &[end]);
-    assert!(&rt; is_plan(&found, 2, &[step]));
-    Ok(())
+/// What is answered where the robot is to be in room 2.
+fn answer(
+    alloc: Global,
+    rt: &impl Abort,
+    doors: &[u32],
+    nodes: u32,
+    shapes: u32,
+) -> Result<Found, SearchErr> {
+    let problem = rooms(alloc, rt, nodes, shapes)?;
+    let initial = opening(alloc, rt, doors)?;
+    let goal = [robot_in(rt, Term::Obj(2))];
+    assert!(rt; is_valid(&problem));
+    assert!(rt; are_atoms_of(&problem, 0, &goal));
+    assert!(rt; are_learned(&problem, &[]));
+    search(alloc, &problem, &initial, &goal, 0, &[])
 }
 
 #[test]
-fn no_moves_reach_the_goal(rt: HostRuntime) -> Result<(), NoMemory> {
-    let problem = moving(rt.alloc(), &rt, 10000)?;
-    let end = Atom::new(0, &[Term::Obj(1)]).expect(&rt, "one argument");
-    let found = search(rt.alloc(), &problem, &Model::new(rt.alloc()), &[end]);
-    assert!(&rt; matches!(found, Err(SearchErr::Exhausted)));
-    Ok(())
+fn two_doors_take_four_moves_and_six_nodes(rt: HostRuntime) {
+    let found = answer(rt.alloc(), &rt, &[0, 2], 6, 10000);
+    assert!(&rt; matches!(&found, Ok(plan) if plan.moves.len() == 4 && plan.steps.len() == 2));
 }
 
 #[test]
-fn two_nodes_are_too_few(rt: HostRuntime) -> Result<(), NoMemory> {
-    let problem = moving(rt.alloc(), &rt, 2)?;
-    let end = Atom::new(0, &[Term::Obj(1)]).expect(&rt, "one argument");
-    let found = search(rt.alloc(), &problem, &Model::new(rt.alloc()), &[end]);
-    assert!(&rt; is_limit(&found, 2, 1));
-    Ok(())
+fn five_nodes_are_too_few(rt: HostRuntime) {
+    let found = answer(rt.alloc(), &rt, &[0, 2], 5, 10000);
+    assert!(&rt;
+        matches!(&found, Err(SearchErr::NodeLimit { nodes, moves: 4 }) if nodes.len() == 5)
+    );
+}
+
+#[test]
+fn one_node_is_all_where_no_door_leads_there(rt: HostRuntime) {
+    let found = answer(rt.alloc(), &rt, &[0], 1, 10000);
+    assert!(&rt; matches!(&found, Err(SearchErr::Exhausted)));
+}
+
+#[test]
+fn two_shapes_are_too_few(rt: HostRuntime) {
+    let found = answer(rt.alloc(), &rt, &[0, 2], 6, 2);
+    assert!(&rt;
+        matches!(&found, Err(SearchErr::ShapeLimit { node: _, formula: _, shapes }) if shapes.len() == 2)
+    );
 }

@@ -9,3 +9,6 @@ pub mod OneTranscript
 pub mod Lifted
 pub mod InOrder
 pub mod WorkedAnswers
+pub mod FoundPlans
+pub mod NamedReplies
+pub mod Executing

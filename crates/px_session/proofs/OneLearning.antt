@@ -28,7 +28,7 @@ one_some o a b e f = some_same a b (sym e ∙ f)
 -- ---- tables by name
 
 -- the table of a name is one of the tables
-table-there : (names : List ℕ) (tables : List Table) (name : ℕ) (table : Table) → table_beside names tables name ≡ Some table
+pub table-there : (names : List ℕ) (tables : List Table) (name : ℕ) (table : Table) → table_beside names tables name ≡ Some table
     → Contains tables table
 table-there [] tables name table e = absurd (cc)
 table-there (one ∷ names) [] name table e = absurd (cc)

@@ -17,6 +17,7 @@ use Rattle.px_printer.specs.declared.reply.Reply.TheVariants as reply
 use Rattle.px_script.specs.Commands.{Command}
 use Rattle.px_script.specs.Content.{ScriptValue}
 use Rattle.px_script.specs.Scripts.{IsScript}
+use Rattle.px_script.specs.Stages.{stage_now}
 use Rattle.px_script.proofs.Kept.{in-range}
 use Rattle.px_script.proofs.Law.{reads-one-way}
 use Rattle.px_session.specs.Demo.{Summary, demo_script, is_plan, reaches_goal, step_count, summary_line}
@@ -101,16 +102,16 @@ summary-line-one rooms seed commands answers others same =
 abbrev IsSettled : ScriptValue → Type 0
 IsSettled script = IsValid script.problem × IsAtomSet script.facts
 
-settled-script : (bytes : List ℕ) (script : ScriptValue) → IsScript bytes script → IsSettled script
-settled-script bytes script is = let range = in-range bytes script is in (range.problem.valid, range.facts.fact_set)
+settled-script : (bytes : List ℕ) (script : ScriptValue) → IsScript stage_now bytes script → IsSettled script
+settled-script bytes script is = let range = in-range stage_now bytes script is in (range.problem.valid, range.facts.fact_set)
 
 -- replies to what is one script
 settled-one : (one other : ScriptValue) (answers others : List Reply) → one ≡ other → IsSettled other → AreAnswersTo one answers → AreAnswersTo other others → AllZip SameReply answers others
 settled-one one other answers others same settled p q =
     (script-one other answers others settled.0 settled.1 (subst (λ (s : ScriptValue). AreAnswersTo s answers) same p) q).0
 
-same-script : (bytes : List ℕ) (one other : ScriptValue) → IsScript bytes one → IsScript bytes other → one ≡ other
-same-script bytes one other p q = (reads-one-way bytes).one_content one other p q
+same-script : (bytes : List ℕ) (one other : ScriptValue) → IsScript stage_now bytes one → IsScript stage_now bytes other → one ≡ other
+same-script bytes one other p q = (reads-one-way stage_now bytes).one_content one other p q
 
 transcript-one : (bytes text other : List ℕ) → Transcript bytes text → Transcript bytes other → text ≡ other
 transcript-one bytes text other p q =

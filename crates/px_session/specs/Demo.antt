@@ -10,6 +10,7 @@ use Rattle.px_printer.specs.declared.turn.TurnEnd.{TurnEnd}
 use Rattle.px_printer.specs.declared.turn.TurnEnd.TheVariants.{Goal}
 use Rattle.px_script.specs.Content.{ScriptValue}
 use Rattle.px_script.specs.Scripts.{IsScript}
+use Rattle.px_script.specs.Stages.{stage_now}
 use Rattle.px_session.specs.Transcripts.{AreAnswersTo}
 
 -- ---- where the robot is sent
@@ -102,7 +103,7 @@ summary_line rooms seed commands answers =
 -- the text sums up lawful replies to the commands of the demo's script
 pub record Summary (rooms seed : ℕ) (text : List ℕ) : Type 0 where
   pub script : ScriptValue
-  pub spelt : IsScript (demo_script rooms seed) script
+  pub spelt : IsScript stage_now (demo_script rooms seed) script
   pub answers : List Reply
   pub lawful : AreAnswersTo script answers
   pub text_is : text ≡ summary_line rooms seed (length script.commands) answers

@@ -3,6 +3,10 @@ pub mod Lawful
 pub mod Transcripts
 pub mod Demo
 pub mod Runs
+pub mod Planning
+pub mod Opened
+pub mod Named
+pub mod KeptSessions
 pub mod Determined
 pub mod Causes
 pub mod WorkedSession

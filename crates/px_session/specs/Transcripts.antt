@@ -8,6 +8,7 @@ use Rattle.px_printer.specs.declared.reply.Reply.{Reply}
 use Rattle.px_script.specs.Commands.{Command}
 use Rattle.px_script.specs.Content.{ScriptValue}
 use Rattle.px_script.specs.Scripts.{IsScript}
+use Rattle.px_script.specs.Stages.{stage_now}
 use Rattle.px_session.specs.Lawful.{Lawful}
 use Rattle.px_session.specs.Sessions.{SessionState, opening}
 
@@ -31,7 +32,7 @@ texts names answers = flat_map (reply_text names) answers
 -- the bytes are a script, and the text is that of lawful replies to its commands
 pub record Transcript (bytes text : List ℕ) : Type 0 where
   pub script : ScriptValue
-  pub spelt : IsScript bytes script
+  pub spelt : IsScript stage_now bytes script
   pub answers : List Reply
   pub lawful : AreAnswersTo script answers
   pub text_is : text ≡ texts script.names answers

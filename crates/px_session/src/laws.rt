@@ -1,6 +1,7 @@
 //! Laws about the definitions. The calls do nothing.
 ghost use Rattle.px_session.specs.Causes.{CausesInOrder, RefusedReplies};
 ghost use Rattle.px_session.specs.Determined.{AnswersAreOne, LawfulIsOne, SessionsAreKept, TranscriptsAreOne};
+ghost use Rattle.px_session.specs.Named.{RepliesAreNamed};
 ghost use Rattle.px_session.specs.Runs.{OneKindRuns};
 ghost use Rattle.px_session.specs.WorkedDemo.{WorkedDemo};
 ghost use Rattle.px_session.specs.WorkedSession.{WorkedSession};
@@ -15,6 +16,11 @@ pub fn lawful_is_one()
 /// each kernel carries the steps that are left to the goal; and the world's atoms carry the steps of each plan that is told.
 pub fn sessions_are_kept()
     ensures { SessionsAreKept }
+{}
+
+/// Each lawful reply to a command that is built has a name for each number that it prints.
+pub fn replies_are_named()
+    ensures { RepliesAreNamed }
 {}
 
 /// A script with a valid problem, whose facts are a set, has one list of lawful replies, but for questions at limits of shapes, and one text.

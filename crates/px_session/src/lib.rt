@@ -1,9 +1,13 @@
 //! Which replies to the commands of a script are lawful, and what is to be written for a script.
 //!
-//! There is no session yet. These are the definitions that it will meet, and their laws.
+//! A [`Session`] answers the commands of a script, as far as they are built. The definitions that it meets are of all commands, and so are
+//! their laws.
 //!
 //! # Calling it
 //!
+//! - [`Session::new`] takes a [`px_reader::Script`] of the words that are built. [`Session::execute`] answers command `k`, each once and in
+//!   order: `plan`, `show` and `facts`. Its reply is lawful, each number that it prints as a name has one, and after a refusal for memory
+//!   the session is as it was. Contracts see a session as a `SessionValue` (`specs/Opened`); what it keeps is in `specs/KeptSessions`.
 //! - A `SessionState` in `specs/Sessions` has the world's atoms, the tables of the stored plans by name, the learned tables by
 //!   name in the order of learning, and the disturbances that are recorded for the next run. `opening` is the one before the
 //!   first command. An `Edit` is one of atoms or one of a building.
@@ -22,6 +26,8 @@
 //!   other bytes, the demo's script among them, they say nothing yet, and what a building gives to its script isn't defined yet.
 //! - Which of some causes of a refusal comes first, and that nothing has changed after a name or a parameter is unknown, is in `specs/Causes`
 //!   ([`causes_in_order`]), with some replies that aren't lawful ([`refused_replies`]).
+//! - Each lawful reply to a command that is built has a name for each number that it prints as one (`specs/Named`,
+//!   [`replies_are_named`]).
 //! - What an executor does in a world of atoms, or in a building, is what a session's run does with the same disturbances
 //!   (`specs/Runs`, [`one_kind_runs`]).
 //! - A small script is worked out with its text ([`worked_session`]). Of the demo of three rooms the targets, the script and the form of its
@@ -29,11 +35,17 @@
 //! - The laws are calls that do nothing.
 #![tactic(auto)]
 
+mod commands;
 mod laws;
+mod planning;
+mod plans;
+mod session;
+mod state;
 #[cfg(test)]
 mod tests;
 
 pub use laws::{
     answers_are_one, causes_in_order, lawful_is_one, one_kind_runs, refused_replies,
-    sessions_are_kept, transcripts_are_one, worked_demo, worked_session,
+    replies_are_named, sessions_are_kept, transcripts_are_one, worked_demo, worked_session,
 };
+pub use session::Session;

@@ -1,14 +1,45 @@
-//! The laws are calls.
+//! The laws are calls, and the commands of a small script are answered in order.
+ghost use Rattle.std.specs.Prelude.{◌<◌, ◌^◌, ◌-◌, length};
+
 use crate::{
-    answers_are_one, causes_in_order, lawful_is_one, one_kind_runs, refused_replies,
-    sessions_are_kept, transcripts_are_one, worked_demo, worked_session,
+    Session, answers_are_one, causes_in_order, lawful_is_one, one_kind_runs, refused_replies,
+    replies_are_named, sessions_are_kept, transcripts_are_one, worked_demo, worked_session,
 };
+use px_reader::read_script;
+use std::alloc::Global;
 use std::rt::HostRuntime;
+
+/// Answers the next command, if there is one.
+fn goes_on(session: &mut Session) -> bool {
+    let k = session.done();
+    k < session.count() && session.execute(k).is_ok()
+}
+
+/// How many commands of a script are answered, of the first three.
+fn answered(alloc: Global, bytes: &[u8]) -> Option<usize>
+    requires { length bytes.now < 2 ^ 32 - 1 }
+{
+    let Ok(script) = read_script(alloc, bytes) else {
+        return None;
+    };
+    let Ok(mut session) = Session::new(alloc, script) else {
+        return None;
+    };
+    let _ = goes_on(&mut session) && goes_on(&mut session) && goes_on(&mut session);
+    Some(session.done())
+}
+
+#[test]
+fn commands_are_answered_in_order(rt: HostRuntime) {
+    let alloc = rt.alloc();
+    assert!(&rt; answered(alloc, b"predicate P 0\nfact P\nfacts\nfacts\n") == Some(2));
+}
 
 #[test]
 fn laws_are_calls(_rt: HostRuntime) {
     lawful_is_one();
     sessions_are_kept();
+    replies_are_named();
     answers_are_one();
     transcripts_are_one();
     causes_in_order();

@@ -1,7 +1,7 @@
 use Rattle.std.proofs.Common.{◌≡◌, arith}
 use Rattle.std.proofs.lemmas.Grind.{common_steps}
 use Rattle.px_reader.specs.Classes.{is_of}
-use Rattle.px_script.proofs.Texts.{front-ends, cut-boundary, cut-front}
+use Rattle.px_reader.proofs.Texts.{front-ends, cut-boundary, cut-front}
 use Rattle.px_reader.proofs.class.split_while.Goals as goal
 
 pub range-requires-clause-end_boundary : goal.range-requires-clause-end_boundary

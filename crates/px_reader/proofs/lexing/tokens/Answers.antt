@@ -5,7 +5,7 @@ use Rattle.std.specs.Str.{chars}
 use Rattle.px_reader.specs.Views.{lexeme_of}
 use Rattle.px_script.proofs.Firsts.{found-begins}
 use Rattle.px_script.proofs.Readings.{Begins-shorter}
-use Rattle.px_script.proofs.Reading.{one-more-read, all-read, none-read}
+use Rattle.px_reader.proofs.LineFronts.{one-more-read, all-read, none-read}
 use Rattle.px_reader.proofs.lexing.tokens.Goals as goal
 
 pub loop-token-smaller : goal.loop-token-smaller

@@ -1,6 +1,6 @@
 use Rattle.std.proofs.Common.{map, length}
 use Rattle.std.specs.Str.{IsUtf8, chars}
-use Rattle.px_script.proofs.Progress.{ReadSoFar}
+use Rattle.px_reader.specs.Progress.{ReadSoFar}
 use Rattle.px_reader.specs.Views.{lexeme_of}
 use Rattle.px_reader.proofs.lexing.tokens.Given as goal
 

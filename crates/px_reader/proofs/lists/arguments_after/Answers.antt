@@ -4,7 +4,7 @@ use Rattle.std.proofs.lemmas.Grind.{common_steps}
 use Rattle.std.proofs.lemmas.List.{map-append}
 use Rattle.px_script.proofs.Parsing.{argument_of}
 use Rattle.px_reader.specs.StatementViews.{lexemes_of, argument_view}
-use Rattle.px_script.proofs.Steps.{items-closed, items-wrong, items-more, items-none}
+use Rattle.px_reader.proofs.Steps.{items-closed, items-wrong, items-more, items-none}
 use Rattle.px_reader.proofs.lists.arguments_after.Goals as goal
 
 pub returns-then-sign-eq41-clause-found : goal.returns-then-sign-eq41-clause-found

@@ -1,6 +1,6 @@
 use Rattle.std.proofs.Common.{◌≡◌, ◌≤◌, ◌-◌, drop, map, length}
 use Rattle.px_script.proofs.Parsing.{items_after, argument_of}
-use Rattle.px_script.proofs.Steps.{in_front}
+use Rattle.px_reader.proofs.Steps.{in_front}
 use Rattle.px_reader.specs.StatementViews.{lexemes_of, argument_view}
 use Rattle.px_reader.proofs.lists.arguments_after.Given as goal
 

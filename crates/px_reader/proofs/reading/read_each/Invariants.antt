@@ -1,8 +1,9 @@
 use Rattle.std.specs.Str.{chars}
 use Rattle.px_script.specs.Lines.{without_return}
+use Rattle.px_reader.specs.LineReads.{stage_view}
 use Rattle.px_reader.specs.Readers.{declared_of}
 use Rattle.px_reader.proofs.LineSteps.{HasRead}
 use Rattle.px_reader.proofs.reading.read_each.Given as goal
 
 abbrev pub invariant-loop-index : goal.invariant-loop-index
-invariant-loop-index l = HasRead (λ line. chars (without_return line.now)) l.lines (declared_of l.reader) l.index
+invariant-loop-index l = HasRead (stage_view l.stage) (λ line. chars (without_return line.now)) l.lines (declared_of l.reader) l.index

@@ -3,8 +3,7 @@ use Rattle.px_script.specs.Declarations.{nothing_declared}
 use Rattle.px_script.specs.Lines.{lines_of}
 use Rattle.px_script.specs.Scripts.{PassAll}
 use Rattle.px_script.proofs.Kept.{lines-kept, start-in-range, declared-in-range}
-use Rattle.px_script.proofs.Stage.{lines-of-stage, start-of-stage, declared-of-stage}
-use Rattle.px_reader.specs.LineReads.{characters_of, HasFirstFault, LinesFail}
+use Rattle.px_reader.specs.LineReads.{characters_of, HasFirstFault, LinesFail, stage_view}
 use Rattle.px_reader.specs.Readers.{declared_of}
 use Rattle.px_reader.proofs.Outcomes.{parts-lines, few-parts, left-open, text-fails, err-carried}
 use Rattle.px_reader.proofs.reading.read_text.Goals as goal
@@ -16,18 +15,16 @@ read_each-requires-clause-few c =
     omega (arith, few, same, c.requires)
 
 pub finish-requires : goal.finish-requires
-finish-requires c = record {
-  range = λ closed. declared-in-range _ (lines-kept 1 nothing_declared _ _ start-in-range c.in_ok-read_each.ensures.passes) closed;
-  stage = declared-of-stage _ (lines-of-stage 1 nothing_declared _ _ start-of-stage c.in_ok-read_each.ensures.passes);
-}
+finish-requires c = λ closed. declared-in-range _
+    (lines-kept (stage_view c.args.stage.now) 1 nothing_declared _ _ start-in-range c.in_ok-read_each.ensures.passes) closed
 
 pub returns-in_err-read_each-clause-refused : goal.returns-in_err-read_each-clause-refused
 returns-in_err-read_each-clause-refused c =
     let lines : characters_of c.deref.result.now ≡ lines_of c.args.text.now = ap characters_of c.deref.ensures.value
     ∙ parts-lines c.in-Ok.lines.items c.args.text.now (rw c.without_mark.ensures at c.in-Ok.ensures) in
-    err-carried c.from_residual.result (HasFirstFault c.args.text.now) c.in_err-read_each.field-0.0 c.from_residual.ensures.1
-    (text-fails c.args.text.now c.in_err-read_each.field-0.0 c.utf8.text
-    (subst (λ ls. LinesFail ls c.in_err-read_each.field-0.0) lines c.in_err-read_each.ensures.fails))
+    err-carried c.from_residual.result (HasFirstFault (stage_view c.args.stage.now) c.args.text.now) c.in_err-read_each.field-0.0 c.from_residual.ensures.1
+    (text-fails (stage_view c.args.stage.now) c.args.text.now c.in_err-read_each.field-0.0 c.utf8.text
+    (subst (λ ls. LinesFail (stage_view c.args.stage.now) ls c.in_err-read_each.field-0.0) lines c.in_err-read_each.ensures.fails))
 
 pub returns-in-Ok-finish-clause-script : goal.returns-in-Ok-finish-clause-script
 returns-in-Ok-finish-clause-script c =
@@ -37,7 +34,7 @@ returns-in-Ok-finish-clause-script c =
       last = declared_of c.read_each.new.reader;
       spells = record {
         text = c.utf8.text;
-        lines = subst (λ ls. PassAll 1 nothing_declared ls (declared_of c.read_each.new.reader)) lines c.in_ok-read_each.ensures.passes;
+        lines = subst (λ ls. PassAll (stage_view c.args.stage.now) 1 nothing_declared ls (declared_of c.read_each.new.reader)) lines c.in_ok-read_each.ensures.passes;
         closed = c.in-Ok-finish.ensures.0;
       };
       is = c.in-Ok-finish.ensures.1;
@@ -47,8 +44,8 @@ pub returns-clause-refused : goal.returns-clause-refused
 returns-clause-refused c =
     let lines : characters_of c.deref.result.now ≡ lines_of c.args.text.now = ap characters_of c.deref.ensures.value
     ∙ parts-lines c.in-Ok.lines.items c.args.text.now (rw c.without_mark.ensures at c.in-Ok.ensures) in
-    let passes = subst (λ ls. PassAll 1 nothing_declared ls (declared_of c.read_each.new.reader)) lines c.in_ok-read_each.ensures.passes in
+    let passes = subst (λ ls. PassAll (stage_view c.args.stage.now) 1 nothing_declared ls (declared_of c.read_each.new.reader)) lines c.in_ok-read_each.ensures.passes in
     let block = c.in-Err.ensures.0 in
-    let fails = left-open 1 nothing_declared (lines_of c.args.text.now) (declared_of c.read_each.new.reader) block passes
+    let fails = left-open (stage_view c.args.stage.now) 1 nothing_declared (lines_of c.args.text.now) (declared_of c.read_each.new.reader) block passes
     c.in-Err.ensures.1 in
-    subst (HasFirstFault c.args.text.now) (sym c.refused.ensures) (inr (c.utf8.text, rw c.in-Err.ensures.2 fails))
+    subst (HasFirstFault (stage_view c.args.stage.now) c.args.text.now) (sym c.refused.ensures) (inr (c.utf8.text, rw c.in-Err.ensures.2 fails))

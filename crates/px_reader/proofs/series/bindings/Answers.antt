@@ -2,7 +2,7 @@ use Rattle.std.proofs.Common.{◌≡◌, ◌++◌, ◌∷◌, [], ◌-◌, take,
 use Rattle.std.proofs.lemmas.Grind.{common_steps}
 use Rattle.std.proofs.lemmas.List.{length-drop}
 use Rattle.px_script.proofs.Parsing.{binding_at}
-use Rattle.px_script.proofs.Walks.{binding-advances}
+use Rattle.px_reader.proofs.Walks.{binding-advances}
 use Rattle.px_reader.specs.StatementViews.{binding_view}
 use Rattle.px_reader.proofs.TokenLemmas.{things-more, things-none, things-end}
 use Rattle.px_reader.proofs.series.bindings.Goals as goal

@@ -2,7 +2,7 @@ use Rattle.std.proofs.Common.{◌≡◌, ◌++◌, ◌∷◌, [], ◌-◌, take,
 use Rattle.std.proofs.lemmas.Grind.{common_steps}
 use Rattle.std.proofs.lemmas.List.{length-drop}
 use Rattle.px_script.proofs.Parsing.{room_edit_at}
-use Rattle.px_script.proofs.Walks.{room-edit-advances}
+use Rattle.px_reader.proofs.Walks.{room-edit-advances}
 use Rattle.px_reader.specs.StatementViews.{room_edit_view}
 use Rattle.px_reader.proofs.TokenLemmas.{things-more, things-none, things-end}
 use Rattle.px_reader.proofs.series.room_edits.Goals as goal

@@ -1,5 +1,5 @@
 use Rattle.std.proofs.Common.{◌∙◌}
-use Rattle.px_script.proofs.Numbers.{parsed-digits}
+use Rattle.px_reader.proofs.Numbers.{parsed-digits}
 use Rattle.px_reader.proofs.token.number_value.Goals as goal
 
 pub returns : goal.returns

@@ -1,15 +1,11 @@
 use Rattle.px_reader.specs.LineReads.{content}
 use Rattle.px_run.proofs.OutcomeLemmas.{run-executed, run-refused}
-use Rattle.px_run.proofs.Ready.{script-ready}
 use Rattle.px_run.proofs.top.run.Goals as goal
-
-pub execute-requires : goal.execute-requires
-execute-requires g c = record { ready = script-ready (content c.in-Ok-read_script.script) c.in-Ok-read_script.script.in_range c.in-Ok-read_script.script.of_stage }
 
 pub returns-in-Ok-read_script-clause-right : goal.returns-in-Ok-read_script-clause-right
 returns-in-Ok-read_script-clause-right g c =
     let is = rw c.deref.ensures.value at c.in-Ok-read_script.ensures.script in
-    run-executed _ _ c.in-Ok.bytes.items (content c.in-Ok-read_script.script) c.execute.result c.in-Ok.ensures.all is c.execute.ensures.right
+    run-executed _ _ c.in-Ok.bytes.items (content c.in-Ok-read_script.script) c.answer.result c.in-Ok.ensures.all is c.answer.ensures.right
 
 pub returns-in-Err-Refused-clause-right : goal.returns-in-Err-Refused-clause-right
 returns-in-Err-Refused-clause-right g c =

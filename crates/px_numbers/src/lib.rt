@@ -1,0 +1,28 @@
+//! The models, entries, stacks and nodes of a search, each kept once and numbered.
+//!
+//! # Calling it
+//!
+//! - [`Numbers`] keeps atoms, models, entries and stacks. Contracts see it as `Kept`, the list of each kind, by number.
+//!   `model_number`, `entry_number` and `pushed` answer the number of a model, an entry, and a stack with one more entry, and
+//!   keep what is new. `model`, `entry`, `top` and `is_stacked` tell what a number stands for. The empty stack has number 0.
+//! - Which model and which stack a number stands for are relations: `IsModelAt`, `IsStackAt`. Numbers stay when more is kept
+//!   (`KeepsAll`), after `NoMemory` too. `sound` hands out what is always true: nothing is kept twice (`AreSound`).
+//! - A [`NodeKey`] is a node as two numbers, those of its model and of its stack (`IsKeyOf`). [`NodeSet`] is the list of
+//!   the nodes that were found, each once: a search looks there whether a node is new.
+//! - Laws for callers are in `specs/NumberLaws`: a pair of numbers is one node (`one_node`), a node has one pair (`one_key`), a
+//!   pair is among the found ones exactly where its node is (`seen`, `unseen`), and all of this stays when more is kept
+//!   (`stands-grows`, `all_stand-grows`).
+//! - Each kind has room for 4,294,967,295 things; then new ones have no memory.
+#![tactic(auto)]
+
+mod entries;
+mod lists;
+mod nodes;
+mod numbers;
+mod stacks;
+#[cfg(test)]
+mod tests;
+
+pub use nodes::{NodeKey, NodeSet};
+pub use numbers::Numbers;
+pub use stacks::Frame;

@@ -1,0 +1,58 @@
+//! Lists of numbers by number.
+ghost use Rattle.std.specs.Prelude.{◌≡◌, ◌<◌, [], Some, length, slice_get, IfOk, OnErr};
+ghost use Rattle.px_ops.specs.Keeping.{Keeps};
+
+use indexmap::IndexSet;
+use px_base::{NoMemory, Sequence};
+use px_ops::keep;
+use std::alloc::Global;
+use std::marker::Model;
+
+/// Lists of numbers, each kept once and numbered: of a model, those of its atoms, ascending.
+#[derive(Drop)]
+pub struct NumberLists {
+    lists: IndexSet<Sequence<u32>>,
+}
+
+impl Model for NumberLists {
+    ghost use Rattle.std.specs.Prelude.{◌≤◌, ℕ, List, length};
+
+    ghost Value = { List (List ℕ) };
+
+    ghost view = { λ s. s.lists.keys };
+
+    ghost invariant = { λ s. length s.lists.keys ≤ 4294967295 };
+}
+
+impl NumberLists {
+    /// No list.
+    pub fn new(alloc: Global) -> NumberLists
+        ensures { result ≡ [] }
+    {
+        NumberLists {
+            lists: IndexSet::new(alloc),
+        }
+    }
+
+    /// The number of the list. A new one is put last, and nothing else changes.
+    ///
+    /// # Errors
+    /// `NoMemory` where there is none for the list. The lists are then as they were.
+    pub fn intern(&mut self, list: Sequence<u32>) -> Result<u32, NoMemory>
+        ensures kept { IfOk result (Keeps self.old self.new list) }
+        ensures err { OnErr result (self.new ≡ self.old) }
+    {
+        keep(&mut self.lists, list)
+    }
+
+    /// The list of the number. Takes no memory.
+    pub fn list(&self, number: u32) -> &[u32]
+        requires { number < length self.now }
+        ensures { slice_get self.now number ≡ Some result.now }
+    {
+        match self.lists.get_index(number as usize) {
+            Some(list) => list.as_slice(),
+            None => unreachable!(),
+        }
+    }
+}

@@ -1,0 +1,181 @@
+//! All that a search keeps by number.
+ghost use Rattle.std.specs.Prelude.{◌≡◌, ◌<◌, ◌≤◌, ◌↔◌, ◌∷◌, List, [], Some, length, slice_get, All, Contains, IsTrue, IfOk, OnOk, IfSome, ℕ};
+ghost use Rattle.std.specs.List.Sorted.{IsStrictlySortedBy};
+ghost use Rattle.std.specs.Ordering.{nat_cmp};
+ghost use Rattle.px_terms.specs.AtomSets.{IsAtomSet};
+ghost use Rattle.px_terms.specs.Instances.{IsGround};
+ghost use Rattle.px_table.specs.declared.entry.Entry.{Entry};
+ghost use Rattle.px_ops.specs.Keeping.{AreOnce, KeepsPlaces};
+ghost use Rattle.px_numbers.specs.Numbers.{AreNumbersOf, AreSound, IsModelAt, IsStackAt, IsTopOf, KeepsAll};
+
+use crate::entries::EntryIndex;
+use crate::lists::NumberLists;
+use crate::stacks::{Frame, StackIndex};
+use px_base::{NoMemory, Sequence};
+use px_ops::{AtomIndex, Model};
+use px_table::Entry;
+use px_terms::Atom;
+use std::alloc::Global;
+
+/// The atoms, models, entries and stacks of a search.
+#[derive(Drop)]
+pub struct Numbers {
+    atoms: AtomIndex,
+    lists: NumberLists,
+    entries: EntryIndex,
+    stacks: StackIndex,
+}
+
+impl std::marker::Model for Numbers {
+    ghost use Rattle.px_numbers.specs.Numbers.{Kept, AreSound};
+
+    ghost Value = { Kept };
+
+    ghost view = { λ n. record { atoms = n.atoms; lists = n.lists; entries = n.entries; frames = n.stacks } };
+
+    ghost invariant = { λ n. AreSound (record { atoms = n.atoms; lists = n.lists; entries = n.entries; frames = n.stacks }) };
+}
+
+/// The numbers of the atoms, in their order.
+fn numbers_of(alloc: Global, index: &mut AtomIndex, atoms: &[Atom]) -> Result<Vec<u32>, NoMemory>
+    requires { All IsGround atoms.now }
+    ensures places { KeepsPlaces index.old index.new }
+    ensures once { AreOnce index.old → AreOnce index.new }
+    ensures numbers { IfOk result (λ numbers. AreNumbersOf index.new numbers.items atoms.now) }
+{
+    let mut numbers = Vec::new(alloc);
+    for atom in atoms {
+        let number = index.intern(atom)?;
+        numbers.push(number)?;
+    }
+    Ok(numbers)
+}
+
+/// The numbers ascending, each once.
+fn ordered(mut numbers: Vec<u32>) -> Vec<u32>
+    ensures members { (n : ℕ) → Contains numbers.items n ↔ Contains result.items n }
+    ensures order { IsStrictlySortedBy nat_cmp result.items }
+{
+    numbers.sort_unstable();
+    numbers.dedup();
+    numbers
+}
+
+/// The model of the atoms with these numbers.
+fn model_of(alloc: Global, index: &AtomIndex, numbers: &[u32]) -> Result<Model, NoMemory>
+    requires { All (λ n. n < length index.now) numbers.now }
+    ensures is_set { IfOk result (λ model. IsAtomSet model.atoms) }
+    ensures numbers { IfOk result (λ model. AreNumbersOf index.now numbers.now model.atoms) }
+{
+    let mut model = Model::new(alloc);
+    for number in numbers {
+        let atom = index.atom(*number);
+        model.insert(atom)?;
+    }
+    Ok(model)
+}
+
+impl Numbers {
+    /// Nothing is kept.
+    pub fn new(alloc: Global) -> Numbers
+        ensures { result ≡ record { atoms = []; lists = []; entries = []; frames = [] } }
+    {
+        Numbers {
+            atoms: AtomIndex::new(alloc),
+            lists: NumberLists::new(alloc),
+            entries: EntryIndex::new(alloc),
+            stacks: StackIndex::new(alloc),
+        }
+    }
+
+    /// What is true of all that is kept. (It does nothing: its contract is a law.)
+    pub fn sound(&self)
+        ensures { AreSound self.now }
+    {
+        let _opened = &self.atoms;
+    }
+
+    /// The number of the model.
+    ///
+    /// # Errors
+    /// `NoMemory` where there is none for it.
+    pub fn model_number(&mut self, alloc: Global, model: &Model) -> Result<u32, NoMemory>
+        ensures keeps { KeepsAll self.old self.new }
+        ensures model { IfOk result (λ number. IsModelAt self.new number model.now.atoms) }
+    {
+        let numbers = ordered(numbers_of(alloc, &mut self.atoms, model.atoms())?);
+        self.lists.intern(Sequence::from_vec(numbers))
+    }
+
+    /// The model of the number.
+    ///
+    /// # Errors
+    /// `NoMemory` where there is none for it.
+    pub fn model(&self, alloc: Global, number: u32) -> Result<Model, NoMemory>
+        requires { (model : List Atom) × IsModelAt self.now number model }
+        ensures { IfOk result (λ built. IsModelAt self.now number built.atoms) }
+    {
+        model_of(alloc, &self.atoms, self.lists.list(number))
+    }
+
+    /// The number of the entry.
+    ///
+    /// # Errors
+    /// `NoMemory` where there is none for it.
+    pub fn entry_number(&mut self, entry: Entry) -> Result<u32, NoMemory>
+        ensures keeps { KeepsAll self.old self.new }
+        ensures entry { IfOk result (λ number. slice_get self.new.entries number ≡ Some entry) }
+    {
+        self.entries.intern(entry)
+    }
+
+    /// The entry of the number. Takes no memory.
+    pub fn entry(&self, number: u32) -> &Entry
+        requires { number < length self.now.entries }
+        ensures { slice_get self.now.entries number ≡ Some result.now }
+    {
+        self.entries.entry(number)
+    }
+
+    /// The number of the stack with the entry on top of another one.
+    ///
+    /// # Errors
+    /// `NoMemory` where there is none for it.
+    pub fn pushed(&mut self, entry: u32, below: u32) -> Result<u32, NoMemory>
+        requires { (stack : List Entry) × IsStackAt self.old below stack }
+        ensures keeps { KeepsAll self.old self.new }
+        ensures stack { IfOk result (λ number. (top : Entry) (stack : List Entry) → slice_get self.old.entries entry ≡ Some top → IsStackAt self.old below stack → IsStackAt self.new number (top ∷ stack)) }
+    {
+        let place = self.stacks.intern(Frame { entry, below })?;
+        Ok(place + 1)
+    }
+
+    /// The top entry of the stack, and the stack below. None where it is empty. Takes no memory.
+    pub fn top(&self, stack: u32) -> Option<Frame>
+        requires { (entries : List Entry) × IsStackAt self.now stack entries }
+        ensures top { (entries : List Entry) → IsStackAt self.now stack entries → IsTopOf self.now entries result }
+        ensures below { IfSome result (λ frame. frame.below < stack) }
+    {
+        if stack == 0 {
+            None
+        } else {
+            Some(self.stacks.frame(stack - 1))
+        }
+    }
+
+    /// Is the entry on the stack? Takes no memory.
+    pub fn is_stacked(&self, stack: u32, entry: u32) -> bool
+        requires { (entries : List Entry) × IsStackAt self.now stack entries }
+        ensures { (entries : List Entry) (one : Entry) → IsStackAt self.now stack entries → slice_get self.now.entries entry ≡ Some one → IsTrue result ↔ Contains entries one }
+    {
+        let mut rest = stack;
+        while rest > 0 {
+            let frame = self.stacks.frame(rest - 1);
+            if frame.entry == entry {
+                return true;
+            }
+            rest = frame.below;
+        }
+        false
+    }
+}

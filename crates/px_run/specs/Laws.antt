@@ -1,0 +1,38 @@
+-- What follows of a transcript: that the bytes determine it, and what its plans and tables are worth.
+use Rattle.std.specs.Prelude.{◌≡◌, ◌≤◌, ◌++◌, ℕ, List, [], length, take, All, slice_index_or}
+use Rattle.px_terms.specs.Plans.{Carries}
+use Rattle.px_terms.specs.declared.problem.Problem.{Problem}
+use Rattle.px_table.specs.Kernels.{KernelsCarry}
+use Rattle.px_printer.specs.declared.reply.Reply.{Reply}
+use Rattle.px_printer.specs.declared.reply.Reply.TheVariants as reply
+use Rattle.px_script.specs.Commands.{Command, Plan, Facts}
+use Rattle.px_script.specs.Content.{ScriptValue}
+use Rattle.px_session.specs.Opened.{tables_of}
+use Rattle.px_session.specs.Sessions.{SessionState, opening}
+use Rattle.px_session.specs.Transcripts.{AreAnswers, Transcript}
+use Rattle.px_run.specs.Transcripts.{Begun}
+
+-- The bytes determine the whole text. The text of the first commands begins it, and so is no longer.
+pub record TextsAreOne : Type 0 where
+  pub whole : (bytes text other : List ℕ) → Transcript bytes text → Transcript bytes other → text ≡ other
+  pub front : (bytes begun text : List ℕ) → Begun bytes begun → Transcript bytes text → (rest : List ℕ) × (text ≡ begun ++ rest)
+  pub short : (bytes begun text : List ℕ) → Begun bytes begun → Transcript bytes text → length begun ≤ length text
+
+-- the atoms of the state carry the steps of a plan that is told to the goal that was asked for
+abbrev pub PlanCarries : Problem → SessionState → Command → Reply → Type 0
+PlanCarries problem state (Plan name goal vars) (reply.Plan given moves steps) = Carries problem state.atoms steps vars goal
+PlanCarries problem state _ _ = Unit {0}
+
+-- So many commands are done. In the state that their replies leave, the next command is answered by a plan only where the world's atoms
+-- carry its steps to the goal; and each proper instance of each kernel of each stored and each learned table carries the steps that are
+-- left to that table's goal.
+pub record CarriesAfter (script : ScriptValue) (answers : List Reply) (done : ℕ) : Type 0 where
+  pub state : SessionState
+  pub left : AreAnswers script.problem (opening script.facts) (take done script.commands) (take done answers) state
+  pub plan : PlanCarries script.problem state (slice_index_or script.commands done Facts) (slice_index_or answers done (reply.FactsAre []))
+  pub kernels : All (KernelsCarry script.problem) (tables_of state)
+
+-- it is so before each command of a transcript, and after the last
+pub record TranscriptsCarry : Type 0 where
+  pub carry : (bytes text : List ℕ) → (transcript : Transcript bytes text) → (done : ℕ) → done ≤ length transcript.script.commands
+      → CarriesAfter transcript.script transcript.answers done

@@ -1,0 +1,15 @@
+//! Laws about what is written. The calls do nothing.
+ghost use Rattle.px_run.specs.Laws.{TextsAreOne, TranscriptsCarry};
+
+/// The bytes determine what is written for all commands of a script, though a search that met the limit of shapes may tell of one
+/// question or another. What is written for the first commands begins it.
+pub fn texts_are_one()
+    ensures { TextsAreOne }
+{}
+
+/// Each plan of a transcript carries: in every run from a state in which the world's atoms hold, in whose states the axioms hold and
+/// whose steps leave what the operators describe, each precondition is met where it is reached, and a run of all steps ends in the goal.
+/// So does, to its table's goal, the rest of each stored and each learned table from each proper instance of each of its kernels.
+pub fn transcripts_carry()
+    ensures { TranscriptsCarry }
+{}

@@ -1,0 +1,88 @@
+-- What is kept stays right, and what is found is what was kept.
+use Rattle.std.proofs.Common.{◌≡◌, ◌⊎◌, ℕ, zero, suc, Bool, true, false, List, [], ◌∷◌, refl, sym, ◌∙◌, ap, subst, inl, inr, Some, slice_get, get_or}
+use Rattle.std.specs.Prelude.{Contains, position}
+use Rattle.std.specs.Bool.{Decides}
+use Rattle.std.proofs.lemmas.Bool.Decides.{Decides-and, Decides-eqb, Decides-like}
+use Rattle.std.proofs.lemmas.List.Quantifiers.{position-Some}
+use Rattle.std.specs.Map.{keys_of}
+use Rattle.indexmap.specs.IndexMap.{insert_entry}
+use Rattle.px_base.specs.ListLaws.{Contains-none, Contains-first, Contains-later, Contains-cases}
+use Rattle.px_ops.specs.KeepLaws.{has_at}
+use Rattle.px_numbers.specs.Numbers.{Kept, KeepsAll}
+use Rattle.px_numbers.specs.NumberLaws.{model_at-grows}
+use Rattle.px_ends.specs.Tasks.{Task}
+use Rattle.px_search.specs.Caches.{IsCache, IsStepsAt}
+use Rattle.px_search.specs.contracts.cache.PlacePartialEq.TheImpl as place_equality
+use Rattle.px_search.specs.declared.cache.Place.{Place}
+use Rattle.px_search.specs.declared.step.Step.{Step}
+use Rattle.px_search.proofs.StepLaws.{steps-grow}
+
+abbrev pub place_eq : Place → Place → Bool
+place_eq = (place_equality.ghosts).eq
+
+pub place_eq-decides : (a b : Place) → Decides (place_eq a b) (a ≡ b)
+place_eq-decides a b =
+    Decides-like _ (λ e i. record { model = e.0 i; entry = e.1 i }) (λ e. ((λ i. (e i).model), (λ i. (e i).entry)))
+    (Decides-and _ _ (Decides-eqb a.model b.model) (Decides-eqb a.entry b.entry))
+
+pub cache-start : (task : Task) (kept : Kept) → IsCache task kept []
+cache-start task kept place steps has = absurd (Contains-none (place, steps) has)
+
+pub steps_at-grows : (task : Task) (old new : Kept) (place : Place) (steps : List Step) → KeepsAll old new → IsStepsAt task old place steps → IsStepsAt task new place steps
+steps_at-grows task old new place steps keeps (model, entry, model_at, entry_at, gone) = (
+  model,
+  entry,
+  model_at-grows old new place.model model keeps model_at,
+  keeps.entries place.entry entry entry_at,
+  record { moves = gone.moves; are = gone.are; steps_are = steps-grow old new steps gone.moves keeps gone.steps_are; unlimited = gone.unlimited },
+)
+
+pub cache-grows : (task : Task) (old new : Kept) (cached : List (Place × List Step)) → KeepsAll old new → IsCache task old cached → IsCache task new cached
+cache-grows task old new cached keeps is place steps has = steps_at-grows task old new place steps keeps (is place steps has)
+
+-- one more place is known
+pub cache-remember : (task : Task) (kept : Kept) (old new : List (Place × List Step)) (place : Place) (steps : List Step) → IsCache task kept old → IsStepsAt task kept place steps
+    → ((one : Place × List Step) → Contains new one → Contains old one ⊎ (one ≡ (place, steps))) → IsCache task kept new
+cache-remember task kept old new place steps is here more other others has = elim (more (other, others) has) [
+  | inl before ↦ is other others before
+  | inr same ↦ subst (λ (one : Place × List Step). IsStepsAt task kept one.0 one.1) (sym same) here
+]
+
+-- ---- inserting
+
+pub inserted : (entries : List (Place × List Step)) (place : Place) (steps : List Step) (one : Place × List Step) → Contains (insert_entry place_eq entries place steps) one → Contains entries one ⊎ (one ≡ (place, steps))
+inserted [] place steps one has = elim (Contains-cases (place, steps) [] one has) [
+  | inl is ↦ inr (sym is)
+  | inr later ↦ absurd (Contains-none one later)
+]
+inserted (e ∷ es) place steps one has = by (place_eq place e.0) refl (inserted es place steps one)
+  where
+    by : (b : Bool) → place_eq place e.0 ≡ b → (Contains (insert_entry place_eq es place steps) one → Contains es one ⊎ (one ≡ (place, steps))) → Contains (e ∷ es) one ⊎ (one ≡ (place, steps))
+    by true is rest =
+        let now : insert_entry place_eq (e ∷ es) place steps ≡ (e.0, steps) ∷ es = rw is refl in
+        elim (Contains-cases (e.0, steps) es one (subst (λ (l : List (Place × List Step)). Contains l one) now has)) [
+          | inl same ↦ inr (sym same ∙ ap (λ (p : Place). (p, steps)) (sym ((place_eq-decides place e.0).0 is)))
+          | inr later ↦ inl (Contains-later e es one later)
+        ]
+    by false is rest =
+        let now : insert_entry place_eq (e ∷ es) place steps ≡ e ∷ insert_entry place_eq es place steps = rw is refl in
+        elim (Contains-cases e (insert_entry place_eq es place steps) one (subst (λ (l : List (Place × List Step)). Contains l one) now has)) [
+          | inl same ↦ inl (subst (Contains (e ∷ es)) same (Contains-first e es))
+          | inr later ↦ elim (rest later) [
+            | inl before ↦ inl (Contains-later e es one before)
+            | inr new ↦ inr new
+          ]
+        ]
+
+-- ---- looking up
+
+keys_at : (entries : List (Place × List Step)) (i : ℕ) (d : Place) (one : Place × List Step) → slice_get entries i ≡ Some one → get_or (keys_of entries) i d ≡ one.0
+keys_at [] i d one at = absurd (cc)
+keys_at (e ∷ es) zero d one at = let same : e ≡ one = cc in ap (λ (p : Place × List Step). p.0) same
+keys_at (e ∷ es) (suc i) d one at = keys_at es i d one at
+
+pub found_at : (entries : List (Place × List Step)) (place : Place) (i : ℕ) (one : Place × List Step) → position (place_eq place) (keys_of entries) ≡ Some i → slice_get entries i ≡ Some one → Contains entries (place, one.1)
+found_at entries place i one found at =
+    let p = position-Some (place_eq place) (keys_of entries) i place found in
+    let same : place ≡ one.0 = (place_eq-decides place (get_or (keys_of entries) i place)).0 p.1 ∙ keys_at entries i place one at in
+    subst (λ (q : Place). Contains entries (q, one.1)) (sym same) (has_at entries i one at)

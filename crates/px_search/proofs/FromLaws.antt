@@ -1,0 +1,236 @@
+-- From what is known of a node's needs to its moves by numbers.
+use Rattle.std.proofs.Common.{◌≡◌, ◌≢◌, ◌↔◌, ℕ, ◌<◌, ◌≤◌, List, [], ◌∷◌, length, map, take, refl, sym, ◌∙◌, ap, subst, arith, Some, slice_get}
+use Rattle.std.specs.Prelude.{Contains, All, None, Result, Ok, Err}
+use Rattle.std.specs.List.Sorted.{IsStrictlySortedBy}
+use Rattle.std.proofs.lemmas.List.Elements.{All-head}
+use Rattle.px_terms.specs.declared.atom.Atom.{Atom}
+use Rattle.px_proof.specs.declared.shape.Tick.{Tick}
+use Rattle.px_table.specs.declared.entry.Entry.{Entry}
+use Rattle.px_table.specs.declared.entry.Move.{Move}
+use Rattle.px_table.specs.declared.entry.Move.TheVariants as move
+use Rattle.px_table.specs.declared.node.Node.{Node}
+use Rattle.px_table.specs.EntryOrder.{order_of}
+use Rattle.px_diff.specs.Entries.{HasAnswer, obligations_of}
+use Rattle.px_diff.specs.Outcomes.{AtLimit, IfLimit}
+use Rattle.px_diff.specs.Pushes.{IsPushable, IsRelevant}
+use Rattle.px_diff.specs.Questions.{AreUnlimited}
+use Rattle.px_diff.specs.declared.ask_err.AskErr.{AskErr}
+use Rattle.px_diff.specs.declared.ask_err.AskErr.TheVariants.{ShapeLimit, NoMemory}
+use Rattle.px_diff.specs.declared.known.Known.{Known}
+use Rattle.px_diff.specs.declared.known.Known.TheVariants.{Applicable, Closed}
+use Rattle.px_diff.specs.declared.known.Tried.TheVariants.{Unanswered}
+use Rattle.px_diff.specs.Known.{IsKnownOf, IsOpenWith}
+use Rattle.px_numbers.specs.declared.nodes.NodeKey.{NodeKey}
+use Rattle.px_numbers.specs.declared.stacks.Frame.{Frame}
+use Rattle.px_numbers.specs.Numbers.{Kept, IsKeyOf, IsModelAt, IsStackAt, IsTopOf, KeepsAll}
+use Rattle.px_numbers.specs.NumberLaws.{one_at, one_model, one_stack, model_at-grows, stack_at-grows}
+use Rattle.px_ops.specs.KeepLaws.{place_in}
+use Rattle.px_ends.specs.Tasks.{Task, needs_at, needs_with, goal_from}
+use Rattle.px_search.specs.declared.cache.Place.{Place}
+use Rattle.px_search.specs.declared.step.Step.{Step}
+use Rattle.px_search.specs.declared.step.Step.TheVariants as step
+use Rattle.px_search.specs.Asking.{IsTriedAt}
+use Rattle.px_search.specs.Caches.{IsStepsAt, IsTopAt}
+use Rattle.px_search.specs.Going.{IsGoneOn}
+use Rattle.px_search.specs.Steps.{AreStepsOf, unstruck}
+use Rattle.px_search.proofs.StruckLaws.{gone-struck}
+use Rattle.px_search.proofs.Stepping.{applicable-unlimited, applicable-moves, closed-unlimited, closed-moves, open-unlimited, open-moves}
+
+-- ---- the top of a stack
+
+pub none_top : (kept : Kept) (stack : List Entry) → IsTopOf kept stack None → stack ≡ []
+none_top kept [] top = refl
+none_top kept (e ∷ es) top = absurd top
+
+pub some_top : (kept : Kept) (stack : List Entry) (frame : Frame) → IsTopOf kept stack (Some frame) → frame.entry < length kept.entries
+some_top kept [] frame top = absurd top
+some_top kept (e ∷ es) frame top = place_in kept.entries frame.entry e top.0
+
+pub top_entry : (kept : Kept) (P : Entry → Type 0) (stack : List Entry) (frame : Frame) (entry : Entry) → All P stack → IsTopOf kept stack (Some frame) → slice_get kept.entries frame.entry ≡ Some entry → P entry
+top_entry kept P [] frame entry all top at = absurd top
+top_entry kept P (e ∷ es) frame entry all top at = subst P (one_at kept.entries frame.entry e entry top.0 at) (All-head P e es all)
+
+pub below_stands : (kept : Kept) (stack : List Entry) (frame : Frame) → IsTopOf kept stack (Some frame) → (rest : List Entry) × IsStackAt kept frame.below rest
+below_stands kept [] frame top = absurd top
+below_stands kept (e ∷ es) frame top = (es, top.1)
+
+pub top_at : (kept : Kept) (model_number : ℕ) (frame : Frame) (model : List Atom) (stack : List Entry) → IsModelAt kept model_number model → IsTopOf kept stack (Some frame)
+    → IsTopAt kept (record { model = model_number; entry = frame.entry }) frame.below model stack
+top_at kept model_number frame model [] model_at top = absurd top
+top_at kept model_number frame model (e ∷ es) model_at top = record { entry = e; rest = es; stack_is = refl; model_at = model_at; entry_at = top.0; below_at = top.1 }
+
+abbrev pub top_at-grows : (old new : Kept) (place : Place) (below : ℕ) (model : List Atom) (stack : List Entry) → KeepsAll old new → IsTopAt old place below model stack → IsTopAt new place below model stack
+top_at-grows old new place below model stack keeps t = record {
+  entry = t.entry;
+  rest = t.rest;
+  stack_is = t.stack_is;
+  model_at = model_at-grows old new place.model model keeps t.model_at;
+  entry_at = keeps.entries place.entry t.entry t.entry_at;
+  below_at = stack_at-grows old new below t.rest keeps t.below_at;
+}
+
+-- the node of a pair is that of its model and its stack
+pub same_node : (kept : Kept) (key : NodeKey) (node : Node) (model : List Atom) (stack : List Entry) → IsKeyOf kept key node → IsModelAt kept key.model model → stack ≡ node.stack
+    → ◌≡◌ {A = Node} (record { model = model; stack = stack }) node
+same_node kept key node model stack stands model_at stacks =
+    let models = one_model kept key.model model node.model model_at stands.model in
+    λ i. record { model = models i; stack = stacks i }
+
+pub if_limit : {A : Type 0} (P Q : List Atom → List (List Tick) → Type 0) (result : Result A AskErr) → IfLimit result P → ((formula : List Atom) (shapes : List (List Tick)) → P formula shapes → Q formula shapes) → IfLimit result Q
+if_limit P Q (Ok a) p f = tt
+if_limit P Q (Err (ShapeLimit formula shapes)) p f = f formula shapes p
+if_limit P Q (Err NoMemory) p f = tt
+
+-- the same of an error
+pub at_limit : (P Q : List Atom → List (List Tick) → Type 0) (error : AskErr) → AtLimit error P → ((formula : List Atom) (shapes : List (List Tick)) → P formula shapes → Q formula shapes) → AtLimit error Q
+at_limit P Q (ShapeLimit formula shapes) p f = f formula shapes p
+at_limit P Q NoMemory p f = tt
+
+module _ (task : Task) where
+  -- ---- the goal
+
+  pub no_answer : (node : Node) (model : List Atom) → IsTriedAt task node Unanswered → node.stack ≡ [] → model ≡ node.model → ¬ HasAnswer task.problem (goal_from task model)
+  no_answer node model tried empty same answer = tried.0 (empty, subst (λ (m : List Atom). HasAnswer task.problem (goal_from task m)) same answer)
+
+  -- ---- moves
+
+  pub gone-applicable : (kept : Kept) (node : Node) → node.stack ≢ [] → IsKnownOf task.problem (needs_at task node) Applicable → IsGoneOn task kept node (step.Apply ∷ [])
+  gone-applicable kept node stacked known = record {
+    moves = move.Apply ∷ [];
+    are = applicable-moves task node stacked known.0;
+    steps_are = (tt, tt);
+    unlimited = applicable-unlimited task node known.1.unlimited known.0;
+  }
+
+  pub gone-closed : (kept : Kept) (node : Node) → IsKnownOf task.problem (needs_at task node) Closed → IsGoneOn task kept node []
+  gone-closed kept node known = record {
+    moves = [];
+    are = closed-moves task node known.0;
+    steps_are = tt;
+    unlimited = closed-unlimited task node known.1.unlimited known.0;
+  }
+
+  pub gone-open : (kept : Kept) (node : Node) (gaps : List Atom) (entries : List Entry) (steps : List Step) → IsOpenWith task.problem (needs_at task node) gaps
+      → ((entry : Entry) → Contains entries entry ↔ IsPushable task.problem task.tables gaps node.stack node.model entry) → IsStrictlySortedBy order_of entries
+      → ((entry : Entry) → IsRelevant task.problem task.tables gaps node.stack entry → AreUnlimited task.problem (obligations_of task.problem task.tables node.model entry)) → AreStepsOf kept steps (map move.Push entries)
+      → IsGoneOn task kept node steps
+  gone-open kept node gaps entries steps opens exact sorted unlimited are = record {
+    moves = map move.Push entries;
+    are = open-moves task node gaps opens.exact opens.not_applicable entries sorted exact;
+    steps_are = are;
+    unlimited = open-unlimited task node gaps opens.exact opens.questions.unlimited unlimited;
+  }
+
+  -- ---- with an entry on top
+
+  module _ (kept : Kept) (place : Place) (below : ℕ) (model : List Atom) (stack : List Entry) (t : IsTopAt kept place below model stack) where
+    abbrev pub the_node : Node
+    the_node = record { model = model; stack = stack }
+
+    -- what is known of the entry is known of what the node needs
+    pub known-top : (entry : Entry) (known : Known) → slice_get kept.entries place.entry ≡ Some entry → IsKnownOf task.problem (obligations_of task.problem task.tables model entry) known
+        → IsKnownOf task.problem (needs_with task model stack) known
+    known-top entry known at is =
+        subst (λ (s : List Entry). IsKnownOf task.problem (needs_with task model s) known) (sym t.stack_is)
+        (subst (λ (e : Entry). IsKnownOf task.problem (obligations_of task.problem task.tables model e) known) (one_at kept.entries place.entry entry t.entry at t.entry_at) is)
+
+    -- and of what it needs over the entry alone
+    pub alone-top : (known : Known) → IsKnownOf task.problem (needs_with task model stack) known → IsKnownOf task.problem (needs_with task model (t.entry ∷ [])) known
+    alone-top known is = subst (λ (s : List Entry). IsKnownOf task.problem (needs_with task model s) known) t.stack_is is
+
+    stacked : stack ≢ []
+    stacked empty = let e : t.entry ∷ t.rest ≡ [] = sym t.stack_is ∙ empty in cc
+
+    filled : t.entry ∷ [] ≢ []
+    filled e = cc
+
+    pub top-applicable : IsKnownOf task.problem (needs_with task model stack) Applicable → IsGoneOn task kept the_node (step.Apply ∷ []) × IsStepsAt task kept place (step.Apply ∷ [])
+    top-applicable known = (
+      gone-applicable kept the_node stacked known,
+      (model, t.entry, t.model_at, t.entry_at, gone-applicable kept (record { model = model; stack = t.entry ∷ [] }) filled (alone-top Applicable known)),
+    )
+
+    pub top-closed : IsKnownOf task.problem (needs_with task model stack) Closed → IsGoneOn task kept the_node [] × IsStepsAt task kept place []
+    top-closed known = (
+      gone-closed kept the_node known,
+      (model, t.entry, t.model_at, t.entry_at, gone-closed kept (record { model = model; stack = t.entry ∷ [] }) (alone-top Closed known)),
+    )
+
+    pub not_empty : 1 ≤ length stack
+    not_empty = subst (λ (s : List Entry). 1 ≤ length s) (sym t.stack_is) (omega arith)
+
+    pub first-top : take 1 stack ≡ t.entry ∷ []
+    first-top = ap (λ (s : List Entry). take 1 s) t.stack_is
+
+    -- where only pushes over the entry alone are known
+    pub gone-over : (steps left : List Step) → IsGoneOn task kept (record { model = model; stack = t.entry ∷ [] }) steps
+        → ((entries : List Entry) (moves : List Move) → IsStackAt kept below entries → AreStepsOf kept steps moves → AreStepsOf kept left (unstruck entries moves)) → IsGoneOn task kept the_node left
+    gone-over steps left gone struck =
+        subst (λ (s : List Entry). IsGoneOn task kept (record { model = model; stack = s }) left) (sym t.stack_is)
+        (gone-struck task model t.entry t.rest kept steps left gone (struck t.rest gone.moves t.below_at gone.steps_are))
+
+    -- what is kept for the place
+    pub gone-cached : (steps left : List Step) → IsStepsAt task kept place steps
+        → ((entries : List Entry) (moves : List Move) → IsStackAt kept below entries → AreStepsOf kept steps moves → AreStepsOf kept left (unstruck entries moves)) → IsGoneOn task kept the_node left
+    gone-cached steps left (built, entry, built_at, entry_at, gone) struck =
+        let models : built ≡ model = one_model kept place.model built model built_at t.model_at in
+        let entries : entry ≡ t.entry = one_at kept.entries place.entry entry t.entry entry_at t.entry_at in
+        gone-over steps left (subst (λ (e : Entry). IsGoneOn task kept (record { model = model; stack = e ∷ [] }) steps) entries (subst (λ (m : List Atom). IsGoneOn task kept (record { model = m; stack = entry ∷ [] }) steps) models gone)) struck
+
+-- the node of a pair, by the numbers of its model and of its top
+pub node-top : (kept : Kept) (key : NodeKey) (frame : Frame) (node : Node) (model : List Atom) (stack : List Entry) → IsKeyOf kept key node → IsTopOf kept node.stack (Some frame) → IsModelAt kept key.model model → stack ≡ node.stack
+    → IsTopAt kept (record { model = key.model; entry = frame.entry }) frame.below model stack
+node-top kept key frame node model stack stands top model_at is = top_at kept key.model frame model stack model_at (subst (λ (s : List Entry). IsTopOf kept s (Some frame)) (sym is) top)
+
+pub keeps_all_same : (kept : Kept) → KeepsAll kept kept
+keeps_all_same kept = record { atoms = λ k x e. e; lists = λ k x e. e; entries = λ k x e. e; frames = λ k x e. e }
+
+-- any two nodes of a pair are one, so what is said of one is said of the other
+pub of_node : (kept : Kept) (key : NodeKey) (P : Node → Type 0) (node : Node) (model : List Atom) (stack : List Entry) → IsKeyOf kept key node → IsModelAt kept key.model model → stack ≡ node.stack → P (record { model = model; stack = stack }) → P node
+of_node kept key P node model stack stands model_at is p = subst P (same_node kept key node model stack stands model_at is) p
+
+-- the stack of a pair, where another node of the pair has that stack
+pub stack_of : (kept : Kept) (key : NodeKey) (one other : Node) (stack : List Entry) → IsKeyOf kept key one → IsKeyOf kept key other → one.stack ≡ stack → stack ≡ other.stack
+stack_of kept key one other stack a b is = sym is ∙ one_stack kept key.stack one.stack other.stack a.stack b.stack
+
+pub goal-answered : {G : Type 0} (task : Task) (model : List Atom) → (¬ HasAnswer task.problem (goal_from task model)) → IsKnownOf task.problem (goal_from task model ∷ []) Applicable → G
+goal-answered task model none known = absurd (none (All-head (HasAnswer task.problem) (goal_from task model) [] known.0))
+
+-- what is said of the node with this model and no stack is said of each node of the pair, where one of these has no stack
+pub goal-each : (kept : Kept) (key : NodeKey) (model : List Atom) (one : Node) → IsKeyOf kept key one → one.stack ≡ [] → IsModelAt kept key.model model → (P : Node → Type 0) → P (record { model = model; stack = [] })
+    → (node : Node) → IsKeyOf kept key node → P node
+goal-each kept key model one stands empty model_at P p node other = of_node kept key P node model [] other model_at (stack_of kept key one node [] stands other empty) p
+
+-- ---- what is known of a node with an entry on top
+
+-- a node of the pair, its top and what was read of it
+pub record Read (task : Task) (kept : Kept) (key : NodeKey) (frame : Frame) (model : List Atom) (stack : List Entry) : Type 0 where
+  pub node : Node
+  pub stands : IsKeyOf kept key node
+  pub top : IsTopOf kept node.stack (Some frame)
+  pub model_at : IsModelAt kept key.model model
+  pub stack_is : stack ≡ node.stack
+
+module _ (task : Task) (kept : Kept) (key : NodeKey) (frame : Frame) (model : List Atom) (stack : List Entry) (r : Read task kept key frame model stack) where
+  abbrev pub read-place : Place
+  read-place = record { model = key.model; entry = frame.entry }
+
+  abbrev pub read-top : IsTopAt kept read-place frame.below model stack
+  read-top = node-top kept key frame r.node model stack r.stands r.top r.model_at r.stack_is
+
+  -- what is said of the node with this model and stack is said of each node of the pair
+  pub read-each : (P : Node → Type 0) → P (record { model = model; stack = stack }) → (node : Node) → IsKeyOf kept key node → P node
+  read-each P p node stands = of_node kept key P node model stack stands r.model_at (stack_of kept key r.node node stack r.stands stands (sym r.stack_is)) p
+
+  -- what is known of the top entry is known of what the node needs
+  pub read-known : (entry : Entry) (known given : Known) → slice_get kept.entries frame.entry ≡ Some entry → IsKnownOf task.problem (obligations_of task.problem task.tables model entry) given → given ≡ known
+      → IsKnownOf task.problem (needs_with task model stack) known
+  read-known entry known given at is same = known-top task kept read-place frame.below model stack read-top entry known at (subst (IsKnownOf task.problem (obligations_of task.problem task.tables model entry)) same is)
+
+-- the moves of the node with this frame on top, by what is kept for its place
+pub gone-found : (task : Task) (kept : Kept) (key : NodeKey) (frame : Frame) (steps left : List Step) → IsStepsAt task kept (record { model = key.model; entry = frame.entry }) steps
+    → ((entries : List Entry) (moves : List Move) → IsStackAt kept frame.below entries → AreStepsOf kept steps moves → AreStepsOf kept left (unstruck entries moves))
+    → (one : Node) → IsKeyOf kept key one → IsTopOf kept one.stack (Some frame) → (node : Node) → IsKeyOf kept key node → IsGoneOn task kept node left
+gone-found task kept key frame steps left kept_steps struck one stands top node other =
+    of_node kept key (λ (n : Node). IsGoneOn task kept n left) node one.model one.stack other stands.model (stack_of kept key one node one.stack stands other refl)
+    (gone-cached task kept (record { model = key.model; entry = frame.entry }) frame.below one.model one.stack (top_at kept key.model frame one.model one.stack stands.model top) steps left kept_steps struck)

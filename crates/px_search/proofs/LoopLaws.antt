@@ -1,0 +1,188 @@
+-- What the search keeps at each turn, from what its calls say.
+use Rattle.std.proofs.Common.{◌≡◌, ℕ, zero, suc, ◌+◌, ◌<◌, ◌≤◌, List, [], ◌∷◌, ◌++◌, take, length, get_or, refl, sym, ap, subst, inl, inr, arith, Some, slice_get, Contains}
+use Rattle.std.specs.Prelude.{All}
+use Rattle.std.proofs.lemmas.List.{take_all, length-append}
+use Rattle.px_terms.specs.declared.atom.Atom.{Atom}
+use Rattle.px_proof.specs.declared.shape.Tick.{Tick}
+use Rattle.px_table.specs.declared.entry.Move.{Move}
+use Rattle.px_table.specs.declared.node.Node.{Node}
+use Rattle.px_diff.specs.Entries.{IsEntry}
+use Rattle.px_diff.specs.declared.known.Tried.{Tried}
+use Rattle.px_diff.specs.declared.known.Tried.TheVariants.{Answered, Unanswered, Limited}
+use Rattle.px_ops.specs.Keeping.{Keeps}
+use Rattle.px_numbers.specs.declared.nodes.NodeKey.{NodeKey}
+use Rattle.px_numbers.specs.Numbers.{Kept, AreEachOnce, IsKeyOf, KeepsAll, AllStand}
+use Rattle.px_numbers.specs.NumberLaws.{all_stand-push}
+use Rattle.px_ops.specs.KeepLaws.{place_in}
+use Rattle.px_search.specs.declared.ends.SearchErr.{SearchErr}
+use Rattle.px_search.specs.declared.ends.SearchErr.TheVariants.{NodeLimit}
+use Rattle.px_search.specs.declared.step.Step.{Step}
+use Rattle.px_search.specs.declared.step.Origin.{Origin}
+use Rattle.px_search.specs.Asking.{IsTriedAt}
+use Rattle.px_ends.specs.Ends.{IsFound, IsNodeLimit, IsShapeLimit}
+use Rattle.px_search.specs.Going.{LimitsNode}
+use Rattle.px_search.specs.Looping.{Going, IsEnd, IsReached, Trying}
+use Rattle.px_search.specs.Steps.{IsStepOf, AreStepsOf, AreEarlier, Trace}
+use Rattle.px_ends.specs.Tasks.{Task, initial_node, after}
+use Rattle.px_ends.proofs.Exclusion.{still_there}
+use Rattle.px_search.proofs.GoingLaws.{here_of, going-start, trying-grows, trying-seen, trying-new, going-found, going-limit, going-full, going-next, going-room, limit-here, same_here, kept_old, kept_new, more_earlier, some_trace}
+use Rattle.px_search.proofs.StepLaws.{step-grows, steps-count}
+use Rattle.px_search.proofs.Walking.{walk-found_at_start, walk-shape_limit_at_start}
+
+-- ---- the step at a place
+
+pub step_move : (kept : Kept) (ss : List Step) (ms : List Move) (i : ℕ) (s : Step) → AreStepsOf kept ss ms → slice_get ss i ≡ Some s → (m : Move) × (m ≡ get_or ms i m) × IsStepOf kept s m
+step_move kept [] [] i s are at = absurd (cc)
+step_move kept [] (m ∷ ms) i s are at = absurd are
+step_move kept (x ∷ ss) [] i s are at = absurd are
+step_move kept (x ∷ ss) (m ∷ ms) zero s are at = let same : x ≡ s = cc in (m, refl, subst (λ (y : Step). IsStepOf kept y m) same are.0)
+step_move kept (x ∷ ss) (m ∷ ms) (suc i) s are at = step_move kept ss ms i s are.1 at
+
+module _ (task : Task) where
+  -- ---- the start
+
+  pub start-found : (kept : Kept) (key : NodeKey) (tried : Tried) (moves : List Move) → IsKeyOf kept key (initial_node task) → ((node : Node) → IsKeyOf kept key node → IsTriedAt task node tried) → tried ≡ Answered → 1 ≤ task.problem.nodes
+      → moves ≡ [] → IsFound task moves
+  start-found kept key tried moves stands says is room none =
+      let t : IsTriedAt task (initial_node task) Answered = subst (IsTriedAt task (initial_node task)) is (says (initial_node task) stands) in
+      subst (IsFound task) (sym none) (walk-found_at_start task room t.0 t.1)
+
+  pub start-limit : (kept : Kept) (key : NodeKey) (tried : Tried) (formula : List Atom) (shapes : List (List Tick)) → IsKeyOf kept key (initial_node task) → ((node : Node) → IsKeyOf kept key node → IsTriedAt task node tried)
+      → tried ≡ Limited formula shapes → 1 ≤ task.problem.nodes → IsShapeLimit task (initial_node task) formula shapes
+  start-limit kept key tried formula shapes stands says is room =
+      let t : IsTriedAt task (initial_node task) (Limited formula shapes) = subst (IsTriedAt task (initial_node task)) is (says (initial_node task) stands) in
+      walk-shape_limit_at_start task room formula shapes t.1
+
+  pub start-from : (kept : Kept) (key : NodeKey) (keys : List NodeKey) (place : ℕ) (origins : List Origin) → IsKeyOf kept key (initial_node task) → IsTriedAt task (initial_node task) Unanswered → 1 ≤ task.problem.nodes
+      → Keeps [] keys key place → origins ≡ [] → Going task kept keys origins 0 []
+  start-from kept key keys place origins stands tried room kept_key none =
+      let one : keys ≡ key ∷ [] = (kept_new [] keys key place kept_key (λ h. omega (arith, h))).1 in
+      subst (λ (l : List NodeKey). Going task kept l origins 0 []) (sym one) (subst (λ (o : List Origin). Going task kept (key ∷ []) o 0 []) (sym none) (going-start task kept key stands tried room))
+
+  -- ---- a node
+
+  pub asks_here : (kept : Kept) (keys : List NodeKey) (origins : List Origin) (next : ℕ) (tried : List Move) (key : NodeKey) → Going task kept keys origins next tried → slice_get keys next ≡ Some key
+      → (node : Node) × IsKeyOf kept key node × All (IsEntry task.problem task.tables) node.stack × IsTriedAt task node Unanswered
+  asks_here kept keys origins next tried key g at = let h = here_of task kept keys origins next tried key g at in (h.node, h.stands, h.entries, h.tried)
+
+  pub limit-of_node : (old : Kept) (keys : List NodeKey) (origins : List Origin) (next : ℕ) (key : NodeKey) (formula : List Atom) (shapes : List (List Tick)) → (g : Going task old keys origins next []) → (at : slice_get keys next ≡ Some key)
+      → ((node : Node) → IsKeyOf old key node → LimitsNode task node formula shapes) → IsShapeLimit task (here_of task old keys origins next [] key g at).node formula shapes
+  limit-of_node old keys origins next key formula shapes g at limits =
+      let h = here_of task old keys origins next [] key g at in
+      limit-here task old keys origins next key h.node formula shapes g at h.stands (limits h.node h.stands)
+
+  -- ---- a move of it
+
+  -- the next move was made, and the pair is the node that it leads to
+  pub record Stepped (kept : Kept) (keys : List NodeKey) (origins : List Origin) (next : ℕ) (steps : List Step) (i : ℕ) (s : Step) (there : NodeKey) : Type 0 where
+    pub t : Trying task kept keys origins next steps i
+    pub inside : i < length steps
+    pub m : Move
+    pub m_is : m ≡ get_or t.gone.moves i m
+    pub step_is : IsStepOf kept s m
+    pub stands : IsKeyOf kept there (after task t.node m)
+
+  pub step_on : (old new : Kept) (keys : List NodeKey) (origins : List Origin) (next : ℕ) (steps : List Step) (i : ℕ) (s : Step) (key there : NodeKey) → Trying task old keys origins next steps i → slice_get keys next ≡ Some key → KeepsAll old new
+      → ((node : Node) (m : Move) → IsKeyOf old key node → IsStepOf old s m → IsKeyOf new there (after task node m)) → slice_get steps i ≡ Some s → Stepped new keys origins next steps i s there
+  step_on old new keys origins next steps i s key there t at keeps makes step_at' =
+      let r = step_move old steps t.gone.moves i s t.gone.steps_are step_at' in
+      record {
+        t = trying-grows task old new keys origins next steps i keeps t;
+        inside = place_in steps i s step_at';
+        m = r.0;
+        m_is = r.1;
+        step_is = step-grows old new s r.0 keeps r.2;
+        stands = makes t.node r.0 (same_here task old keys origins next steps i key t at) r.2;
+      }
+
+  pub asks_step : (kept : Kept) (keys : List NodeKey) (origins : List Origin) (next : ℕ) (steps : List Step) (i : ℕ) (key : NodeKey) → Trying task kept keys origins next steps i → slice_get keys next ≡ Some key
+      → (node : Node) × IsKeyOf kept key node × All (IsEntry task.problem task.tables) node.stack
+  asks_step kept keys origins next steps i key t at = let h = here_of task kept keys origins next (take i t.gone.moves) key t.going at in (h.node, h.stands, h.entries)
+
+  module _ (kept : Kept) (once : AreEachOnce kept) (keys new : List NodeKey) (origins : List Origin) (next : ℕ) (steps : List Step) (i : ℕ) (s : Step) (there : NodeKey) (place : ℕ) (st : Stepped kept keys origins next steps i s there)
+      (kept_key : Keeps keys new there place) where
+    abbrev origin : Origin
+    origin = record { parent = next; last = s }
+
+    pub step-seen : place < length keys → Trying task kept new origins next steps (i + 1)
+    step-seen below =
+        let old = kept_old keys new there place kept_key below in
+        subst (λ (l : List NodeKey). Trying task kept l origins next steps (i + 1)) (sym old.1)
+        (trying-seen task kept once keys origins next steps i s st.t st.inside st.m st.m_is st.step_is there st.stands old.0)
+
+    pub still_here : (key : NodeKey) → slice_get keys next ≡ Some key → slice_get new next ≡ Some key
+    still_here key at = elim kept_key.change [
+      | inl same ↦ subst (λ (l : List NodeKey). slice_get l next ≡ Some key) (sym same.1) at
+      | inr more ↦ subst (λ (l : List NodeKey). slice_get l next ≡ Some key) (sym more.1) (still_there keys (there ∷ []) next key at)
+    ]
+
+    pub step-earlier : (made : List Origin) → made ≡ origins ++ origin ∷ [] → AreEarlier made
+    step-earlier made is = subst AreEarlier (sym is) (more_earlier task kept once keys origins next steps i s st.t st.inside st.m st.m_is st.step_is there st.stands)
+
+    pub step-trace : (made : List Origin) → made ≡ origins ++ origin ∷ [] → (found : List (List Move)) × Trace kept made found
+    step-trace made is =
+        subst (λ (l : List Origin). (found : List (List Move)) × Trace kept l found) (sym is) (some_trace task kept once keys origins next steps i s st.t st.inside st.m st.m_is st.step_is there st.stands)
+
+    abbrev pub there_stands : (node : Node) × IsKeyOf kept there node
+    there_stands = (after task st.t.node st.m, st.stands)
+
+    module _ (above : place < length keys → ⊥) where
+      fresh : (Contains keys there → ⊥) × (new ≡ keys ++ there ∷ [])
+      fresh = kept_new keys new there place kept_key above
+
+      pub step-few : length keys ≤ task.problem.nodes
+      step-few = going-room task kept keys origins next (take i st.t.gone.moves) st.t.going
+
+      pub step-count : task.problem.nodes ≤ length keys → task.problem.nodes ≤ length new
+      step-count enough = omega (arith, enough, ap length fresh.1, length-append keys (there ∷ []))
+
+      pub step-stand : (nodes : List Node) × AllStand kept new nodes
+      step-stand =
+          subst (λ (l : List NodeKey). (nodes : List Node) × AllStand kept l nodes) (sym fresh.1)
+          (st.t.going.nodes ++ after task st.t.node st.m ∷ [], all_stand-push kept keys st.t.going.nodes there (after task st.t.node st.m) st.t.going.stand st.stands)
+
+      pub step-new : (made : List Origin) (tried : Tried) → made ≡ origins ++ origin ∷ [] → length keys < task.problem.nodes → ((node : Node) → IsKeyOf kept there node → IsTriedAt task node tried) → tried ≡ Unanswered
+          → Trying task kept new made next steps (i + 1)
+      step-new made tried is room says same =
+          let t = subst (IsTriedAt task (after task st.t.node st.m)) same (says (after task st.t.node st.m) st.stands) in
+          subst (λ (l : List NodeKey). Trying task kept l made next steps (i + 1)) (sym fresh.1)
+          (subst (λ (l : List Origin). Trying task kept (keys ++ there ∷ []) l next steps (i + 1)) (sym is)
+          (trying-new task kept once keys origins next steps i s st.t st.inside st.m st.m_is st.step_is there st.stands fresh.0 room t))
+
+      pub step-found : (made : List Origin) (tried : Tried) (moves : List Move) → made ≡ origins ++ origin ∷ [] → length keys < task.problem.nodes → ((node : Node) → IsKeyOf kept there node → IsTriedAt task node tried) → tried ≡ Answered
+          → ((found : List (List Move)) → Trace kept made found → slice_get found (length made) ≡ Some moves) → IsFound task moves
+      step-found made tried moves is room says same traced =
+          let t = subst (IsTriedAt task (after task st.t.node st.m)) same (says (after task st.t.node st.m) st.stands) in
+          going-found task kept once keys origins next steps i s st.t st.inside st.m st.m_is st.step_is there st.stands fresh.0 moves room t
+          (subst (λ (l : List Origin). (found : List (List Move)) → Trace kept l found → slice_get found (length l) ≡ Some moves) is traced)
+
+      pub step-reached : (made : List Origin) (tried : Tried) → made ≡ origins ++ origin ∷ [] → length keys < task.problem.nodes → ((node : Node) → IsKeyOf kept there node → IsTriedAt task node tried) → tried ≡ Answered → IsReached task kept made
+      step-reached made tried is room says same = record { earlier = step-earlier made is; traced = step-trace made is; found = λ moves traced. step-found made tried moves is room says same traced }
+
+      -- there are fewer origins than numbers of 32 bits
+      pub step-origins : (made : List Origin) → made ≡ origins ++ origin ∷ [] → length made ≤ task.problem.nodes
+      step-origins made is = omega (arith, step-few, st.t.going.one_more, ap length is, length-append origins (origin ∷ []))
+
+      pub step-limit : (tried : Tried) (formula : List Atom) (shapes : List (List Tick)) → length keys < task.problem.nodes → ((node : Node) → IsKeyOf kept there node → IsTriedAt task node tried) → tried ≡ Limited formula shapes
+          → IsShapeLimit task there_stands.0 formula shapes
+      step-limit tried formula shapes room says same =
+          let t = subst (IsTriedAt task (after task st.t.node st.m)) same (says (after task st.t.node st.m) st.stands) in
+          going-limit task kept once keys origins next steps i s st.t st.inside st.m st.m_is st.step_is there st.stands fresh.0 formula shapes room t
+
+      pub step-full : (made : List Origin) (nodes : List Node) (count : ℕ) → made ≡ origins ++ origin ∷ [] → task.problem.nodes ≤ length keys → ((all : List Node) → AllStand kept new all → nodes ≡ take task.problem.nodes all)
+          → ((moves : List Move) × (count ≡ length moves) × ((found : List (List Move)) → Trace kept made found → slice_get found (length made) ≡ Some moves)) → IsNodeLimit task nodes count
+      step-full made nodes count is enough firsts (moves, count_is, traced) =
+          subst (λ (n : ℕ). IsNodeLimit task nodes n) (sym count_is)
+          (going-full task kept once keys origins next steps i s st.t st.inside st.m st.m_is st.step_is there st.stands fresh.0 nodes moves enough
+          (subst (λ (l : List NodeKey). (all : List Node) → AllStand kept l all → nodes ≡ take task.problem.nodes all) fresh.1 firsts)
+          (subst (λ (l : List Origin). (found : List (List Move)) → Trace kept l found → slice_get found (length l) ≡ Some moves) is traced))
+
+      pub step-full_end : (made : List Origin) (error : SearchErr) → made ≡ origins ++ origin ∷ [] → task.problem.nodes ≤ length keys
+          → ((firsts : List Node) × (count : ℕ) × (moves : List Move) × (error ≡ NodeLimit firsts count) × ((all : List Node) → AllStand kept new all → firsts ≡ take task.problem.nodes all) × (count ≡ length moves)
+          × ((found : List (List Move)) → Trace kept made found → slice_get found (length made) ≡ Some moves)) → IsEnd task error
+      step-full_end made error is enough (firsts, count, moves, error_is, firsts_are, count_is, traced) =
+          subst (IsEnd task) (sym error_is) (step-full made firsts count is enough firsts_are (moves, count_is, traced))
+
+  pub node-done : (kept : Kept) (keys : List NodeKey) (origins : List Origin) (next : ℕ) (steps : List Step) (i : ℕ) → Trying task kept keys origins next steps i → length steps ≤ i → Going task kept keys origins (next + 1) []
+  node-done kept keys origins next steps i t all =
+      going-next task kept keys origins next steps i t (take_all i t.gone.moves (omega (arith, all, steps-count kept steps t.gone.moves t.gone.steps_are)))

@@ -1,0 +1,14 @@
+use Rattle.std.proofs.Common.{◌-◌, []}
+use Rattle.px_search.specs.Asking.{task_for}
+use Rattle.px_search.specs.Caches.{IsCache}
+use Rattle.px_search.specs.Looping.{Going}
+use Rattle.px_search.proofs.breadth_first.found_from.Given as goal
+
+abbrev pub invariant-loop-next : goal.invariant-loop-next
+invariant-loop-next l = record {
+  going : Going (task_for l.asked) l.numbers l.nodes l.origins.items l.next [];
+  cached : IsCache (task_for l.asked) l.numbers l.cache;
+}
+
+abbrev pub decreases-loop-next : goal.decreases-loop-next
+decreases-loop-next l = l.asked.problem.now.nodes - l.next

@@ -1,0 +1,65 @@
+use Rattle.std.proofs.Common.{◌≡◌, ◌+◌, ℕ, List, [], Some, slice_get, arith, subst}
+use Rattle.std.specs.Prelude.{MatchBool}
+use Rattle.px_table.specs.declared.node.Node.{Node}
+use Rattle.px_diff.specs.Outcomes.{AtLimit}
+use Rattle.px_diff.specs.declared.ask_err.AskErr.{AskErr}
+use Rattle.px_numbers.specs.Numbers.{IsKeyOf}
+use Rattle.px_numbers.specs.NumberLaws.{stands-grows}
+use Rattle.px_search.specs.Asking.{task_for}
+use Rattle.px_search.specs.declared.step.Step.{Step}
+use Rattle.px_search.specs.Going.{LimitsNode}
+use Rattle.px_search.specs.Looping.{IsReached, Trying}
+use Rattle.px_search.proofs.CacheLaws.{cache-grows}
+use Rattle.px_search.proofs.GoingLaws.{here_of, trying-start}
+use Rattle.px_search.proofs.LoopLaws.{asks_here, limit-of_node, node-done}
+use Rattle.px_search.proofs.breadth_first.go_through.Goals as goal
+
+pub steps_from-requires-clause-node : goal.steps_from-requires-clause-node
+steps_from-requires-clause-node c = asks_here (task_for c.args.asked.now) c.args.numbers.now c.args.nodes.now c.args.origins.now.items c.args.next [] c.node-key.result c.requires.going c.node-key.ensures
+
+pub limit_at-requires : goal.limit_at-requires
+limit_at-requires c =
+    let h = here_of (task_for c.args.asked.now) c.args.numbers.now c.args.nodes.now c.args.origins.now.items c.args.next [] c.node-key.result c.requires.going c.node-key.ensures in
+    (h.node, stands-grows c.args.numbers.now c.steps_from.new.numbers c.node-key.result h.node c.in-Err-ShapeLimit.ensures.keeps h.stands)
+
+pub returns-in-Err-ShapeLimit-clause-ends : goal.returns-in-Err-ShapeLimit-clause-ends
+returns-in-Err-ShapeLimit-clause-ends c =
+    let task = task_for c.args.asked.now in
+    let h = here_of task c.args.numbers.now c.args.nodes.now c.args.origins.now.items c.args.next [] c.node-key.result c.requires.going c.node-key.ensures in
+    c.limit_at.ensures h.node (stands-grows c.args.numbers.now c.steps_from.new.numbers c.node-key.result h.node c.in-Err-ShapeLimit.ensures.keeps h.stands)
+    (limit-of_node task c.args.numbers.now c.args.nodes.now c.args.origins.now.items c.args.next c.node-key.result c.in-Err-ShapeLimit.formula c.in-Err-ShapeLimit.shapes c.requires.going c.node-key.ensures
+    (subst (λ (e : AskErr). AtLimit e (λ formula shapes. (node : Node) → IsKeyOf c.args.numbers.now c.node-key.result node → LimitsNode task node formula shapes)) c.in-Err-ShapeLimit.field-0-is c.in-Err-ShapeLimit.ensures.limited))
+
+pub loop-turn-init : goal.loop-turn-init
+loop-turn-init c =
+    let task = task_for c.args.asked.now in
+    record {
+      trying = trying-start task c.args.numbers.now c.steps_from.new.numbers c.args.nodes.now c.args.origins.now.items c.args.next c.node-key.result c.in-Ok.steps.items c.in-Ok.ensures.keeps c.requires.going c.node-key.ensures c.in-Ok.ensures.steps;
+      cached = c.in-Ok.ensures.cache;
+    }
+
+pub make_move-requires-clause-trying : goal.make_move-requires-clause-trying
+make_move-requires-clause-trying c = (c.in-Ok.steps.items, c.loop-turn.turn, c.loop-turn.invariant.trying, c.step_at-step.ensures)
+
+pub loop-turn-preserved : goal.loop-turn-preserved
+loop-turn-preserved c =
+    let task = task_for c.args.asked.now in
+    record {
+      trying = subst (λ b. MatchBool b (IsReached task c.make_move.new.numbers c.make_move.new.origins.items)
+          ((steps : List Step) (i : ℕ) → Trying task c.loop-turn.numbers c.loop-turn.nodes c.loop-turn.origins.items c.args.next steps i → slice_get steps i ≡ Some c.step_at-step.result → Trying task c.make_move.new.numbers c.make_move.new.nodes c.make_move.new.origins.items c.args.next steps (i + 1)))
+          c.if-is_solved.false c.in_ok-is_solved.ensures.made c.in-Ok.steps.items c.loop-turn.turn c.loop-turn.invariant.trying c.step_at-step.ensures;
+      cached = cache-grows task c.loop-turn.numbers c.make_move.new.numbers c.steps_from.new.cache c.in_ok-is_solved.ensures.keeps c.loop-turn.invariant.cached;
+    }
+
+pub returns-clause-gone : goal.returns-clause-gone
+returns-clause-gone c = (
+  node-done (task_for c.args.asked.now) c.loop-turn.numbers c.loop-turn.nodes c.loop-turn.origins.items c.args.next c.in-Ok.steps.items c.loop-turn.turn c.loop-turn.invariant.trying (omega (arith, c.loop-turn-test.false, c.len-turn-end.ensures)),
+  c.loop-turn.invariant.cached,
+)
+
+pub returns-then-is_solved-clause-gone : goal.returns-then-is_solved-clause-gone
+returns-then-is_solved-clause-gone c =
+    let task = task_for c.args.asked.now in
+    subst (λ b. MatchBool b (IsReached task c.make_move.new.numbers c.make_move.new.origins.items)
+    ((steps : List Step) (i : ℕ) → Trying task c.loop-turn.numbers c.loop-turn.nodes c.loop-turn.origins.items c.args.next steps i → slice_get steps i ≡ Some c.step_at-step.result → Trying task c.make_move.new.numbers c.make_move.new.nodes c.make_move.new.origins.items c.args.next steps (i + 1)))
+    c.if-is_solved.true c.in_ok-is_solved.ensures.made

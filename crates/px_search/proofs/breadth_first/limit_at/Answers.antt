@@ -1,0 +1,8 @@
+use Rattle.std.proofs.Common.{subst, sym}
+use Rattle.px_table.specs.declared.node.Node.{Node}
+use Rattle.px_ends.specs.Ends.{IsShapeLimit}
+use Rattle.px_search.specs.Asking.{task_for}
+use Rattle.px_search.proofs.breadth_first.limit_at.Goals as goal
+
+pub returns-in-Ok : goal.returns-in-Ok
+returns-in-Ok c = λ node stands limit. subst (λ (n : Node). IsShapeLimit (task_for c.args.asked.now) n c.args.formula c.args.shapes) (sym (c.in-Ok.ensures node stands)) limit

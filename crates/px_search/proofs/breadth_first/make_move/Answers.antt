@@ -1,0 +1,86 @@
+use Rattle.std.proofs.Common.{◌≤◌, length, arith}
+use Rattle.px_ops.specs.KeepLaws.{place_in}
+use Rattle.px_search.specs.Asking.{task_for}
+use Rattle.px_search.proofs.LoopLaws.{asks_step, step_on, step-seen, step-earlier, step-trace, there_stands, step-count, step-stand, step-new, step-reached, step-origins, step-limit, step-full_end}
+use Rattle.px_search.proofs.breadth_first.make_move.Goals as goal
+
+pub node-key-requires : goal.node-key-requires
+node-key-requires c = place_in c.args.nodes.now c.args.next c.requires.trying.2.key c.requires.trying.2.key_at
+
+pub after-requires-clause-node : goal.after-requires-clause-node
+after-requires-clause-node c =
+    asks_step (task_for c.args.asked.now) c.args.numbers.now c.args.nodes.now c.args.origins.now.items c.args.next c.requires.trying.0 c.requires.trying.1 c.node-key.result c.requires.trying.2 c.node-key.ensures
+
+pub returns-then-place-count-clause-made : goal.returns-then-place-count-clause-made
+returns-then-place-count-clause-made c = λ steps i t at.
+    let task = task_for c.args.asked.now in
+    let st = step_on task c.args.numbers.now c.after.new.numbers c.args.nodes.now c.args.origins.now.items c.args.next steps i c.args.step c.node-key.result c.in_ok-there.there t c.node-key.ensures c.in_ok-there.ensures.keeps c.in_ok-there.ensures.there at in
+    step-seen task c.after.new.numbers c.sound.ensures.once c.args.nodes.now c.intern.new.self c.args.origins.now.items c.args.next steps i c.args.step c.in_ok-there.there c.in_ok-place.place st c.in_ok-place.ensures.kept (omega (arith, c.if-place-count.true, c.count-count.ensures))
+
+pub full-requires-clause-earlier : goal.full-requires-clause-earlier
+full-requires-clause-earlier c =
+    let task = task_for c.args.asked.now in
+    let st = step_on task c.args.numbers.now c.after.new.numbers c.args.nodes.now c.args.origins.now.items c.args.next c.requires.trying.0 c.requires.trying.1 c.args.step c.node-key.result c.in_ok-there.there c.requires.trying.2 c.node-key.ensures c.in_ok-there.ensures.keeps c.in_ok-there.ensures.there c.requires.trying.3 in
+    step-earlier task c.after.new.numbers c.sound.ensures.once c.args.nodes.now c.intern.new.self c.args.origins.now.items c.args.next c.requires.trying.0 c.requires.trying.1 c.args.step c.in_ok-there.there c.in_ok-place.place st c.in_ok-place.ensures.kept c.push.new.self.items c.in_ok-push.ensures.items
+
+pub full-requires-clause-traced : goal.full-requires-clause-traced
+full-requires-clause-traced c =
+    let task = task_for c.args.asked.now in
+    let st = step_on task c.args.numbers.now c.after.new.numbers c.args.nodes.now c.args.origins.now.items c.args.next c.requires.trying.0 c.requires.trying.1 c.args.step c.node-key.result c.in_ok-there.there c.requires.trying.2 c.node-key.ensures c.in_ok-there.ensures.keeps c.in_ok-there.ensures.there c.requires.trying.3 in
+    step-trace task c.after.new.numbers c.sound.ensures.once c.args.nodes.now c.intern.new.self c.args.origins.now.items c.args.next c.requires.trying.0 c.requires.trying.1 c.args.step c.in_ok-there.there c.in_ok-place.place st c.in_ok-place.ensures.kept c.push.new.self.items c.in_ok-push.ensures.items
+
+pub full-requires-clause-few : goal.full-requires-clause-few
+full-requires-clause-few c =
+    let task = task_for c.args.asked.now in
+    let st = step_on task c.args.numbers.now c.after.new.numbers c.args.nodes.now c.args.origins.now.items c.args.next c.requires.trying.0 c.requires.trying.1 c.args.step c.node-key.result c.in_ok-there.there c.requires.trying.2 c.node-key.ensures c.in_ok-there.ensures.keeps c.in_ok-there.ensures.there c.requires.trying.3 in
+    let few : length c.push.new.self.items ≤ task.problem.nodes = step-origins task c.after.new.numbers c.sound.ensures.once c.args.nodes.now c.intern.new.self c.args.origins.now.items c.args.next c.requires.trying.0 c.requires.trying.1 c.args.step c.in_ok-there.there c.in_ok-place.place st c.in_ok-place.ensures.kept (λ h. omega (arith, h, c.if-place-count.false, c.count-count.ensures)) c.push.new.self.items c.in_ok-push.ensures.items in
+    omega (arith, few)
+
+pub full-requires-clause-count : goal.full-requires-clause-count
+full-requires-clause-count c =
+    let task = task_for c.args.asked.now in
+    let st = step_on task c.args.numbers.now c.after.new.numbers c.args.nodes.now c.args.origins.now.items c.args.next c.requires.trying.0 c.requires.trying.1 c.args.step c.node-key.result c.in_ok-there.there c.requires.trying.2 c.node-key.ensures c.in_ok-there.ensures.keeps c.in_ok-there.ensures.there c.requires.trying.3 in
+    step-count task c.after.new.numbers c.sound.ensures.once c.args.nodes.now c.intern.new.self c.args.origins.now.items c.args.next c.requires.trying.0 c.requires.trying.1 c.args.step c.in_ok-there.there c.in_ok-place.place st c.in_ok-place.ensures.kept (λ h. omega (arith, h, c.if-place-count.false, c.count-count.ensures)) (omega (arith, c.if-count-asked.true, c.count-count.ensures))
+
+pub full-requires-clause-stand : goal.full-requires-clause-stand
+full-requires-clause-stand c =
+    let task = task_for c.args.asked.now in
+    let st = step_on task c.args.numbers.now c.after.new.numbers c.args.nodes.now c.args.origins.now.items c.args.next c.requires.trying.0 c.requires.trying.1 c.args.step c.node-key.result c.in_ok-there.there c.requires.trying.2 c.node-key.ensures c.in_ok-there.ensures.keeps c.in_ok-there.ensures.there c.requires.trying.3 in
+    step-stand task c.after.new.numbers c.sound.ensures.once c.args.nodes.now c.intern.new.self c.args.origins.now.items c.args.next c.requires.trying.0 c.requires.trying.1 c.args.step c.in_ok-there.there c.in_ok-place.place st c.in_ok-place.ensures.kept (λ h. omega (arith, h, c.if-place-count.false, c.count-count.ensures))
+
+pub returns-then-count-asked-clause-ends : goal.returns-then-count-asked-clause-ends
+returns-then-count-asked-clause-ends c =
+    let task = task_for c.args.asked.now in
+    let st = step_on task c.args.numbers.now c.after.new.numbers c.args.nodes.now c.args.origins.now.items c.args.next c.requires.trying.0 c.requires.trying.1 c.args.step c.node-key.result c.in_ok-there.there c.requires.trying.2 c.node-key.ensures c.in_ok-there.ensures.keeps c.in_ok-there.ensures.there c.requires.trying.3 in
+    step-full_end task c.after.new.numbers c.sound.ensures.once c.args.nodes.now c.intern.new.self c.args.origins.now.items c.args.next c.requires.trying.0 c.requires.trying.1 c.args.step c.in_ok-there.there c.in_ok-place.place st c.in_ok-place.ensures.kept (λ h. omega (arith, h, c.if-place-count.false, c.count-count.ensures)) c.push.new.self.items c.in_ok-limit.limit c.in_ok-push.ensures.items (omega (arith, c.if-count-asked.true, c.count-count.ensures)) c.in_ok-limit.ensures
+
+pub try_node-requires-clause-node : goal.try_node-requires-clause-node
+try_node-requires-clause-node c =
+    let task = task_for c.args.asked.now in
+    let st = step_on task c.args.numbers.now c.after.new.numbers c.args.nodes.now c.args.origins.now.items c.args.next c.requires.trying.0 c.requires.trying.1 c.args.step c.node-key.result c.in_ok-there.there c.requires.trying.2 c.node-key.ensures c.in_ok-there.ensures.keeps c.in_ok-there.ensures.there c.requires.trying.3 in
+    there_stands task c.after.new.numbers c.sound.ensures.once c.args.nodes.now c.intern.new.self c.args.origins.now.items c.args.next c.requires.trying.0 c.requires.trying.1 c.args.step c.in_ok-there.there c.in_ok-place.place st c.in_ok-place.ensures.kept
+
+pub returns-in-Answered-clause-made : goal.returns-in-Answered-clause-made
+returns-in-Answered-clause-made c =
+    let task = task_for c.args.asked.now in
+    let st = step_on task c.args.numbers.now c.after.new.numbers c.args.nodes.now c.args.origins.now.items c.args.next c.requires.trying.0 c.requires.trying.1 c.args.step c.node-key.result c.in_ok-there.there c.requires.trying.2 c.node-key.ensures c.in_ok-there.ensures.keeps c.in_ok-there.ensures.there c.requires.trying.3 in
+    step-reached task c.after.new.numbers c.sound.ensures.once c.args.nodes.now c.intern.new.self c.args.origins.now.items c.args.next c.requires.trying.0 c.requires.trying.1 c.args.step c.in_ok-there.there c.in_ok-place.place st c.in_ok-place.ensures.kept (λ h. omega (arith, h, c.if-place-count.false, c.count-count.ensures)) c.push.new.self.items c.in_ok-tried.tried c.in_ok-push.ensures.items (omega (arith, c.if-count-asked.false, c.count-count.ensures)) c.in_ok-tried.ensures c.in-Answered.is
+
+pub returns-in-Unanswered-clause-made : goal.returns-in-Unanswered-clause-made
+returns-in-Unanswered-clause-made c = λ steps i t at.
+    let task = task_for c.args.asked.now in
+    let st = step_on task c.args.numbers.now c.after.new.numbers c.args.nodes.now c.args.origins.now.items c.args.next steps i c.args.step c.node-key.result c.in_ok-there.there t c.node-key.ensures c.in_ok-there.ensures.keeps c.in_ok-there.ensures.there at in
+    step-new task c.after.new.numbers c.sound.ensures.once c.args.nodes.now c.intern.new.self c.args.origins.now.items c.args.next steps i c.args.step c.in_ok-there.there c.in_ok-place.place st c.in_ok-place.ensures.kept (λ h. omega (arith, h, c.if-place-count.false, c.count-count.ensures)) c.push.new.self.items c.in_ok-tried.tried c.in_ok-push.ensures.items (omega (arith, c.if-count-asked.false, c.count-count.ensures)) c.in_ok-tried.ensures c.in-Unanswered.is
+
+pub limit_at-requires : goal.limit_at-requires
+limit_at-requires c =
+    let task = task_for c.args.asked.now in
+    let st = step_on task c.args.numbers.now c.after.new.numbers c.args.nodes.now c.args.origins.now.items c.args.next c.requires.trying.0 c.requires.trying.1 c.args.step c.node-key.result c.in_ok-there.there c.requires.trying.2 c.node-key.ensures c.in_ok-there.ensures.keeps c.in_ok-there.ensures.there c.requires.trying.3 in
+    there_stands task c.after.new.numbers c.sound.ensures.once c.args.nodes.now c.intern.new.self c.args.origins.now.items c.args.next c.requires.trying.0 c.requires.trying.1 c.args.step c.in_ok-there.there c.in_ok-place.place st c.in_ok-place.ensures.kept
+
+pub returns-in-Limited-clause-ends : goal.returns-in-Limited-clause-ends
+returns-in-Limited-clause-ends c =
+    let task = task_for c.args.asked.now in
+    let st = step_on task c.args.numbers.now c.after.new.numbers c.args.nodes.now c.args.origins.now.items c.args.next c.requires.trying.0 c.requires.trying.1 c.args.step c.node-key.result c.in_ok-there.there c.requires.trying.2 c.node-key.ensures c.in_ok-there.ensures.keeps c.in_ok-there.ensures.there c.requires.trying.3 in
+    c.limit_at.ensures (there_stands task c.after.new.numbers c.sound.ensures.once c.args.nodes.now c.intern.new.self c.args.origins.now.items c.args.next c.requires.trying.0 c.requires.trying.1 c.args.step c.in_ok-there.there c.in_ok-place.place st c.in_ok-place.ensures.kept).0 (there_stands task c.after.new.numbers c.sound.ensures.once c.args.nodes.now c.intern.new.self c.args.origins.now.items c.args.next c.requires.trying.0 c.requires.trying.1 c.args.step c.in_ok-there.there c.in_ok-place.place st c.in_ok-place.ensures.kept).1
+    (step-limit task c.after.new.numbers c.sound.ensures.once c.args.nodes.now c.intern.new.self c.args.origins.now.items c.args.next c.requires.trying.0 c.requires.trying.1 c.args.step c.in_ok-there.there c.in_ok-place.place st c.in_ok-place.ensures.kept (λ h. omega (arith, h, c.if-place-count.false, c.count-count.ensures)) c.in_ok-tried.tried c.in-Limited.formula c.in-Limited.shapes (omega (arith, c.if-count-asked.false, c.count-count.ensures)) c.in_ok-tried.ensures c.in-Limited.is)

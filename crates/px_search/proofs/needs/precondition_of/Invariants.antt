@@ -1,6 +1,0 @@
-use Rattle.std.proofs.Common.{◌≡◌, take}
-use Rattle.px_terms.specs.Operators.{atoms_of}
-use Rattle.px_search.proofs.needs.precondition_of.Given as goal
-
-abbrev pub invariant-loop-k : goal.invariant-loop-k
-invariant-loop-k l = l.atoms.items ≡ take l.k (atoms_of l.schema.pre l.entry)

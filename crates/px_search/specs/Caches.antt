@@ -1,0 +1,27 @@
+-- What a search keeps of what it has learned of entries in models.
+use Rattle.std.specs.Prelude.{◌≡◌, ℕ, List, [], ◌∷◌, Some, slice_get, Contains}
+use Rattle.px_terms.specs.declared.atom.Atom.{Atom}
+use Rattle.px_table.specs.declared.entry.Entry.{Entry}
+use Rattle.px_numbers.specs.Numbers.{Kept, IsModelAt, IsStackAt}
+use Rattle.px_ends.specs.Tasks.{Task}
+use Rattle.px_search.specs.Going.{IsGoneOn}
+use Rattle.px_search.specs.declared.cache.Place.{Place}
+use Rattle.px_search.specs.declared.step.Step.{Step}
+
+-- the steps are the moves where that entry stands on the stack, alone, in that model
+abbrev pub IsStepsAt : Task → Kept → Place → List Step → Type 0
+IsStepsAt task kept place steps =
+    (model : List Atom) × (entry : Entry) × IsModelAt kept place.model model × (slice_get kept.entries place.entry ≡ Some entry) × IsGoneOn task kept (record { model = model; stack = entry ∷ [] }) steps
+
+-- all that is kept is so
+abbrev pub IsCache : Task → Kept → List (Place × List Step) → Type 0
+IsCache task kept cached = (place : Place) (steps : List Step) → Contains cached (place, steps) → IsStepsAt task kept place steps
+
+-- the stack has the entry of the place on top, over the stack of that number, and the model is that of the place
+pub record IsTopAt (kept : Kept) (place : Place) (below : ℕ) (model : List Atom) (stack : List Entry) : Type 0 where
+  pub entry : Entry
+  pub rest : List Entry
+  pub stack_is : stack ≡ entry ∷ rest
+  pub model_at : IsModelAt kept place.model model
+  pub entry_at : slice_get kept.entries place.entry ≡ Some entry
+  pub below_at : IsStackAt kept below rest

@@ -1,0 +1,35 @@
+-- What going through a node gives.
+use Rattle.std.specs.Prelude.{◌≡◌, ◌↔◌, List, AllPairs, Contains}
+use Rattle.std.specs.declared.cmp.Ordering.TheVariants.{Less}
+use Rattle.px_terms.specs.declared.atom.Atom.{Atom}
+use Rattle.px_proof.specs.declared.shape.Tick.{Tick}
+use Rattle.px_table.specs.declared.entry.Move.{Move}
+use Rattle.px_table.specs.declared.node.Node.{Node}
+use Rattle.px_diff.specs.Questions.{Question, MeetsLimit}
+use Rattle.px_numbers.specs.Numbers.{Kept}
+use Rattle.px_search.specs.declared.step.Step.{Step}
+use Rattle.px_ends.specs.Order.{move_cmp}
+use Rattle.px_search.specs.Steps.{AreStepsOf}
+use Rattle.px_ends.specs.Tasks.{Task, IsAllowed, AsksAt}
+
+-- a question of the node meets the limit at the formula, by these shapes
+pub record LimitsNode (task : Task) (node : Node) (formula : List Atom) (shapes : List (List Tick)) : Type 0 where
+  pub question : Question
+  pub asked : AsksAt task node question
+  pub met : MeetsLimit task.problem question formula shapes
+
+-- the moves of a node, in order
+pub record AreMovesOf (task : Task) (node : Node) (moves : List Move) : Type 0 where
+  pub all : (m : Move) → IsAllowed task node m ↔ Contains moves m
+  pub ordered : AllPairs (λ m n. move_cmp m n ≡ Less) moves
+
+-- no question of the node meets the limit
+abbrev pub IsUnlimitedAt : Task → Node → Type 0
+IsUnlimitedAt task node = (question : Question) → AsksAt task node question → (formula : List Atom) (shapes : List (List Tick)) → MeetsLimit task.problem question formula shapes → ⊥
+
+-- the steps are the moves of the node, in order, and none of its questions meets the limit
+pub record IsGoneOn (task : Task) (kept : Kept) (node : Node) (steps : List Step) : Type 0 where
+  pub moves : List Move
+  pub are : AreMovesOf task node moves
+  pub steps_are : AreStepsOf kept steps moves
+  pub unlimited : IsUnlimitedAt task node

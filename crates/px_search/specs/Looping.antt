@@ -1,0 +1,70 @@
+-- What a search keeps at each turn, and what it answers.
+use Rattle.std.specs.Prelude.{◌≡◌, ◌+◌, ◌<◌, ◌≤◌, ℕ, List, [], Some, length, map, take, slice_get, Contains}
+use Rattle.px_terms.specs.declared.atom.Atom.{Atom}
+use Rattle.px_proof.specs.declared.shape.Tick.{Tick}
+use Rattle.px_table.specs.declared.entry.Move.{Move}
+use Rattle.px_table.specs.declared.node.Node.{Node}
+use Rattle.px_diff.specs.Questions.{Question, MeetsLimit}
+use Rattle.px_numbers.specs.declared.nodes.NodeKey.{NodeKey}
+use Rattle.px_numbers.specs.Numbers.{Kept, IsKeyOf, AllStand}
+use Rattle.px_ends.specs.Ends.{node_of, NoneSolved, IsFound, IsExhausted, IsNodeLimit, IsShapeLimit}
+use Rattle.px_ends.specs.Order.{IsBefore}
+use Rattle.px_ends.specs.Tasks.{Task, initial_node, IsAllowed, after, AsksAt, goal_question}
+use Rattle.px_ends.proofs.Frontier.{Frontier}
+use Rattle.px_ends.proofs.MoveLaws.{order, same_move}
+use Rattle.px_search.specs.declared.ends.SearchErr.{SearchErr}
+use Rattle.px_search.specs.declared.ends.SearchErr.TheVariants.{Exhausted, NodeLimit, ShapeLimit, NoMemory}
+use Rattle.px_search.specs.declared.step.Origin.{Origin}
+use Rattle.px_search.specs.declared.step.Step.{Step}
+use Rattle.px_search.specs.Going.{IsGoneOn}
+use Rattle.px_search.specs.Steps.{AreEarlier, Trace}
+
+-- the question doesn't meet the limit
+abbrev pub IsUnmet : Task → Question → Type 0
+IsUnmet task question = (formula : List Atom) (shapes : List (List Tick)) → ¬ MeetsLimit task.problem question formula shapes
+
+-- What is known where the nodes of the first lists of `found` were gone through, as many as `next`, and of the one after them these
+-- moves were tried.
+pub record Searching (task : Task) (found : List (List Move)) (next : ℕ) (tried : List Move) : Type 0 where
+  pub known : Frontier (IsAllowed task) (after task) IsBefore (initial_node task) order same_move found next tried
+  pub room : length found ≤ task.problem.nodes
+  pub unsolved : NoneSolved task found
+  pub tested : (moves : List Move) → Contains found moves → (node_of task moves).stack ≡ [] → IsUnmet task (goal_question task (node_of task moves))
+  pub gone_through : (i : ℕ) (p : List Move) (q : Question) → i < next → slice_get found i ≡ Some p → AsksAt task (node_of task p) q → IsUnmet task q
+
+-- the nodes in the order in which they were found are those of the found lists
+pub record Walking (task : Task) (found : List (List Move)) (nodes : List Node) (next : ℕ) (tried : List Move) : Type 0 where
+  pub searching : Searching task found next tried
+  pub nodes_are : nodes ≡ map (node_of task) found
+
+-- the same by numbers
+pub record Going (task : Task) (kept : Kept) (keys : List NodeKey) (origins : List Origin) (next : ℕ) (tried : List Move) : Type 0 where
+  pub found : List (List Move)
+  pub nodes : List Node
+  pub walking : Walking task found nodes next tried
+  pub stand : AllStand kept keys nodes
+  pub trace : Trace kept origins found
+  pub earlier : AreEarlier origins
+  pub one_more : length keys ≡ length origins + 1
+
+-- so many of these steps, which are the moves of the node after those gone through, were tried
+pub record Trying (task : Task) (kept : Kept) (keys : List NodeKey) (origins : List Origin) (next : ℕ) (steps : List Step) (i : ℕ) : Type 0 where
+  pub key : NodeKey
+  pub key_at : slice_get keys next ≡ Some key
+  pub node : Node
+  pub stands : IsKeyOf kept key node
+  pub gone : IsGoneOn task kept node steps
+  pub going : Going task kept keys origins next (take i gone.moves)
+
+-- the error is an end of the search, or there was no memory
+abbrev pub IsEnd : Task → SearchErr → Type 0
+IsEnd task Exhausted = IsExhausted task
+IsEnd task (NodeLimit nodes moves) = IsNodeLimit task nodes moves
+IsEnd task (ShapeLimit node formula shapes) = IsShapeLimit task node formula shapes
+IsEnd task NoMemory = Unit {0}
+
+-- the last of the nodes is the first solved one
+pub record IsReached (task : Task) (kept : Kept) (origins : List Origin) : Type 0 where
+  pub earlier : AreEarlier origins
+  pub traced : (found : List (List Move)) × Trace kept origins found
+  pub found : (moves : List Move) → ((found : List (List Move)) → Trace kept origins found → slice_get found (length origins) ≡ Some moves) → IsFound task moves

@@ -1,0 +1,107 @@
+//! The search.
+ghost use Rattle.std.specs.Prelude.{◌≡◌, ◌<◌, ◌≤◌, ◌⊎◌, ℕ, List, [], length, All, IfOk, IfErr, IsErrOf};
+ghost use Rattle.px_terms.specs.declared.atom.Atom.{Atom};
+ghost use Rattle.px_terms.specs.Plans.{Carries};
+ghost use Rattle.px_terms.specs.Validity.{IsValid, IsAtomOf, IsInstanceOf};
+ghost use Rattle.px_proof.specs.declared.shape.Tick.{Tick};
+ghost use Rattle.px_table.specs.declared.entry.Move.{Move};
+ghost use Rattle.px_table.specs.declared.node.Node.{Node};
+ghost use Rattle.px_table.specs.Supports.{Supports};
+ghost use Rattle.px_table.specs.Tables.{AreOfProblem, rows_of};
+ghost use Rattle.px_diff.specs.Learned.{AreLearned};
+ghost use Rattle.px_ends.specs.Ends.{IsFound, IsExhausted, IsNodeLimit, IsShapeLimit};
+ghost use Rattle.px_ends.specs.Made.{MovesRows};
+ghost use Rattle.px_ends.specs.Tasks.{initial_node, steps_of, task_of};
+ghost use Rattle.px_search.specs.Asking.{IsAskable, task_for};
+ghost use Rattle.px_search.specs.Looping.{IsEnd};
+ghost use Rattle.px_search.specs.Planned.{IsPlanned};
+
+use crate::asked::Asked;
+use crate::breadth_first::found_by_moves;
+use crate::ends::{Found, SearchErr};
+use px_ops::Model;
+use px_support::{Support, support_of};
+use px_table::{Move, Table};
+use px_terms::{Atom, NoMemory, Problem, Sequence};
+use std::alloc::Global;
+
+/// The plan of the moves that were found: their steps, and the proofs that carry them.
+fn plan_of(asked: &Asked, moves: Sequence<Move>) -> Result<Found, NoMemory>
+    requires asked { IsAskable asked.now }
+    requires found { IsFound (task_for asked.now) moves }
+    ensures { IfOk result (IsPlanned (task_for asked.now)) }
+{
+    let Support { steps, rows } = support_of(
+        asked.alloc,
+        asked.problem,
+        asked.initial,
+        asked.goal,
+        asked.vars,
+        asked.tables,
+        moves.as_slice(),
+    )?;
+    Ok(Found {
+        moves,
+        steps,
+        support: rows,
+    })
+}
+
+/// Searches, and makes the plan of what is found.
+fn found_plan(asked: &Asked) -> Result<Found, SearchErr>
+    requires asked { IsAskable asked.now }
+    ensures planned { IfOk result (IsPlanned (task_for asked.now)) }
+    ensures ends { IfErr result (IsEnd (task_for asked.now)) }
+{
+    let moves = found_by_moves(asked)?;
+    match plan_of(asked, moves) {
+        Ok(plan) => Ok(plan),
+        Err(_) => Err(SearchErr::NoMemory),
+    }
+}
+
+/// Searches for a plan: the moves to the first solved node, the steps that they take, and the proofs that carry these to the goal.
+///
+/// # Errors
+/// Those of `SearchErr`.
+pub fn search(
+    alloc: Global,
+    problem: &Problem,
+    initial: &Model,
+    goal: &[Atom],
+    vars: u32,
+    tables: &[Table],
+) -> Result<Found, SearchErr>
+    requires problem { IsValid problem.now }
+    requires goal { All (IsAtomOf problem.now vars) goal.now }
+    requires few_variables { vars ≤ 12 }
+    requires some_object { 0 < vars → 0 < problem.now.objects }
+    requires tables { AreLearned problem.now tables.now }
+    requires no_tables { tables.now ≡ [] }
+    ensures found { IfOk result (λ plan. IsFound (task_of problem.now tables.now initial.now.atoms goal.now vars) plan.moves) }
+    ensures few { IfOk result (λ plan. length plan.moves < problem.now.nodes) }
+    ensures steps { IfOk result (λ plan. plan.steps ≡ steps_of tables.now [] plan.moves) }
+    ensures rows { IfOk result (λ plan. MovesRows (task_of problem.now tables.now initial.now.atoms goal.now vars) (initial_node (task_of problem.now tables.now initial.now.atoms goal.now vars)) [] plan.moves (rows_of plan.support.items)) }
+    ensures supports { IfOk result (λ plan. Supports problem.now initial.now.atoms plan.steps goal.now vars (rows_of plan.support.items)) }
+    ensures of_problem { IfOk result (λ plan. AreOfProblem problem.now (rows_of plan.support.items)) }
+    ensures instances { IfOk result (λ plan. All (IsInstanceOf problem.now) plan.steps) }
+    ensures carries { IfOk result (λ plan. Carries problem.now initial.now.atoms plan.steps vars goal.now) }
+    ensures short { IfOk result (λ plan. length plan.steps < 4294967295) }
+    ensures exhausted { IsErrOf result SearchErr.Exhausted → IsExhausted (task_of problem.now tables.now initial.now.atoms goal.now vars) }
+    ensures node_limit { (nodes : List Node) (moves : ℕ) → IsErrOf result (SearchErr.NodeLimit nodes moves) → IsNodeLimit (task_of problem.now tables.now initial.now.atoms goal.now vars) nodes moves }
+    ensures shape_limit { (node : Node) (formula : List Atom) (shapes : List (List Tick)) → IsErrOf result (SearchErr.ShapeLimit node formula shapes) → IsShapeLimit (task_of problem.now tables.now initial.now.atoms goal.now vars) node formula shapes }
+    ensures always_found { (moves : List Move) → IsFound (task_of problem.now tables.now initial.now.atoms goal.now vars) moves → IfOk result (λ plan. plan.moves ≡ moves) × IfErr result (λ e. e ≡ SearchErr.NoMemory) }
+    ensures always_exhausted { IsExhausted (task_of problem.now tables.now initial.now.atoms goal.now vars) → IsErrOf result SearchErr.Exhausted ⊎ IsErrOf result SearchErr.NoMemory }
+    ensures always_node_limit { (nodes : List Node) (moves : ℕ) → IsNodeLimit (task_of problem.now tables.now initial.now.atoms goal.now vars) nodes moves → IsErrOf result (SearchErr.NodeLimit nodes moves) ⊎ IsErrOf result SearchErr.NoMemory }
+    ensures always_shape_limit { (node : Node) (formula : List Atom) (shapes : List (List Tick)) → IsShapeLimit (task_of problem.now tables.now initial.now.atoms goal.now vars) node formula shapes → ((there : Node) × (kept : List Atom) × (first : List (List Tick)) × IsErrOf result (SearchErr.ShapeLimit there kept first)) ⊎ IsErrOf result SearchErr.NoMemory }
+{
+    let asked = Asked {
+        alloc,
+        problem,
+        tables,
+        initial,
+        goal,
+        vars,
+    };
+    found_plan(&asked)
+}

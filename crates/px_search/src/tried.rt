@@ -1,0 +1,23 @@
+//! Trying the goal at a node.
+ghost use Rattle.std.specs.Prelude.{◌≡◌, List, IfOk};
+ghost use Rattle.px_table.specs.declared.node.Node.{Node};
+ghost use Rattle.px_numbers.specs.Numbers.{IsKeyOf};
+ghost use Rattle.px_search.specs.Asking.{IsAskable, IsTriedAt, task_for};
+
+use crate::asked::Asked;
+use px_diff::{Tried, try_formula};
+use px_numbers::{NodeKey, Numbers};
+use px_terms::NoMemory;
+
+/// Is the node solved?
+pub fn try_node(asked: &Asked, numbers: &Numbers, key: NodeKey) -> Result<Tried, NoMemory>
+    requires asked { IsAskable asked.now }
+    requires node { (node : Node) × IsKeyOf numbers.now key node }
+    ensures { IfOk result (λ tried. (node : Node) → IsKeyOf numbers.now key node → IsTriedAt (task_for asked.now) node tried) }
+{
+    if key.stack != 0 {
+        return Ok(Tried::Unanswered);
+    }
+    let model = numbers.model(asked.alloc, key.model)?;
+    try_formula(asked.alloc, asked.problem, asked.goal, asked.vars, &model)
+}

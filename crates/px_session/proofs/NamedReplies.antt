@@ -1,0 +1,151 @@
+-- Each lawful reply to a command that is built has its names.
+use Rattle.std.specs.Prelude.{◌≡◌, ◌<◌, ◌+◌, ℕ, Option, Some, None, List, length, All}
+use Rattle.std.proofs.Common.{refl, sym, ap, ◌∙◌, subst, arith}
+use Rattle.std.proofs.lemmas.List.Elements.{All-nil}
+use Rattle.px_base.specs.ListLaws.{All-at, All-each}
+use Rattle.px_names.specs.Lists.{NameLists}
+use Rattle.px_terms.specs.declared.atom.Atom.{Atom}
+use Rattle.px_terms.specs.declared.instance.OpInst.{OpInst}
+use Rattle.px_terms.specs.declared.problem.Problem.{Problem}
+use Rattle.px_terms.specs.declared.term.Term.{Term}
+use Rattle.px_terms.specs.declared.term.Term.TheVariants.{Obj, Var, Any}
+use Rattle.px_terms.specs.Validity.{IsAtomOf, IsTermOf, IsValid}
+use Rattle.px_table.specs.declared.mark.Mark.{Mark}
+use Rattle.px_table.specs.declared.table.Table.{Table}
+use Rattle.px_table.specs.Tables.{IsStepOf, IsTable}
+use Rattle.px_library.specs.Libraries.{LibraryValue, no_tables, table_named}
+use Rattle.px_ends.specs.Tasks.{Task, task_of}
+use Rattle.px_printer.specs.declared.reply.Reply.{Reply}
+use Rattle.px_printer.specs.declared.reply.Reply.TheVariants as reply
+use Rattle.px_printer.specs.Replies.{IsNamed}
+use Rattle.px_printer.specs.Rows.{IsNamedTable}
+use Rattle.px_printer.specs.Texts.{IsNamedAtom, IsNamedInstance, IsNamedTerm}
+use Rattle.px_script.specs.Commands as command
+use Rattle.px_session.specs.Lawful.{FindsPlan, Lawful, TellsFacts, TellsSearch, TellsShow}
+use Rattle.px_session.specs.Named.{AreNamesOf, IsTellable, RepliesAreNamed}
+use Rattle.px_session.specs.Sessions.{IsLearnedTable, IsPlanTable, SessionState, any_table, first_of}
+use Rattle.px_session.proofs.OneLearning.{table-there}
+
+abbrev number_of : Term → ℕ
+number_of (Obj n) = n
+number_of _ = 0
+
+-- a result of the same number has its name
+same-result : (given name results : ℕ) → given ≡ name → name < results → given < results
+same-result given name results same below = omega (arith, same, below)
+
+module _ (problem : Problem) (names : NameLists) (all : AreNamesOf problem names) where
+  -- ---- terms, atoms and steps of the problem
+
+  named-term : (vars : ℕ) (t : Term) → IsTermOf problem vars t → IsNamedTerm names t
+  named-term vars (Obj n) of = λ number e.
+      let same : n ≡ number = ap number_of e in
+      omega (arith, same, of, all.objects)
+  named-term vars (Var v) of = λ number e. absurd (cc)
+  named-term vars Any of = elim of [ ]
+
+  named-terms : (vars : ℕ) (terms : List Term) → All (IsTermOf problem vars) terms → All (IsNamedTerm names) terms
+  named-terms vars terms of =
+      All-each (IsNamedTerm names) terms (λ t has. named-term vars t (All-at (IsTermOf problem vars) terms t of has))
+
+  named-atom : (vars : ℕ) (atom : Atom) → IsAtomOf problem vars atom → IsNamedAtom names atom
+  named-atom vars atom of = record { predicate = omega (arith, of.0.0, all.predicates); objects = named-terms vars atom.args of.1 }
+
+  named-atoms : (vars : ℕ) (atoms : List Atom) → All (IsAtomOf problem vars) atoms → All (IsNamedAtom names) atoms
+  named-atoms vars atoms of =
+      All-each (IsNamedAtom names) atoms (λ atom has. named-atom vars atom (All-at (IsAtomOf problem vars) atoms atom of has))
+
+  named-step : (params : ℕ) (inst : OpInst) → IsStepOf problem params inst → IsNamedInstance names inst
+  named-step params inst of = record { operator = omega (arith, of.op, all.operators); objects = named-terms params inst.args of.terms }
+
+  named-steps : (params : ℕ) (steps : List OpInst) → All (IsStepOf problem params) steps → All (IsNamedInstance names) steps
+  named-steps params steps of =
+      All-each (IsNamedInstance names) steps (λ inst has. named-step params inst (All-at (IsStepOf problem params) steps inst of has))
+
+  -- ---- a table of the problem
+
+  named-table : (table : Table) → IsTable problem table → IsNamedTable names table
+  named-table table is = record {
+    steps = named-steps table.params table.steps is.in_range.steps;
+    goal = named-atoms (table.params + table.goal_vars) table.goal is.in_range.goal;
+    marks = All-each (λ (mark : Mark). IsNamedAtom names mark.atom) table.marks
+        (λ mark has.
+        let of = All-at (λ (m : Mark). IsAtomOf problem table.params m.atom) table.marks mark is.atoms has in
+        named-atom table.params mark.atom of);
+  }
+
+  -- ---- replies
+
+  -- the steps of a plan that is found are those of its table
+  named-plan : (task : Task) → task.problem ≡ problem → (name : ℕ) (old : SessionState) (count : ℕ) (steps : List OpInst)
+      (new : SessionState)
+      → FindsPlan task name old count steps new → All (IsNamedInstance names) steps
+  named-plan task of name old count steps new is =
+      let same : is.made.steps ≡ steps = is.table.steps ∙ sym is.taken in
+      let plan = subst (λ (p : Problem). IsPlanTable p is.made) of is.plan in
+      subst (All (IsNamedInstance names)) same (named-steps is.made.params is.made.steps plan.table.in_range.steps)
+
+  named-search : (task : Task) → task.problem ≡ problem → (name : ℕ) (old : SessionState) (answer : Reply) (new : SessionState)
+      → name < length names.results → TellsSearch task name old answer new → IsNamed names answer
+  named-search task of name old (reply.Plan given count steps) new below is =
+      (same-result given name (length names.results) is.0 below, named-plan task of name old count steps new is.1)
+  named-search task of name old (reply.Exhausted given) new below is = same-result given name (length names.results) is.0 below
+  named-search task of name old (reply.NodeLimit given nodes moves) new below is = same-result given name (length names.results) is.0 below
+  named-search task of name old (reply.ShapeLimit given node formula shapes) new below is =
+      same-result given name (length names.results) is.0 below
+  named-search task of name old answer new below is = absurd is
+
+  module _ (old : SessionState) (plans : All (IsPlanTable problem) old.plans.tables)
+      (learned : All (IsLearnedTable problem) old.learned.tables) where
+    any-named : (name : ℕ) (table : Table) → any_table old name ≡ Some table → IsNamedTable names table
+    any-named name table named = by (table_named old.plans name) refl named
+      where
+        by : (plan : Option Table) → table_named old.plans name ≡ plan
+            → first_of plan (table_named old.learned name) ≡ Some table → IsNamedTable names table
+        by None at named' =
+            let has = table-there old.learned.names old.learned.tables name table named' in
+            named-table table (All-at (IsLearnedTable problem) old.learned.tables table learned has).table
+        by (Some plan) at named' =
+            let has = table-there old.plans.names old.plans.tables name table (at ∙ named') in
+            named-table table (All-at (IsPlanTable problem) old.plans.tables table plans has).table
+
+    named-show : (name : ℕ) (answer : Reply) (new : SessionState) → name < length names.results
+        → TellsShow old name answer new → IsNamed names answer
+    named-show name (reply.Unknown given) new below is = same-result given name (length names.results) is.0 below
+    named-show name (reply.Shown given table) new below is =
+        (same-result given name (length names.results) is.0 below, any-named name table is.1)
+    named-show name answer new below is = absurd is
+
+    named-facts : (answer : Reply) (new : SessionState) → All (IsAtomOf problem 0) old.atoms
+        → TellsFacts old answer new → IsNamed names answer
+    named-facts (reply.FactsAre atoms) new of is = subst (All (IsNamedAtom names)) (sym is.0) (named-atoms 0 old.atoms of)
+    named-facts answer new of is = absurd is
+
+-- for each command that is built
+named-each : (problem : Problem) (names : NameLists) (old : SessionState) (given : command.Command) (answer : Reply) (new : SessionState)
+    → AreNamesOf problem names → All (IsAtomOf problem 0) old.atoms
+    → All (IsPlanTable problem) old.plans.tables → All (IsLearnedTable problem) old.learned.tables
+    → IsTellable problem (length names.results) given → Lawful problem old given answer new → IsNamed names answer
+named-each problem names old (command.Plan name goal vars) answer new all atoms plans learned tellable is =
+    named-search problem names all (task_of problem old.learned.tables old.atoms goal vars) refl name old answer new tellable.0 is
+named-each problem names old (command.Show name) answer new all atoms plans learned tellable is =
+    named-show problem names all old plans learned name answer new tellable is
+named-each problem names old command.Facts answer new all atoms plans learned tellable is =
+    named-facts problem names all old plans learned answer new atoms is
+named-each problem names old (command.Learn name source) answer new all atoms plans learned tellable is = absurd tellable
+named-each problem names old (command.DisturbAtoms turn between edits) answer new all atoms plans learned tellable is = absurd tellable
+named-each problem names old (command.DisturbRooms turn between edits) answer new all atoms plans learned tellable is = absurd tellable
+named-each problem names old (command.Run name bound) answer new all atoms plans learned tellable is = absurd tellable
+
+pub replies_are_named : RepliesAreNamed
+replies_are_named = record { replies = named-each }
+
+-- where nothing is learned
+pub named-reply : (problem : Problem) (names : NameLists) (old : SessionState) (given : command.Command) (answer : Reply)
+    (new : SessionState) → IsValid problem → AreNamesOf problem names → All (IsAtomOf problem 0) old.atoms
+    → All (IsPlanTable problem) old.plans.tables → old.learned ≡ no_tables
+    → IsTellable problem (length names.results) given → Lawful problem old given answer new → IsNamed names answer
+named-reply problem names old given answer new valid all atoms plans none tellable is =
+    let learned : All (IsLearnedTable problem) old.learned.tables =
+    subst (λ (library : LibraryValue). All (IsLearnedTable problem) library.tables) (sym none) (All-nil (IsLearnedTable problem)) in
+    named-each problem names old given answer new all atoms plans learned tellable is

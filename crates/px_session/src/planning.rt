@@ -1,0 +1,97 @@
+//! Planning in a session.
+ghost use Rattle.std.specs.Prelude.{◌≡◌, ◌<◌, ◌≤◌, All, IfOk, OnErr};
+ghost use Rattle.px_terms.specs.Validity.{IsAtomOf, IsValid};
+ghost use Rattle.px_library.specs.Libraries.{no_tables};
+ghost use Rattle.px_ends.specs.Tasks.{task_of};
+ghost use Rattle.px_session.specs.Lawful.{TellsSearch};
+ghost use Rattle.px_session.specs.Planning.{IsFoundPlan};
+
+use crate::state::State;
+use px_base::NoMemory;
+use px_printer::Reply;
+use px_search::{Found, SearchErr, search};
+use px_table::build;
+use px_terms::{Atom, Problem};
+use std::alloc::Global;
+
+impl State {
+    /// Searches for a plan from the world's atoms to the goal. The table of a plan that is found is stored under the name.
+    ///
+    /// # Errors
+    /// `NoMemory` where there is none for the search, for the table or for its place. No plan is stored then.
+    pub(crate) fn plan(
+        &mut self,
+        alloc: Global,
+        problem: &Problem,
+        name: u32,
+        goal: &[Atom],
+        vars: u32,
+    ) -> Result<Reply, NoMemory>
+        requires problem { IsValid problem.now }
+        requires goal { All (IsAtomOf problem.now vars) goal.now }
+        requires few_variables { vars ≤ 12 }
+        requires some_object { 0 < vars → 0 < problem.now.objects }
+        requires no_learned { self.old.learned ≡ no_tables }
+        ensures told { IfOk result (λ reply. TellsSearch (task_of problem.now self.old.learned.tables self.old.atoms goal.now vars) name self.old reply self.new) }
+        ensures kept { OnErr result (self.new ≡ self.old) }
+    {
+        match search(
+            alloc,
+            problem,
+            &self.facts,
+            goal,
+            vars,
+            self.learned.tables(),
+        ) {
+            Ok(found) => self.store_plan(alloc, problem, name, goal, vars, found),
+            Err(SearchErr::Exhausted) => Ok(Reply::Exhausted { name }),
+            Err(SearchErr::NodeLimit { nodes, moves }) => {
+                Ok(Reply::NodeLimit { name, nodes, moves })
+            }
+            Err(
+                SearchErr::ShapeLimit {
+                    node,
+                    formula,
+                    shapes,
+                },
+            ) => Ok(Reply::ShapeLimit {
+                name,
+                node,
+                formula,
+                shapes,
+            }),
+            Err(SearchErr::NoMemory) => Err(NoMemory),
+        }
+    }
+
+    /// Stores the table of a plan that was found, and tells the plan.
+    fn store_plan(
+        &mut self,
+        alloc: Global,
+        problem: &Problem,
+        name: u32,
+        goal: &[Atom],
+        vars: u32,
+        found: Found,
+    ) -> Result<Reply, NoMemory>
+        requires problem { IsValid problem.now }
+        requires goal { All (IsAtomOf problem.now vars) goal.now }
+        requires no_learned { self.old.learned ≡ no_tables }
+        requires found { IsFoundPlan (task_of problem.now self.old.learned.tables self.old.atoms goal.now vars) found }
+        ensures told { IfOk result (λ reply. TellsSearch (task_of problem.now self.old.learned.tables self.old.atoms goal.now vars) name self.old reply self.new) }
+        ensures kept { OnErr result (self.new ≡ self.old) }
+    {
+        let Found {
+            moves,
+            steps,
+            support,
+        } = found;
+        let table = build(alloc, problem, goal, vars, steps.as_slice(), support)?;
+        self.plans.store(name, table)?;
+        Ok(Reply::Plan {
+            name,
+            moves: moves.len() as u32,
+            steps,
+        })
+    }
+}

@@ -1,0 +1,80 @@
+//! The tables of the stored plans, by name.
+ghost use Rattle.std.specs.Prelude.{◌≡◌, ◌<◌, ◌++◌, ◌∷◌, [], vec_len, vec_capacity, OnOk, OnErr, option_map};
+ghost use Rattle.px_library.specs.Libraries.{no_tables, table_named, with_table};
+
+use px_base::NoMemory;
+use px_table::Table;
+use std::alloc::Global;
+
+/// Tables by the numbers of their names, in the order in which they were stored.
+#[derive(Drop)]
+pub(crate) struct Plans {
+    names: Vec<u32>,
+    tables: Vec<Table>,
+}
+
+impl std::marker::Model for Plans {
+    ghost use Rattle.std.specs.Prelude.{◌≡◌, length};
+    ghost use Rattle.std.specs.Coded.{codes};
+    ghost use Rattle.px_proof.specs.contracts.proof.Proof as term;
+    ghost use Rattle.px_library.specs.Libraries.{LibraryValue};
+
+    ghost Value = { LibraryValue };
+
+    ghost coded = { Prim.hlevel (codes, term.the_row.coded) };
+
+    ghost view = { λ p. record { names = p.names.items; tables = p.tables.items } };
+
+    ghost invariant = { λ p. length p.tables.items ≡ length p.names.items };
+}
+
+impl Plans {
+    /// No plan. Takes no memory.
+    pub(crate) fn new(alloc: Global) -> Plans
+        ensures { result ≡ no_tables }
+    {
+        Plans {
+            names: Vec::new(alloc),
+            tables: Vec::new(alloc),
+        }
+    }
+
+    /// Puts a table last, under its name.
+    ///
+    /// # Errors
+    /// `NoMemory` where there is none for one table more. The table is then dropped, and the plans are as they were.
+    pub(crate) fn store(&mut self, name: u32, table: Table) -> Result<(), NoMemory>
+        ensures stored { OnOk result (self.new ≡ with_table self.old name table) }
+        ensures kept { OnErr result (self.new ≡ self.old) }
+    {
+        if self.names.reserve(1).is_err() || self.tables.reserve(1).is_err() {
+            return Err(NoMemory);
+        }
+        push_within(&mut self.names, name);
+        push_within(&mut self.tables, table);
+        Ok(())
+    }
+
+    /// The table of that name, or `None` where the name has none. Takes no memory.
+    pub(crate) fn find(&self, name: u32) -> Option<&Table>
+        ensures { option_map (λ table. table.now) result ≡ table_named self.now name }
+    {
+        for (place, one) in self.names.iter().enumerate() {
+            if *one == name {
+                return Some(&self.tables[place]);
+            }
+        }
+        None
+    }
+}
+
+/// Puts an item last where there is room for it.
+fn push_within<T: Drop>(items: &mut Vec<T>, item: T)
+    requires room { vec_len items.old < vec_capacity items.old }
+    ensures { items.new.items ≡ items.old.items ++ item ∷ [] }
+{
+    match items.push(item) {
+        Ok(()) => {}
+        Err(_) => unreachable!(),
+    }
+}

@@ -1,0 +1,127 @@
+//! A session: the commands of a script, and the state that those which are done have left.
+ghost use Rattle.std.specs.Prelude.{◌≡◌, ◌+◌, ◌<◌, All, IfOk, OnOk, OnErr, length, slice_index_or};
+ghost use Rattle.px_printer.specs.Replies.{IsNamed};
+ghost use Rattle.px_reader.specs.LineReads.{content};
+ghost use Rattle.px_script.specs.Commands.{Facts};
+ghost use Rattle.px_script.specs.StageRanges.{IsOfStage};
+ghost use Rattle.px_script.specs.Stages.{stage_now};
+ghost use Rattle.px_table.specs.Kernels.{KernelsCarry};
+ghost use Rattle.px_session.specs.Lawful.{Lawful};
+ghost use Rattle.px_session.specs.Opened.{opened, tables_of};
+
+use crate::commands::run_command;
+use crate::state::State;
+use px_base::{NoMemory, Sequence};
+use px_names::Names;
+use px_ops::Model;
+use px_printer::Reply;
+use px_reader::{Command, Script};
+use px_terms::Problem;
+use std::alloc::Global;
+
+/// What a script asks, and how far it is answered.
+#[derive(Drop)]
+pub struct Session {
+    alloc: Global,
+    problem: Problem,
+    names: Names,
+    commands: Sequence<Command>,
+    done: usize,
+    state: State,
+}
+
+impl std::marker::Model for Session {
+    ghost use Rattle.std.specs.Prelude.{map};
+    ghost use Rattle.std.specs.Coded.{codes};
+    ghost use Rattle.px_proof.specs.contracts.proof.Proof as term;
+    ghost use Rattle.px_reader.specs.CommandViews.{command_view};
+    ghost use Rattle.px_session.specs.KeptSessions.{IsKeptSession};
+    ghost use Rattle.px_session.specs.Opened.{SessionValue};
+
+    ghost Value = { SessionValue };
+
+    ghost coded = { Prim.hlevel (codes, term.the_row.coded) };
+
+    ghost view = { λ s. record {
+      problem = s.problem;
+      names = s.names;
+      commands = map command_view s.commands;
+      done = s.done;
+      state = s.state;
+    } };
+
+    ghost invariant = { λ s. IsKeptSession (record {
+      problem = s.problem;
+      names = s.names;
+      commands = map command_view s.commands;
+      done = s.done;
+      state = s.state;
+    }) };
+}
+
+impl Session {
+    /// The session before the first command of the script.
+    ///
+    /// # Errors
+    /// `NoMemory` where there is none for it.
+    pub fn new(alloc: Global, script: Script) -> Result<Session, NoMemory>
+        requires stage { IsOfStage stage_now (content script) }
+        ensures opened { IfOk result (λ session. session ≡ opened (content script)) }
+    {
+        Ok(Session {
+            alloc,
+            problem: script.problem,
+            names: script.names,
+            commands: script.commands,
+            done: 0,
+            state: State::opening(alloc, script.facts),
+        })
+    }
+
+    /// How many commands the script has. Takes no memory.
+    pub fn count(&self) -> usize
+        ensures { result ≡ length self.now.commands }
+    {
+        self.commands.as_slice().len()
+    }
+
+    /// The script's names. Takes no memory.
+    pub fn names(&self) -> &Names
+        ensures { result.now ≡ self.now.names }
+    {
+        &self.names
+    }
+
+    /// How many commands are done. Takes no memory.
+    pub fn done(&self) -> usize
+        ensures { result ≡ self.now.done }
+    {
+        self.done
+    }
+
+    /// The world's atoms. Takes no memory.
+    pub fn facts(&self) -> &Model
+        ensures { result.now.atoms ≡ self.now.state.atoms }
+    {
+        &self.state.facts
+    }
+
+    /// Answers command `k`, the next one.
+    ///
+    /// # Errors
+    /// `NoMemory` where there is none for the answer. The session is then as it was.
+    pub fn execute(&mut self, k: usize) -> Result<Reply, NoMemory>
+        requires below { k < length self.old.commands }
+        requires next { k ≡ self.old.done }
+        ensures lawful { IfOk result (λ reply. Lawful self.old.problem self.old.state (slice_index_or self.old.commands k Facts) reply self.new.state) }
+        ensures frame { OnOk result (self.new ≡ record self.old { done = k + 1; state = self.new.state }) }
+        ensures kept { OnErr result (self.new ≡ self.old) }
+        ensures named { IfOk result (IsNamed self.old.names) }
+        ensures kernels { OnOk result (All (KernelsCarry self.new.problem) (tables_of self.new.state)) }
+    {
+        let command = &self.commands.as_slice()[k];
+        let reply = run_command(self.alloc, &self.problem, command, &mut self.state)?;
+        self.done += 1;
+        Ok(reply)
+    }
+}

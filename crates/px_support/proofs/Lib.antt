@@ -1,0 +1,10 @@
+pub mod Lists
+pub mod Staying
+pub mod Marking
+pub mod RowLeaves
+pub mod Supporting
+pub mod Found
+pub mod SourceLaws
+pub mod Supported
+pub mod RowSteps
+pub mod GoingLaws

@@ -1,0 +1,4 @@
+pub mod Sources
+pub mod Asking
+pub mod Going
+pub mod MadeSupports

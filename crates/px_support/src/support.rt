@@ -1,0 +1,105 @@
+//! The support of the moves that a search found.
+ghost use Rattle.std.specs.Prelude.{◌≡◌, ◌≤◌, ◌<◌, [], length, All, IfOk};
+ghost use Rattle.px_terms.specs.Plans.{Carries};
+ghost use Rattle.px_terms.specs.Validity.{IsAtomOf, IsInstanceOf, IsValid};
+ghost use Rattle.px_table.specs.Supports.{Supports};
+ghost use Rattle.px_table.specs.Tables.{AreOfProblem, rows_of};
+ghost use Rattle.px_diff.specs.Learned.{AreLearned};
+ghost use Rattle.px_ends.specs.Ends.{IsFound};
+ghost use Rattle.px_ends.specs.Made.{MovesRows};
+ghost use Rattle.px_ends.specs.Tasks.{initial_node, steps_of, task_of};
+ghost use Rattle.px_support.specs.Asking.{IsAskable, task_for};
+ghost use Rattle.px_support.specs.Going.{AreTaken};
+
+use crate::asked::Asked;
+use crate::laws::moves_have_supports;
+use crate::rows::first_row;
+use crate::walk::{Walk, take_all};
+use px_base::{NoMemory, Sequence, push};
+use px_ops::Model;
+use px_table::{Move, Row, Table};
+use px_terms::{Atom, OpInst, Problem};
+use std::alloc::Global;
+
+/// The steps of a plan with the proofs that carry them.
+#[derive(Drop)]
+pub struct Support {
+    /// The steps, in order.
+    pub steps: Sequence<OpInst>,
+    /// A row of proofs for each step, and the goal's row last.
+    pub rows: Vec<Row>,
+}
+
+/// Puts the goal's row last.
+fn with_goal(asked: &Asked, walk: Walk, moves: &[Move]) -> Result<Support, NoMemory>
+    requires asked { IsAskable asked.now }
+    requires taken { AreTaken (task_for asked.now) moves.now walk }
+    requires short { length moves.now < 4294967295 }
+    ensures steps { IfOk result (λ support. support.steps ≡ steps_of asked.now.tables.now [] moves.now) }
+    ensures rows { IfOk result (λ support. MovesRows (task_for asked.now) (initial_node (task_for asked.now)) [] moves.now (rows_of support.rows.items)) }
+    ensures short { IfOk result (λ support. length support.steps < 4294967295) }
+{
+    let Walk {
+        model,
+        steps,
+        mut rows,
+        ..
+    } = walk;
+    let row = first_row(
+        asked.alloc,
+        asked.problem,
+        &steps,
+        &model,
+        asked.goal,
+        asked.vars,
+    )?;
+    push(&mut rows, row)?;
+    Ok(Support {
+        steps: Sequence::from_vec(steps),
+        rows,
+    })
+}
+
+/// The support of the moves that a search found, without learned tables: the steps that the moves take, and the first proofs
+/// of what each step needs and of the goal, where each fact names the last step before that adds it, or the initial model.
+/// Steps and rows are what `build` of `px_table` makes a table of.
+///
+/// # Errors
+/// `NoMemory` where there is none.
+pub fn support_of(
+    alloc: Global,
+    problem: &Problem,
+    initial: &Model,
+    goal: &[Atom],
+    vars: u32,
+    tables: &[Table],
+    moves: &[Move],
+) -> Result<Support, NoMemory>
+    requires problem { IsValid problem.now }
+    requires goal { All (IsAtomOf problem.now vars) goal.now }
+    requires few_variables { vars ≤ 12 }
+    requires some_object { 0 < vars → 0 < problem.now.objects }
+    requires tables { AreLearned problem.now tables.now }
+    requires no_tables { tables.now ≡ [] }
+    requires found { IsFound (task_of problem.now tables.now initial.now.atoms goal.now vars) moves.now }
+    requires short { length moves.now < 4294967295 }
+    ensures steps { IfOk result (λ support. support.steps ≡ steps_of tables.now [] moves.now) }
+    ensures rows { IfOk result (λ support. MovesRows (task_of problem.now tables.now initial.now.atoms goal.now vars) (initial_node (task_of problem.now tables.now initial.now.atoms goal.now vars)) [] moves.now (rows_of support.rows.items)) }
+    ensures supports { IfOk result (λ support. Supports problem.now initial.now.atoms support.steps goal.now vars (rows_of support.rows.items)) }
+    ensures of_problem { IfOk result (λ support. AreOfProblem problem.now (rows_of support.rows.items)) }
+    ensures instances { IfOk result (λ support. All (IsInstanceOf problem.now) support.steps) }
+    ensures carries { IfOk result (λ support. Carries problem.now initial.now.atoms support.steps vars goal.now) }
+    ensures short { IfOk result (λ support. length support.steps < 4294967295) }
+{
+    let asked = Asked {
+        alloc,
+        problem,
+        tables,
+        initial,
+        goal,
+        vars,
+    };
+    moves_have_supports();
+    let walk = take_all(&asked, moves)?;
+    with_goal(&asked, walk, moves)
+}

@@ -1,0 +1,169 @@
+//! Going through the moves: the stack and the model as they change, the steps that are taken, and their rows.
+ghost use Rattle.std.specs.Prelude.{◌≡◌, ◌<◌, ◌++◌, ◌∷◌, [], length, map, reverse, All, IfOk};
+ghost use Rattle.px_terms.specs.Operators.{precondition};
+ghost use Rattle.px_terms.specs.Validity.{IsGroundInstanceOf, IsInstanceOf, IsValid};
+ghost use Rattle.px_diff.specs.Entries.{IsEntry, obligations_of};
+ghost use Rattle.px_ends.specs.Tasks.{initial_node};
+ghost use Rattle.px_table.specs.declared.entry.Entry.{Entry};
+ghost use Rattle.px_support.specs.Asking.{AreTakeable, IsAskable, IsFindable, IsTakeable, task_for};
+ghost use Rattle.px_support.specs.Going.{AreTaken, IsEntryApplied, IsTaken, node_in};
+
+use crate::asked::Asked;
+use crate::rows::first_row;
+use px_base::{NoMemory, push};
+use px_ops::{Model, apply_op, precondition_of};
+use px_table::{Entry, Move, Row};
+use px_terms::OpInst;
+use std::alloc::Global;
+
+/// What is reached by moves, and what they made.
+#[derive(Drop)]
+pub struct Walk {
+    /// The entries that are pushed and not applied yet, the top one last.
+    pub stack: Vec<Entry>,
+    /// The model that the steps leave.
+    pub model: Model,
+    /// The steps that are taken.
+    pub steps: Vec<OpInst>,
+    /// A row for each step.
+    pub rows: Vec<Row>,
+}
+
+impl Walk {
+    /// Nothing is done yet. Takes no memory.
+    fn new(alloc: Global, model: Model) -> Walk
+        ensures stack { result.stack.items ≡ [] }
+        ensures model { result.model.atoms ≡ model.atoms }
+        ensures steps { result.steps.items ≡ [] }
+        ensures rows { result.rows.items ≡ [] }
+    {
+        Walk {
+            stack: Vec::new(alloc),
+            model,
+            steps: Vec::new(alloc),
+            rows: Vec::new(alloc),
+        }
+    }
+}
+
+/// Applies the operator's instance: its precondition is proved, and then it is the next step.
+fn apply_instance(asked: &Asked, walk: Walk, inst: &OpInst) -> Result<Walk, NoMemory>
+    requires asked { IsAskable asked.now }
+    requires inst { IsInstanceOf asked.now.problem.now inst.now }
+    requires findable { IsFindable asked.now.problem.now (record { formula = precondition asked.now.problem.now inst.now; vars = 0; facts = walk.model.atoms }) }
+    requires steps { All (IsGroundInstanceOf asked.now.problem.now) walk.steps.items }
+    requires short { length walk.steps.items < 4294967295 }
+    ensures { IfOk result (IsEntryApplied asked.now.problem.now asked.now.tables.now (Entry.Op inst.now) walk) }
+{
+    let Walk {
+        stack,
+        model,
+        mut steps,
+        mut rows,
+    } = walk;
+    let formula = precondition_of(asked.alloc, asked.problem, inst)?;
+    let row = first_row(asked.alloc, asked.problem, &steps, &model, &formula, 0)?;
+    let model = apply_op(asked.alloc, asked.problem, &model, inst)?;
+    push(&mut steps, *inst)?;
+    push(&mut rows, row)?;
+    Ok(Walk {
+        stack,
+        model,
+        steps,
+        rows,
+    })
+}
+
+/// Applies the entry.
+fn apply_entry(asked: &Asked, walk: Walk, entry: &Entry) -> Result<Walk, NoMemory>
+    requires asked { IsAskable asked.now }
+    requires entry { IsEntry asked.now.problem.now asked.now.tables.now entry.now }
+    requires findable { All (IsFindable asked.now.problem.now) (obligations_of asked.now.problem.now asked.now.tables.now walk.model.atoms entry.now) }
+    requires steps { All (IsGroundInstanceOf asked.now.problem.now) walk.steps.items }
+    requires short { length walk.steps.items < 4294967295 }
+    ensures { IfOk result (IsEntryApplied asked.now.problem.now asked.now.tables.now entry.now walk) }
+{
+    match entry {
+        Entry::Op(inst) => apply_instance(asked, walk, inst),
+        Entry::Macro { .. } => unreachable!(),
+    }
+}
+
+/// Takes the top entry from the stack and applies it.
+fn apply_top(asked: &Asked, walk: Walk) -> Result<Walk, NoMemory>
+    requires asked { IsAskable asked.now }
+    requires takeable { IsTakeable (task_for asked.now) (node_in walk) Move.Apply }
+    requires stack { All (IsEntry asked.now.problem.now asked.now.tables.now) (node_in walk).stack }
+    requires steps { All (IsGroundInstanceOf asked.now.problem.now) walk.steps.items }
+    requires short { length walk.steps.items < 4294967295 }
+    ensures { IfOk result (IsTaken (task_for asked.now) Move.Apply walk) }
+{
+    let Walk {
+        mut stack,
+        model,
+        steps,
+        rows,
+    } = walk;
+    match stack.pop() {
+        Some(entry) => {
+            let below = Walk {
+                stack,
+                model,
+                steps,
+                rows,
+            };
+            apply_entry(asked, below, &entry)
+        }
+        None => unreachable!(),
+    }
+}
+
+/// Puts the entry on the stack.
+fn push_entry(asked: &Asked, walk: Walk, entry: &Entry) -> Result<Walk, NoMemory>
+    ensures { IfOk result (IsTaken (task_for asked.now) (Move.Push entry.now) walk) }
+{
+    let Walk {
+        mut stack,
+        model,
+        steps,
+        rows,
+    } = walk;
+    let copy = entry.try_copy()?;
+    push(&mut stack, copy)?;
+    Ok(Walk {
+        stack,
+        model,
+        steps,
+        rows,
+    })
+}
+
+/// Takes the move.
+fn take(asked: &Asked, walk: Walk, m: &Move) -> Result<Walk, NoMemory>
+    requires asked { IsAskable asked.now }
+    requires takeable { IsTakeable (task_for asked.now) (node_in walk) m.now }
+    requires stack { All (IsEntry asked.now.problem.now asked.now.tables.now) (node_in walk).stack }
+    requires steps { All (IsGroundInstanceOf asked.now.problem.now) walk.steps.items }
+    requires short { length walk.steps.items < 4294967295 }
+    ensures { IfOk result (IsTaken (task_for asked.now) m.now walk) }
+{
+    match m {
+        Move::Push(entry) => push_entry(asked, walk, entry),
+        Move::Apply => apply_top(asked, walk),
+    }
+}
+
+/// Takes the moves in order, from the initial model on.
+pub fn take_all(asked: &Asked, moves: &[Move]) -> Result<Walk, NoMemory>
+    requires asked { IsAskable asked.now }
+    requires takeable { AreTakeable (task_for asked.now) (initial_node (task_for asked.now)) moves.now }
+    requires short { length moves.now < 4294967295 }
+    ensures { IfOk result (AreTaken (task_for asked.now) moves.now) }
+{
+    let model = asked.initial.try_copy()?;
+    let mut walk = Walk::new(asked.alloc, model);
+    for m in moves {
+        walk = take(asked, walk, m)?;
+    }
+    Ok(walk)
+}
