@@ -1,6 +1,6 @@
 -- A list of matches stays one when an atom is taken from the atoms or put to them.
-use Rattle.std.specs.Prelude.{◌≡◌, ◌⊎◌, ◌↔◌, Bool, true, false, List, ◌∷◌, filter, Contains}
-use Rattle.std.proofs.Common.{refl, sym, ap, ◌∙◌, subst, inl, inr}
+use Rattle.std.specs.Prelude.{◌≡◌, ◌↔◌, Bool, true, false, List, ◌∷◌, filter, Contains}
+use Rattle.std.proofs.Common.{sym, ap, ◌∙◌, subst, inl, inr}
 use Rattle.std.proofs.lemmas.List.Kept.{IsStrictlySortedBy-filter}
 use Rattle.px_base.specs.ListLaws.{Contains-cases, Contains-filter, Contains-first, Contains-later}
 use Rattle.px_base.specs.SetLaws.{same_set, with_item-members, with_item-sorted}

@@ -15,3 +15,6 @@ pub mod Fewer
 pub mod Kept
 pub mod Renewed
 pub mod Each
+pub mod Sides
+pub mod Walked
+pub mod Left

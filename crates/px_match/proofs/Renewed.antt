@@ -1,5 +1,5 @@
 -- The kept atoms and their lists, when an atom of a new sensing came or one is gone.
-use Rattle.std.specs.Prelude.{◌≡◌, ◌↔◌, ◌⊎◌, ◌≤◌, ◌<◌, ◌+◌, ◌-◌, ◌&&◌, ◌==◌, ℕ, Bool, true, false, not, List, [], ◌∷◌, ◌++◌, length, map, filter, take, drop, All, Contains, IsTrue, MatchBool, cond}
+use Rattle.std.specs.Prelude.{◌≡◌, ◌⊎◌, ◌≤◌, ◌<◌, ◌+◌, ◌-◌, ◌==◌, ℕ, Bool, true, false, not, List, [], ◌∷◌, ◌++◌, length, map, take, drop, All, Contains, IsTrue, MatchBool, cond}
 use Rattle.std.proofs.Common.{zero, suc, refl, sym, ap, ◌∙◌, subst, inl, inr, get_or, length-append, arith}
 use Rattle.std.proofs.lemmas.List.Sums.{length-filter, count_by-le-length}
 use Rattle.std.proofs.lemmas.List.{get_or_default}
@@ -15,9 +15,8 @@ use Rattle.px_terms.specs.declared.term.Term.{Term}
 use Rattle.px_terms.specs.declared.term.Term.TheVariants.{Obj, Var, Any}
 use Rattle.px_terms.specs.AtomSets.{IsAtomSet, with_atom}
 use Rattle.px_terms.specs.Language.{substitute}
-use Rattle.px_terms.specs.Order.{atom_cmp, atom_eq, term_eq}
+use Rattle.px_terms.specs.Order.{atom_cmp, atom_eq}
 use Rattle.px_terms.specs.OrderLaws.{atom_cmp-same, atom_cmp-total, atom_eq-decides, term_eq-decides}
-use Rattle.px_ops.specs.ModelLaws.{without_atom-ascending, without_atom-members}
 use Rattle.px_ops.specs.Models.{without_atom}
 use Rattle.px_ops.specs.ModelValue.{ModelValue}
 use Rattle.px_table.specs.declared.mark.Mark.{Mark}

@@ -27,31 +27,32 @@
 //! away what is gone and adds what has come. That the lists are exactly these is the invariant of the type.
 //!
 //! A kernel is matched parameter by parameter, each from the first object up. Objects are passed over that no atom of a
-//! mark's list has there, given the objects before, and those with which a step deletes a mark whatever comes later. Each time this
-//! has its reasons, the earlier parameters on whose objects it rests. Where no object is left, the
-//! search goes back to the last reason, over all parameters between. What is found first is
-//! the first in the order of objects. Which marks and deletions are looked at, and when, is a
-//! hint: each passing over is proved by itself, and a full list of objects is tested.
+//! mark's list has there, given the objects before, those with which a step deletes a mark whatever comes later, and those with
+//! which no object is left for a later parameter. Each time this has its reasons, the earlier parameters on whose objects it
+//! rests. Where no object is left, the search goes back to the last reason, over all parameters between. What is found first is
+//! the first in the order of objects. In a list the atom is found by halves, since it ascends, where the mark's terms are known from
+//! the left up to the parameter. Which marks, deletions and later parameters are looked at, and when, is a hint: each passing over
+//! is proved by itself, and a full list of objects is tested.
 //!
 //! What contracts of public calls cite stands in `specs/Matching`, `specs/MatcherValue` and `specs/WorkedDanger`. The other files of
-//! `specs/` are cited by private functions: the reasons (`Reasons`), what the search looks for (`Asking`, `Filling`), its turns with
-//! the measure by which they end (`Turns`), and the lists (`Keeping`).
+//! `specs/` are cited by private functions: the reasons (`Reasons`), what the search looks for (`Asking`, `Filling`), on which side of
+//! an atom what a mark becomes stands (`Seeking`), its turns with the measure by which they end (`Turns`), and the lists (`Keeping`).
 #![tactic(auto)]
 
 mod checking;
-mod clash;
 mod filling;
 mod highest;
+mod hints;
 mod keeping;
 mod laws;
 mod lead;
 mod match_err;
 mod matcher;
+mod meeting;
 mod question;
 mod raising;
 mod reasons;
-#[cfg(test)]
-mod slow;
+mod seeking;
 #[cfg(test)]
 mod test_problems;
 #[cfg(test)]

@@ -6,8 +6,8 @@ ghost use Rattle.px_match.specs.Keeping.{AreEmpty};
 ghost use Rattle.px_match.specs.MatcherValue.{kernel_with};
 ghost use Rattle.px_match.specs.Matching.{IsHighest, NoKernelFits, KernelInstance, first_bad as spec_first_bad};
 
-use crate::clash::{Clash, clashes_of};
 use crate::highest::highest;
+use crate::hints::{Hints, hints_of};
 use crate::keeping::renew;
 use crate::match_err::MatchErr;
 use px_base::{NoMemory, Sequence};
@@ -30,7 +30,7 @@ pub struct Matcher<'a> {
     sensed: Model,
     /// For each mark those of them that it may become.
     lists: Vec<Model>,
-    clashes: Vec<Clash>,
+    hints: Vec<Hints>,
     cells: Vec<bool>,
     work: Vec<u32>,
     instance: Vec<u32>,
@@ -120,7 +120,7 @@ impl<'a> Matcher<'a> {
         bound.extend_from_slice(bind)?;
         let sensed = model_with_room(alloc, room)?;
         let lists = lists_of(alloc, table.marks.len(), room)?;
-        let clashes = clashes_of(alloc, problem, table)?;
+        let hints = hints_of(alloc, problem, table)?;
         let cells = vec![in alloc; false; params * params]?;
         let work = vec![in alloc; 0u32; params]?;
         let instance = vec![in alloc; 0u32; params]?;
@@ -131,7 +131,7 @@ impl<'a> Matcher<'a> {
             room,
             sensed,
             lists,
-            clashes,
+            hints,
             cells,
             work,
             instance,
@@ -156,7 +156,7 @@ impl<'a> Matcher<'a> {
             self.table,
             self.bound.as_slice(),
             &self.lists,
-            &self.clashes,
+            &self.hints,
             &mut self.cells,
             &mut self.work,
             model,

@@ -1,5 +1,5 @@
 //! What is looked for.
-use crate::clash::Clash;
+use crate::hints::Hints;
 use px_ops::Model;
 use px_table::Table;
 use px_terms::Problem;
@@ -13,7 +13,8 @@ pub struct Question<'a> {
     pub model: &'a Model,
     /// For each mark the atoms of the model that it may become.
     pub lists: &'a [Model],
-    pub clashes: &'a [Clash],
+    /// For each place what to look at.
+    pub hints: &'a [Hints],
     pub number: u32,
     /// How many objects the problem has.
     pub objects: u32,

@@ -6,27 +6,14 @@ ghost use Rattle.px_match.specs.Asking.{Excludes, IsAnswer, IsQuestion, IsRaised
 ghost use Rattle.px_match.specs.Matching.{Extends};
 ghost use Rattle.px_match.specs.Reasons.{Agree, Grown, IsAtMost, object_at};
 
-use crate::clash::Clash;
 use crate::filling::least;
+use crate::hints::Clash;
+use crate::meeting::has_meeting;
 use crate::question::Question;
 use crate::reasons::blame;
 use px_ops::schema_of;
 use px_table::atom_with;
 use px_terms::{Atom, Term, apply, instance_of};
-
-/// Is the parameter of the place among the terms, or, at place 0, is there none at all?
-fn concerns(terms: &[Term], place: usize) -> bool {
-    let mut is_plain = true;
-    for term in terms {
-        if let Term::Var(number) = *term {
-            if number as usize == place {
-                return true;
-            }
-            is_plain = false;
-        }
-    }
-    is_plain && place == 0
-}
 
 /// Are all parameters among the terms up to the place?
 fn are_up_to(terms: &[Term], place: usize) -> bool
@@ -59,6 +46,44 @@ fn least_bound(bound: &[(u32, u32)], place: usize, from: u32) -> Option<u32>
     Some(from)
 }
 
+/// The first object from that of the place on that the mark of that number allows.
+fn raise_by_mark(
+    question: &Question,
+    cells: &mut [bool],
+    work: &[u32],
+    place: usize,
+    number: usize,
+) -> Option<u32>
+    requires asked { IsQuestion question.now }
+    requires short { length work.now ≤ 4294967295 }
+    requires work { IsInstantiation question.now.problem.now question.now.table.now work.now }
+    requires place { place < length work.now }
+    ensures grown { Grown cells.old cells.new }
+    ensures raised { IsRaised question.now cells.new work.now place (object_at work.now place) result }
+{
+    let from = work[place];
+    let marks = question.table.marks.as_slice();
+    if number >= marks.len() {
+        return Some(from);
+    }
+    let mark = &marks[number];
+    if question.number > mark.row || mark.column >= question.number {
+        return Some(from);
+    }
+    let raised = least(
+        question.lists[number].atoms(),
+        &mark.atom,
+        work,
+        place,
+        from,
+    );
+    if raised == Some(from) {
+        return raised;
+    }
+    blame(cells, work.len(), place, mark.atom.args());
+    raised
+}
+
 /// The first object from that of the place on that the first mark which passes over one allows.
 fn raise_by_marks(
     question: &Question,
@@ -74,18 +99,13 @@ fn raise_by_marks(
     ensures raised { IsRaised question.now cells.new work.now place (object_at work.now place) result }
 {
     let from = work[place];
-    let marks = question.table.marks.as_slice();
-    let lists = question.lists;
-    for (at, mark) in marks.iter().enumerate() {
-        if question.number <= mark.row
-            && mark.column < question.number
-            && concerns(mark.atom.args(), place)
-        {
-            let raised = least(lists[at].atoms(), &mark.atom, work, place, from);
-            if raised != Some(from) {
-                blame(cells, work.len(), place, mark.atom.args());
-                return raised;
-            }
+    let Some(hints) = question.hints.get(place) else {
+        return Some(from);
+    };
+    for number in hints.marks.as_slice() {
+        let raised = raise_by_mark(question, cells, work, place, *number);
+        if raised != Some(from) {
+            return raised;
         }
     }
     Some(from)
@@ -137,13 +157,14 @@ fn has_clash(question: &Question, cells: &mut [bool], work: &[u32], place: usize
     ensures grown { Grown cells.old cells.new }
     ensures never { IsTrue result → (objects : List ℕ) → IsAnswer question.now objects → Agree cells.new (length work.now) work.now place objects → object_at work.now place ≢ object_at objects place }
 {
-    for clash in question.clashes {
-        if clash.place as usize == place {
-            if let Some((pattern, atom)) = deleting(question, work, place, clash) {
-                blame(cells, work.len(), place, pattern.args());
-                blame(cells, work.len(), place, atom.args());
-                return true;
-            }
+    let Some(hints) = question.hints.get(place) else {
+        return false;
+    };
+    for clash in hints.clashes.as_slice() {
+        if let Some((pattern, atom)) = deleting(question, work, place, clash) {
+            blame(cells, work.len(), place, pattern.args());
+            blame(cells, work.len(), place, atom.args());
+            return true;
         }
     }
     false
@@ -167,7 +188,7 @@ fn raise(question: &Question, cells: &mut [bool], work: &[u32], place: usize) ->
     if raised != Some(from) {
         return raised;
     }
-    if has_clash(question, cells, work, place) {
+    if has_clash(question, cells, work, place) || has_meeting(question, cells, work, place) {
         return Some(from + 1);
     }
     Some(from)

@@ -1,4 +1,4 @@
-use Rattle.std.proofs.Common.{◌≡◌, sym, ap, ◌∙◌}
+use Rattle.std.proofs.Common.{sym, ap, ◌∙◌}
 use Rattle.px_terms.specs.AtomSets.{with_atom}
 use Rattle.px_match.specs.Keeping.{covers}
 use Rattle.px_match.proofs.Fewer.{room_put}

@@ -1,5 +1,4 @@
-use Rattle.std.proofs.Common.{◌≡◌, sym, ap, ◌∙◌}
-use Rattle.px_terms.specs.AtomSets.{IsAtomSet}
+use Rattle.std.proofs.Common.{sym, ap, ◌∙◌}
 use Rattle.px_ops.specs.Models.{without_atom}
 use Rattle.px_match.specs.Keeping.{covers}
 use Rattle.px_match.proofs.Fewer.{room_taken}

@@ -1,0 +1,170 @@
+//! Passing over an object because none is left for a later parameter: marks that have it and no other parameter after the
+//! place don't agree on its object.
+ghost use Rattle.std.specs.Prelude.{◌≡◌, ◌≢◌, ◌<◌, ◌≤◌, ◌+◌, ℕ, List, Option, All, IsTrue, IfSome, length};
+ghost use Rattle.px_table.specs.Kernels.{IsInstantiation};
+ghost use Rattle.px_match.specs.Asking.{IsAnswer, IsLeft, IsQuestion};
+ghost use Rattle.px_match.specs.Reasons.{Agree, Grown, IsBlamed, IsNear, object_at};
+
+use crate::filling::least;
+use crate::question::Question;
+use crate::reasons::blame;
+use px_terms::Term;
+
+/// Is no parameter of the terms between the place and the later one?
+fn are_near(terms: &[Term], place: usize, later: usize) -> bool
+    ensures { IsTrue result → All (IsNear place later) terms.now }
+{
+    for term in terms {
+        if let Term::Var(number) = *term {
+            let at = number as usize;
+            if place < at && at < later {
+                return false;
+            }
+        }
+    }
+    true
+}
+
+/// The parameters among the terms that come before the place are reasons, where that is asked.
+fn blame_if(cells: &mut [bool], params: usize, place: usize, terms: &[Term], is_blamed: bool)
+    requires params { params ≤ 4294967295 }
+    requires place { place < params }
+    ensures grown { Grown cells.old cells.new }
+    ensures blamed { IsTrue is_blamed → All (IsBlamed cells.new params place) terms.now }
+{
+    if is_blamed {
+        blame(cells, params, place, terms);
+    }
+}
+
+/// The least object from `from` on that the mark of that number allows at the later place, whatever stands between.
+fn least_left(
+    question: &Question,
+    cells: &mut [bool],
+    work: &[u32],
+    place: usize,
+    later: usize,
+    from: u32,
+    number: usize,
+    is_blamed: bool,
+) -> Option<u32>
+    requires asked { IsQuestion question.now }
+    requires short { length work.now ≤ 4294967295 }
+    requires work { IsInstantiation question.now.problem.now question.now.table.now work.now }
+    requires place { place < later }
+    requires later { later < length work.now }
+    ensures grown { Grown cells.old cells.new }
+    ensures at_least { IfSome result (λ r. from ≤ r) }
+    ensures left { IsTrue is_blamed → IsLeft question.now cells.new work.now place later from result }
+{
+    let marks = question.table.marks.as_slice();
+    if number >= marks.len() {
+        return Some(from);
+    }
+    let mark = &marks[number];
+    if question.number > mark.row
+        || mark.column >= question.number
+        || !are_near(mark.atom.args(), place, later)
+    {
+        return Some(from);
+    }
+    blame_if(cells, work.len(), place, mark.atom.args(), is_blamed);
+    least(
+        question.lists[number].atoms(),
+        &mark.atom,
+        work,
+        later,
+        from,
+    )
+}
+
+/// The same for all marks that have the parameter of the later place, in turn.
+#[tactic(auto, using(crate::proofs::Left::left_itself, crate::proofs::Left::left_then))]
+fn least_left_by_marks(
+    question: &Question,
+    cells: &mut [bool],
+    work: &[u32],
+    place: usize,
+    later: usize,
+    from: u32,
+    is_blamed: bool,
+) -> Option<u32>
+    requires asked { IsQuestion question.now }
+    requires short { length work.now ≤ 4294967295 }
+    requires work { IsInstantiation question.now.problem.now question.now.table.now work.now }
+    requires place { place < later }
+    requires later { later < length work.now }
+    ensures grown { Grown cells.old cells.new }
+    ensures at_least { IfSome result (λ r. from ≤ r) }
+    ensures left { IsTrue is_blamed → IsLeft question.now cells.new work.now place later from result }
+{
+    let Some(hints) = question.hints.get(later) else {
+        return Some(from);
+    };
+    let mut object = from;
+    for number in hints.marks.as_slice() {
+        match least_left(
+            question, cells, work, place, later, object, *number, is_blamed,
+        ) {
+            None => return None,
+            Some(next) => object = next,
+        }
+    }
+    Some(object)
+}
+
+/// Is no object left for the later place?
+#[tactic(auto, using(crate::proofs::Left::left_itself, crate::proofs::Left::left_then, crate::proofs::Left::none_left))]
+fn is_none_left(
+    question: &Question,
+    cells: &mut [bool],
+    work: &[u32],
+    place: usize,
+    later: usize,
+    is_blamed: bool,
+) -> bool
+    requires asked { IsQuestion question.now }
+    requires short { length work.now ≤ 4294967295 }
+    requires work { IsInstantiation question.now.problem.now question.now.table.now work.now }
+    requires place { place < later }
+    requires later { later < length work.now }
+    ensures grown { Grown cells.old cells.new }
+    ensures never { IsTrue is_blamed → IsTrue result → (objects : List ℕ) → IsAnswer question.now objects → Agree cells.new (length work.now) work.now place objects → object_at work.now place ≢ object_at objects place }
+{
+    let mut from = 0;
+    loop {
+        match least_left_by_marks(question, cells, work, place, later, from, is_blamed) {
+            None => return true,
+            Some(object) => {
+                if object <= from {
+                    return false;
+                }
+                from = object;
+            }
+        }
+    }
+}
+
+/// Is no object left for a later place? Reasons are put only where that is so.
+pub fn has_meeting(question: &Question, cells: &mut [bool], work: &[u32], place: usize) -> bool
+    requires asked { IsQuestion question.now }
+    requires short { length work.now ≤ 4294967295 }
+    requires work { IsInstantiation question.now.problem.now question.now.table.now work.now }
+    ensures grown { Grown cells.old cells.new }
+    ensures never { IsTrue result → (objects : List ℕ) → IsAnswer question.now objects → Agree cells.new (length work.now) work.now place objects → object_at work.now place ≢ object_at objects place }
+{
+    let Some(hints) = question.hints.get(place) else {
+        return false;
+    };
+    for number in hints.meetings.as_slice() {
+        let later = *number;
+        if place < later
+            && later < work.len()
+            && is_none_left(question, cells, work, place, later, false)
+            && is_none_left(question, cells, work, place, later, true)
+        {
+            return true;
+        }
+    }
+    false
+}
