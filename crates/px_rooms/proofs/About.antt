@@ -12,7 +12,8 @@ use Rattle.px_terms.specs.Order.{atom_cmp}
 use Rattle.px_terms.specs.OrderLaws.{atom_cmp-total, atom_cmp-same}
 use Rattle.px_rooms.specs.declared.standing.Standing.{Standing}
 use Rattle.px_rooms.specs.declared.standing.Standing.TheVariants.{Room as a_room, Door as a_door, Box as a_box}
-use Rattle.px_rooms.specs.States.{RoomState, atoms_about, atoms_from, atoms_of_thing, beside_atoms, door_atom, rendering, robot_atoms, thing_atoms}
+use Rattle.px_rooms.specs.Looking.{atoms_about, atoms_of_thing}
+use Rattle.px_rooms.specs.States.{RoomState, atoms_from, beside_atoms, door_atom, rendering, robot_atoms, thing_atoms}
 
 -- ---- the facts about an object
 

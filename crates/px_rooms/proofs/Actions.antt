@@ -1,23 +1,19 @@
 -- Each action and each edit: the facts that it leaves, and that it leaves a state.
-use Rattle.std.specs.Prelude.{◌≡◌, ◌⊎◌, ◌↔◌, ◌<◌, ◌≤◌, ◌+◌, ◌==◌, ℕ, Bool, true, false, Option, Some, None, List, [], ◌∷◌, length, map, slice_get, slice_index_or, Contains, All, if◌then◌else◌}
+use Rattle.std.specs.Prelude.{◌≡◌, ◌⊎◌, ◌↔◌, ◌≤◌, ◌+◌, ◌==◌, ℕ, Bool, true, false, Option, Some, None, List, [], ◌∷◌, length, map, slice_get, Contains, if◌then◌else◌}
 use Rattle.std.proofs.Common.{zero, suc, refl, sym, ap, ◌∙◌, subst, inl, inr, arith}
-use Rattle.std.proofs.lemmas.List.{length-set, length-map}
-use Rattle.std.proofs.lemmas.List.Elements.{All-head, All-tail}
+use Rattle.std.proofs.lemmas.List.{length-set}
 use Rattle.px_base.specs.ListLaws.{All-at}
 use Rattle.px_terms.specs.declared.atom.Atom.{Atom}
-use Rattle.px_terms.specs.declared.instance.OpInst.{OpInst}
-use Rattle.px_terms.specs.declared.problem.Problem.{Problem}
-use Rattle.px_terms.specs.declared.term.Term.{Term}
-use Rattle.px_terms.specs.declared.term.Term.TheVariants.{Obj, Var, Any as WildCard}
 use Rattle.px_terms.specs.OperatorLaws.{result_by-length}
-use Rattle.px_terms.specs.Operators.{atoms_of, no_schema, result_of}
-use Rattle.px_terms.specs.Validity.{IsInstanceOf, IsTermOf}
+use Rattle.px_terms.specs.Operators.{atoms_of, result_of}
 use Rattle.px_world.specs.declared.edits.RoomEdit.{RoomEdit}
 use Rattle.px_world.specs.declared.edits.RoomEdit.TheVariants as edit
+use Rattle.px_rooms.specs.declared.action.RoomAction.{RoomAction}
+use Rattle.px_rooms.specs.declared.action.RoomAction.TheVariants as act
 use Rattle.px_rooms.specs.declared.standing.Standing.{Standing}
 use Rattle.px_rooms.specs.declared.standing.Standing.TheVariants.{Door as a_door, Box as a_box}
-use Rattle.px_rooms.specs.Changes.{IsAdmitted, edit_schema, facts_edited, moved, number_of, parted_from, put_beside, put_into, state_edited, things_with, turned, with_thing}
-use Rattle.px_rooms.specs.Domain.{building_problem, in_room, robot, room_schemas}
+use Rattle.px_rooms.specs.Changes.{IsAdmitted, acted, edit_schema, facts_edited, instance_of, parted_from, put_beside, put_into, state_edited, things_with, turned, with_thing}
+use Rattle.px_rooms.specs.Domain.{building_problem, in_room, robot}
 use Rattle.px_rooms.specs.Following.{ActionsAreResults, EditsAreEdits, IsMet}
 use Rattle.px_rooms.specs.States.{IsBoxAt, IsBoxOrDoorOrNone, IsDoorAt, IsRoomAt, IsRoomState, RoomState, StandsRight, building_rules, rendering}
 use Rattle.px_rooms.proofs.ThingKinds.{admitted-same, kind_of}
@@ -120,106 +116,55 @@ edit-leaves state (edit.Door (suc t) is_open) is (x, y, was, here) = record { le
 
 -- ---- actions
 
-pub record ActionLeaves (state : RoomState) (inst : OpInst) : Type 0 where
-  pub left : IsLeft state (moved inst state)
-  pub facts : rendering (moved inst state) ≡ result_of (building_rules state) (rendering state) inst
-
-abbrev action : ℕ → List ℕ → OpInst
-action op objects = record { op = op; args = map Obj objects }
-
-one_of : (os : List ℕ) → length os ≡ 1 → (x : ℕ) × (os ≡ x ∷ [])
-one_of [] e = absurd (omega (arith, e))
-one_of (x ∷ []) e = (x, refl)
-one_of (x ∷ y ∷ os) e = absurd (omega (arith, e))
-
-two_of : (os : List ℕ) → length os ≡ 2 → (x : ℕ) × (y : ℕ) × (os ≡ x ∷ y ∷ [])
-two_of [] e = absurd (omega (arith, e))
-two_of (x ∷ os) e = let rest = one_of os (omega (arith, e)) in (x, rest.0, ap (λ ys. x ∷ ys) rest.1)
-
-three_of : (os : List ℕ) → length os ≡ 3 → (x : ℕ) × (y : ℕ) × (z : ℕ) × (os ≡ x ∷ y ∷ z ∷ [])
-three_of [] e = absurd (omega (arith, e))
-three_of (x ∷ os) e = let rest = two_of os (omega (arith, e)) in (x, rest.0, rest.1, ap (λ ys. x ∷ ys) rest.2)
-
-four_of : (os : List ℕ) → length os ≡ 4 → (w : ℕ) × (x : ℕ) × (y : ℕ) × (z : ℕ) × (os ≡ w ∷ x ∷ y ∷ z ∷ [])
-four_of [] e = absurd (omega (arith, e))
-four_of (x ∷ os) e = let rest = three_of os (omega (arith, e)) in (x, rest.0, rest.1, rest.2, ap (λ ys. x ∷ ys) rest.3)
+pub record ActionLeaves (state : RoomState) (one : RoomAction) : Type 0 where
+  pub left : IsLeft state (acted one state)
+  pub facts : rendering (acted one state) ≡ result_of (building_rules state) (rendering state) (instance_of one)
 
 module _ (state : RoomState) (is : IsRoomState state) where
   -- some atom
   abbrev any : Atom
   any = in_room robot robot
 
-  go-to-box : (b r : ℕ) → IsMet state (action 0 (b ∷ r ∷ [])) → ActionLeaves state (action 0 (b ∷ r ∷ []))
+  go-to-box : (b r : ℕ) → IsMet state (instance_of (act.GoToBox b r)) → ActionLeaves state (act.GoToBox b r)
   go-to-box b r met = record { left = beside-left state b is (inl (box-fact state b (met 0 any (omega arith)))); facts = beside-facts state b }
 
-  go-to-door : (d r s : ℕ) → IsMet state (action 1 (d ∷ r ∷ s ∷ [])) → ActionLeaves state (action 1 (d ∷ r ∷ s ∷ []))
+  go-to-door : (d r s : ℕ) → IsMet state (instance_of (act.GoToDoor d r s)) → ActionLeaves state (act.GoToDoor d r s)
   go-to-door d r s met = record { left = beside-left state d is (inr (between-door state d r s (connects-fact state d r s (met 1 any (omega arith))))); facts = beside-facts state d }
 
-  turn-open : (d : ℕ) → IsDoorAt state.things d → ActionLeaves state (action 2 (d ∷ []))
+  turn-open : (d : ℕ) → IsDoorAt state.things d → ActionLeaves state (act.Open d)
   turn-open zero (x, y, was, here) = absurd (cc)
   turn-open (suc t) (x, y, was, here) = record { left = turned-left state t x y was true is here; facts = door-facts state t x y was true here }
 
-  turn-closed : (d : ℕ) → IsDoorAt state.things d → ActionLeaves state (action 3 (d ∷ []))
+  turn-closed : (d : ℕ) → IsDoorAt state.things d → ActionLeaves state (act.Close d)
   turn-closed zero (x, y, was, here) = absurd (cc)
   turn-closed (suc t) (x, y, was, here) = record { left = turned-left state t x y was false is here; facts = door-facts state t x y was false here }
 
-  go-through : (d r s : ℕ) → IsMet state (action 4 (d ∷ r ∷ s ∷ [])) → ActionLeaves state (action 4 (d ∷ r ∷ s ∷ []))
+  go-through : (d r s : ℕ) → IsMet state (instance_of (act.GoThrough d r s)) → ActionLeaves state (act.GoThrough d r s)
   go-through d r s met = record { left = into-left state s is (between-room state d r s is (connects-fact state d r s (met 0 any (omega arith)))); facts = into-facts state s }
 
-  push-to : (b d r s : ℕ) → IsBoxAt state.things b → IsDoorAt state.things d → ActionLeaves state (action 5 (b ∷ d ∷ r ∷ s ∷ []))
+  push-to : (b d r s : ℕ) → IsBoxAt state.things b → IsDoorAt state.things d → ActionLeaves state (act.PushToDoor b d r s)
   push-to zero d r s (old, beside, here) at = absurd (cc)
   push-to (suc t) d r s (old, beside, here) at = record { left = push-to-left state t old d beside is here at; facts = push-to-facts state t old d beside here }
 
-  push-through : (b d r s : ℕ) → IsBoxAt state.things b → IsRoomAt state.things s → ActionLeaves state (action 6 (b ∷ d ∷ r ∷ s ∷ []))
+  push-through : (b d r s : ℕ) → IsBoxAt state.things b → IsRoomAt state.things s → ActionLeaves state (act.PushThrough b d r s)
   push-through zero d r s (old, beside, here) at = absurd (cc)
   push-through (suc t) d r s (old, beside, here) at = record { left = push-through-left state t old s beside is here at; facts = push-through-facts state t old s beside here }
 
-  of_objects : (op : ℕ) (os : List ℕ) → op < 7 → length os ≡ (slice_index_or room_schemas op no_schema).params → IsMet state (action op os) → ActionLeaves state (action op os)
-  of_objects zero os below count met =
-      let told = two_of os count in
-      subst (λ xs. ActionLeaves state (action 0 xs)) (sym told.2) (go-to-box told.0 told.1 (subst (λ xs. IsMet state (action 0 xs)) told.2 met))
-  of_objects (suc zero) os below count met =
-      let told = three_of os count in
-      subst (λ xs. ActionLeaves state (action 1 xs)) (sym told.3) (go-to-door told.0 told.1 told.2 (subst (λ xs. IsMet state (action 1 xs)) told.3 met))
-  of_objects (suc (suc zero)) os below count met =
-      let told = one_of os count in
-      subst (λ xs. ActionLeaves state (action 2 xs)) (sym told.1) (turn-open told.0 (door-fact state told.0 ((subst (λ xs. IsMet state (action 2 xs)) told.1 met) 0 any (omega arith))))
-  of_objects (suc (suc (suc zero))) os below count met =
-      let told = one_of os count in
-      subst (λ xs. ActionLeaves state (action 3 xs)) (sym told.1) (turn-closed told.0 (door-fact state told.0 ((subst (λ xs. IsMet state (action 3 xs)) told.1 met) 0 any (omega arith))))
-  of_objects (suc (suc (suc (suc zero)))) os below count met =
-      let told = three_of os count in
-      subst (λ xs. ActionLeaves state (action 4 xs)) (sym told.3) (go-through told.0 told.1 told.2 (subst (λ xs. IsMet state (action 4 xs)) told.3 met))
-  of_objects (suc (suc (suc (suc (suc zero))))) os below count met =
-      let told = four_of os count in
-      let here = subst (λ xs. IsMet state (action 5 xs)) told.4 met in
-      subst (λ xs. ActionLeaves state (action 5 xs)) (sym told.4) (push-to told.0 told.1 told.2 told.3 (box-fact state told.0 (here 0 any (omega arith)))
-      (between-door state told.1 told.2 told.3 (connects-fact state told.1 told.2 told.3 (here 4 any (omega arith)))))
-  of_objects (suc (suc (suc (suc (suc (suc zero)))))) os below count met =
-      let told = four_of os count in
-      let here = subst (λ xs. IsMet state (action 6 xs)) told.4 met in
-      subst (λ xs. ActionLeaves state (action 6 xs)) (sym told.4) (push-through told.0 told.1 told.2 told.3 (box-fact state told.0 (here 0 any (omega arith)))
-      (between-room state told.1 told.2 told.3 is (connects-fact state told.1 told.2 told.3 (here 3 any (omega arith)))))
-  of_objects (suc (suc (suc (suc (suc (suc (suc k))))))) os below count met = absurd (omega (arith, below))
-
-  -- the arguments of an instance are objects
-  as_objects : (problem : Problem) (args : List Term) → All (IsTermOf problem 0) args → map Obj (map number_of args) ≡ args
-  as_objects problem [] all = refl
-  as_objects problem (Obj n ∷ args) all = ap (λ rest. Obj n ∷ rest) (as_objects problem args (All-tail (IsTermOf problem 0) (Obj n) args all))
-  as_objects problem (Var v ∷ args) all = absurd (omega (arith, All-head (IsTermOf problem 0) (Var v) args all))
-  as_objects problem (WildCard ∷ args) all = absurd (All-head (IsTermOf problem 0) WildCard args all)
-
-  pub action-leaves : (inst : OpInst) → IsInstanceOf (building_rules state) inst → IsMet state inst → ActionLeaves state inst
-  action-leaves inst of_problem met =
-      let objects : map Obj (map number_of inst.args) ≡ inst.args = as_objects (building_rules state) inst.args of_problem.objects in
-      subst (λ args. ActionLeaves state (record { op = inst.op; args = args })) objects
-      (of_objects inst.op (map number_of inst.args) of_problem.op (length-map inst.args number_of ∙ of_problem.count)
-      (subst (λ args. IsMet state (record { op = inst.op; args = args })) (sym objects) met))
+  pub action-leaves : (one : RoomAction) → IsMet state (instance_of one) → ActionLeaves state one
+  action-leaves (act.GoToBox b r) met = go-to-box b r met
+  action-leaves (act.GoToDoor d r s) met = go-to-door d r s met
+  action-leaves (act.Open d) met = turn-open d (door-fact state d (met 0 any (omega arith)))
+  action-leaves (act.Close d) met = turn-closed d (door-fact state d (met 0 any (omega arith)))
+  action-leaves (act.GoThrough d r s) met = go-through d r s met
+  action-leaves (act.PushToDoor b d r s) met =
+      push-to b d r s (box-fact state b (met 0 any (omega arith))) (between-door state d r s (connects-fact state d r s (met 4 any (omega arith))))
+  action-leaves (act.PushThrough b d r s) met =
+      push-through b d r s (box-fact state b (met 0 any (omega arith))) (between-room state d r s is (connects-fact state d r s (met 3 any (omega arith))))
 
 -- ---- the laws
 
 pub actions-follow : ActionsAreResults
-actions-follow state inst is of_problem met = let leaves = action-leaves state is inst of_problem met in (leaves.left.state, leaves.facts)
+actions-follow state one is met = let leaves = action-leaves state is one met in (leaves.left.state, leaves.facts)
 
 pub edits-follow : EditsAreEdits
 edits-follow state one is admitted = let leaves = edit-leaves state one is admitted in (leaves.left.state, leaves.facts)

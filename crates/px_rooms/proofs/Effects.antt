@@ -16,7 +16,8 @@ use Rattle.px_terms.specs.OperatorLaws.{result_by-members}
 use Rattle.px_terms.specs.Order.{atom_cmp}
 use Rattle.px_terms.specs.OrderLaws.{atom_cmp-total, atom_cmp-same}
 use Rattle.px_terms.specs.Substitution.{substitute_atom}
-use Rattle.px_rooms.specs.States.{RoomState, atoms_about, rendering}
+use Rattle.px_rooms.specs.Looking.{atoms_about}
+use Rattle.px_rooms.specs.States.{RoomState, rendering}
 use Rattle.px_rooms.proofs.About.{IsAbout, about-rendering, rendering-about}
 
 -- ---- numbers

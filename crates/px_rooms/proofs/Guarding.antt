@@ -1,12 +1,14 @@
 -- A world refuses an action where an atom of its precondition isn't a fact.
-use Rattle.std.specs.Prelude.{◌≡◌, ◌+◌, ℕ, Some, length, slice_get, All, Contains}
+use Rattle.std.specs.Prelude.{◌≡◌, ◌≤◌, ◌+◌, ℕ, Some, length, slice_get, All, Contains}
 use Rattle.std.proofs.Common.{ap, ◌∙◌, subst, arith}
+use Rattle.std.proofs.lemmas.List.{length-map}
 use Rattle.px_base.specs.ListLaws.{All-at}
 use Rattle.px_terms.specs.declared.atom.Atom.{Atom}
 use Rattle.px_terms.specs.declared.instance.OpInst.{OpInst}
 use Rattle.px_terms.specs.declared.problem.Problem.{Problem}
 use Rattle.px_terms.specs.declared.problem.Schema.{Schema}
 use Rattle.px_terms.specs.Operators.{atoms_of, precondition, schema_of}
+use Rattle.px_terms.specs.Substitution.{substitute_atom}
 use Rattle.px_terms.specs.Validity.{IsAtomOf, IsInstanceOf, IsValid}
 use Rattle.px_terms.specs.ValidityLaws.{precondition-is_of}
 use Rattle.px_world.specs.Worlds.{IsRefused}
@@ -40,10 +42,12 @@ unmet problem state schema inst k atom world of_problem here at unknown =
           (All-at (IsAtomOf (building_rules state) 0) (precondition (building_rules state) inst) atom (precondition-is_of (building_rules state) inst valid of_problem) needed).1 unknown;
     }
 
-pub met : (problem : Problem) (state : RoomState) (schema : Schema) (inst : OpInst) → IsRoomWorld problem state → schema ≡ schema_of problem inst
-    → HaveBelow (Contains (rendering state)) (atoms_of schema.pre inst) (length (atoms_of schema.pre inst)) → IsMet state inst
-met problem state schema inst world here have =
-    subst (All (Contains (rendering state))) (needs-same problem state schema inst world here) (have-all (Contains (rendering state)) (atoms_of schema.pre inst) have)
+pub met : (problem : Problem) (state : RoomState) (schema : Schema) (inst : OpInst) (k : ℕ) → IsRoomWorld problem state → schema ≡ schema_of problem inst
+    → HaveBelow (Contains (rendering state)) (atoms_of schema.pre inst) k → length schema.pre ≤ k → IsMet state inst
+met problem state schema inst k world here have past =
+    let count : length (atoms_of schema.pre inst) ≡ length schema.pre = length-map schema.pre (substitute_atom inst.args) in
+    subst (All (Contains (rendering state))) (needs-same problem state schema inst world here)
+    (have-all (Contains (rendering state)) (atoms_of schema.pre inst) (λ j y below at. have j y (omega (arith, below, count, past)) at))
 
 -- ---- the laws
 

@@ -1,4 +1,6 @@
 pub mod Wanted
+pub mod Numbers
+pub mod Instances
 pub mod Valid
 pub mod About
 pub mod Effects
@@ -8,7 +10,9 @@ pub mod Telling
 pub mod Kept
 pub mod Actions
 pub mod Starting
+pub mod Beginning
 pub mod Worlds
+pub mod Belonging
 pub mod Counting
 pub mod Refusing
 pub mod ThingKinds

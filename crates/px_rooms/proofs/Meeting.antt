@@ -1,5 +1,5 @@
 -- Going through a list of atoms until one isn't a fact.
-use Rattle.std.specs.Prelude.{◌≡◌, ◌⊎◌, ◌<◌, ◌+◌, ℕ, Some, List, length, All, slice_get, slice_index_or}
+use Rattle.std.specs.Prelude.{◌≡◌, ◌⊎◌, ◌<◌, ◌+◌, ℕ, Bool, false, IsTrue, Some, List, length, All, slice_get, slice_index_or}
 use Rattle.std.proofs.Common.{sym, ap, ◌∙◌, subst, inl, inr, arith}
 use Rattle.std.proofs.lemmas.Option.{get_or_from_slice_get, slice_get-get_or, slice_get_within}
 
@@ -28,3 +28,6 @@ module _ {X : Type 0} (P : X → Type 0) (xs : List X) where
 
   pub have-not : (k : ℕ) (x : X) → slice_get xs k ≡ Some x → ¬ P x → ¬ All P xs
   have-not k x is not all = not (subst P (get_or_from_slice_get xs k x x is) (all k x (slice_get_within xs k x is)))
+
+pub not-there : (b : Bool) (P : Type 0) → (P → IsTrue b) → b ≡ false → ¬ P
+not-there b P to is p = let told = to p in cc

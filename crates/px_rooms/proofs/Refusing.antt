@@ -25,13 +25,14 @@ use Rattle.px_terms.specs.Validity.{IsTermOf}
 use Rattle.px_world.specs.Worlds.{IsRefused}
 use Rattle.px_rooms.specs.declared.standing.Standing.{Standing}
 use Rattle.px_rooms.specs.declared.standing.Standing.TheVariants.{Room as a_room, Door as a_door, Box as a_box}
-use Rattle.px_rooms.specs.Changes.{number_of}
 use Rattle.px_rooms.specs.Domain.{both_ways, connects}
-use Rattle.px_rooms.specs.States.{IsBoxAt, IsBoxOrDoorOrNone, IsDoorAt, IsDoorOrNone, IsRoomAt, IsRoomState, RoomState, StandsRight, atoms_about, atoms_of_thing, beside_atoms, building_rules, door_atom, rendering, thing_at, thing_atoms}
+use Rattle.px_rooms.specs.Looking.{atoms_about, atoms_of_thing}
+use Rattle.px_rooms.specs.States.{IsBoxAt, IsBoxOrDoorOrNone, IsDoorAt, IsDoorOrNone, IsRoomAt, IsRoomState, RoomState, StandsRight, beside_atoms, building_rules, door_atom, rendering, thing_at, thing_atoms}
 use Rattle.px_rooms.proofs.About.{rendering-about}
 use Rattle.px_rooms.proofs.Effects.{same-number}
 use Rattle.px_rooms.proofs.Telling.{connects-back}
 use Rattle.px_rooms.proofs.Worlds.{rendering-ground}
+use Rattle.px_rooms.proofs.Numbers.{number_of}
 
 -- ---- the elements
 

@@ -2,6 +2,7 @@
 use Rattle.std.specs.Prelude.{◌≡◌, ◌<◌, ◌≤◌, ◌+◌, ℕ, List, [], ◌∷◌, ◌++◌, length, take, slice_index_or}
 use Rattle.std.proofs.Common.{zero, suc, sym, ap, ◌∙◌, arith, length-append}
 use Rattle.std.proofs.lemmas.List.{append-nil, append_assoc, length-take-le, take_more}
+use Rattle.px_base.specs.Sets.{set_of}
 use Rattle.px_base.specs.SetLaws.{set_of-push}
 use Rattle.px_terms.specs.declared.atom.Atom.{Atom}
 use Rattle.px_terms.specs.AtomSets.{atom_set, with_atom}
@@ -39,26 +40,42 @@ from-within n (x ∷ xs) (suc k) =
     let rest = from-within (n + 1) xs k in
     omega (arith, rest, length-append (thing_atoms n x) (atoms_from (n + 1) (take k xs)), length-append (thing_atoms n x) (atoms_from (n + 1) xs))
 
--- the facts of the next thing have room where all facts have
-pub next-room : (state : RoomState) (k : ℕ) (d : Standing) (room left : ℕ) → IsRoomState state → k < length state.things → length (rendering state) ≤ room
-    → room ≤ left + length (robot_atoms state ++ atoms_from 1 (take k state.things)) → length (thing_atoms (k + 1) (slice_index_or state.things k d)) ≤ left
-next-room state k d room left is below enough kept =
-    let all = rendering-length state is in
-    let within = from-within 1 state.things (k + 1) in
-    let next = ap length (from-next state.things k d below) in
-    omega (
-      arith,
-      all,
-      within,
-      next,
-      enough,
-      kept,
-      length-append (robot_atoms state) (atoms_from 1 state.things),
-      length-append (robot_atoms state) (atoms_from 1 (take k state.things)),
-      length-append (atoms_from 1 (take k state.things)) (thing_atoms (k + 1) (slice_index_or state.things k d)),
-    )
+-- the facts of the next thing have room where those of all things have
+pub next-room : (things : List Standing) (k : ℕ) (d : Standing) (room left : ℕ) → k < length things → length (atoms_from 1 things) ≤ room → room ≤ left + length (atoms_from 1 (take k things))
+    → length (thing_atoms (k + 1) (slice_index_or things k d)) ≤ left
+next-room things k d room left below enough kept =
+    let within = from-within 1 things (k + 1) in
+    let next = ap length (from-next things k d below) in
+    omega (arith, within, next, enough, kept, length-append (atoms_from 1 (take k things)) (thing_atoms (k + 1) (slice_index_or things k d)))
 
+-- after them so much less is left
+pub next-spare : (things : List Standing) (k : ℕ) (d : Standing) (room old left : ℕ) → k < length things → room ≤ old + length (atoms_from 1 (take k things))
+    → old ≤ left + length (thing_atoms (k + 1) (slice_index_or things k d)) → room ≤ left + length (atoms_from 1 (take (k + 1) things))
+next-spare things k d room old left below kept less =
+    let next = ap length (from-next things k d below) in
+    omega (arith, next, kept, less, length-append (atoms_from 1 (take k things)) (thing_atoms (k + 1) (slice_index_or things k d)))
+
+pub next-atoms : (before : List Atom) (things : List Standing) (k : ℕ) (d : Standing) (new : List Atom) → k < length things
+    → new ≡ atom_set ((before ++ atoms_from 1 (take k things)) ++ thing_atoms (k + 1) (slice_index_or things k d)) → new ≡ atom_set (before ++ atoms_from 1 (take (k + 1) things))
+next-atoms before things k d new below is =
+    is ∙ ap atom_set (append_assoc before (atoms_from 1 (take k things)) (thing_atoms (k + 1) (slice_index_or things k d)) ∙ ap (λ xs. before ++ xs) (sym (from-next things k d below)))
+
+-- the robot's facts have room where all facts have, and then those of the things have
 pub robot-room : (state : RoomState) (room : ℕ) → IsRoomState state → length (rendering state) ≤ room → length (robot_atoms state) ≤ room
 robot-room state room is enough =
     let all = rendering-length state is in
     omega (arith, all, enough, length-append (robot_atoms state) (atoms_from 1 state.things))
+
+pub things-room : (state : RoomState) (room left : ℕ) → IsRoomState state → length (rendering state) ≤ room → room ≤ left + length (robot_atoms state) → length (atoms_from 1 state.things) ≤ left
+things-room state room left is enough kept =
+    let all = rendering-length state is in
+    omega (arith, all, enough, kept, length-append (robot_atoms state) (atoms_from 1 state.things))
+
+pub all-spare : (state : RoomState) (room left last : ℕ) → IsRoomState state → room ≤ left + length (robot_atoms state) → left ≤ last + length (atoms_from 1 state.things) → room ≤ last + length (rendering state)
+all-spare state room left last is first then =
+    let all = rendering-length state is in
+    omega (arith, all, first, then, length-append (robot_atoms state) (atoms_from 1 state.things))
+
+pub no-atoms : (atoms : List Atom) → atoms ≡ [] → atoms ≡ atom_set []
+unfolding set_of
+no-atoms atoms is = is

@@ -8,10 +8,11 @@ use Rattle.px_terms.specs.declared.term.Term.{Term}
 use Rattle.px_terms.specs.declared.term.Term.TheVariants.{Obj}
 use Rattle.px_rooms.specs.declared.standing.Standing.{Standing}
 use Rattle.px_rooms.specs.declared.standing.Standing.TheVariants.{Room as a_room, Door as a_door, Box as a_box}
-use Rattle.px_rooms.specs.Changes.{number_of}
 use Rattle.px_rooms.specs.Domain.{connects, is_box, is_door}
-use Rattle.px_rooms.specs.States.{IsBoxAt, IsDoorAt, RoomState, atoms_about, atoms_of_thing, beside_atoms, rendering, thing_at, thing_atoms}
+use Rattle.px_rooms.specs.Looking.{atoms_about, atoms_of_thing}
+use Rattle.px_rooms.specs.States.{IsBoxAt, IsDoorAt, RoomState, beside_atoms, rendering, thing_at, thing_atoms}
 use Rattle.px_rooms.proofs.About.{IsAbout, about, about-rendering, rendering-about}
+use Rattle.px_rooms.proofs.Numbers.{number_of}
 
 -- ---- which object a fact is about
 

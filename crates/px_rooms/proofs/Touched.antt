@@ -10,7 +10,8 @@ use Rattle.px_terms.specs.Operators.{atoms_of, result_by}
 use Rattle.px_rooms.specs.declared.standing.Standing.{Standing}
 use Rattle.px_rooms.specs.declared.standing.Standing.TheVariants.{Room as a_room}
 use Rattle.px_rooms.specs.Changes.{things_with}
-use Rattle.px_rooms.specs.States.{RoomState, atoms_about, atoms_of_thing, rendering, robot_atoms, thing_atoms}
+use Rattle.px_rooms.specs.Looking.{atoms_about, atoms_of_thing}
+use Rattle.px_rooms.specs.States.{RoomState, rendering, robot_atoms, thing_atoms}
 use Rattle.px_rooms.proofs.About.{all-about}
 use Rattle.px_rooms.proofs.Effects.{Changes, IsSpared, both_ways, same-number, result-by-changes, same-facts}
 

@@ -1,12 +1,16 @@
--- Which lists of things are buildings, and which edits are admitted, in the worked building.
-use Rattle.std.specs.Prelude.{◌≡◌, ◌≢◌, ◌<◌, ℕ, false, None, List, [], ◌∷◌, length}
-use Rattle.std.proofs.Common.{refl, sym, ap, subst, arith}
+-- Which lists of things are buildings, and which edits are admitted, in the worked building; and its problem.
+use Rattle.std.specs.Prelude.{◌≡◌, ◌≢◌, ◌<◌, ◌+◌, ℕ, false, None, List, [], ◌∷◌, length}
+use Rattle.std.proofs.Common.{refl, sym, ap, ◌∙◌, subst, arith}
 use Rattle.std.proofs.lemmas.List.Elements.{All-nil, All-cons}
+use Rattle.px_terms.specs.declared.instance.OpInst.{OpInst}
+use Rattle.px_terms.specs.declared.problem.Problem.{Problem}
+use Rattle.px_terms.specs.Validity.{IsInstanceOf}
 use Rattle.px_world.specs.declared.thing.Thing.{Thing}
 use Rattle.px_world.specs.declared.thing.Thing.TheVariants as thing
 use Rattle.px_rooms.specs.declared.standing.Standing.{Standing}
 use Rattle.px_rooms.specs.declared.standing.Standing.TheVariants.{Room as a_room, Door as a_door, Box as a_box}
-use Rattle.px_rooms.specs.States.{IsBuilding, StandsRight, standings}
+use Rattle.px_rooms.specs.Domain.{building_problem}
+use Rattle.px_rooms.specs.States.{IsBuilding, RoomState, StandsRight, building_rules, first_state, standings}
 use Rattle.px_rooms.specs.WorkedBuilding.{KindFacts, two_rooms}
 
 different : (one other : ℕ) → one < other → one ≢ other
@@ -59,3 +63,12 @@ two_rooms_by things is = subst IsBuilding (sym is) two_rooms_are
 
 pub two_rooms_short : (things : List Thing) → things ≡ two_rooms → length things < 4294967295
 two_rooms_short things is = omega (arith, ap length is)
+
+-- the first state's problem is that of the building
+pub same_rules : (things : List Thing) (state : RoomState) (problem : Problem) → state ≡ first_state things → problem ≡ building_problem (length (standings things) + 1) 1 1 2
+    → building_rules state ≡ problem
+same_rules things state problem is made = ap building_rules is ∙ sym made
+
+-- an instance of an operator is one where the rules are the same
+pub instance_here : (rules problem : Problem) (inst : OpInst) → rules ≡ problem → IsInstanceOf problem inst → IsInstanceOf rules inst
+instance_here rules problem inst same is = subst (λ p. IsInstanceOf p inst) (sym same) is

@@ -17,7 +17,8 @@ use Rattle.px_terms.specs.OrderLaws.{atom_cmp-total, atom_cmp-same}
 use Rattle.px_terms.specs.Validity.{IsValid}
 use Rattle.px_rooms.specs.declared.standing.Standing.{Standing}
 use Rattle.px_rooms.specs.declared.standing.Standing.TheVariants.{Room as a_room, Door as a_door, Box as a_box}
-use Rattle.px_rooms.specs.States.{IsRoomWorld, RoomState, atoms_about, atoms_of_thing, beside_atoms, door_atom, number_first, rendering, thing_atoms}
+use Rattle.px_rooms.specs.Looking.{atoms_about, atoms_of_thing, number_first}
+use Rattle.px_rooms.specs.States.{IsRoomWorld, RoomState, beside_atoms, door_atom, rendering, thing_atoms}
 use Rattle.px_rooms.proofs.About.{about, about-rendering, rendering-about}
 use Rattle.px_rooms.proofs.Telling.{found-about}
 use Rattle.px_rooms.proofs.Valid.{buildings_are_valid}
@@ -60,6 +61,9 @@ about-ground state (suc k) = of_thing-ground (suc k) (slice_get state.things k)
 
 pub facts-ground : (state : RoomState) (k : ℕ) → All IsGround (atoms_about state k)
 facts-ground state k = All-each IsGround (atoms_about state k) (λ atom has. AllByRecursion-at IsGround (atoms_about state k) atom (about-ground state k) has)
+
+pub thing-facts-ground : (k : ℕ) (one : Standing) → All IsGround (thing_atoms k one)
+thing-facts-ground k one = All-each IsGround (thing_atoms k one) (λ atom has. AllByRecursion-at IsGround (thing_atoms k one) atom (thing-ground k one) has)
 
 pub rendering-ground : (state : RoomState) → All IsGround (rendering state)
 rendering-ground state = All-each IsGround (rendering state)

@@ -1,11 +1,10 @@
 -- What actions and edits change in a building, and what an edit leaves of the facts.
-use Rattle.std.specs.Prelude.{ℕ, ◌==◌, Bool, true, false, Option, Some, None, List, [], ◌∷◌, map, set, slice_index, slice_index_or, if◌then◌else◌}
+use Rattle.std.specs.Prelude.{◌≡◌, ℕ, ◌==◌, Bool, true, false, Option, Some, None, List, [], ◌∷◌, set, slice_index_or, if◌then◌else◌}
 use Rattle.std.proofs.Common.{zero, suc}
 use Rattle.px_terms.specs.declared.atom.Atom.{Atom}
 use Rattle.px_terms.specs.declared.instance.OpInst.{OpInst}
 use Rattle.px_terms.specs.declared.problem.Schema.{Schema}
-use Rattle.px_terms.specs.declared.term.Term.{Term}
-use Rattle.px_terms.specs.declared.term.Term.TheVariants.{Obj, Var, Any as WildCard}
+use Rattle.px_terms.specs.declared.term.Term.TheVariants.{Obj, Any as WildCard}
 use Rattle.px_terms.specs.Operators.{result_by}
 use Rattle.px_world.specs.declared.edits.RoomEdit.{RoomEdit}
 use Rattle.px_world.specs.declared.edits.RoomEdit.TheVariants as edit
@@ -56,31 +55,21 @@ acted (act.GoThrough d r s) state = record state { robot_room = s; robot_beside 
 acted (act.PushToDoor b d r s) state = record (with_thing b (put_beside d) state) { robot_beside = Some b }
 acted (act.PushThrough b d r s) state = record (with_thing b (put_into s) state) { robot_room = s; robot_beside = Some b }
 
--- the action of the first objects of a list, for each operator by number
-abbrev pub room_actions : List (List ℕ → RoomAction)
-room_actions =
-    (λ os. act.GoToBox (slice_index os 0) (slice_index os 1))
-    ∷ (λ os. act.GoToDoor (slice_index os 0) (slice_index os 1) (slice_index os 2))
-    ∷ (λ os. act.Open (slice_index os 0))
-    ∷ (λ os. act.Close (slice_index os 0))
-    ∷ (λ os. act.GoThrough (slice_index os 0) (slice_index os 1) (slice_index os 2))
-    ∷ (λ os. act.PushToDoor (slice_index os 0) (slice_index os 1) (slice_index os 2) (slice_index os 3))
-    ∷ (λ os. act.PushThrough (slice_index os 0) (slice_index os 1) (slice_index os 2) (slice_index os 3))
-    ∷ []
+-- the action as an instance of its operator
+abbrev pub instance_of : RoomAction → OpInst
+instance_of (act.GoToBox b r) = record { op = 0; args = Obj b ∷ Obj r ∷ [] }
+instance_of (act.GoToDoor d r s) = record { op = 1; args = Obj d ∷ Obj r ∷ Obj s ∷ [] }
+instance_of (act.Open d) = record { op = 2; args = Obj d ∷ [] }
+instance_of (act.Close d) = record { op = 3; args = Obj d ∷ [] }
+instance_of (act.GoThrough d r s) = record { op = 4; args = Obj d ∷ Obj r ∷ Obj s ∷ [] }
+instance_of (act.PushToDoor b d r s) = record { op = 5; args = Obj b ∷ Obj d ∷ Obj r ∷ Obj s ∷ [] }
+instance_of (act.PushThrough b d r s) = record { op = 6; args = Obj b ∷ Obj d ∷ Obj r ∷ Obj s ∷ [] }
 
--- the object's number
-abbrev pub number_of : Term → ℕ
-number_of (Obj n) = n
-number_of (Var v) = 0
-number_of WildCard = 0
-
--- the action of a ground instance of an operator
-abbrev pub action_of : OpInst → RoomAction
-action_of inst = slice_index_or room_actions inst.op (λ os. act.Open 0) (map number_of inst.args)
-
--- the state that the action leaves
-abbrev pub moved : OpInst → RoomState → RoomState
-moved inst state = acted (action_of inst) state
+-- the new state is what the action leaves of which that is the instance
+pub record IsMoved (inst : OpInst) (old new : RoomState) : Type 0 where
+  pub action : RoomAction
+  pub by_action : inst ≡ instance_of action
+  pub left : new ≡ acted action old
 
 -- ---- edits
 

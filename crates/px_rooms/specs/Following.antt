@@ -7,7 +7,8 @@ use Rattle.px_terms.specs.Operators.{precondition, result_of}
 use Rattle.px_terms.specs.Validity.{IsInstanceOf}
 use Rattle.px_world.specs.declared.edits.RoomEdit.{RoomEdit}
 use Rattle.px_world.specs.Worlds.{IsRefused}
-use Rattle.px_rooms.specs.Changes.{IsAdmitted, facts_edited, moved, state_edited}
+use Rattle.px_rooms.specs.declared.action.RoomAction.{RoomAction}
+use Rattle.px_rooms.specs.Changes.{IsAdmitted, acted, facts_edited, instance_of, state_edited}
 use Rattle.px_rooms.specs.States.{IsRoomState, RoomState, building_rules, rendering}
 
 -- each atom of the precondition is a fact
@@ -16,8 +17,13 @@ IsMet state inst = All (Contains (rendering state)) (precondition (building_rule
 
 -- an action whose precondition is met leaves a state of the building, whose facts are the operator's result
 abbrev pub ActionsAreResults : Type 0
-ActionsAreResults = (state : RoomState) (inst : OpInst) → IsRoomState state → IsInstanceOf (building_rules state) inst → IsMet state inst
-    → IsRoomState (moved inst state) × (rendering (moved inst state) ≡ result_of (building_rules state) (rendering state) inst)
+ActionsAreResults = (state : RoomState) (one : RoomAction) → IsRoomState state → IsMet state (instance_of one)
+    → IsRoomState (acted one state) × (rendering (acted one state) ≡ result_of (building_rules state) (rendering state) (instance_of one))
+
+-- each instance of an operator over the building's objects is that of one action
+pub record InstancesAreActions : Type 0 where
+  pub each : (state : RoomState) (inst : OpInst) → IsInstanceOf (building_rules state) inst → (action : RoomAction) × (inst ≡ instance_of action)
+  pub once : (one other : RoomAction) → instance_of one ≡ instance_of other → one ≡ other
 
 -- an edit that is admitted leaves a state of the building, whose facts are those that the edit leaves
 abbrev pub EditsAreEdits : Type 0

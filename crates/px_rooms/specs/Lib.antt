@@ -1,6 +1,9 @@
 pub mod Domain
 pub mod States
+pub mod Looking
+pub mod RobotCounts
 pub mod Changes
 pub mod WorkedDomain
 pub mod WorkedBuilding
 pub mod Following
+pub mod FactSets

@@ -3,8 +3,7 @@ use Rattle.std.specs.Prelude.{◌≡◌, ◌≢◌, ◌<◌, ◌⊎◌, ◌+◌,
 use Rattle.std.proofs.Common.{zero, suc}
 use Rattle.px_terms.specs.declared.atom.Atom.{Atom}
 use Rattle.px_terms.specs.declared.problem.Problem.{Problem}
-use Rattle.px_terms.specs.declared.term.Term.{Term}
-use Rattle.px_terms.specs.declared.term.Term.TheVariants.{Obj, Var, Any as WildCard}
+use Rattle.px_terms.specs.declared.term.Term.TheVariants.{Obj}
 use Rattle.px_terms.specs.AtomSets.{atom_set}
 use Rattle.px_world.specs.declared.thing.Thing.{Thing}
 use Rattle.px_world.specs.declared.thing.Thing.TheVariants as thing
@@ -94,24 +93,9 @@ thing_atoms k a_room = is_room (Obj k) ∷ []
 thing_atoms k (a_door x y is_open) = is_door (Obj k) ∷ connects (Obj k) (Obj x) (Obj y) ∷ connects (Obj k) (Obj y) (Obj x) ∷ door_atom k is_open ∷ []
 thing_atoms k (a_box r beside) = is_box (Obj k) ∷ in_room (Obj k) (Obj r) ∷ beside_atoms k beside
 
--- the facts about an object, those of which it is the first argument
-abbrev pub atoms_of_thing : ℕ → Option Standing → List Atom
-atoms_of_thing k None = []
-atoms_of_thing k (Some one) = thing_atoms k one
-
+-- those of the robot
 abbrev pub robot_atoms : RoomState → List Atom
 robot_atoms state = in_room robot (Obj state.robot_room) ∷ beside_atoms 0 state.robot_beside
-
-abbrev pub atoms_about : RoomState → ℕ → List Atom
-atoms_about state zero = robot_atoms state
-atoms_about state (suc k) = atoms_of_thing (suc k) (slice_get state.things k)
-
--- the number of the first term, if it is an object
-abbrev pub number_first : List Term → Option ℕ
-number_first [] = None
-number_first (Obj n ∷ terms) = Some n
-number_first (Var v ∷ terms) = None
-number_first (WildCard ∷ terms) = None
 
 -- those of the things from that number on
 abbrev pub atoms_from : ℕ → List Standing → List Atom
@@ -120,7 +104,7 @@ atoms_from k (one ∷ things) = thing_atoms k one ++ atoms_from (k + 1) things
 
 -- all that is true in the state, ascending
 abbrev pub rendering : RoomState → List Atom
-rendering state = atom_set (in_room robot (Obj state.robot_room) ∷ (beside_atoms 0 state.robot_beside ++ atoms_from 1 state.things))
+rendering state = atom_set (robot_atoms state ++ atoms_from 1 state.things)
 
 -- a problem with the building's objects, axiom and operators; its limits are the least
 abbrev pub building_rules : RoomState → Problem

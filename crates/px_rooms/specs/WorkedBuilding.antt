@@ -1,7 +1,6 @@
 -- A small building: its facts, each action and the edits.
-use Rattle.std.specs.Prelude.{◌≡◌, ℕ, Bool, true, false, Option, Some, None, List, [], ◌∷◌, map}
+use Rattle.std.specs.Prelude.{◌≡◌, ℕ, Bool, true, false, Option, Some, None, List, [], ◌∷◌}
 use Rattle.std.specs.List.{list_all, list_any}
-use Rattle.px_terms.specs.declared.instance.OpInst.{OpInst}
 use Rattle.px_terms.specs.declared.term.Term.TheVariants.{Obj}
 use Rattle.px_terms.specs.Operators.{precondition, result_of}
 use Rattle.px_terms.specs.Order.{atom_eq}
@@ -9,7 +8,9 @@ use Rattle.px_world.specs.declared.edits.RoomEdit.{RoomEdit}
 use Rattle.px_world.specs.declared.edits.RoomEdit.TheVariants as edit
 use Rattle.px_world.specs.declared.thing.Thing.{Thing}
 use Rattle.px_world.specs.declared.thing.Thing.TheVariants as thing
-use Rattle.px_rooms.specs.Changes.{IsAdmitted, facts_edited, moved, state_edited}
+use Rattle.px_rooms.specs.declared.action.RoomAction.{RoomAction}
+use Rattle.px_rooms.specs.declared.action.RoomAction.TheVariants as act
+use Rattle.px_rooms.specs.Changes.{IsAdmitted, acted, facts_edited, instance_of, state_edited}
 use Rattle.px_rooms.specs.Domain.{closed, connects, in_room, is_box, is_door, is_room, next_to, opened}
 use Rattle.px_rooms.specs.declared.standing.Standing.TheVariants.{Room as a_room, Door as a_door, Box as a_box}
 use Rattle.px_rooms.specs.States.{IsBuilding, RoomState, building_rules, first_state, rendering}
@@ -28,18 +29,15 @@ standing robot_room robot_beside is_open box_room box_beside =
 
 -- ---- what actions and edits give
 
-abbrev pub action : ℕ → List ℕ → OpInst
-action op objects = record { op = op; args = map Obj objects }
-
 -- whether each atom of the action's precondition is a fact
-abbrev pub is_met : RoomState → OpInst → Bool
-is_met state inst = list_all (λ atom. list_any (atom_eq atom) (rendering state)) (precondition (building_rules state) inst)
+abbrev pub is_met : RoomState → RoomAction → Bool
+is_met state action = list_all (λ atom. list_any (atom_eq atom) (rendering state)) (precondition (building_rules state) (instance_of action))
 
 -- the precondition is met, the action leaves that state, and its facts are what the operator says
-pub record ActionGives (state : RoomState) (inst : OpInst) (next : RoomState) : Type 0 where
-  pub met : is_met state inst ≡ true
-  pub left : moved inst state ≡ next
-  pub facts : rendering next ≡ result_of (building_rules state) (rendering state) inst
+pub record ActionGives (state : RoomState) (action : RoomAction) (next : RoomState) : Type 0 where
+  pub met : is_met state action ≡ true
+  pub left : acted action state ≡ next
+  pub facts : rendering next ≡ result_of (building_rules state) (rendering state) (instance_of action)
 
 -- the edit leaves that state, and its facts are those that the edit leaves
 pub record EditGives (state : RoomState) (one : RoomEdit) (next : RoomState) : Type 0 where
@@ -93,14 +91,14 @@ pub record KindFacts : Type 0 where
 
 -- each of the seven actions; a closed door can't be gone through
 pub record ActionFacts : Type 0 where
-  pub go_to_box : ActionGives (standing 1 (Some 3) true 1 None) (action 0 (4 ∷ 1 ∷ [])) (standing 1 (Some 4) true 1 None)
-  pub go_to_door : ActionGives (standing 1 None false 1 None) (action 1 (3 ∷ 1 ∷ 2 ∷ [])) (standing 1 (Some 3) false 1 None)
-  pub open_door : ActionGives (standing 1 (Some 3) false 1 None) (action 2 (3 ∷ [])) (standing 1 (Some 3) true 1 None)
-  pub close_door : ActionGives (standing 1 (Some 3) true 1 None) (action 3 (3 ∷ [])) (standing 1 (Some 3) false 1 None)
-  pub go_through : ActionGives (standing 1 (Some 3) true 1 None) (action 4 (3 ∷ 1 ∷ 2 ∷ [])) (standing 2 None true 1 None)
-  pub push_to_door : ActionGives (standing 1 (Some 4) true 1 None) (action 5 (4 ∷ 3 ∷ 1 ∷ 2 ∷ [])) (standing 1 (Some 4) true 1 (Some 3))
-  pub push_through : ActionGives (standing 1 (Some 4) true 1 (Some 3)) (action 6 (4 ∷ 3 ∷ 1 ∷ 2 ∷ [])) (standing 2 (Some 4) true 2 None)
-  pub closed_door : is_met (standing 1 (Some 3) false 1 None) (action 4 (3 ∷ 1 ∷ 2 ∷ [])) ≡ false
+  pub go_to_box : ActionGives (standing 1 (Some 3) true 1 None) (act.GoToBox 4 1) (standing 1 (Some 4) true 1 None)
+  pub go_to_door : ActionGives (standing 1 None false 1 None) (act.GoToDoor 3 1 2) (standing 1 (Some 3) false 1 None)
+  pub open_door : ActionGives (standing 1 (Some 3) false 1 None) (act.Open 3) (standing 1 (Some 3) true 1 None)
+  pub close_door : ActionGives (standing 1 (Some 3) true 1 None) (act.Close 3) (standing 1 (Some 3) false 1 None)
+  pub go_through : ActionGives (standing 1 (Some 3) true 1 None) (act.GoThrough 3 1 2) (standing 2 None true 1 None)
+  pub push_to_door : ActionGives (standing 1 (Some 4) true 1 None) (act.PushToDoor 4 3 1 2) (standing 1 (Some 4) true 1 (Some 3))
+  pub push_through : ActionGives (standing 1 (Some 4) true 1 (Some 3)) (act.PushThrough 4 3 1 2) (standing 2 (Some 4) true 2 None)
+  pub closed_door : is_met (standing 1 (Some 3) false 1 None) (act.GoThrough 3 1 2) ≡ false
 
 -- the edits, also where the room or the door's state is the one that was there
 pub record EditFacts : Type 0 where

@@ -1,6 +1,7 @@
 //! Laws about the definitions. The calls do nothing.
 ghost use Rattle.px_rooms.specs.Domain.{BuildingsAreValid};
-ghost use Rattle.px_rooms.specs.Following.{ActionsAreResults, EditsAreEdits, FactsAreFew, RefusalsAreAllowed};
+ghost use Rattle.px_rooms.specs.FactSets.{FactsAreAtoms};
+ghost use Rattle.px_rooms.specs.Following.{ActionsAreResults, EditsAreEdits, FactsAreFew, InstancesAreActions, RefusalsAreAllowed};
 ghost use Rattle.px_rooms.specs.WorkedBuilding.{ActionFacts, EditFacts, KindFacts, StateFacts};
 ghost use Rattle.px_rooms.specs.WorkedDomain.{DomainFacts};
 
@@ -27,6 +28,11 @@ pub fn actions_are_results()
     ensures { ActionsAreResults }
 {}
 
+/// Each instance of an operator over a building's objects is that of one action.
+pub fn instances_are_actions()
+    ensures { InstancesAreActions }
+{}
+
 /// In every state: an edit that is admitted leaves the facts that it says.
 pub fn edits_are_edits()
     ensures { EditsAreEdits }
@@ -36,6 +42,11 @@ pub fn edits_are_edits()
 /// the atom is false there.
 pub fn refusals_are_allowed()
     ensures { RefusalsAreAllowed }
+{}
+
+/// In every state: the facts are a set of atoms over the building's objects and predicates.
+pub fn facts_are_atoms()
+    ensures { FactsAreAtoms }
 {}
 
 /// In every state: each fact is ground, and there are at most four for each thing and two more.

@@ -1,6 +1,4 @@
-//! Buildings: rooms, doors, boxes and a robot, as a domain, as states and as what changes them.
-//!
-//! There is no world of a building yet. These are the definitions that it will meet, with their laws, and the problem.
+//! Buildings: rooms, doors, boxes and a robot, as a domain, as states with what changes them, and as a world.
 //!
 //! # Calling it
 //!
@@ -10,29 +8,45 @@
 //! - `specs/Domain` has what each building gives to its script: eight predicates, one axiom and seven operators with their
 //!   names. [`worked_domain`] has them as lines of a script. [`rooms_problem`] makes the problem of a building, with the limits
 //!   that are asked for. It is valid ([`buildings_are_valid`]).
-//! - `specs/Changes` says what the actions change in a state (`moved`) and what the edits do (`state_edited`), and what an edit
+//! - `specs/Changes` says what the actions change in a state (`acted`), which instance of an operator each action is
+//!   (`instance_of`; each instance is one action, [`instances_are_actions`]), what the edits do (`state_edited`), and what an edit
 //!   leaves of the facts (`facts_edited`). `IsAdmitted` are the edits whose numbers name things of the kinds that are wanted.
 //!   [`worked_building`] tries each action and edit on a small building: the facts of the state that it leaves are what the
 //!   operator, or the edit of the facts, says. That is so in every state, and a state of the building is left
 //!   ([`actions_are_results`], [`edits_are_edits`]).
-//! - Where an atom of a precondition isn't a fact a world may refuse the action ([`refusals_are_allowed`]). Facts are ground, and
-//!   there are few ([`facts_are_few`]).
+//! - [`RoomWorld`] is a building as a world, which contracts see as its state. [`RoomWorld::new`] begins with the first state, and
+//!   answers `NoSuchThing` where the list is no building, if it doesn't answer `NoMemory` there, and nowhere else. `act` answers
+//!   `Guard` exactly where an atom of the precondition isn't a fact, and else does what the action of that instance does
+//!   (`IsMoved`). [`RoomWorld::edit`] answers `NoSuchThing` exactly where the edit isn't admitted. [`RoomWorld::render`] gives
+//!   all facts.
+//! - Where an atom of a precondition isn't a fact a world may refuse the action ([`refusals_are_allowed`]). Facts are a set of
+//!   atoms over the building's objects and predicates ([`facts_are_atoms`]), ground, and there are few ([`facts_are_few`]).
 //! - The laws are calls that do nothing.
 #![tactic(auto)]
 
 mod action;
 mod building;
+#[cfg(test)]
+mod drawing;
+mod errors;
 mod facts;
 mod laws;
+#[cfg(test)]
+mod plain;
 mod problem;
+mod robots;
 mod standing;
+mod start;
 #[cfg(test)]
 mod tests;
 mod things;
+mod world;
 
 pub use building::Building;
+pub use errors::{NoSuchThing, RoomErr};
 pub use laws::{
-    actions_are_results, buildings_are_valid, edits_are_edits, facts_are_few, refusals_are_allowed,
-    worked_building, worked_domain,
+    actions_are_results, buildings_are_valid, edits_are_edits, facts_are_atoms, facts_are_few,
+    instances_are_actions, refusals_are_allowed, worked_building, worked_domain,
 };
 pub use problem::rooms_problem;
+pub use world::RoomWorld;

@@ -1,0 +1,371 @@
+//! The world of a building.
+ghost use Rattle.std.specs.Prelude.{◌≡◌, ◌⊎◌, ◌↔◌, ◌<◌, ◌≤◌, ◌+◌, ◌++◌, ℕ, List, [], length, Some, All, Contains, false, IsTrue, IsErrOf, IfOk, MatchResult, OnOk, OnErr, slice_get};
+ghost use Rattle.px_terms.specs.declared.atom.Atom.{Atom};
+ghost use Rattle.px_terms.specs.declared.term.Term.TheVariants.{Obj};
+ghost use Rattle.px_terms.specs.AtomSets.{atom_set};
+ghost use Rattle.px_terms.specs.Instances.{IsGround};
+ghost use Rattle.px_terms.specs.Operators.{result_of};
+ghost use Rattle.px_terms.specs.Validity.{IsInstanceOf};
+ghost use Rattle.px_world.specs.declared.edits.RoomEdit.{RoomEdit};
+ghost use Rattle.px_world.specs.Worlds.{IsRefused};
+ghost use Rattle.px_rooms.specs.Changes.{IsAdmitted, IsMoved, acted, facts_edited, instance_of, state_edited};
+ghost use Rattle.px_rooms.specs.Following.{IsMet};
+ghost use Rattle.px_rooms.specs.Looking.{atoms_about, number_first};
+ghost use Rattle.px_rooms.specs.States.{IsBuilding, IsRoomState, atoms_from, building_rules, first_state, rendering, robot_atoms as atoms_of_robot};
+
+use crate::action::RoomAction;
+use crate::building::Building;
+use crate::errors::{NoSuchThing, RoomErr};
+use crate::facts::{FewAtoms, ROBOT, in_room, next_to, thing_atoms};
+use crate::problem::problem_of;
+use crate::robots::Robots;
+use crate::standing::Standing;
+use crate::start::{first_things, robots_of};
+use crate::things::{all_stand_right, is_box, is_door, is_room, put_beside, put_into, turn};
+use px_ops::{Model, pre, schema_of};
+use px_terms::{Atom, NoMemory, OpInst, Problem, Term};
+use px_world::{Guard, RoomEdit, World};
+use std::alloc::Global;
+
+/// A building with its robot: rooms, doors that are open or closed, and boxes that the robot pushes.
+///
+/// Contracts see it as its state (`RoomState` in `specs/States`).
+#[derive(Drop)]
+pub struct RoomWorld {
+    rules: Problem,
+    robot_room: u32,
+    robot_beside: Option<u32>,
+    things: Vec<Standing>,
+}
+
+impl std::marker::Model for RoomWorld {
+    ghost use Rattle.px_rooms.specs.States.{RoomState};
+    ghost use Rattle.px_rooms.specs.States.{IsRoomWorld};
+
+    ghost Value = { RoomState };
+
+    ghost view = { λ w. record { robot_room = w.robot_room; robot_beside = w.robot_beside; things = w.things.items } };
+
+    ghost invariant = { λ w. IsRoomWorld w.rules (record { robot_room = w.robot_room; robot_beside = w.robot_beside; things = w.things.items }) };
+}
+
+impl RoomWorld {
+    /// The world of a building, in which nothing is beside anything.
+    ///
+    /// # Errors
+    /// `NoSuchThing` where a number names no thing of the kind that is wanted there, a door has one room on both sides, or
+    /// there isn't exactly one robot; `NoMemory` where there is none for the world.
+    pub fn new(alloc: Global, building: &Building) -> Result<RoomWorld, RoomErr>
+        requires short { length building.now.things < 4294967295 }
+        ensures state { IfOk result (λ world. world ≡ first_state building.now.things) }
+        ensures building { OnOk result (IsBuilding building.now.things) }
+        ensures no_such_thing { IsErrOf result RoomErr.NoSuchThing → ¬ IsBuilding building.now.things }
+        ensures always_refused { ¬ IsBuilding building.now.things → IsErrOf result RoomErr.NoSuchThing ⊎ IsErrOf result RoomErr.NoMemory }
+    {
+        let given = building.things.as_slice();
+        let Robots::One(robot_room) = robots_of(given) else {
+            return Err(RoomErr::NoSuchThing);
+        };
+        let things = match first_things(alloc, given) {
+            Ok(things) => things,
+            Err(NoMemory) => return Err(RoomErr::NoMemory),
+        };
+        if !(is_room(&things, robot_room) && all_stand_right(&things)) {
+            return Err(RoomErr::NoSuchThing);
+        }
+        match problem_of(alloc, given.len() as u32, 1, 1, 2) {
+            Ok(rules) => Ok(RoomWorld {
+                rules,
+                robot_room,
+                robot_beside: None,
+                things,
+            }),
+            Err(NoMemory) => Err(RoomErr::NoMemory),
+        }
+    }
+
+    /// The model of all facts.
+    ///
+    /// # Errors
+    /// `NoMemory` where there is none for four atoms a thing and two more.
+    pub fn render(&self, alloc: Global) -> Result<Model, NoMemory>
+        ensures { IfOk result (λ model. model.atoms ≡ rendering self.now) }
+    {
+        self.known();
+        let mut model = Model::new(alloc);
+        model.reserve(4 * self.things.len() + 2)?;
+        self.sense(&mut model);
+        Ok(model)
+    }
+
+    /// Changes the building from outside. Takes no memory.
+    ///
+    /// # Errors
+    /// `NoSuchThing` exactly where a number names no thing of the kind that is wanted. The world is then as it was.
+    pub fn edit(&mut self, edit: &RoomEdit) -> Result<(), NoSuchThing>
+        ensures exact { MatchResult result (λ _. IsAdmitted self.old edit.now) (λ _. ¬ IsAdmitted self.old edit.now) }
+        ensures edited { OnOk result (self.new ≡ state_edited edit.now self.old) }
+        ensures facts { OnOk result (rendering self.new ≡ facts_edited edit.now (rendering self.old)) }
+        ensures kept { OnErr result (self.new ≡ self.old) }
+        ensures rules { building_rules self.new ≡ building_rules self.old }
+        ensures admitted { (other : RoomEdit) → IsAdmitted self.new other ↔ IsAdmitted self.old other }
+    {
+        if !self.takes(edit) {
+            return Err(NoSuchThing);
+        }
+        self.disturb(edit);
+        Ok(())
+    }
+
+    /// The state is one of a building, of fewer things than there are numbers.
+    fn known(&self)
+        ensures state { IsRoomState self.now }
+        ensures few { length self.now.things < 4294967295 }
+    {
+        let _ = &self.rules;
+    }
+
+    /// Do the numbers of the edit name things of the kinds that are wanted?
+    fn takes(&self, edit: &RoomEdit) -> bool
+        ensures { IsTrue result ↔ IsAdmitted self.now edit.now }
+    {
+        match *edit {
+            RoomEdit::Robot(room) => is_room(&self.things, room),
+            RoomEdit::Box(target, room) => {
+                is_box(&self.things, target) && is_room(&self.things, room)
+            }
+            RoomEdit::Door(door, _) => is_door(&self.things, door),
+        }
+    }
+
+    /// The facts about the robot.
+    fn robot_atoms(&self) -> FewAtoms
+        ensures { result ≡ atoms_of_robot self.now }
+    {
+        let place = in_room(ROBOT, Term::Obj(self.robot_room));
+        match self.robot_beside {
+            None => FewAtoms::of(&[place]),
+            Some(number) => FewAtoms::of(&[place, next_to(ROBOT, Term::Obj(number))]),
+        }
+    }
+
+    /// The facts about an object: those of which it is the first argument.
+    fn atoms_about(&self, number: u32) -> FewAtoms
+        ensures { result ≡ atoms_about self.now number }
+    {
+        if number == 0 {
+            return self.robot_atoms();
+        }
+        match self.things.get(number as usize - 1) {
+            Some(standing) => thing_atoms(number, standing),
+            None => FewAtoms::of(&[]),
+        }
+    }
+
+    /// Is the atom a fact?
+    fn has(&self, atom: &Atom) -> bool
+        ensures { IsTrue result ↔ Contains (rendering self.now) atom.now }
+    {
+        match first_object(atom) {
+            Some(number) => self.atoms_about(number).as_slice().contains(atom),
+            None => false,
+        }
+    }
+
+    /// Is each atom of the instance's precondition true?
+    fn meets(&self, inst: &OpInst) -> bool
+        requires { IsInstanceOf (building_rules self.now) inst.now }
+        ensures test { IsTrue result ↔ IsMet self.now inst.now }
+        ensures guard { result ≡ false → IsRefused (building_rules self.now) (rendering self.now) inst.now }
+    {
+        let schema = schema_of(&self.rules, inst);
+        for k in 0..schema.pre.len() {
+            if !self.has(&pre(schema, inst, k)) {
+                return false;
+            }
+        }
+        true
+    }
+
+    /// Does what the instance says, where its precondition is true.
+    fn follow(&mut self, inst: &OpInst)
+        requires instance { IsInstanceOf (building_rules self.old) inst.now }
+        requires met { IsMet self.old inst.now }
+        ensures moved { IsMoved inst.now self.old self.new }
+        ensures acted { rendering self.new ≡ result_of (building_rules self.old) (rendering self.old) inst.now }
+        ensures rules { building_rules self.new ≡ building_rules self.old }
+        ensures admitted { (edit : RoomEdit) → IsAdmitted self.new edit ↔ IsAdmitted self.old edit }
+    {
+        self.known();
+        let action = self.action_of(inst);
+        self.take(&action);
+    }
+
+    /// The action of which that is the instance.
+    fn action_of(&self, inst: &OpInst) -> RoomAction
+        requires { IsInstanceOf (building_rules self.now) inst.now }
+        ensures { inst.now ≡ instance_of result }
+    {
+        let args = inst.args();
+        let first = number_at(args, 0);
+        let second = number_at(args, 1);
+        let third = number_at(args, 2);
+        let fourth = number_at(args, 3);
+        match inst.op() {
+            0 => RoomAction::GoToBox(first, second),
+            1 => RoomAction::GoToDoor(first, second, third),
+            2 => RoomAction::Open(first),
+            3 => RoomAction::Close(first),
+            4 => RoomAction::GoThrough(first, second, third),
+            5 => RoomAction::PushToDoor(first, second, third, fourth),
+            _ => RoomAction::PushThrough(first, second, third, fourth),
+        }
+    }
+
+    /// Does what the action says.
+    fn take(&mut self, action: &RoomAction)
+        requires state { IsRoomState (acted action.now self.old) }
+        requires count { length (acted action.now self.old).things ≡ length self.old.things }
+        ensures { self.new ≡ acted action.now self.old }
+    {
+        match *action {
+            RoomAction::GoToBox(target, _) => self.robot_beside = Some(target),
+            RoomAction::GoToDoor(door, _, _) => self.robot_beside = Some(door),
+            RoomAction::Open(door) => turn(&mut self.things, door, true),
+            RoomAction::Close(door) => turn(&mut self.things, door, false),
+            RoomAction::GoThrough(_, _, room) => {
+                self.robot_room = room;
+                self.robot_beside = None;
+            }
+            RoomAction::PushToDoor(target, door, _, _) => {
+                put_beside(&mut self.things, target, door);
+                self.robot_beside = Some(target);
+            }
+            RoomAction::PushThrough(target, _, _, beyond) => {
+                put_into(&mut self.things, target, beyond);
+                self.robot_room = beyond;
+                self.robot_beside = Some(target);
+            }
+        }
+    }
+
+    /// Does what the edit says.
+    fn change(&mut self, edit: &RoomEdit)
+        requires state { IsRoomState (state_edited edit.now self.old) }
+        requires count { length (state_edited edit.now self.old).things ≡ length self.old.things }
+        ensures { self.new ≡ state_edited edit.now self.old }
+    {
+        match *edit {
+            RoomEdit::Robot(room) => {
+                self.robot_room = room;
+                self.robot_beside = None;
+            }
+            RoomEdit::Box(target, room) => {
+                put_into(&mut self.things, target, room);
+                if self.robot_beside == Some(target) {
+                    self.robot_beside = None;
+                }
+            }
+            RoomEdit::Door(door, is_open) => turn(&mut self.things, door, is_open),
+        }
+    }
+}
+
+impl World for RoomWorld {
+    type Edit = RoomEdit;
+
+    ghost atoms = { rendering };
+
+    ghost rules = { building_rules };
+
+    ghost admits = { IsAdmitted };
+
+    ghost leaves = { facts_edited };
+
+    ghost spare = { λ w. 18446744073709551615 };
+
+    fn holds(&self, atom: &Atom) -> bool {
+        self.has(atom)
+    }
+
+    fn sense(&self, into: &mut Model) {
+        self.known();
+        add_all(self.robot_atoms().as_slice(), into);
+        add_things(&self.things, into);
+    }
+
+    /// Takes the action, or refuses it: exactly where an atom of the precondition isn't a fact.
+    fn act(&mut self, inst: &OpInst) -> Result<(), Guard>
+        requires instance { IsInstanceOf (building_rules self.old) inst.now }
+        ensures exact { MatchResult result (λ _. IsMet self.old inst.now) (λ _. ¬ IsMet self.old inst.now) }
+        ensures moved { OnOk result (IsMoved inst.now self.old self.new) }
+        ensures acted { OnOk result (rendering self.new ≡ result_of (building_rules self.old) (rendering self.old) inst.now) }
+        ensures guard { OnErr result (IsRefused (building_rules self.old) (rendering self.old) inst.now) }
+        ensures kept { OnErr result (self.new ≡ self.old) }
+        ensures rules { building_rules self.new ≡ building_rules self.old }
+        ensures admitted { (edit : RoomEdit) → IsAdmitted self.new edit ↔ IsAdmitted self.old edit }
+    {
+        if !self.meets(inst) {
+            return Err(Guard);
+        }
+        self.follow(inst);
+        Ok(())
+    }
+
+    /// Changes the building from outside.
+    fn disturb(&mut self, edit: &RoomEdit)
+        requires admitted { IsAdmitted self.old edit.now }
+        ensures edited { self.new ≡ state_edited edit.now self.old }
+        ensures atoms { rendering self.new ≡ facts_edited edit.now (rendering self.old) }
+        ensures number { length (rendering self.new) ≤ length (rendering self.old) + 1 }
+        ensures rules { building_rules self.new ≡ building_rules self.old }
+        ensures admitted { (other : RoomEdit) → IsAdmitted self.new other ↔ IsAdmitted self.old other }
+    {
+        self.known();
+        self.change(edit);
+    }
+}
+
+/// The number of the atom's first argument, if it is an object.
+fn first_object(atom: &Atom) -> Option<u32>
+    ensures { result ≡ number_first atom.now.args }
+{
+    match atom.args().first() {
+        Some(Term::Obj(number)) => Some(*number),
+        _ => None,
+    }
+}
+
+/// The number of the object at a place, where there is one.
+fn number_at(terms: &[Term], place: usize) -> u32
+    ensures { (n : ℕ) → slice_get terms.now place ≡ Some (Obj n) → result ≡ n }
+{
+    match terms.get(place) {
+        Some(Term::Obj(number)) => *number,
+        _ => 0,
+    }
+}
+
+/// Adds ground atoms to a model that has room for them.
+fn add_all(atoms: &[Atom], into: &mut Model)
+    requires is_ground { All IsGround atoms.now }
+    requires room { length atoms.now ≤ into.old.spare }
+    ensures atoms { (before : List Atom) → into.old.atoms ≡ atom_set before → into.new.atoms ≡ atom_set (before ++ atoms.now) }
+    ensures spare { into.old.spare ≤ into.new.spare + length atoms.now }
+{
+    for atom in atoms {
+        into.insert_spare(*atom);
+    }
+}
+
+/// Adds the facts about the things to a model that has room for them.
+fn add_things(things: &[Standing], into: &mut Model)
+    requires few { length things.now < 4294967295 }
+    requires room { length (atoms_from 1 things.now) ≤ into.old.spare }
+    ensures atoms { (before : List Atom) → into.old.atoms ≡ atom_set before → into.new.atoms ≡ atom_set (before ++ atoms_from 1 things.now) }
+    ensures spare { into.old.spare ≤ into.new.spare + length (atoms_from 1 things.now) }
+{
+    for (place, standing) in things.iter().enumerate() {
+        add_all(thing_atoms(place as u32 + 1, standing).as_slice(), into);
+    }
+}
