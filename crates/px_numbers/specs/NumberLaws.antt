@@ -170,3 +170,28 @@ all_stand-push kept keys nodes key node all stands = record {
     ]
   ];
 }
+
+-- no pair is no node
+pub all_stand-none : (kept : Kept) (keys : List NodeKey) → keys ≡ [] → AllStand kept keys []
+all_stand-none kept keys none = record {
+  count = ap length none;
+  each = λ k key node at_key at_node. absurd (omega (arith, place_in [] k node at_node));
+}
+
+pub tails_stand : (kept : Kept) (key : NodeKey) (keys : List NodeKey) (node : Node) (nodes : List Node) → AllStand kept (key ∷ keys) (node ∷ nodes) → AllStand kept keys nodes
+tails_stand kept key keys node nodes all = record {
+  count = omega (arith, all.count);
+  each = λ k key' node' at_key at_node. all.each (suc k) key' node' at_key at_node;
+}
+
+-- the pairs are one list of nodes
+pub one_list : (kept : Kept) (keys : List NodeKey) (first second : List Node) → AllStand kept keys first → AllStand kept keys second → first ≡ second
+one_list kept [] [] [] a b = refl
+one_list kept [] [] (n ∷ ns) a b = absurd (omega (arith, b.count))
+one_list kept [] (m ∷ ms) second a b = absurd (omega (arith, a.count))
+one_list kept (key ∷ keys) [] second a b = absurd (omega (arith, a.count))
+one_list kept (key ∷ keys) (m ∷ ms) [] a b = absurd (omega (arith, b.count))
+one_list kept (key ∷ keys) (m ∷ ms) (n ∷ ns) a b =
+    let first = one_node kept key m n (a.each 0 key m refl refl) (b.each 0 key n refl refl) in
+    let rest = one_list kept keys ms ns (tails_stand kept key keys m ms a) (tails_stand kept key keys n ns b) in
+    λ i. first i ∷ rest i

@@ -3,6 +3,7 @@ ghost use Rattle.std.specs.Prelude.{◌≡◌};
 
 use crate::turn::Turn;
 use px_base::Sequence;
+use px_numbers::FirstNodes;
 use px_proof::Shape;
 use px_table::{Node, Table};
 use px_terms::{Atom, OpInst};
@@ -58,7 +59,7 @@ pub enum Reply {
         /// The number of the plan's name.
         name: u32,
         /// The kept nodes, in the order in which they were found.
-        nodes: Sequence<Node>,
+        nodes: FirstNodes,
         /// How many moves lead to the node after them.
         moves: u32,
     },

@@ -6,8 +6,7 @@ ghost use Rattle.px_printer.specs.Texts.{IsNamedTerm, IsNamedAtom, IsNamedInstan
 use crate::{Reply, ShownTerm, refused_text, reply_text, usage_text};
 use px_base::{NoMemory, Sequence};
 use px_names::{Kind, NameErr, Names};
-use px_ops::Model;
-use px_table::Node;
+use px_numbers::{FirstNodes, NodeSet, Numbers};
 use px_terms::{Atom, OpInst, Term};
 use std::alloc::Global;
 use std::rt::HostRuntime;
@@ -75,10 +74,10 @@ fn variable_text(alloc: Global, number: u32) -> Result<String, NoMemory> {
 }
 
 /// Is this the text of the reply?
-fn has_text(alloc: Global, reply: &Reply, names: &Names, want: &str) -> Result<bool, NoMemory>
-    requires { IsNamed names.now reply.now }
+fn has_text(alloc: Global, reply: Reply, names: &Names, want: &str) -> Result<bool, NoMemory>
+    requires { IsNamed names.now reply }
 {
-    let text = reply_text(alloc, reply, names)?;
+    let text = reply_text(alloc, &reply, names)?;
     Ok(text.as_slice() == want.as_bytes())
 }
 
@@ -94,7 +93,7 @@ fn plan_is_right(alloc: Global, names: &Names) -> Result<bool, NoMemory>
     };
     has_text(
         alloc,
-        &reply,
+        reply,
         names,
         "plan P1 2 steps 4 moves\n  1 GOTHRU(室,ROBOT)\n  2 NOOP\n",
     )
@@ -107,25 +106,21 @@ fn facts_are_right(alloc: Global, names: &Names) -> Result<bool, NoMemory>
     let reply = Reply::FactsAre {
         atoms: two_atoms(alloc, names)?,
     };
-    has_text(
-        alloc,
-        &reply,
-        names,
-        "facts 2\n  INROOM(室,ROBOT)\n  ÖFFNE\n",
-    )
+    has_text(alloc, reply, names, "facts 2\n  INROOM(室,ROBOT)\n  ÖFFNE\n")
 }
 
 fn limit_is_right(alloc: Global, names: &Names) -> Result<bool, NoMemory>
     requires { 1 ≤ length names.now.results }
 {
-    let mut nodes = Vec::new(alloc);
-    nodes.push(Node::new(Model::new(alloc), Sequence::from_vec(Vec::new(alloc))))?;
+    let numbers = Numbers::new(alloc);
+    let keys = NodeSet::new(alloc);
+    let nodes = FirstNodes::new(numbers, keys, 0);
     let reply = Reply::NodeLimit {
         name: 0,
-        nodes: Sequence::from_vec(nodes),
+        nodes,
         moves: 1,
     };
-    has_text(alloc, &reply, names, "nodelimit P1 1 nodes 1 moves\n")
+    has_text(alloc, reply, names, "nodelimit P1 0 nodes 1 moves\n")
 }
 
 /// Are the texts right where there are two names of each kind?
@@ -138,7 +133,7 @@ fn texts_are_right(alloc: Global, names: &Names) -> Result<bool, NoMemory> {
     }
     let exhausted = Reply::Exhausted { name: 0 };
     Ok(
-        has_text(alloc, &exhausted, names, "exhausted P1\n")?
+        has_text(alloc, exhausted, names, "exhausted P1\n")?
             && limit_is_right(alloc, names)?
             && facts_are_right(alloc, names)?
             && plan_is_right(alloc, names)?,

@@ -45,7 +45,7 @@ fn push_reply(text: &mut String, reply: &Reply, names: &Names) -> Result<(), All
         }
         Reply::NodeLimit { name, nodes, moves } => {
             let name = names.text(Kind::Result, *name);
-            let count = nodes.len();
+            let count = nodes.count();
             write!(text, "nodelimit {name} {count} nodes {moves} moves\n")
         }
         Reply::ShapeLimit {

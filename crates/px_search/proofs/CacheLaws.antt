@@ -10,8 +10,10 @@ use Rattle.px_base.specs.ListLaws.{Contains-none, Contains-first, Contains-later
 use Rattle.px_ops.specs.KeepLaws.{has_at}
 use Rattle.px_numbers.specs.Numbers.{Kept, KeepsAll}
 use Rattle.px_numbers.specs.NumberLaws.{model_at-grows}
+use Rattle.px_terms.specs.Operators.{results_of}
+use Rattle.px_diff.specs.Entries.{effect_of}
 use Rattle.px_ends.specs.Tasks.{Task}
-use Rattle.px_search.specs.Caches.{IsCache, IsStepsAt}
+use Rattle.px_search.specs.Caches.{AreResults, IsCache, IsResultAt, IsStepsAt}
 use Rattle.px_search.specs.contracts.cache.PlacePartialEq.TheImpl as place_equality
 use Rattle.px_search.specs.declared.cache.Place.{Place}
 use Rattle.px_search.specs.declared.step.Step.{Step}
@@ -48,25 +50,45 @@ cache-remember task kept old new place steps is here more other others has = eli
   | inr same ↦ subst (λ (one : Place × List Step). IsStepsAt task kept one.0 one.1) (sym same) here
 ]
 
+-- ---- the models that applying entries leaves
+
+pub results-start : (task : Task) (kept : Kept) → AreResults task kept []
+results-start task kept place number has = absurd (Contains-none (place, number) has)
+
+result_at-grows : (task : Task) (old new : Kept) (place : Place) (number : ℕ) → KeepsAll old new → IsResultAt task old place number → IsResultAt task new place number
+result_at-grows task old new place number keeps (model, entry, model_at, entry_at, left) =
+    (model, entry, model_at-grows old new place.model model keeps model_at, keeps.entries place.entry entry entry_at, model_at-grows old new number (results_of task.problem model (effect_of task.tables entry)) keeps left)
+
+pub results-grow : (task : Task) (old new : Kept) (known : List (Place × ℕ)) → KeepsAll old new → AreResults task old known → AreResults task new known
+results-grow task old new known keeps are place number has = result_at-grows task old new place number keeps (are place number has)
+
+-- one more is known
+pub results-remember : (task : Task) (kept : Kept) (old new : List (Place × ℕ)) (place : Place) (number : ℕ) → AreResults task kept old → IsResultAt task kept place number
+    → ((one : Place × ℕ) → Contains new one → Contains old one ⊎ (one ≡ (place, number))) → AreResults task kept new
+results-remember task kept old new place number are here more other left has = elim (more (other, left) has) [
+  | inl before ↦ are other left before
+  | inr same ↦ subst (λ (one : Place × ℕ). IsResultAt task kept one.0 one.1) (sym same) here
+]
+
 -- ---- inserting
 
-pub inserted : (entries : List (Place × List Step)) (place : Place) (steps : List Step) (one : Place × List Step) → Contains (insert_entry place_eq entries place steps) one → Contains entries one ⊎ (one ≡ (place, steps))
-inserted [] place steps one has = elim (Contains-cases (place, steps) [] one has) [
+pub inserted : {V : Type 0} (entries : List (Place × V)) (place : Place) (value : V) (one : Place × V) → Contains (insert_entry place_eq entries place value) one → Contains entries one ⊎ (one ≡ (place, value))
+inserted {V} [] place value one has = elim (Contains-cases (place, value) [] one has) [
   | inl is ↦ inr (sym is)
   | inr later ↦ absurd (Contains-none one later)
 ]
-inserted (e ∷ es) place steps one has = by (place_eq place e.0) refl (inserted es place steps one)
+inserted {V} (e ∷ es) place value one has = by (place_eq place e.0) refl (inserted es place value one)
   where
-    by : (b : Bool) → place_eq place e.0 ≡ b → (Contains (insert_entry place_eq es place steps) one → Contains es one ⊎ (one ≡ (place, steps))) → Contains (e ∷ es) one ⊎ (one ≡ (place, steps))
+    by : (b : Bool) → place_eq place e.0 ≡ b → (Contains (insert_entry place_eq es place value) one → Contains es one ⊎ (one ≡ (place, value))) → Contains (e ∷ es) one ⊎ (one ≡ (place, value))
     by true is rest =
-        let now : insert_entry place_eq (e ∷ es) place steps ≡ (e.0, steps) ∷ es = rw is refl in
-        elim (Contains-cases (e.0, steps) es one (subst (λ (l : List (Place × List Step)). Contains l one) now has)) [
-          | inl same ↦ inr (sym same ∙ ap (λ (p : Place). (p, steps)) (sym ((place_eq-decides place e.0).0 is)))
+        let now : insert_entry place_eq (e ∷ es) place value ≡ (e.0, value) ∷ es = rw is refl in
+        elim (Contains-cases (e.0, value) es one (subst (λ (l : List (Place × V)). Contains l one) now has)) [
+          | inl same ↦ inr (sym same ∙ ap (λ (p : Place). (p, value)) (sym ((place_eq-decides place e.0).0 is)))
           | inr later ↦ inl (Contains-later e es one later)
         ]
     by false is rest =
-        let now : insert_entry place_eq (e ∷ es) place steps ≡ e ∷ insert_entry place_eq es place steps = rw is refl in
-        elim (Contains-cases e (insert_entry place_eq es place steps) one (subst (λ (l : List (Place × List Step)). Contains l one) now has)) [
+        let now : insert_entry place_eq (e ∷ es) place value ≡ e ∷ insert_entry place_eq es place value = rw is refl in
+        elim (Contains-cases e (insert_entry place_eq es place value) one (subst (λ (l : List (Place × V)). Contains l one) now has)) [
           | inl same ↦ inl (subst (Contains (e ∷ es)) same (Contains-first e es))
           | inr later ↦ elim (rest later) [
             | inl before ↦ inl (Contains-later e es one before)
@@ -76,13 +98,13 @@ inserted (e ∷ es) place steps one has = by (place_eq place e.0) refl (inserted
 
 -- ---- looking up
 
-keys_at : (entries : List (Place × List Step)) (i : ℕ) (d : Place) (one : Place × List Step) → slice_get entries i ≡ Some one → get_or (keys_of entries) i d ≡ one.0
-keys_at [] i d one at = absurd (cc)
-keys_at (e ∷ es) zero d one at = let same : e ≡ one = cc in ap (λ (p : Place × List Step). p.0) same
-keys_at (e ∷ es) (suc i) d one at = keys_at es i d one at
+keys_at : {V : Type 0} (entries : List (Place × V)) (i : ℕ) (d : Place) (one : Place × V) → slice_get entries i ≡ Some one → get_or (keys_of entries) i d ≡ one.0
+keys_at {V} [] i d one at = absurd (cc)
+keys_at {V} (e ∷ es) zero d one at = let same : e ≡ one = cc in ap (λ (p : Place × V). p.0) same
+keys_at {V} (e ∷ es) (suc i) d one at = keys_at es i d one at
 
-pub found_at : (entries : List (Place × List Step)) (place : Place) (i : ℕ) (one : Place × List Step) → position (place_eq place) (keys_of entries) ≡ Some i → slice_get entries i ≡ Some one → Contains entries (place, one.1)
-found_at entries place i one found at =
+pub found_at : {V : Type 0} (entries : List (Place × V)) (place : Place) (i : ℕ) (one : Place × V) → position (place_eq place) (keys_of entries) ≡ Some i → slice_get entries i ≡ Some one → Contains entries (place, one.1)
+found_at {V} entries place i one found at =
     let p = position-Some (place_eq place) (keys_of entries) i place found in
     let same : place ≡ one.0 = (place_eq-decides place (get_or (keys_of entries) i place)).0 p.1 ∙ keys_at entries i place one at in
     subst (λ (q : Place). Contains entries (q, one.1)) (sym same) (has_at entries i one at)

@@ -12,16 +12,14 @@ use Rattle.px_diff.specs.declared.known.Tried.TheVariants.{Answered, Unanswered,
 use Rattle.px_ops.specs.Keeping.{Keeps}
 use Rattle.px_numbers.specs.declared.nodes.NodeKey.{NodeKey}
 use Rattle.px_numbers.specs.Numbers.{Kept, AreEachOnce, IsKeyOf, KeepsAll, AllStand}
-use Rattle.px_numbers.specs.NumberLaws.{all_stand-push}
+use Rattle.px_numbers.specs.NumberLaws.{all_stand-push, one_list}
 use Rattle.px_ops.specs.KeepLaws.{place_in}
-use Rattle.px_search.specs.declared.ends.SearchErr.{SearchErr}
-use Rattle.px_search.specs.declared.ends.SearchErr.TheVariants.{NodeLimit}
 use Rattle.px_search.specs.declared.step.Step.{Step}
 use Rattle.px_search.specs.declared.step.Origin.{Origin}
 use Rattle.px_search.specs.Asking.{IsTriedAt}
 use Rattle.px_ends.specs.Ends.{IsFound, IsNodeLimit, IsShapeLimit}
 use Rattle.px_search.specs.Going.{LimitsNode}
-use Rattle.px_search.specs.Looping.{Going, IsEnd, IsReached, Trying}
+use Rattle.px_search.specs.Looping.{Going, IsFull, IsReached, Trying}
 use Rattle.px_search.specs.Steps.{IsStepOf, AreStepsOf, AreEarlier, Trace}
 use Rattle.px_ends.specs.Tasks.{Task, initial_node, after}
 use Rattle.px_ends.proofs.Exclusion.{still_there}
@@ -169,19 +167,18 @@ module _ (task : Task) where
           let t = subst (IsTriedAt task (after task st.t.node st.m)) same (says (after task st.t.node st.m) st.stands) in
           going-limit task kept once keys origins next steps i s st.t st.inside st.m st.m_is st.step_is there st.stands fresh.0 formula shapes room t
 
-      pub step-full : (made : List Origin) (nodes : List Node) (count : ℕ) → made ≡ origins ++ origin ∷ [] → task.problem.nodes ≤ length keys → ((all : List Node) → AllStand kept new all → nodes ≡ take task.problem.nodes all)
-          → ((moves : List Move) × (count ≡ length moves) × ((found : List (List Move)) → Trace kept made found → slice_get found (length made) ≡ Some moves)) → IsNodeLimit task nodes count
-      step-full made nodes count is enough firsts (moves, count_is, traced) =
-          subst (λ (n : ℕ). IsNodeLimit task nodes n) (sym count_is)
-          (going-full task kept once keys origins next steps i s st.t st.inside st.m st.m_is st.step_is there st.stands fresh.0 nodes moves enough
-          (subst (λ (l : List NodeKey). (all : List Node) → AllStand kept l all → nodes ≡ take task.problem.nodes all) fresh.1 firsts)
-          (subst (λ (l : List Origin). (found : List (List Move)) → Trace kept l found → slice_get found (length l) ≡ Some moves) is traced))
-
-      pub step-full_end : (made : List Origin) (error : SearchErr) → made ≡ origins ++ origin ∷ [] → task.problem.nodes ≤ length keys
-          → ((firsts : List Node) × (count : ℕ) × (moves : List Move) × (error ≡ NodeLimit firsts count) × ((all : List Node) → AllStand kept new all → firsts ≡ take task.problem.nodes all) × (count ≡ length moves)
-          × ((found : List (List Move)) → Trace kept made found → slice_get found (length made) ≡ Some moves)) → IsEnd task error
-      step-full_end made error is enough (firsts, count, moves, error_is, firsts_are, count_is, traced) =
-          subst (IsEnd task) (sym error_is) (step-full made firsts count is enough firsts_are (moves, count_is, traced))
+      pub step-full : (made : List Origin) (count : ℕ) → made ≡ origins ++ origin ∷ [] → task.problem.nodes ≤ length keys
+          → ((moves : List Move) × (count ≡ length moves) × ((found : List (List Move)) → Trace kept made found → slice_get found (length made) ≡ Some moves)) → IsFull task kept new count
+      step-full made count is enough (moves, count_is, traced) = record {
+        count = step-count enough;
+        stand = step-stand;
+        limit = λ all stand.
+            let here : AllStand kept (keys ++ there ∷ []) all = subst (λ (l : List NodeKey). AllStand kept l all) fresh.1 stand in
+            subst (λ (n : ℕ). IsNodeLimit task (take task.problem.nodes all) n) (sym count_is)
+            (going-full task kept once keys origins next steps i s st.t st.inside st.m st.m_is st.step_is there st.stands fresh.0 (take task.problem.nodes all) moves enough
+            (λ nodes others. ap (λ (l : List Node). take task.problem.nodes l) (one_list kept (keys ++ there ∷ []) all nodes here others))
+            (subst (λ (l : List Origin). (found : List (List Move)) → Trace kept l found → slice_get found (length l) ≡ Some moves) is traced));
+      }
 
   pub node-done : (kept : Kept) (keys : List NodeKey) (origins : List Origin) (next : ℕ) (steps : List Step) (i : ℕ) → Trying task kept keys origins next steps i → length steps ≤ i → Going task kept keys origins (next + 1) []
   node-done kept keys origins next steps i t all =

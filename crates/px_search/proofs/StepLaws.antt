@@ -1,12 +1,14 @@
 -- Moves and tests by numbers.
 use Rattle.std.proofs.Common.{◌≡◌, ℕ, suc, List, [], ◌∷◌, length, refl, ◌∙◌, ap, subst, arith, Some, slice_get}
+use Rattle.std.specs.Prelude.{All}
+use Rattle.std.proofs.lemmas.List.Elements.{All-head}
 use Rattle.px_terms.specs.declared.atom.Atom.{Atom}
 use Rattle.px_terms.specs.Operators.{results_of}
 use Rattle.px_table.specs.declared.entry.Entry.{Entry}
 use Rattle.px_table.specs.declared.entry.Move.{Move}
 use Rattle.px_table.specs.declared.entry.Move.TheVariants as move
 use Rattle.px_table.specs.declared.node.Node.{Node}
-use Rattle.px_diff.specs.Entries.{effect_of}
+use Rattle.px_diff.specs.Entries.{IsEntry, effect_of}
 use Rattle.px_diff.specs.Known.{IsTriedOf}
 use Rattle.px_diff.specs.declared.known.Tried.{Tried}
 use Rattle.px_diff.specs.declared.known.Tried.TheVariants.{Answered, Unanswered, Limited}
@@ -17,20 +19,27 @@ use Rattle.px_numbers.specs.NumberLaws.{one_at, one_model, model_at-grows, stack
 use Rattle.px_search.specs.declared.step.Step.{Step}
 use Rattle.px_search.specs.declared.step.Step.TheVariants as step
 use Rattle.px_search.specs.Asking.{IsTriedAt}
+use Rattle.px_search.specs.Caches.{IsEntryAt, IsResultAt}
 use Rattle.px_search.specs.Steps.{IsStepOf, AreStepsOf}
 use Rattle.px_ends.specs.Tasks.{Task, applied, after, goal_from}
 
-pub applied_stands : (task : Task) (old new : Kept) (key : NodeKey) (frame : Frame) (built next : List Atom) (number : ℕ) (entry : Entry) (model : List Atom) (stack : List Entry) → KeepsAll old new
-    → IsModelAt old key.model built → IsModelAt old key.model model → IsTopOf old stack (Some frame) → slice_get old.entries frame.entry ≡ Some entry
-    → next ≡ results_of task.problem built (effect_of task.tables entry) → IsModelAt new number next → IsKeyOf new (record { model = number; stack = frame.below }) (applied task model stack)
-applied_stands task old new key frame built next number entry model [] keeps built_at model_at top entry_at next_is next_at = absurd top
-applied_stands task old new key frame built next number entry model (e ∷ below) keeps built_at model_at top entry_at next_is next_at =
-    let same_entry : entry ≡ e = one_at old.entries frame.entry entry e entry_at top.0 in
-    let same_model : built ≡ model = one_model old key.model built model built_at model_at in
-    let is : next ≡ results_of task.problem model (effect_of task.tables e) =
-    next_is ∙ ap (λ (m : List Atom). results_of task.problem m (effect_of task.tables entry)) same_model ∙ ap (λ (x : Entry). results_of task.problem model (effect_of task.tables x)) same_entry in
+-- the entry on top is one of the problem's
+pub entry_on_top : (task : Task) (kept : Kept) (key : NodeKey) (frame : Frame) (model : List Atom) (stack : List Entry) → IsModelAt kept key.model model → IsTopOf kept stack (Some frame) → All (IsEntry task.problem task.tables) stack
+    → IsEntryAt task kept (record { model = key.model; entry = frame.entry })
+entry_on_top task kept key frame model [] model_at top all = absurd top
+entry_on_top task kept key frame model (e ∷ below) model_at top all = (model, e, model_at, top.0, All-head (IsEntry task.problem task.tables) e below all)
+
+-- the node after the entry on top was applied
+pub result_stands : (task : Task) (old new : Kept) (key : NodeKey) (frame : Frame) (number : ℕ) (model : List Atom) (stack : List Entry) → KeepsAll old new → IsModelAt old key.model model → IsTopOf old stack (Some frame)
+    → IsResultAt task new (record { model = key.model; entry = frame.entry }) number → IsKeyOf new (record { model = number; stack = frame.below }) (applied task model stack)
+result_stands task old new key frame number model [] keeps model_at top result = absurd top
+result_stands task old new key frame number model (e ∷ below) keeps model_at top (built, entry, built_at, entry_at, left) =
+    let same_entry : entry ≡ e = one_at new.entries frame.entry entry e entry_at (keeps.entries frame.entry e top.0) in
+    let same_model : built ≡ model = one_model new key.model built model built_at (model_at-grows old new key.model model keeps model_at) in
+    let is : results_of task.problem built (effect_of task.tables entry) ≡ results_of task.problem model (effect_of task.tables e) =
+    ap (λ (m : List Atom). results_of task.problem m (effect_of task.tables entry)) same_model ∙ ap (λ (x : Entry). results_of task.problem model (effect_of task.tables x)) same_entry in
     record {
-      model = subst (IsModelAt new number) is next_at;
+      model = subst (IsModelAt new number) is left;
       stack = stack_at-grows old new frame.below below keeps top.1;
     }
 

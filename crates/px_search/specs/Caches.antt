@@ -1,7 +1,9 @@
 -- What a search keeps of what it has learned of entries in models.
 use Rattle.std.specs.Prelude.{◌≡◌, ℕ, List, [], ◌∷◌, Some, slice_get, Contains}
 use Rattle.px_terms.specs.declared.atom.Atom.{Atom}
+use Rattle.px_terms.specs.Operators.{results_of}
 use Rattle.px_table.specs.declared.entry.Entry.{Entry}
+use Rattle.px_diff.specs.Entries.{IsEntry, effect_of}
 use Rattle.px_numbers.specs.Numbers.{Kept, IsModelAt, IsStackAt}
 use Rattle.px_ends.specs.Tasks.{Task}
 use Rattle.px_search.specs.Going.{IsGoneOn}
@@ -25,3 +27,17 @@ pub record IsTopAt (kept : Kept) (place : Place) (below : ℕ) (model : List Ato
   pub model_at : IsModelAt kept place.model model
   pub entry_at : slice_get kept.entries place.entry ≡ Some entry
   pub below_at : IsStackAt kept below rest
+
+-- the entry of the place is one of the problem's, in the model of the place
+abbrev pub IsEntryAt : Task → Kept → Place → Type 0
+IsEntryAt task kept place =
+    (model : List Atom) × (entry : Entry) × IsModelAt kept place.model model × (slice_get kept.entries place.entry ≡ Some entry) × IsEntry task.problem task.tables entry
+
+-- applying the entry of the place in its model leaves the model of the number
+abbrev pub IsResultAt : Task → Kept → Place → ℕ → Type 0
+IsResultAt task kept place number =
+    (model : List Atom) × (entry : Entry) × IsModelAt kept place.model model × (slice_get kept.entries place.entry ≡ Some entry) × IsModelAt kept number (results_of task.problem model (effect_of task.tables entry))
+
+-- all that is kept is so
+abbrev pub AreResults : Task → Kept → List (Place × ℕ) → Type 0
+AreResults task kept known = (place : Place) (number : ℕ) → Contains known (place, number) → IsResultAt task kept place number

@@ -14,6 +14,8 @@ use Rattle.px_ends.proofs.Frontier.{Frontier}
 use Rattle.px_ends.proofs.MoveLaws.{order, same_move}
 use Rattle.px_search.specs.declared.ends.SearchErr.{SearchErr}
 use Rattle.px_search.specs.declared.ends.SearchErr.TheVariants.{Exhausted, NodeLimit, ShapeLimit, NoMemory}
+use Rattle.px_search.specs.declared.progress.Progress.{Progress}
+use Rattle.px_search.specs.declared.progress.Progress.TheVariants.{Unsolved, Solved, Full}
 use Rattle.px_search.specs.declared.step.Origin.{Origin}
 use Rattle.px_search.specs.declared.step.Step.{Step}
 use Rattle.px_search.specs.Going.{IsGoneOn}
@@ -68,3 +70,15 @@ pub record IsReached (task : Task) (kept : Kept) (origins : List Origin) : Type 
   pub earlier : AreEarlier origins
   pub traced : (found : List (List Move)) × Trace kept origins found
   pub found : (moves : List Move) → ((found : List (List Move)) → Trace kept origins found → slice_get found (length origins) ≡ Some moves) → IsFound task moves
+
+-- There is no room for the last of the nodes, which so many moves reach: the ones before it are those of the limit.
+pub record IsFull (task : Task) (kept : Kept) (keys : List NodeKey) (moves : ℕ) : Type 0 where
+  pub count : task.problem.nodes ≤ length keys
+  pub stand : (nodes : List Node) × AllStand kept keys nodes
+  pub limit : (nodes : List Node) → AllStand kept keys nodes → IsNodeLimit task (take task.problem.nodes nodes) moves
+
+-- what moves came to, where `goes` is what is known if none of the nodes is solved
+abbrev pub IsProgress : Task → Kept → List NodeKey → List Origin → Type 0 → Progress → Type 0
+IsProgress task kept keys origins goes Unsolved = goes
+IsProgress task kept keys origins goes Solved = IsReached task kept origins
+IsProgress task kept keys origins goes (Full moves) = IsFull task kept keys moves

@@ -1,13 +1,13 @@
 //! The search, breadth first.
-ghost use Rattle.std.specs.Prelude.{◌≡◌, ◌+◌, ◌<◌, ◌≤◌, ◌^◌, ℕ, List, [], length, slice_get, take, Some, MatchBool, IfOk, IfErr};
+ghost use Rattle.std.specs.Prelude.{◌≡◌, ◌+◌, ◌<◌, ◌≤◌, ◌^◌, ℕ, List, [], length, slice_get, Some, IfOk, IfErr, OnOk};
 ghost use Rattle.px_table.specs.declared.entry.Move.{Move};
 ghost use Rattle.px_table.specs.declared.node.Node.{Node};
-ghost use Rattle.px_numbers.specs.Numbers.{AllStand, IsKeyOf, KeepsAll};
-ghost use Rattle.px_ends.specs.Ends.{IsFound, IsShapeLimit};
+ghost use Rattle.px_numbers.specs.Numbers.{IsKeyOf, KeepsAll};
+ghost use Rattle.px_ends.specs.Ends.{IsExhausted, IsFound, IsShapeLimit};
 ghost use Rattle.px_ends.specs.Tasks.{initial_node};
 ghost use Rattle.px_search.specs.Asking.{IsAskable, IsTriedAt, task_for};
-ghost use Rattle.px_search.specs.Caches.{IsCache};
-ghost use Rattle.px_search.specs.Looping.{Going, IsEnd, IsReached, Trying};
+ghost use Rattle.px_search.specs.Caches.{AreResults, IsCache};
+ghost use Rattle.px_search.specs.Looping.{Going, IsEnd, IsProgress, Trying};
 ghost use Rattle.px_search.specs.Steps.{AreEarlier, Trace};
 ghost use Rattle.px_search.specs.declared.step.Step.{Step};
 
@@ -16,12 +16,13 @@ use crate::asked::Asked;
 use crate::cache::Cache;
 use crate::ends::SearchErr;
 use crate::moves::steps_from;
-use crate::node_at::{first_nodes, node_at};
 use crate::origins::moves_to;
+use crate::progress::Progress;
+use crate::results::Results;
 use crate::step::{Origin, Step};
 use crate::tried::try_node;
 use px_diff::{AskErr, Tried};
-use px_numbers::{NodeKey, NodeSet, Numbers};
+use px_numbers::{FirstNodes, NodeKey, NodeSet, Numbers, node_at};
 use px_proof::Shape;
 use px_table::Move;
 use px_terms::{Atom, NoMemory, Sequence};
@@ -90,84 +91,66 @@ fn count_to(alloc: Global, numbers: &Numbers, origins: &Vec<Origin>) -> Result<u
     Ok(path.len() as u32)
 }
 
-/// The end where there is no room for the last of the nodes.
-fn full(
-    asked: &Asked,
-    numbers: &Numbers,
-    nodes: &NodeSet,
-    origins: &Vec<Origin>,
-) -> Result<SearchErr, NoMemory>
-    requires earlier { AreEarlier origins.now.items }
-    requires traced { (found : List (List Move)) × Trace numbers.now origins.now.items found }
-    requires few { length origins.now.items < 2 ^ 32 }
-    requires count { asked.now.problem.now.nodes ≤ length nodes.now }
-    requires stand { (all : List Node) × AllStand numbers.now nodes.now all }
-    ensures { IfOk result (λ error. (firsts : List Node) × (count : ℕ) × (moves : List Move) × (error ≡ SearchErr.NodeLimit firsts count) × ((all : List Node) → AllStand numbers.now nodes.now all → firsts ≡ take asked.now.problem.now.nodes all) × (count ≡ length moves) × ((found : List (List Move)) → Trace numbers.now origins.now.items found → slice_get found (length origins.now.items) ≡ Some moves)) }
-{
-    let moves = count_to(asked.alloc, numbers, origins)?;
-    let firsts = first_nodes(asked.alloc, numbers, nodes, asked.problem.nodes as usize)?;
-    Ok(SearchErr::NodeLimit {
-        nodes: firsts,
-        moves,
-    })
-}
-
-/// Makes the move from the node at the place `next`, and keeps the node that it leads to where that is new. Ok(true) where it is
-/// solved.
+/// Makes the move from the node at the place `next`, and keeps the node that it leads to where that is new.
 fn make_move(
     asked: &Asked,
     numbers: &mut Numbers,
+    results: &mut Results,
     nodes: &mut NodeSet,
     origins: &mut Vec<Origin>,
     next: usize,
     step: Step,
-) -> Result<bool, SearchErr>
+) -> Result<Progress, SearchErr>
     requires asked { IsAskable asked.now }
     requires trying { (steps : List Step) × (i : ℕ) × Trying (task_for asked.now) numbers.old nodes.old origins.old.items next steps i × (slice_get steps i ≡ Some step) }
+    requires results { AreResults (task_for asked.now) numbers.old results.old }
     ensures keeps { KeepsAll numbers.old numbers.new }
-    ensures made { IfOk result (λ is_solved. MatchBool is_solved (IsReached (task_for asked.now) numbers.new origins.new.items) ((steps : List Step) (i : ℕ) → Trying (task_for asked.now) numbers.old nodes.old origins.old.items next steps i → slice_get steps i ≡ Some step → Trying (task_for asked.now) numbers.new nodes.new origins.new.items next steps (i + 1))) }
+    ensures results { OnOk result (AreResults (task_for asked.now) numbers.new results.new) }
+    ensures made { IfOk result (IsProgress (task_for asked.now) numbers.new nodes.new origins.new.items ((steps : List Step) (i : ℕ) → Trying (task_for asked.now) numbers.old nodes.old origins.old.items next steps i → slice_get steps i ≡ Some step → Trying (task_for asked.now) numbers.new nodes.new origins.new.items next steps (i + 1))) }
     ensures ends { IfErr result (IsEnd (task_for asked.now)) }
 {
     let key = nodes.node(next);
-    let there = after(asked, numbers, key, step)?;
+    let there = after(asked, numbers, results, key, step)?;
     numbers.sound();
     let count = nodes.count();
     let place = nodes.intern(there)?;
     if (place as usize) < count {
-        return Ok(false);
+        return Ok(Progress::Unsolved);
     }
     origins.push(Origin {
         parent: next,
         last: step,
     })?;
     if count >= asked.problem.nodes as usize {
-        let limit = full(asked, numbers, nodes, origins)?;
-        return Err(limit);
+        let moves = count_to(asked.alloc, numbers, origins)?;
+        return Ok(Progress::Full { moves });
     }
     let tried = try_node(asked, numbers, there)?;
     match tried {
-        Tried::Answered => Ok(true),
-        Tried::Unanswered => Ok(false),
+        Tried::Answered => Ok(Progress::Solved),
+        Tried::Unanswered => Ok(Progress::Unsolved),
         Tried::Limited { formula, shapes } => {
             Err(limit_at(asked, numbers, there, formula, shapes))
         }
     }
 }
 
-/// Makes all moves from the node at the place `next`, or those up to the first that leads to a solved node: then Ok(true).
+/// Makes all moves from the node at the place `next`, or those up to the first that leads to a solved node or to one without room.
 fn go_through(
     asked: &Asked,
     numbers: &mut Numbers,
     cache: &mut Cache,
+    results: &mut Results,
     nodes: &mut NodeSet,
     origins: &mut Vec<Origin>,
     next: usize,
-) -> Result<bool, SearchErr>
+) -> Result<Progress, SearchErr>
     requires asked { IsAskable asked.now }
     requires going { Going (task_for asked.now) numbers.old nodes.old origins.old.items next [] }
     requires next { next < length nodes.old }
     requires cache { IsCache (task_for asked.now) numbers.old cache.old }
-    ensures gone { IfOk result (λ is_solved. MatchBool is_solved (IsReached (task_for asked.now) numbers.new origins.new.items) (Going (task_for asked.now) numbers.new nodes.new origins.new.items (next + 1) [] × IsCache (task_for asked.now) numbers.new cache.new)) }
+    requires results { AreResults (task_for asked.now) numbers.old results.old }
+    ensures gone { IfOk result (IsProgress (task_for asked.now) numbers.new nodes.new origins.new.items (Going (task_for asked.now) numbers.new nodes.new origins.new.items (next + 1) [] × IsCache (task_for asked.now) numbers.new cache.new × AreResults (task_for asked.now) numbers.new results.new)) }
     ensures ends { IfErr result (IsEnd (task_for asked.now)) }
 {
     let key = nodes.node(next);
@@ -180,22 +163,59 @@ fn go_through(
     };
     for turn in 0..steps.len() {
         let step = step_at(&steps, turn);
-        let is_solved = make_move(asked, numbers, nodes, origins, next, step)?;
-        if is_solved {
-            return Ok(true);
+        let progress = make_move(asked, numbers, results, nodes, origins, next, step)?;
+        match progress {
+            Progress::Unsolved => {}
+            Progress::Solved => return Ok(Progress::Solved),
+            Progress::Full { moves } => return Ok(Progress::Full { moves }),
         }
     }
-    Ok(false)
+    Ok(Progress::Unsolved)
+}
+
+/// Goes through all nodes, up to the first move that leads to a solved node or to one without room.
+fn walk(
+    asked: &Asked,
+    numbers: &mut Numbers,
+    nodes: &mut NodeSet,
+    origins: &mut Vec<Origin>,
+) -> Result<Progress, SearchErr>
+    requires asked { IsAskable asked.now }
+    requires going { Going (task_for asked.now) numbers.old nodes.old origins.old.items 0 [] }
+    ensures walked { IfOk result (IsProgress (task_for asked.now) numbers.new nodes.new origins.new.items (IsExhausted (task_for asked.now))) }
+    ensures ends { IfErr result (IsEnd (task_for asked.now)) }
+{
+    let mut cache = Cache::new(asked.alloc);
+    let mut results = Results::new(asked.alloc);
+    let mut next = 0;
+    while next < nodes.count() {
+        let progress = go_through(
+            asked,
+            numbers,
+            &mut cache,
+            &mut results,
+            nodes,
+            origins,
+            next,
+        )?;
+        match progress {
+            Progress::Unsolved => {}
+            Progress::Solved => return Ok(Progress::Solved),
+            Progress::Full { moves } => return Ok(Progress::Full { moves }),
+        }
+        next += 1;
+    }
+    Ok(Progress::Unsolved)
 }
 
 /// Searches from the start, which isn't solved.
 fn found_from(
     asked: &Asked,
-    numbers: &mut Numbers,
+    mut numbers: Numbers,
     start: NodeKey,
 ) -> Result<Sequence<Move>, SearchErr>
     requires asked { IsAskable asked.now }
-    requires start { IsKeyOf numbers.old start (initial_node (task_for asked.now)) }
+    requires start { IsKeyOf numbers start (initial_node (task_for asked.now)) }
     requires tried { IsTriedAt (task_for asked.now) (initial_node (task_for asked.now)) Tried.Unanswered }
     ensures found { IfOk result (IsFound (task_for asked.now)) }
     ensures ends { IfErr result (IsEnd (task_for asked.now)) }
@@ -203,31 +223,20 @@ fn found_from(
     let mut nodes = NodeSet::new(asked.alloc);
     nodes.intern(start)?;
     let mut origins = Vec::new(asked.alloc);
-    let mut cache = Cache::new(asked.alloc);
-    let mut next = 0;
-    while next < nodes.count() {
-        let is_solved = go_through(asked, numbers, &mut cache, &mut nodes, &mut origins, next)?;
-        if is_solved {
-            let path = path_to(asked.alloc, numbers, &origins)?;
-            return Ok(path);
+    let progress = walk(asked, &mut numbers, &mut nodes, &mut origins)?;
+    match progress {
+        Progress::Unsolved => Err(SearchErr::Exhausted),
+        Progress::Solved => {
+            let path = path_to(asked.alloc, &numbers, &origins)?;
+            Ok(path)
         }
-        next += 1;
-    }
-    Err(SearchErr::Exhausted)
-}
-
-/// The same from the initial node, which may be solved.
-fn found_with(asked: &Asked, numbers: &mut Numbers) -> Result<Sequence<Move>, SearchErr>
-    requires { IsAskable asked.now }
-    ensures found { IfOk result (IsFound (task_for asked.now)) }
-    ensures ends { IfErr result (IsEnd (task_for asked.now)) }
-{
-    let start = start_key(asked, numbers)?;
-    let tried = try_node(asked, numbers, start)?;
-    match tried {
-        Tried::Answered => Ok(Sequence::from_vec(Vec::new(asked.alloc))),
-        Tried::Unanswered => found_from(asked, numbers, start),
-        Tried::Limited { formula, shapes } => Err(limit_at(asked, numbers, start, formula, shapes)),
+        Progress::Full { moves } => {
+            let firsts = FirstNodes::new(numbers, nodes, asked.problem.nodes as usize);
+            Err(SearchErr::NodeLimit {
+                nodes: firsts,
+                moves,
+            })
+        }
     }
 }
 
@@ -241,5 +250,13 @@ pub fn found_by_moves(asked: &Asked) -> Result<Sequence<Move>, SearchErr>
     ensures ends { IfErr result (IsEnd (task_for asked.now)) }
 {
     let mut numbers = Numbers::new(asked.alloc);
-    found_with(asked, &mut numbers)
+    let start = start_key(asked, &mut numbers)?;
+    let tried = try_node(asked, &numbers, start)?;
+    match tried {
+        Tried::Answered => Ok(Sequence::from_vec(Vec::new(asked.alloc))),
+        Tried::Unanswered => found_from(asked, numbers, start),
+        Tried::Limited { formula, shapes } => {
+            Err(limit_at(asked, &numbers, start, formula, shapes))
+        }
+    }
 }

@@ -2,6 +2,7 @@
 ghost use Rattle.std.specs.Prelude.{◌≡◌};
 ghost use Rattle.px_search.specs.declared.ends.SearchErr.TheVariants.{NoMemory as OutOfMemory};
 
+use px_numbers::FirstNodes;
 use px_proof::Shape;
 use px_table::{Move, Node, Row};
 use px_terms::{Atom, NoMemory, OpInst, Sequence};
@@ -31,7 +32,7 @@ pub enum SearchErr {
     #[error("as many nodes were found as may be kept, and {moves} moves reach a further one")]
     NodeLimit {
         /// The nodes, in the order in which they were found.
-        nodes: Sequence<Node>,
+        nodes: FirstNodes,
         /// How many moves reach the further one.
         moves: u32,
     },

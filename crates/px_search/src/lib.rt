@@ -21,7 +21,7 @@
 //!
 //! Models, entries, stacks and nodes are numbers (`px_numbers`). What an entry allows in a model doesn't depend on what is below it
 //! on the stack, but for the entries that are there: what is learned of a pair of entry and model is kept (`cache`), unless a
-//! question about it meets the limit of shapes.
+//! question about it meets the limit of shapes. So is the model that applying the entry leaves (`results`).
 #![tactic(auto)]
 
 mod after;
@@ -31,10 +31,11 @@ mod cache;
 mod effects;
 mod ends;
 mod moves;
-mod node_at;
 mod origins;
 mod picks;
 mod planning;
+mod progress;
+mod results;
 mod step;
 #[cfg(test)]
 mod tests;

@@ -15,11 +15,10 @@ ghost use Rattle.px_ends.specs.Tasks.{needs_with};
 
 use crate::asked::Asked;
 use crate::cache::{Cache, Place};
-use crate::node_at::stack_at;
 use crate::picks::{numbered, struck};
 use crate::step::Step;
 use px_diff::{AskErr, Known, known_entry, known_formula, relevant};
-use px_numbers::{Frame, NodeKey, Numbers};
+use px_numbers::{Frame, NodeKey, Numbers, stack_at};
 use px_ops::Model;
 use px_table::Entry;
 use px_terms::{Atom, NoMemory, Sequence};

@@ -104,12 +104,22 @@ fn two_doors_take_four_moves_and_six_nodes(rt: HostRuntime) {
     assert!(&rt; matches!(&found, Ok(plan) if plan.moves.len() == 4 && plan.steps.len() == 2));
 }
 
+/// How many atoms the last of five nodes has, where they are too few for four moves.
+fn atoms_of_fifth(alloc: Global, found: &Result<Found, SearchErr>) -> Result<usize, NoMemory> {
+    match found {
+        Err(SearchErr::NodeLimit { nodes, moves: 4 }) if nodes.count() == 5 => {
+            let node = nodes.node(alloc, 4)?;
+            Ok(node.model().atoms().len())
+        }
+        _ => Ok(0),
+    }
+}
+
 #[test]
 fn five_nodes_are_too_few(rt: HostRuntime) {
     let found = answer(rt.alloc(), &rt, &[0, 2], 5, 10000);
-    assert!(&rt;
-        matches!(&found, Err(SearchErr::NodeLimit { nodes, moves: 4 }) if nodes.len() == 5)
-    );
+    let atoms = atoms_of_fifth(rt.alloc(), &found);
+    assert!(&rt; matches!(atoms, Ok(3)));
 }
 
 #[test]

@@ -1,5 +1,4 @@
 use Rattle.std.proofs.Common.{◌≡◌, ◌+◌, ℕ, List, [], Some, slice_get, arith, subst}
-use Rattle.std.specs.Prelude.{MatchBool}
 use Rattle.px_table.specs.declared.node.Node.{Node}
 use Rattle.px_diff.specs.Outcomes.{AtLimit}
 use Rattle.px_diff.specs.declared.ask_err.AskErr.{AskErr}
@@ -8,8 +7,8 @@ use Rattle.px_numbers.specs.NumberLaws.{stands-grows}
 use Rattle.px_search.specs.Asking.{task_for}
 use Rattle.px_search.specs.declared.step.Step.{Step}
 use Rattle.px_search.specs.Going.{LimitsNode}
-use Rattle.px_search.specs.Looping.{IsReached, Trying}
-use Rattle.px_search.proofs.CacheLaws.{cache-grows}
+use Rattle.px_search.specs.Looping.{IsProgress, Trying}
+use Rattle.px_search.proofs.CacheLaws.{cache-grows, results-grow}
 use Rattle.px_search.proofs.GoingLaws.{here_of, trying-start}
 use Rattle.px_search.proofs.LoopLaws.{asks_here, limit-of_node, node-done}
 use Rattle.px_search.proofs.breadth_first.go_through.Goals as goal
@@ -36,6 +35,7 @@ loop-turn-init c =
     record {
       trying = trying-start task c.args.numbers.now c.steps_from.new.numbers c.args.nodes.now c.args.origins.now.items c.args.next c.node-key.result c.in-Ok.steps.items c.in-Ok.ensures.keeps c.requires.going c.node-key.ensures c.in-Ok.ensures.steps;
       cached = c.in-Ok.ensures.cache;
+      results = results-grow task c.args.numbers.now c.steps_from.new.numbers c.args.results.now c.in-Ok.ensures.keeps c.requires.results;
     }
 
 pub make_move-requires-clause-trying : goal.make_move-requires-clause-trying
@@ -45,21 +45,30 @@ pub loop-turn-preserved : goal.loop-turn-preserved
 loop-turn-preserved c =
     let task = task_for c.args.asked.now in
     record {
-      trying = subst (λ b. MatchBool b (IsReached task c.make_move.new.numbers c.make_move.new.origins.items)
+      trying = subst (IsProgress task c.make_move.new.numbers c.make_move.new.nodes c.make_move.new.origins.items
           ((steps : List Step) (i : ℕ) → Trying task c.loop-turn.numbers c.loop-turn.nodes c.loop-turn.origins.items c.args.next steps i → slice_get steps i ≡ Some c.step_at-step.result → Trying task c.make_move.new.numbers c.make_move.new.nodes c.make_move.new.origins.items c.args.next steps (i + 1)))
-          c.if-is_solved.false c.in_ok-is_solved.ensures.made c.in-Ok.steps.items c.loop-turn.turn c.loop-turn.invariant.trying c.step_at-step.ensures;
-      cached = cache-grows task c.loop-turn.numbers c.make_move.new.numbers c.steps_from.new.cache c.in_ok-is_solved.ensures.keeps c.loop-turn.invariant.cached;
+          c.in-Unsolved.is c.in_ok-progress.ensures.made c.in-Ok.steps.items c.loop-turn.turn c.loop-turn.invariant.trying c.step_at-step.ensures;
+      cached = cache-grows task c.loop-turn.numbers c.make_move.new.numbers c.steps_from.new.cache c.in_ok-progress.ensures.keeps c.loop-turn.invariant.cached;
+      results = c.in_ok-progress.ensures.results;
     }
 
 pub returns-clause-gone : goal.returns-clause-gone
 returns-clause-gone c = (
   node-done (task_for c.args.asked.now) c.loop-turn.numbers c.loop-turn.nodes c.loop-turn.origins.items c.args.next c.in-Ok.steps.items c.loop-turn.turn c.loop-turn.invariant.trying (omega (arith, c.loop-turn-test.false, c.len-turn-end.ensures)),
   c.loop-turn.invariant.cached,
+  c.loop-turn.invariant.results,
 )
 
-pub returns-then-is_solved-clause-gone : goal.returns-then-is_solved-clause-gone
-returns-then-is_solved-clause-gone c =
+pub returns-in-Solved-clause-gone : goal.returns-in-Solved-clause-gone
+returns-in-Solved-clause-gone c =
     let task = task_for c.args.asked.now in
-    subst (λ b. MatchBool b (IsReached task c.make_move.new.numbers c.make_move.new.origins.items)
+    subst (IsProgress task c.make_move.new.numbers c.make_move.new.nodes c.make_move.new.origins.items
     ((steps : List Step) (i : ℕ) → Trying task c.loop-turn.numbers c.loop-turn.nodes c.loop-turn.origins.items c.args.next steps i → slice_get steps i ≡ Some c.step_at-step.result → Trying task c.make_move.new.numbers c.make_move.new.nodes c.make_move.new.origins.items c.args.next steps (i + 1)))
-    c.if-is_solved.true c.in_ok-is_solved.ensures.made
+    c.in-Solved.is c.in_ok-progress.ensures.made
+
+pub returns-in-Full-clause-gone : goal.returns-in-Full-clause-gone
+returns-in-Full-clause-gone c =
+    let task = task_for c.args.asked.now in
+    subst (IsProgress task c.make_move.new.numbers c.make_move.new.nodes c.make_move.new.origins.items
+    ((steps : List Step) (i : ℕ) → Trying task c.loop-turn.numbers c.loop-turn.nodes c.loop-turn.origins.items c.args.next steps i → slice_get steps i ≡ Some c.step_at-step.result → Trying task c.make_move.new.numbers c.make_move.new.nodes c.make_move.new.origins.items c.args.next steps (i + 1)))
+    c.in-Full.is c.in_ok-progress.ensures.made

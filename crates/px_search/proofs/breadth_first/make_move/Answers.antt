@@ -1,7 +1,7 @@
 use Rattle.std.proofs.Common.{◌≤◌, length, arith}
 use Rattle.px_ops.specs.KeepLaws.{place_in}
 use Rattle.px_search.specs.Asking.{task_for}
-use Rattle.px_search.proofs.LoopLaws.{asks_step, step_on, step-seen, step-earlier, step-trace, there_stands, step-count, step-stand, step-new, step-reached, step-origins, step-limit, step-full_end}
+use Rattle.px_search.proofs.LoopLaws.{asks_step, step_on, step-seen, step-earlier, step-trace, there_stands, step-new, step-reached, step-origins, step-limit, step-full}
 use Rattle.px_search.proofs.breadth_first.make_move.Goals as goal
 
 pub node-key-requires : goal.node-key-requires
@@ -17,42 +17,30 @@ returns-then-place-count-clause-made c = λ steps i t at.
     let st = step_on task c.args.numbers.now c.after.new.numbers c.args.nodes.now c.args.origins.now.items c.args.next steps i c.args.step c.node-key.result c.in_ok-there.there t c.node-key.ensures c.in_ok-there.ensures.keeps c.in_ok-there.ensures.there at in
     step-seen task c.after.new.numbers c.sound.ensures.once c.args.nodes.now c.intern.new.self c.args.origins.now.items c.args.next steps i c.args.step c.in_ok-there.there c.in_ok-place.place st c.in_ok-place.ensures.kept (omega (arith, c.if-place-count.true, c.count-count.ensures))
 
-pub full-requires-clause-earlier : goal.full-requires-clause-earlier
-full-requires-clause-earlier c =
+pub count_to-requires-clause-earlier : goal.count_to-requires-clause-earlier
+count_to-requires-clause-earlier c =
     let task = task_for c.args.asked.now in
     let st = step_on task c.args.numbers.now c.after.new.numbers c.args.nodes.now c.args.origins.now.items c.args.next c.requires.trying.0 c.requires.trying.1 c.args.step c.node-key.result c.in_ok-there.there c.requires.trying.2 c.node-key.ensures c.in_ok-there.ensures.keeps c.in_ok-there.ensures.there c.requires.trying.3 in
     step-earlier task c.after.new.numbers c.sound.ensures.once c.args.nodes.now c.intern.new.self c.args.origins.now.items c.args.next c.requires.trying.0 c.requires.trying.1 c.args.step c.in_ok-there.there c.in_ok-place.place st c.in_ok-place.ensures.kept c.push.new.self.items c.in_ok-push.ensures.items
 
-pub full-requires-clause-traced : goal.full-requires-clause-traced
-full-requires-clause-traced c =
+pub count_to-requires-clause-traced : goal.count_to-requires-clause-traced
+count_to-requires-clause-traced c =
     let task = task_for c.args.asked.now in
     let st = step_on task c.args.numbers.now c.after.new.numbers c.args.nodes.now c.args.origins.now.items c.args.next c.requires.trying.0 c.requires.trying.1 c.args.step c.node-key.result c.in_ok-there.there c.requires.trying.2 c.node-key.ensures c.in_ok-there.ensures.keeps c.in_ok-there.ensures.there c.requires.trying.3 in
     step-trace task c.after.new.numbers c.sound.ensures.once c.args.nodes.now c.intern.new.self c.args.origins.now.items c.args.next c.requires.trying.0 c.requires.trying.1 c.args.step c.in_ok-there.there c.in_ok-place.place st c.in_ok-place.ensures.kept c.push.new.self.items c.in_ok-push.ensures.items
 
-pub full-requires-clause-few : goal.full-requires-clause-few
-full-requires-clause-few c =
+pub count_to-requires-clause-few : goal.count_to-requires-clause-few
+count_to-requires-clause-few c =
     let task = task_for c.args.asked.now in
     let st = step_on task c.args.numbers.now c.after.new.numbers c.args.nodes.now c.args.origins.now.items c.args.next c.requires.trying.0 c.requires.trying.1 c.args.step c.node-key.result c.in_ok-there.there c.requires.trying.2 c.node-key.ensures c.in_ok-there.ensures.keeps c.in_ok-there.ensures.there c.requires.trying.3 in
     let few : length c.push.new.self.items ≤ task.problem.nodes = step-origins task c.after.new.numbers c.sound.ensures.once c.args.nodes.now c.intern.new.self c.args.origins.now.items c.args.next c.requires.trying.0 c.requires.trying.1 c.args.step c.in_ok-there.there c.in_ok-place.place st c.in_ok-place.ensures.kept (λ h. omega (arith, h, c.if-place-count.false, c.count-count.ensures)) c.push.new.self.items c.in_ok-push.ensures.items in
     omega (arith, few)
 
-pub full-requires-clause-count : goal.full-requires-clause-count
-full-requires-clause-count c =
+pub returns-then-count-asked-clause-made : goal.returns-then-count-asked-clause-made
+returns-then-count-asked-clause-made c =
     let task = task_for c.args.asked.now in
     let st = step_on task c.args.numbers.now c.after.new.numbers c.args.nodes.now c.args.origins.now.items c.args.next c.requires.trying.0 c.requires.trying.1 c.args.step c.node-key.result c.in_ok-there.there c.requires.trying.2 c.node-key.ensures c.in_ok-there.ensures.keeps c.in_ok-there.ensures.there c.requires.trying.3 in
-    step-count task c.after.new.numbers c.sound.ensures.once c.args.nodes.now c.intern.new.self c.args.origins.now.items c.args.next c.requires.trying.0 c.requires.trying.1 c.args.step c.in_ok-there.there c.in_ok-place.place st c.in_ok-place.ensures.kept (λ h. omega (arith, h, c.if-place-count.false, c.count-count.ensures)) (omega (arith, c.if-count-asked.true, c.count-count.ensures))
-
-pub full-requires-clause-stand : goal.full-requires-clause-stand
-full-requires-clause-stand c =
-    let task = task_for c.args.asked.now in
-    let st = step_on task c.args.numbers.now c.after.new.numbers c.args.nodes.now c.args.origins.now.items c.args.next c.requires.trying.0 c.requires.trying.1 c.args.step c.node-key.result c.in_ok-there.there c.requires.trying.2 c.node-key.ensures c.in_ok-there.ensures.keeps c.in_ok-there.ensures.there c.requires.trying.3 in
-    step-stand task c.after.new.numbers c.sound.ensures.once c.args.nodes.now c.intern.new.self c.args.origins.now.items c.args.next c.requires.trying.0 c.requires.trying.1 c.args.step c.in_ok-there.there c.in_ok-place.place st c.in_ok-place.ensures.kept (λ h. omega (arith, h, c.if-place-count.false, c.count-count.ensures))
-
-pub returns-then-count-asked-clause-ends : goal.returns-then-count-asked-clause-ends
-returns-then-count-asked-clause-ends c =
-    let task = task_for c.args.asked.now in
-    let st = step_on task c.args.numbers.now c.after.new.numbers c.args.nodes.now c.args.origins.now.items c.args.next c.requires.trying.0 c.requires.trying.1 c.args.step c.node-key.result c.in_ok-there.there c.requires.trying.2 c.node-key.ensures c.in_ok-there.ensures.keeps c.in_ok-there.ensures.there c.requires.trying.3 in
-    step-full_end task c.after.new.numbers c.sound.ensures.once c.args.nodes.now c.intern.new.self c.args.origins.now.items c.args.next c.requires.trying.0 c.requires.trying.1 c.args.step c.in_ok-there.there c.in_ok-place.place st c.in_ok-place.ensures.kept (λ h. omega (arith, h, c.if-place-count.false, c.count-count.ensures)) c.push.new.self.items c.in_ok-limit.limit c.in_ok-push.ensures.items (omega (arith, c.if-count-asked.true, c.count-count.ensures)) c.in_ok-limit.ensures
+    step-full task c.after.new.numbers c.sound.ensures.once c.args.nodes.now c.intern.new.self c.args.origins.now.items c.args.next c.requires.trying.0 c.requires.trying.1 c.args.step c.in_ok-there.there c.in_ok-place.place st c.in_ok-place.ensures.kept (λ h. omega (arith, h, c.if-place-count.false, c.count-count.ensures)) c.push.new.self.items c.in_ok-moves.moves c.in_ok-push.ensures.items (omega (arith, c.if-count-asked.true, c.count-count.ensures)) c.in_ok-moves.ensures
 
 pub try_node-requires-clause-node : goal.try_node-requires-clause-node
 try_node-requires-clause-node c =
@@ -84,3 +72,15 @@ returns-in-Limited-clause-ends c =
     let st = step_on task c.args.numbers.now c.after.new.numbers c.args.nodes.now c.args.origins.now.items c.args.next c.requires.trying.0 c.requires.trying.1 c.args.step c.node-key.result c.in_ok-there.there c.requires.trying.2 c.node-key.ensures c.in_ok-there.ensures.keeps c.in_ok-there.ensures.there c.requires.trying.3 in
     c.limit_at.ensures (there_stands task c.after.new.numbers c.sound.ensures.once c.args.nodes.now c.intern.new.self c.args.origins.now.items c.args.next c.requires.trying.0 c.requires.trying.1 c.args.step c.in_ok-there.there c.in_ok-place.place st c.in_ok-place.ensures.kept).0 (there_stands task c.after.new.numbers c.sound.ensures.once c.args.nodes.now c.intern.new.self c.args.origins.now.items c.args.next c.requires.trying.0 c.requires.trying.1 c.args.step c.in_ok-there.there c.in_ok-place.place st c.in_ok-place.ensures.kept).1
     (step-limit task c.after.new.numbers c.sound.ensures.once c.args.nodes.now c.intern.new.self c.args.origins.now.items c.args.next c.requires.trying.0 c.requires.trying.1 c.args.step c.in_ok-there.there c.in_ok-place.place st c.in_ok-place.ensures.kept (λ h. omega (arith, h, c.if-place-count.false, c.count-count.ensures)) c.in_ok-tried.tried c.in-Limited.formula c.in-Limited.shapes (omega (arith, c.if-count-asked.false, c.count-count.ensures)) c.in_ok-tried.ensures c.in-Limited.is)
+
+pub returns-then-place-count-clause-results : goal.returns-then-place-count-clause-results
+returns-then-place-count-clause-results c = c.in_ok-there.ensures.results
+
+pub returns-then-count-asked-clause-results : goal.returns-then-count-asked-clause-results
+returns-then-count-asked-clause-results c = c.in_ok-there.ensures.results
+
+pub returns-in-Answered-clause-results : goal.returns-in-Answered-clause-results
+returns-in-Answered-clause-results c = c.in_ok-there.ensures.results
+
+pub returns-in-Unanswered-clause-results : goal.returns-in-Unanswered-clause-results
+returns-in-Unanswered-clause-results c = c.in_ok-there.ensures.results

@@ -1,12 +1,13 @@
 //! Nodes that are made of their numbers.
-ghost use Rattle.std.specs.Prelude.{◌≡◌, ◌≤◌, List, length, take, IfOk};
+ghost use Rattle.std.specs.Prelude.{◌≡◌, List, IfOk};
 ghost use Rattle.px_table.specs.declared.entry.Entry.{Entry};
 ghost use Rattle.px_table.specs.declared.node.Node.{Node};
-ghost use Rattle.px_numbers.specs.Numbers.{AllStand, IsStackAt, IsKeyOf};
+ghost use Rattle.px_numbers.specs.Numbers.{IsStackAt, IsKeyOf};
 
-use px_numbers::{NodeKey, NodeSet, Numbers};
+use crate::nodes::NodeKey;
+use crate::numbers::Numbers;
+use px_base::{NoMemory, Sequence};
 use px_table::{Entry, Node};
-use px_terms::{NoMemory, Sequence};
 use std::alloc::Global;
 
 /// The entries of the stack, the top one first.
@@ -32,23 +33,4 @@ pub fn node_at(alloc: Global, numbers: &Numbers, key: NodeKey) -> Result<Node, N
     let model = numbers.model(alloc, key.model)?;
     let stack = stack_at(alloc, numbers, key.stack)?;
     Ok(Node::new(model, Sequence::from_vec(stack)))
-}
-
-/// So many of the nodes, in the order in which they were found.
-pub fn first_nodes(
-    alloc: Global,
-    numbers: &Numbers,
-    keys: &NodeSet,
-    count: usize,
-) -> Result<Sequence<Node>, NoMemory>
-    requires count { count ≤ length keys.now }
-    requires stand { (nodes : List Node) × AllStand numbers.now keys.now nodes }
-    ensures { IfOk result (λ made. (nodes : List Node) → AllStand numbers.now keys.now nodes → made ≡ take count nodes) }
-{
-    let mut nodes = Vec::new(alloc);
-    for place in 0..count {
-        let node = node_at(alloc, numbers, keys.node(place))?;
-        nodes.push(node)?;
-    }
-    Ok(Sequence::from_vec(nodes))
 }

@@ -1,7 +1,7 @@
 use Rattle.std.proofs.Common.{◌≡◌, ◌++◌, List}
 use Rattle.px_table.specs.declared.entry.Entry.{Entry}
 use Rattle.px_numbers.specs.Numbers.{IsStackAt}
-use Rattle.px_search.proofs.node_at.stack_at.Given as goal
+use Rattle.px_numbers.proofs.making.stack_at.Given as goal
 
 abbrev pub invariant-loop-frame : goal.invariant-loop-frame
 invariant-loop-frame l = record {

@@ -2,7 +2,7 @@ use Rattle.std.proofs.Common.{◌∙◌, subst}
 use Rattle.px_search.specs.Asking.{IsTriedAt, task_for}
 use Rattle.px_ends.specs.Tasks.{initial_node}
 use Rattle.px_search.proofs.LoopLaws.{start-found, start-limit}
-use Rattle.px_search.proofs.breadth_first.found_with.Goals as goal
+use Rattle.px_search.proofs.breadth_first.found_by_moves.Goals as goal
 
 pub try_node-requires-clause-node : goal.try_node-requires-clause-node
 try_node-requires-clause-node c = (initial_node (task_for c.args.asked.now), c.in_ok-start.ensures)

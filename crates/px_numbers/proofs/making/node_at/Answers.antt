@@ -1,6 +1,6 @@
 use Rattle.std.proofs.Common.{◌≡◌, ◌∙◌}
 use Rattle.px_numbers.specs.NumberLaws.{one_model}
-use Rattle.px_search.proofs.node_at.node_at.Goals as goal
+use Rattle.px_numbers.proofs.making.node_at.Goals as goal
 
 pub returns : goal.returns
 returns c = λ node stands.

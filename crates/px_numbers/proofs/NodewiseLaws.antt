@@ -1,0 +1,105 @@
+-- The nodes that pairs of numbers stand for are the one list that does so.
+use Rattle.std.proofs.Common.{◌≡◌, ◌↔◌, ℕ, zero, suc, ◌<◌, ◌≤◌, List, [], ◌∷◌, ◌++◌, length, map, take, refl, sym, ◌∙◌, ap, subst, inl, inr, arith, Some, slice_get, Contains}
+use Rattle.std.specs.Prelude.{Option, None}
+use Rattle.std.proofs.lemmas.List.Elements.{Contains-append_left, Contains-append_right, Contains-append_cases}
+use Rattle.px_base.specs.ListLaws.{Contains-none, Contains-first, Contains-later, Contains-one, Contains-cases}
+use Rattle.px_base.specs.SetLaws.{same_set, set_of-is_sorted, set_of-members}
+use Rattle.px_terms.specs.AtomSets.{atom_set}
+use Rattle.px_terms.specs.declared.atom.Atom.{Atom}
+use Rattle.px_terms.specs.Order.{atom_cmp}
+use Rattle.px_terms.specs.OrderLaws.{atom_cmp-total, atom_cmp-same}
+use Rattle.px_table.specs.declared.entry.Entry.{Entry}
+use Rattle.px_table.specs.declared.node.Node.{Node}
+use Rattle.px_numbers.specs.declared.nodes.NodeKey.{NodeKey}
+use Rattle.px_numbers.specs.declared.stacks.Frame.{Frame}
+use Rattle.px_numbers.specs.Numbers.{Kept, AreDescending, IsModelOf, IsModelAt, IsStackAt, IsKeyOf, AllStand}
+use Rattle.px_numbers.specs.NumberLaws.{one_at, tails_stand}
+use Rattle.px_numbers.specs.Nodewise.{items_of, items_at, atoms_of, below_of, top_of, stack_of, node_of, nodes_of}
+
+-- ---- the items at places
+
+pub items_at-from : {X : Type 0} (items : List X) (places : List ℕ) (x : X) → Contains (items_at items places) x → (n : ℕ) × (slice_get items n ≡ Some x) × Contains places n
+unfolding items_at
+items_at-from items [] x has = absurd (Contains-none x has)
+items_at-from {X} items (place ∷ places) x has = elim (Contains-append_cases (items_of (slice_get items place)) (items_at items places) x has) [
+  | inl here ↦ (place, is_it (slice_get items place) here, Contains-first place places)
+  | inr later ↦ let r = items_at-from items places x later in (r.0, r.1, Contains-later place places r.0 r.2)
+]
+  where
+    is_it : (found : Option X) → Contains (items_of found) x → found ≡ Some x
+    is_it None h = absurd (Contains-none x h)
+    is_it (Some y) h = ap Some (Contains-one y x h)
+
+pub items_at-has : {X : Type 0} (items : List X) (places : List ℕ) (x : X) (n : ℕ) → slice_get items n ≡ Some x → Contains places n → Contains (items_at items places) x
+unfolding items_at
+items_at-has items [] x n at has = absurd (Contains-none n has)
+items_at-has {X} items (place ∷ places) x n at has = elim (Contains-cases place places n has) [
+  | inl is ↦ Contains-append_left (items_of (slice_get items place)) (items_at items places) x
+      (subst (λ (found : Option X). Contains (items_of found) x) (sym (ap (slice_get items) is ∙ at)) (Contains-first x []))
+  | inr later ↦ Contains-append_right (items_of (slice_get items place)) (items_at items places) x (items_at-has items places x n at later)
+]
+
+-- ---- a model
+
+pub model_is : (atoms : List Atom) (numbers : List ℕ) (model : List Atom) → IsModelOf atoms numbers model → model ≡ atom_set (items_at atoms numbers)
+model_is atoms numbers model is =
+    same_set atom_cmp atom_cmp-total (λ x y. atom_cmp-same x y) model (atom_set (items_at atoms numbers)) is.is_set (set_of-is_sorted atom_cmp atom_cmp-total atom_cmp-same (items_at atoms numbers))
+    (λ q. (
+      λ has. (members q).1 (let r = is.all q has in items_at-has atoms numbers q r.0 r.1 r.2),
+      λ has. let r = items_at-from atoms numbers q ((members q).0 has) in let there = is.each r.0 r.2 in subst (Contains model) (one_at atoms r.0 there.0 q there.1 r.1) there.2,
+    ))
+  where
+    members : (q : Atom) → Contains (atom_set (items_at atoms numbers)) q ↔ Contains (items_at atoms numbers) q
+    members q = set_of-members atom_cmp atom_cmp-total atom_cmp-same (items_at atoms numbers) q
+
+pub model_at-is : (kept : Kept) (number : ℕ) (model : List Atom) → IsModelAt kept number model → model ≡ atoms_of kept.atoms (slice_get kept.lists number)
+model_at-is kept number model (numbers, at, is) = model_is kept.atoms numbers model is ∙ ap (atoms_of kept.atoms) (sym at)
+
+-- ---- a stack
+
+pub stack_is : (kept : Kept) → AreDescending kept.frames → (stack : List Entry) (most number : ℕ) → number ≤ most → IsStackAt kept number stack → stack ≡ stack_of kept most number
+unfolding stack_of
+stack_is kept falls [] zero number below is = refl
+stack_is kept falls [] (suc most) zero below is = refl
+stack_is kept falls [] (suc most) (suc place) below is = absurd (omega (arith, is))
+stack_is kept falls (entry ∷ rest) zero number below (place, frame, number_is, frame_at, entry_at, rest_at) = absurd (omega (arith, number_is, below))
+stack_is kept falls (entry ∷ rest) (suc most) zero below (place, frame, number_is, frame_at, entry_at, rest_at) = absurd (omega (arith, number_is))
+stack_is kept falls (entry ∷ rest) (suc most) (suc here) below (place, frame, number_is, frame_at, entry_at, rest_at) =
+    let same : place ≡ here = omega (arith, number_is) in
+    let at_here : slice_get kept.frames here ≡ Some frame = subst (λ (k : ℕ). slice_get kept.frames k ≡ Some frame) same frame_at in
+    let top : top_of kept.entries (slice_get kept.frames here) ≡ entry ∷ [] = ap (top_of kept.entries) at_here ∙ ap items_of entry_at in
+    let lower : below_of (slice_get kept.frames here) ≡ frame.below = ap below_of at_here in
+    let tail : rest ≡ stack_of kept most frame.below = stack_is kept falls rest most frame.below (omega (arith, falls here frame at_here, below)) rest_at in
+    ap (λ (l : List Entry). entry ∷ l) (tail ∙ ap (stack_of kept most) (sym lower)) ∙ ap (λ (l : List Entry). l ++ stack_of kept most (below_of (slice_get kept.frames here))) (sym top)
+
+-- ---- nodes
+
+pub node_is : (kept : Kept) → AreDescending kept.frames → (key : NodeKey) (node : Node) → IsKeyOf kept key node → node ≡ node_of kept key
+node_is kept falls key node is =
+    let models = model_at-is kept key.model node.model is.model in
+    let stacks = stack_is kept falls node.stack key.stack key.stack (omega arith) is.stack in
+    λ i. record { model = models i; stack = stacks i }
+
+pub nodes_are : (kept : Kept) → AreDescending kept.frames → (keys : List NodeKey) (nodes : List Node) → AllStand kept keys nodes → nodes ≡ nodes_of kept keys
+nodes_are kept falls [] [] all = refl
+nodes_are kept falls [] (node ∷ nodes) all = absurd (omega (arith, all.count))
+nodes_are kept falls (key ∷ keys) [] all = absurd (omega (arith, all.count))
+nodes_are kept falls (key ∷ keys) (node ∷ nodes) all =
+    let first = node_is kept falls key node (all.each 0 key node refl refl) in
+    let rest = nodes_are kept falls keys nodes (tails_stand kept key keys node nodes all) in
+    λ i. first i ∷ rest i
+
+pub nodes_stand : (kept : Kept) → AreDescending kept.frames → (keys : List NodeKey) (nodes : List Node) → AllStand kept keys nodes → AllStand kept keys (nodes_of kept keys)
+nodes_stand kept falls keys nodes all = subst (AllStand kept keys) (nodes_are kept falls keys nodes all) all
+
+pub some_take : {X : Type 0} (xs : List X) (count k : ℕ) (x : X) → k < count → slice_get xs k ≡ Some x → slice_get (take count xs) k ≡ Some x
+some_take [] count k x below at = absurd (cc)
+some_take (y ∷ xs) zero k x below at = absurd (omega (arith, below))
+some_take (y ∷ xs) (suc count) zero x below at = at
+some_take (y ∷ xs) (suc count) (suc k) x below at = some_take xs count k x (omega (arith, below)) at
+
+pub length-take_map : {X Y : Type 0} (f : X → Y) (xs : List X) (count : ℕ) → count ≤ length xs → length (take count (map f xs)) ≡ count
+length-take_map f [] zero few = refl
+length-take_map f [] (suc count) few = absurd (omega (arith, few))
+length-take_map f (x ∷ xs) zero few = refl
+length-take_map f (x ∷ xs) (suc count) few = ap suc (length-take_map f xs count (omega (arith, few)))

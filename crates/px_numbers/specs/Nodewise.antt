@@ -1,0 +1,54 @@
+-- The node that a pair of numbers stands for.
+use Rattle.std.specs.Prelude.{◌≤◌, ℕ, List, [], ◌∷◌, ◌++◌, Option, None, Some, length, map, slice_get}
+use Rattle.std.proofs.Common.{zero, suc}
+use Rattle.px_terms.specs.AtomSets.{atom_set}
+use Rattle.px_terms.specs.declared.atom.Atom.{Atom}
+use Rattle.px_table.specs.declared.entry.Entry.{Entry}
+use Rattle.px_table.specs.declared.node.Node.{Node}
+use Rattle.px_numbers.specs.declared.nodes.NodeKey.{NodeKey}
+use Rattle.px_numbers.specs.declared.stacks.Frame.{Frame}
+use Rattle.px_numbers.specs.Numbers.{Kept, AllStand}
+
+-- the item, if there is one
+abbrev pub items_of : {X : Type 0} → Option X → List X
+items_of None = []
+items_of (Some x) = x ∷ []
+
+-- the items at the places
+unfoldable pub items_at : {X : Type 0} → List X → List ℕ → List X
+items_at items [] = []
+items_at items (place ∷ places) = items_of (slice_get items place) ++ items_at items places
+
+-- the set of the atoms of these numbers, if there are any
+abbrev pub atoms_of : List Atom → Option (List ℕ) → List Atom
+atoms_of atoms None = []
+atoms_of atoms (Some numbers) = atom_set (items_at atoms numbers)
+
+-- the number of the stack below
+abbrev pub below_of : Option Frame → ℕ
+below_of None = 0
+below_of (Some frame) = frame.below
+
+-- the top entry, if there is one
+abbrev pub top_of : List Entry → Option Frame → List Entry
+top_of entries None = []
+top_of entries (Some frame) = items_of (slice_get entries frame.entry)
+
+-- the stack of the number, of so many entries at most
+unfoldable pub stack_of : Kept → ℕ → ℕ → List Entry
+stack_of kept zero number = []
+stack_of kept (suc most) zero = []
+stack_of kept (suc most) (suc place) = top_of kept.entries (slice_get kept.frames place) ++ stack_of kept most (below_of (slice_get kept.frames place))
+
+-- the node of the pair
+abbrev pub node_of : Kept → NodeKey → Node
+node_of kept key = record { model = atoms_of kept.atoms (slice_get kept.lists key.model); stack = stack_of kept key.stack key.stack }
+
+-- the nodes of the pairs, in order
+abbrev pub nodes_of : Kept → List NodeKey → List Node
+nodes_of kept keys = map (node_of kept) keys
+
+-- there are so many pairs, and they are the nodes that they stand for
+pub record AreFirst (kept : Kept) (keys : List NodeKey) (count : ℕ) : Type 0 where
+  pub few : count ≤ length keys
+  pub stand : AllStand kept keys (nodes_of kept keys)
