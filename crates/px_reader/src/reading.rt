@@ -17,7 +17,7 @@ use std::alloc::Global;
 use std::str;
 
 /// The words that are built.
-const STAGE: [&str; 16] = [
+const STAGE: [&str; 18] = [
     "script",
     "object",
     "predicate",
@@ -33,6 +33,8 @@ const STAGE: [&str; 16] = [
     "shapes",
     "plan",
     "show",
+    "disturb",
+    "run",
     "facts",
 ];
 

@@ -76,8 +76,8 @@ const TEXTS: &[(&str, Outcome)] = &[
     // What isn't built.
     ("building", (1, 11, 0)),
     ("learn M from N", (1, 11, 0)),
-    ("disturb 1 before +P", (1, 11, 0)),
-    ("run N", (1, 11, 0)),
+    ("disturb 1 before +P", (1, 4, 0)),
+    ("run N", (1, 4, 0)),
     // Two faults in one line: the order of the causes.
     ("fly %", (1, 2, 0)),
     ("fly (", (1, 3, 0)),

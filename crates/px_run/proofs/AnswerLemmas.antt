@@ -80,6 +80,12 @@ pub named-of : (result : Result Reply NoMemory) (problem : Problem) (names : Nam
 named-of (Ok reply) problem names commands done new named frame = subst (λ (n : NameLists). IsNamed n reply) (sym (ap (λ (s : SessionValue). s.names) frame)) named
 named-of (Err error) problem names commands done new named frame = tt
 
+-- the text of a lawful reply
+pub text-answers : {T E : Type 0} (result : Result T E) (items : T → List ℕ) (old new : SessionValue) (reply : Reply) → IsAnswered old reply new
+    → IfOk result (λ text. items text ≡ reply_text new.names reply) → IfOk result (λ text. IsAnswerText old new (items text))
+text-answers (Ok text) items old new reply answered right = (reply, answered, right)
+text-answers (Err error) items old new reply answered right = tt
+
 -- ---- a session that was at first as `old`, and is now as `now`
 
 -- so many commands are done, by these replies, and what is asked of it is the same

@@ -13,7 +13,10 @@ use Rattle.px_session.specs.Opened.{tables_of}
 use Rattle.px_session.specs.Sessions.{IsSession, SessionState, opening}
 use Rattle.px_session.specs.Transcripts.{AreAnswers, Transcript}
 use Rattle.px_session.proofs.Kept.{sessions_are_kept}
-use Rattle.px_run.specs.Laws.{CarriesAfter, PlanCarries, TranscriptsCarry}
+use Rattle.px_run.specs.Laws.{CarriesAfter, IsCarried, PlanCarries, TranscriptsCarry}
+use Rattle.px_run.specs.Outcomes.{SourceEnds}
+use Rattle.px_run.specs.declared.status.Status.{Status}
+use Rattle.px_run.specs.declared.status.Status.TheVariants as status
 
 plan-carries : (problem : Problem) (old : SessionState) (c : command.Command) (answer : Reply) (new : SessionState) → Lawful problem old c answer new → PlanCarries problem old c answer
 plan-carries problem old (command.Plan name goal vars) (reply.Plan given count steps) new is = sessions_are_kept.plans problem old name goal vars given count steps new is
@@ -50,3 +53,12 @@ carry bytes text transcript done below =
 
 pub transcripts_carry : TranscriptsCarry
 transcripts_carry = record { carry = carry }
+
+pub is_carried : (source : SourceEnds) (result : Status) → IsCarried source result
+is_carried source status.Done = λ bytes text came transcript done below. carry bytes text transcript done below
+is_carried source status.Usage = tt
+is_carried source (status.Refused refused) = tt
+is_carried source status.ReadFault = tt
+is_carried source status.WriteFault = tt
+is_carried source status.NoMemory = tt
+is_carried source status.TooLong = tt

@@ -10,7 +10,10 @@ use Rattle.px_script.specs.Content.{ScriptValue}
 use Rattle.px_session.specs.Opened.{tables_of}
 use Rattle.px_session.specs.Sessions.{SessionState, opening}
 use Rattle.px_session.specs.Transcripts.{AreAnswers, Transcript}
+use Rattle.px_run.specs.Outcomes.{Came, SourceEnds}
 use Rattle.px_run.specs.Transcripts.{Begun}
+use Rattle.px_run.specs.declared.status.Status.{Status}
+use Rattle.px_run.specs.declared.status.Status.TheVariants as status
 
 -- The bytes determine the whole text. The text of the first commands begins it, and so is no longer.
 pub record TextsAreOne : Type 0 where
@@ -36,3 +39,9 @@ pub record CarriesAfter (script : ScriptValue) (answers : List Reply) (done : �
 pub record TranscriptsCarry : Type 0 where
   pub carry : (bytes text : List ℕ) → (transcript : Transcript bytes text) → (done : ℕ) → done ≤ length transcript.script.commands
       → CarriesAfter transcript.script transcript.answers done
+
+-- Where all commands were answered, it is so in each transcript of the bytes that came.
+abbrev pub IsCarried : SourceEnds → Status → Type 0
+IsCarried source status.Done = (bytes text : List ℕ) → Came source bytes → (transcript : Transcript bytes text) → (done : ℕ)
+    → done ≤ length transcript.script.commands → CarriesAfter transcript.script transcript.answers done
+IsCarried source _ = Unit {0}

@@ -11,7 +11,7 @@
 //!   order, each in the state that the one before left. Which replies are lawful is told by `Lawful` of `px_session`.
 //! - The bytes determine it, and what is written for the first commands begins it ([`laws::texts_are_one`]). Each plan in it
 //!   carries, and so does each table that is stored or learned on the way, from each proper instance of each of its kernels
-//!   ([`laws::transcripts_carry`]).
+//!   ([`laws::transcripts_carry`]; the clause `carries` of the top call says it of the bytes that came).
 //! - Bytes that aren't a script are refused with the line, the code and the limit of their first fault, as `px_script`
 //!   defines it. Nothing is answered before the whole script was read.
 //! - After a write that failed, the replies before it and a proper front of the next text were written. Each reply is put

@@ -96,6 +96,27 @@ fn commands_are_answered_in_order(rt: HostRuntime) -> Result<(), NoMemory> {
 }
 
 #[test]
+fn a_run_is_disturbed_and_a_refused_one_keeps_the_disturbances(
+    rt: HostRuntime,
+) -> Result<(), NoMemory> {
+    let alloc = rt.alloc();
+    let plan = "plan N 2 steps 4 moves\n  1 A(a)\n  2 B(a,b)\n";
+    let mut lost = String::new(alloc);
+    lost.push_str(plan)?;
+    lost.push_str(
+        "exhausted M\nnoted 1\nunknown M\nunknown p1\nrun N\n  turn 1 nokernel\nfacts 1\n  Q(b)\n",
+    )?;
+    assert!(&rt;
+        answers(
+            alloc,
+            "plan N G(a)\nplan M G(b)\ndisturb 1 before -P(a)\nrun M\nrun N p1=a\nrun N\nfacts\n",
+            &lost
+        )?
+    );
+    Ok(())
+}
+
+#[test]
 fn as_many_nodes_are_kept_as_the_script_says(rt: HostRuntime) -> Result<(), NoMemory> {
     let alloc = rt.alloc();
     assert!(&rt;

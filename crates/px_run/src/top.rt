@@ -5,6 +5,7 @@ ghost use Rattle.px_reader.specs.LineReads.{content};
 ghost use Rattle.px_script.specs.StageRanges.{IsOfStage};
 ghost use Rattle.px_script.specs.Stages.{stage_now};
 ghost use Rattle.px_session.specs.Opened.{opened};
+ghost use Rattle.px_run.specs.Laws.{IsCarried};
 ghost use Rattle.px_run.specs.Outcomes.{source_ends, sink_ends, takes, UsageRight, RefusalRight, ExecutedRight, RunRight, StatusRight, Completes, CompletesSurely, Refuses};
 
 use crate::running::execute;
@@ -30,6 +31,7 @@ fn takes(words: &[&str]) -> bool
 }
 
 /// Does all that the program does: `words` are those of the command line, without the program's name.
+#[tactic(auto, using(crate::proofs::Carried::is_carried))]
 pub fn planex_main<S: Source, K: Sink>(
     alloc: Global,
     words: &[&str],
@@ -52,6 +54,7 @@ pub fn planex_main<S: Source, K: Sink>(
         (source_ends S.left S.taken S.faults S.never_fails source.old source.new)
         (sink_ends K.written K.faults K.sure sink.old sink.new)
         result }
+    ensures carries { IsCarried (source_ends S.left S.taken S.faults S.never_fails source.old source.new) result }
     ensures gone { (came : List ℕ) × Consumes (S.left source.old) (S.left source.new) came × (S.taken source.new ≡ S.taken source.old + length came) }
     ensures untaken { takes (map (λ word. word.now) words.now) ≡ false → source.new ≡ source.old }
     ensures source_nature { S.never_fails source.new ≡ S.never_fails source.old }

@@ -215,9 +215,6 @@ worked-commands = record {
   tells_facts = ((refl, refl), refl);
   many_told = refl;
   learn_kept_back = ((refl, refl), refl);
-  disturb_kept_back = ((refl, refl), refl);
-  disturb_rooms_kept_back = ((refl, refl), refl);
-  run_kept_back = ((refl, refl), refl);
 }
 
 pub worked-spellings : WorkedSpellings

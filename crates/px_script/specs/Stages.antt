@@ -16,7 +16,8 @@ whole_language = words_of_all
 abbrev pub stage_now : Stage
 stage_now =
     codes "script" ∷ codes "object" ∷ codes "predicate" ∷ codes "axiom" ∷ codes "operator" ∷ codes "pre" ∷ codes "delete" ∷ codes "add"
-    ∷ codes "end" ∷ codes "fact" ∷ codes "height" ∷ codes "nodes" ∷ codes "shapes" ∷ codes "plan" ∷ codes "show" ∷ codes "facts" ∷ []
+    ∷ codes "end" ∷ codes "fact" ∷ codes "height" ∷ codes "nodes" ∷ codes "shapes" ∷ codes "plan" ∷ codes "show"
+    ∷ codes "disturb" ∷ codes "run" ∷ codes "facts" ∷ []
 
 abbrev pub is_built : Stage → List ℕ → Bool
 is_built stage word = has_name word stage

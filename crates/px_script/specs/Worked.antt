@@ -137,8 +137,8 @@ pub record WorkedRefusals : Type 0 where
   pub sign_of_an_edit : IsRefused (codes "axiom +P") 1 2 0
   pub token_before_word : IsRefused (codes "fly %") 1 2 0
   pub form_before_order : IsRefused (codes "operator A\nobject") 2 2 0
-  pub order_before_unbuilt : IsRefused (codes "operator A\nrun N") 2 9 0
-  pub unbuilt_before_name : IsRefused (codes "run N") 1 11 0
+  pub order_before_unbuilt : IsRefused (codes "operator A\nlearn M from N") 2 9 0
+  pub unbuilt_before_name : IsRefused (codes "learn M from N") 1 11 0
   pub name_before_duplicate : IsRefused (codes "object a\npredicate P 1\nplan N P(a)\nplan N P(b)") 4 4 0
   pub duplicate_before_arity : IsRefused (codes "object a\npredicate P 1\nplan N P(a)\nplan N P(a,a)") 4 5 0
   pub unbound_before_limit : IsRefused (codes "object a\npredicate P 1\n"

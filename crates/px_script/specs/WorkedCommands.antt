@@ -116,6 +116,3 @@ pub record WorkedCommands : Type 0 where
   pub many_told : Exceeds (full []) facts 13
   -- what isn't built
   pub learn_kept_back : IsKeptBack learned (learn (codes "L") n)
-  pub disturb_kept_back : IsKeptBack small (disturb_atoms 1 false (adds_q ∷ []))
-  pub disturb_rooms_kept_back : IsKeptBack closed_building (disturb_rooms 1 false (robot_to (codes "R1") ∷ []))
-  pub run_kept_back : IsKeptBack learned (run n [])

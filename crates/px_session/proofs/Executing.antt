@@ -1,10 +1,11 @@
 -- What a session keeps, from its opening on and by each lawful reply.
-use Rattle.std.specs.Prelude.{◌≡◌, ◌<◌, ℕ, true, false, Option, List, length, map, All, codes}
+use Rattle.std.specs.Prelude.{◌≡◌, ◌≢◌, ◌<◌, ◌≤◌, ◌+◌, ℕ, true, false, Option, Some, None, List, [], ◌∷◌, length, map, All, AllPairs, codes, is_some}
 use Rattle.std.proofs.Common.{refl, sym, ap, ◌∙◌, subst, arith, get_or, zero, suc}
-use Rattle.std.proofs.lemmas.List.{get_or-map, length-map}
+use Rattle.std.proofs.lemmas.List.{get_or-map, length-append, length-map}
+use Rattle.std.proofs.lemmas.List.Elements.{All-nil, All-weaker}
 use Rattle.px_terms.specs.declared.problem.Problem.{Problem}
-use Rattle.px_terms.specs.Validity.{IsAtomOf}
 use Rattle.px_table.specs.Kernels.{KernelsCarry}
+use Rattle.px_planex.specs.Turns.{Recorded}
 use Rattle.px_ends.specs.Tasks.{Task, task_of}
 use Rattle.px_printer.specs.Replies.{IsNamed}
 use Rattle.px_printer.specs.declared.reply.Reply.{Reply}
@@ -13,15 +14,19 @@ use Rattle.px_reader.specs.declared.command.Command as code
 use Rattle.px_reader.specs.CommandViews.{command_view}
 use Rattle.px_script.specs.Commands as command
 use Rattle.px_script.specs.Content.{ScriptValue}
-use Rattle.px_script.specs.Ranges.{IsCommandOf, IsInRange}
+use Rattle.px_script.specs.Limits as limit
+use Rattle.px_script.specs.Limits.{greatest}
+use Rattle.px_script.specs.Ranges.{AreRoomEditsOf, IsBindingOf, IsCommandOf, IsInRange}
 use Rattle.px_script.specs.StageRanges.{IsBuiltCommand, IsOfStage}
 use Rattle.px_script.specs.Stages.{is_built, stage_now}
+use Rattle.px_world.specs.declared.edits.RoomEdit.{RoomEdit}
 use Rattle.px_world.specs.declared.thing.Thing.{Thing}
-use Rattle.px_session.specs.KeptSessions.{IsKeptSession, IsRunnable}
-use Rattle.px_session.specs.Lawful.{Lawful, TellsFacts, TellsSearch, TellsShow}
+use Rattle.px_session.specs.KeptSessions.{IsBindingToRun, IsKeptSession, IsRunnable}
+use Rattle.px_session.specs.Lawful.{Lawful, Notes, TellsFacts, TellsRun, TellsSearch, TellsShow, recorded_for}
 use Rattle.px_session.specs.Named.{IsTellable}
 use Rattle.px_session.specs.Opened.{SessionValue, opened, tables_of}
-use Rattle.px_session.specs.Sessions.{SessionState}
+use Rattle.px_session.specs.OwnStates.{HasOwnEdits, IsOwnEdit}
+use Rattle.px_session.specs.Sessions.{Edit, SessionState, of_atoms}
 use Rattle.px_session.proofs.Kept.{sessions_are_kept}
 use Rattle.px_session.proofs.NamedReplies.{named-reply}
 
@@ -38,24 +43,43 @@ some-object : (objects vars : ℕ) → (objects ≡ 0 → vars ≡ 0) → 0 < va
 some-object zero vars none some = absurd (omega (arith, none refl, some))
 some-object (suc objects) vars none some = omega arith
 
+binding-ready : (problem : Problem) (bound : List (ℕ × ℕ)) → All (IsBindingOf problem) bound → AllPairs (λ one other. one.0 ≢ other.0) bound
+    → IsBindingToRun problem bound
+binding-ready problem bound each once = record {
+  from_one = All-weaker (IsBindingOf problem) (λ pair. 1 ≤ pair.0) (λ pair is. is.0) bound each;
+  objects = All-weaker (IsBindingOf problem) (λ pair. pair.1 < problem.objects) (λ pair is. is.2) bound each;
+  once = once;
+}
+
 abbrev IsReady : Problem → ℕ → command.Command → Type 0
 IsReady problem results given = IsRunnable problem given × IsTellable problem results given
 
-ready : (version : ℕ) (problem : Problem) (building : Option (List Thing)) (results : ℕ) (c : command.Command) → IsCommandOf version problem building results c
-    → IsBuiltCommand stage_now c → IsReady problem results c
-ready version problem building results (command.Plan name goal vars) of built =
+-- without a building no edit is of rooms
+no-room-edits : (building : Option (List Thing)) (edits : List RoomEdit) → (is_some building ≡ true → ⊥) → AreRoomEditsOf building edits → ⊥
+no-room-edits None edits out of = of
+no-room-edits (Some things) edits out of = out refl
+
+ready : (version : ℕ) (problem : Problem) (building : Option (List Thing)) (results : ℕ) (c : command.Command) → (is_some building ≡ true → ⊥)
+    → IsCommandOf version problem building results c → IsBuiltCommand stage_now c → IsReady problem results c
+ready version problem building results (command.Plan name goal vars) out of built =
     (record { atoms = of.1.atoms; few = of.1.few_variables; some_object = some-object problem.objects vars of.1.no_objects }, (of.0, of.1.atoms))
-ready version problem building results (command.Learn name source) of built = absurd (unbuilt (codes "learn") refl built)
-ready version problem building results (command.Show name) of built = (tt, of)
-ready version problem building results (command.DisturbAtoms turn between edits) of built = absurd (unbuilt (codes "disturb") refl built)
-ready version problem building results (command.DisturbRooms turn between edits) of built = absurd (unbuilt (codes "disturb") refl built)
-ready version problem building results (command.Run name bindings) of built = absurd (unbuilt (codes "run") refl built)
-ready version problem building results command.Facts of built = (tt, tt)
+ready version problem building results (command.Learn name source) out of built = absurd (unbuilt (codes "learn") refl built)
+ready version problem building results (command.Show name) out of built = (tt, of)
+ready version problem building results (command.DisturbAtoms turn between edits) out of built = (of.2, tt)
+ready version problem building results (command.DisturbRooms turn between edits) out of built = absurd (no-room-edits building edits out of.1)
+ready version problem building results (command.Run name bindings) out of built = (binding-ready problem bindings of.1 of.2, of.0)
+ready version problem building results command.Facts out of built = (tt, tt)
 
 ready-at : (script : ScriptValue) → IsInRange script → IsOfStage stage_now script → (k : ℕ) (c : command.Command) → k < length script.commands
     → IsReady script.problem (length script.names.results) (get_or script.commands k c)
 ready-at script range stage k c below =
-    ready script.version script.problem script.building (length script.names.results) (get_or script.commands k c) (range.commands.each k c below) (stage.commands k c below)
+    ready script.version script.problem script.building (length script.names.results) (get_or script.commands k c)
+    (λ some. unbuilt (codes "building") refl (stage.building some)) (range.commands.each k c below) (stage.commands k c below)
+
+few-commands : (version count : ℕ) → version ≡ 1 → count ≤ greatest version limit.commands → count < 4294967295
+few-commands version count is_one few =
+    let most : count ≤ 512 = subst (λ (v : ℕ). count ≤ greatest v limit.commands) is_one few in
+    omega (arith, most)
 
 -- a session keeps what it is to keep before its first command
 pub kept-opened : (script : ScriptValue) → IsInRange script → IsOfStage stage_now script → IsKeptSession (opened script)
@@ -63,24 +87,26 @@ kept-opened script range stage = record {
   problem = range.problem.valid;
   names = record { objects = sym range.problem.objects; predicates = sym range.problem.predicates; operators = range.operators };
   state = sessions_are_kept.opened script.problem script.facts range.facts.fact_set;
-  atoms = range.facts.atoms;
+  own = record { atoms = range.facts.atoms; edits = All-nil (λ one. All (IsOwnEdit script.problem) one.edits) };
   no_learned = refl;
   commands = λ k c below. (ready-at script range stage k c below).0;
   tellable = λ k c below. (ready-at script range stage k c below).1;
+  few = few-commands script.version (length script.commands) range.version range.commands.few;
+  recorded = omega arith;
 }
 
 -- ---- each command
 
--- the world's atoms and the learned tables are the same
+-- at most one disturbance more is recorded, and the learned tables are the same
 record KeepsParts (old new : SessionState) : Type 0 where
-  pub atoms : new.atoms ≡ old.atoms
+  pub recorded : length new.recorded ≤ length old.recorded + 1
   pub learned : new.learned ≡ old.learned
 
 same-parts : (old new : SessionState) → new ≡ old → KeepsParts old new
-same-parts old new same = subst (KeepsParts old) (sym same) (record { atoms = refl; learned = refl })
+same-parts old new same = subst (KeepsParts old) (sym same) (record { recorded = omega arith; learned = refl })
 
 search-parts : (task : Task) (name : ℕ) (old : SessionState) (answer : Reply) (new : SessionState) → TellsSearch task name old answer new → KeepsParts old new
-search-parts task name old (reply.Plan given count steps) new is = subst (KeepsParts old) (sym is.1.stored) (record { atoms = refl; learned = refl })
+search-parts task name old (reply.Plan given count steps) new is = subst (KeepsParts old) (sym is.1.stored) (record { recorded = omega arith; learned = refl })
 search-parts task name old (reply.Exhausted given) new is = same-parts old new is.2
 search-parts task name old (reply.NodeLimit given nodes moves) new is = same-parts old new is.2
 search-parts task name old (reply.ShapeLimit given node formula shapes) new is = same-parts old new is.2
@@ -91,6 +117,18 @@ show-parts old name (reply.Unknown given) new is = same-parts old new is.2
 show-parts old name (reply.Shown given table) new is = same-parts old new is.2
 show-parts old name answer new is = absurd is
 
+notes-parts : (old : SessionState) (one : Recorded Edit) (answer : Reply) (new : SessionState) → Notes old one answer new → KeepsParts old new
+notes-parts old one (reply.Noted count) new is =
+    subst (KeepsParts old) (sym is.1) (record { recorded = omega (arith, length-append old.recorded (one ∷ [])); learned = refl })
+notes-parts old one answer new is = absurd is
+
+run-parts : (problem : Problem) (old : SessionState) (name : ℕ) (bound : List (ℕ × ℕ)) (answer : Reply) (new : SessionState)
+    → TellsRun problem old name bound answer new → KeepsParts old new
+run-parts problem old name bound (reply.Unknown given) new is = same-parts old new is.2
+run-parts problem old name bound (reply.UnknownParam param) new is = same-parts old new is.same
+run-parts problem old name bound (reply.Ran given told) new is = subst (KeepsParts old) (sym is.1.changed) (record { recorded = omega arith; learned = refl })
+run-parts problem old name bound answer new is = absurd is
+
 facts-parts : (old : SessionState) (answer : Reply) (new : SessionState) → TellsFacts old answer new → KeepsParts old new
 facts-parts old (reply.FactsAre atoms) new is = same-parts old new is.2
 facts-parts old answer new is = absurd is
@@ -100,39 +138,52 @@ keeps-parts : (problem : Problem) (old : SessionState) (given : command.Command)
 keeps-parts problem old (command.Plan name goal vars) answer new runs is = search-parts (task_of problem old.learned.tables old.atoms goal vars) name old answer new is
 keeps-parts problem old (command.Learn name source) answer new runs is = absurd runs
 keeps-parts problem old (command.Show name) answer new runs is = show-parts old name answer new is
-keeps-parts problem old (command.DisturbAtoms turn between edits) answer new runs is = absurd runs
+keeps-parts problem old (command.DisturbAtoms turn between edits) answer new runs is = notes-parts old (recorded_for turn between (map of_atoms edits)) answer new is
 keeps-parts problem old (command.DisturbRooms turn between edits) answer new runs is = absurd runs
-keeps-parts problem old (command.Run name bound) answer new runs is = absurd runs
+keeps-parts problem old (command.Run name bound) answer new runs is = run-parts problem old name bound answer new is
 keeps-parts problem old command.Facts answer new runs is = facts-parts old answer new is
+
+-- a command that can be run has edits of the problem alone
+own-edits : (problem : Problem) (given : command.Command) → IsRunnable problem given → HasOwnEdits problem given
+own-edits problem (command.Plan name goal vars) runs = tt
+own-edits problem (command.Learn name source) runs = tt
+own-edits problem (command.Show name) runs = tt
+own-edits problem (command.DisturbAtoms turn between edits) runs = runs
+own-edits problem (command.DisturbRooms turn between edits) runs = runs
+own-edits problem (command.Run name bound) runs = tt
+own-edits problem command.Facts runs = tt
 
 -- the session after one command more
 abbrev pub after_command : SessionValue → SessionState → ℕ → SessionValue
 after_command session state done = record session { done = done; state = state }
 
 pub kept-after : (session : SessionValue) (given : command.Command) (answer : Reply) (new : SessionState) (done : ℕ) → IsKeptSession session
-    → IsRunnable session.problem given → Lawful session.problem session.state given answer new → IsKeptSession (after_command session new done)
-kept-after session given answer new done kept runs lawful =
+    → done ≡ session.done + 1 → IsRunnable session.problem given → Lawful session.problem session.state given answer new
+    → IsKeptSession (after_command session new done)
+kept-after session given answer new done kept more runs lawful =
     let parts = keeps-parts session.problem session.state given answer new runs lawful in
     record {
       problem = kept.problem;
       names = kept.names;
       state = sessions_are_kept.kept session.problem session.state given answer new kept.state lawful;
-      atoms = subst (All (IsAtomOf session.problem 0)) (sym parts.atoms) kept.atoms;
+      own = sessions_are_kept.own session.problem session.state given answer new kept.problem kept.state kept.own (own-edits session.problem given runs) lawful;
       no_learned = parts.learned ∙ kept.no_learned;
       commands = kept.commands;
       tellable = kept.tellable;
+      few = kept.few;
+      recorded = omega (arith, more, parts.recorded, kept.recorded);
     }
 
 pub named-after : (session : SessionValue) (given : command.Command) (answer : Reply) (new : SessionState) → IsKeptSession session
     → IsTellable session.problem (length session.names.results) given → Lawful session.problem session.state given answer new → IsNamed session.names answer
 named-after session given answer new kept tellable lawful =
-    named-reply session.problem session.names session.state given answer new kept.problem kept.names kept.atoms kept.state.plans kept.no_learned tellable lawful
+    named-reply session.problem session.names session.state given answer new kept.problem kept.names kept.own.atoms kept.state.plans kept.no_learned tellable lawful
 
 -- the kernels of its tables carry
-pub kernels-after : (session : SessionValue) (given : command.Command) (answer : Reply) (new : SessionState) (done : ℕ) → IsKeptSession session
-    → IsRunnable session.problem given → Lawful session.problem session.state given answer new → All (KernelsCarry session.problem) (tables_of new)
-kernels-after session given answer new done kept runs lawful =
-    sessions_are_kept.kernels session.problem new (kept-after session given answer new done kept runs lawful).state
+pub kernels-after : (session : SessionValue) (given : command.Command) (answer : Reply) (new : SessionState) → IsKeptSession session
+    → Lawful session.problem session.state given answer new → All (KernelsCarry session.problem) (tables_of new)
+kernels-after session given answer new kept lawful =
+    sessions_are_kept.kernels session.problem new (sessions_are_kept.kept session.problem session.state given answer new kept.state lawful)
 
 -- what holds of all commands holds of the one at the place
 pub at-place : (P : command.Command → Type 0) (commands listed : List code.Command) (k : ℕ) (one : code.Command) → All P (map command_view commands)

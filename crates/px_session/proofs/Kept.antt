@@ -22,6 +22,7 @@ use Rattle.px_session.specs.Lawful.{IsLearned, Lawful, Notes, TellsFacts, TellsL
 use Rattle.px_session.specs.Sessions.{Edit, IsLearnedTable, IsPlanTable, IsSession, SessionState, of_atoms, of_rooms, opening}
 use Rattle.px_session.proofs.Ascending.{run-set}
 use Rattle.px_session.proofs.OneLearning.{plan-right}
+use Rattle.px_session.proofs.OwnKept.{own-kept}
 use Rattle.px_session.proofs.Shapes.{general-alike, general-low, general-short}
 
 opened : (problem : Problem) (facts : List Atom) → IsAtomSet facts → IsSession problem (opening facts)
@@ -108,4 +109,4 @@ kernels problem state is =
     (All-each (KernelsCarry problem) state.learned.tables (λ table has. kernels_carry problem table (All-at (IsLearnedTable problem) state.learned.tables table is.learned has).table))
 
 pub sessions_are_kept : SessionsAreKept
-sessions_are_kept = record { opened = opened; kept = kept; kernels = kernels; plans = λ problem old name goal vars given count steps new is. is.1.carries }
+sessions_are_kept = record { opened = opened; kept = kept; kernels = kernels; own = own-kept; plans = λ problem old name goal vars given count steps new is. is.1.carries }

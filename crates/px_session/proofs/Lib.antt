@@ -12,3 +12,10 @@ pub mod WorkedAnswers
 pub mod FoundPlans
 pub mod NamedReplies
 pub mod Executing
+pub mod Disturbed
+pub mod RunPlaces
+pub mod Underway
+pub mod Acting
+pub mod OwnRuns
+pub mod OwnKept
+pub mod RunReplies

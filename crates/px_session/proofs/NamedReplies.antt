@@ -1,7 +1,7 @@
 -- Each lawful reply to a command that is built has its names.
-use Rattle.std.specs.Prelude.{◌≡◌, ◌<◌, ◌+◌, ℕ, Option, Some, None, List, length, All}
+use Rattle.std.specs.Prelude.{◌≡◌, ◌<◌, ◌+◌, ℕ, Option, Some, None, List, length, map, All}
 use Rattle.std.proofs.Common.{refl, sym, ap, ◌∙◌, subst, arith}
-use Rattle.std.proofs.lemmas.List.Elements.{All-nil}
+use Rattle.std.proofs.lemmas.List.Elements.{All-map, All-nil}
 use Rattle.px_base.specs.ListLaws.{All-at, All-each}
 use Rattle.px_names.specs.Lists.{NameLists}
 use Rattle.px_terms.specs.declared.atom.Atom.{Atom}
@@ -13,18 +13,21 @@ use Rattle.px_terms.specs.Validity.{IsAtomOf, IsTermOf, IsValid}
 use Rattle.px_table.specs.declared.mark.Mark.{Mark}
 use Rattle.px_table.specs.declared.table.Table.{Table}
 use Rattle.px_table.specs.Tables.{IsStepOf, IsTable}
-use Rattle.px_library.specs.Libraries.{LibraryValue, no_tables, table_named}
+use Rattle.px_library.specs.Libraries.{LibraryValue, no_tables}
+use Rattle.px_planex.specs.Turns.{Recorded, TurnValue}
 use Rattle.px_ends.specs.Tasks.{Task, task_of}
 use Rattle.px_printer.specs.declared.reply.Reply.{Reply}
 use Rattle.px_printer.specs.declared.reply.Reply.TheVariants as reply
 use Rattle.px_printer.specs.Replies.{IsNamed}
 use Rattle.px_printer.specs.Rows.{IsNamedTable}
 use Rattle.px_printer.specs.Texts.{IsNamedAtom, IsNamedInstance, IsNamedTerm}
+use Rattle.px_printer.specs.Turns.{IsNamedStep, IsNamedTurn}
 use Rattle.px_script.specs.Commands as command
-use Rattle.px_session.specs.Lawful.{FindsPlan, Lawful, TellsFacts, TellsSearch, TellsShow}
+use Rattle.px_session.specs.Lawful.{FindsPlan, Lawful, Notes, TellsFacts, TellsRun, TellsSearch, TellsShow, recorded_for, told_turn}
 use Rattle.px_session.specs.Named.{AreNamesOf, IsTellable, RepliesAreNamed}
-use Rattle.px_session.specs.Sessions.{IsLearnedTable, IsPlanTable, SessionState, any_table, first_of}
-use Rattle.px_session.proofs.OneLearning.{table-there}
+use Rattle.px_session.specs.Sessions.{Edit, IsLearnedTable, IsPlanTable, SessionState, any_table, of_atoms}
+use Rattle.px_session.proofs.OneLearning.{any-right}
+use Rattle.px_session.proofs.OwnRuns.{IsOwnStep, run-steps}
 
 abbrev number_of : Term → ℕ
 number_of (Obj n) = n
@@ -62,6 +65,18 @@ module _ (problem : Problem) (names : NameLists) (all : AreNamesOf problem names
   named-steps params steps of =
       All-each (IsNamedInstance names) steps (λ inst has. named-step params inst (All-at (IsStepOf problem params) steps inst of has))
 
+  -- an instance of an operator of the problem is a step without parameters
+  named-turn : (turn : TurnValue) (step : Option OpInst) → turn.op ≡ step → IsOwnStep problem step → IsNamedTurn names (told_turn turn)
+  named-turn turn None same own = subst (IsNamedStep names) (sym same) tt
+  named-turn turn (Some inst) same own =
+      subst (IsNamedStep names) (sym same) (named-step 0 inst (record { op = own.op; count = own.count; terms = own.objects }))
+
+  named-turns : (turns : List TurnValue) → All (λ turn. IsOwnStep problem turn.op) turns → All (IsNamedTurn names) (map told_turn turns)
+  named-turns turns own =
+      All-map (IsNamedTurn names) told_turn turns
+      (All-each (λ (turn : TurnValue). IsNamedTurn names (told_turn turn)) turns
+      (λ turn has. named-turn turn turn.op refl (All-at (λ (t : TurnValue). IsOwnStep problem t.op) turns turn own has)))
+
   -- ---- a table of the problem
 
   named-table : (table : Table) → IsTable problem table → IsNamedTable names table
@@ -98,16 +113,7 @@ module _ (problem : Problem) (names : NameLists) (all : AreNamesOf problem names
   module _ (old : SessionState) (plans : All (IsPlanTable problem) old.plans.tables)
       (learned : All (IsLearnedTable problem) old.learned.tables) where
     any-named : (name : ℕ) (table : Table) → any_table old name ≡ Some table → IsNamedTable names table
-    any-named name table named = by (table_named old.plans name) refl named
-      where
-        by : (plan : Option Table) → table_named old.plans name ≡ plan
-            → first_of plan (table_named old.learned name) ≡ Some table → IsNamedTable names table
-        by None at named' =
-            let has = table-there old.learned.names old.learned.tables name table named' in
-            named-table table (All-at (IsLearnedTable problem) old.learned.tables table learned has).table
-        by (Some plan) at named' =
-            let has = table-there old.plans.names old.plans.tables name table (at ∙ named') in
-            named-table table (All-at (IsPlanTable problem) old.plans.tables table plans has).table
+    any-named name table named = named-table table (any-right problem old plans learned name table named)
 
     named-show : (name : ℕ) (answer : Reply) (new : SessionState) → name < length names.results
         → TellsShow old name answer new → IsNamed names answer
@@ -116,10 +122,28 @@ module _ (problem : Problem) (names : NameLists) (all : AreNamesOf problem names
         (same-result given name (length names.results) is.0 below, any-named name table is.1)
     named-show name answer new below is = absurd is
 
+    named-run : (name : ℕ) (bound : List (ℕ × ℕ)) (answer : Reply) (new : SessionState) → name < length names.results
+        → TellsRun problem old name bound answer new → IsNamed names answer
+    named-run name bound (reply.Unknown given) new below is = same-result given name (length names.results) is.0 below
+    named-run name bound (reply.UnknownParam param) new below is = tt
+    named-run name bound (reply.Ran given told) new below is =
+        let right = any-right problem old plans learned name is.1.table is.1.named in
+        let steps = run-steps problem is.1.table right bound old.recorded old.atoms is.1.turns is.1.after is.1.runs in (
+          same-result given name (length names.results) is.0 below,
+          subst (All (IsNamedTurn names)) (sym is.1.told_are) (named-turns is.1.turns steps),
+        )
+    named-run name bound answer new below is = absurd is
+
     named-facts : (answer : Reply) (new : SessionState) → All (IsAtomOf problem 0) old.atoms
         → TellsFacts old answer new → IsNamed names answer
     named-facts (reply.FactsAre atoms) new of is = subst (All (IsNamedAtom names)) (sym is.0) (named-atoms 0 old.atoms of)
     named-facts answer new of is = absurd is
+
+-- how many disturbances are recorded is no name
+named-noted : (names : NameLists) (old : SessionState) (one : Recorded Edit) (answer : Reply) (new : SessionState) → Notes old one answer new
+    → IsNamed names answer
+named-noted names old one (reply.Noted count) new is = tt
+named-noted names old one answer new is = absurd is
 
 -- for each command that is built
 named-each : (problem : Problem) (names : NameLists) (old : SessionState) (given : command.Command) (answer : Reply) (new : SessionState)
@@ -133,9 +157,11 @@ named-each problem names old (command.Show name) answer new all atoms plans lear
 named-each problem names old command.Facts answer new all atoms plans learned tellable is =
     named-facts problem names all old plans learned answer new atoms is
 named-each problem names old (command.Learn name source) answer new all atoms plans learned tellable is = absurd tellable
-named-each problem names old (command.DisturbAtoms turn between edits) answer new all atoms plans learned tellable is = absurd tellable
+named-each problem names old (command.DisturbAtoms turn between edits) answer new all atoms plans learned tellable is =
+    named-noted names old (recorded_for turn between (map of_atoms edits)) answer new is
 named-each problem names old (command.DisturbRooms turn between edits) answer new all atoms plans learned tellable is = absurd tellable
-named-each problem names old (command.Run name bound) answer new all atoms plans learned tellable is = absurd tellable
+named-each problem names old (command.Run name bound) answer new all atoms plans learned tellable is =
+    named-run problem names all old plans learned name bound answer new tellable is
 
 pub replies_are_named : RepliesAreNamed
 replies_are_named = record { replies = named-each }

@@ -1,11 +1,12 @@
 -- A command to learn has one lawful reply.
-use Rattle.std.specs.Prelude.{◌≡◌, ◌==◌, ℕ, true, false, Bool, cond, Option, Some, None, List, [], ◌∷◌, length, Contains}
+use Rattle.std.specs.Prelude.{◌≡◌, ◌==◌, ℕ, true, false, Bool, cond, Option, Some, None, List, [], ◌∷◌, length, All, Contains}
 use Rattle.std.proofs.Common.{refl, sym, ap, ◌∙◌, subst, inl}
 use Rattle.px_base.specs.ListLaws.{All-at, Contains-first, Contains-later}
 use Rattle.px_proof.specs.PlaceLaws.{some_same}
 use Rattle.px_terms.specs.declared.problem.Problem.{Problem}
 use Rattle.px_terms.specs.Validity.{IsValid}
 use Rattle.px_table.specs.declared.table.Table.{Table}
+use Rattle.px_table.specs.Tables.{IsTable}
 use Rattle.px_general.specs.General.{Generalises}
 use Rattle.px_general.proofs.OneGeneral.{general_is_one}
 use Rattle.px_library.specs.Libraries.{table_beside, table_named, with_table}
@@ -15,7 +16,7 @@ use Rattle.px_printer.specs.declared.reply.Why.{Why}
 use Rattle.px_printer.specs.declared.reply.Why.TheVariants.{TooLong, TooDeep, TooWide, Full}
 use Rattle.px_session.specs.Determined.{SameReply}
 use Rattle.px_session.specs.Lawful.{IsLearned, IsNotLearned, RefusesLearning, TellsLearning}
-use Rattle.px_session.specs.Sessions.{IsPlanTable, IsSession, SessionState}
+use Rattle.px_session.specs.Sessions.{IsLearnedTable, IsPlanTable, IsSession, SessionState, any_table, first_of}
 
 -- ---- options
 
@@ -42,6 +43,19 @@ table-there (one ∷ names) (first ∷ tables) name table e = by (table-there na
 pub plan-right : (problem : Problem) (old : SessionState) → IsSession problem old → (name : ℕ) (plan : Table)
     → table_named old.plans name ≡ Some plan → IsPlanTable problem plan
 plan-right problem old is name plan at = All-at (IsPlanTable problem) old.plans.tables plan is.plans (table-there old.plans.names old.plans.tables name plan at)
+
+pub any-right : (problem : Problem) (old : SessionState) → All (IsPlanTable problem) old.plans.tables
+    → All (IsLearnedTable problem) old.learned.tables → (name : ℕ) (table : Table) → any_table old name ≡ Some table → IsTable problem table
+any-right problem old plans learned name table named = by (table_named old.plans name) refl named
+  where
+    by : (plan : Option Table) → table_named old.plans name ≡ plan → first_of plan (table_named old.learned name) ≡ Some table
+        → IsTable problem table
+    by None at named' =
+        let has = table-there old.learned.names old.learned.tables name table named' in
+        (All-at (IsLearnedTable problem) old.learned.tables table learned has).table
+    by (Some plan) at named' =
+        let has = table-there old.plans.names old.plans.tables name table (at ∙ named') in
+        (All-at (IsPlanTable problem) old.plans.tables table plans has).table
 
 -- ---- refusals
 

@@ -18,6 +18,7 @@ use Rattle.px_script.specs.Commands.{Command, Plan}
 use Rattle.px_script.specs.Content.{ScriptValue}
 use Rattle.px_session.specs.Demo.{Summary}
 use Rattle.px_session.specs.Lawful.{Lawful}
+use Rattle.px_session.specs.OwnStates.{HasOwnEdits, IsOwnState}
 use Rattle.px_session.specs.Sessions.{IsSession, SessionState, opening}
 use Rattle.px_session.specs.Transcripts.{AreAnswersTo, Transcript, texts}
 
@@ -45,14 +46,18 @@ pub record LawfulIsOne : Type 0 where
       → SameReply one other × (new ≡ later)
   pub texts : (names : NameLists) (one other : Reply) → SameReply one other → reply_text names one ≡ reply_text names other
 
--- The opening state is one of a session, and each lawful reply leaves one. Of the tables that a session has, each proper instance of each
--- kernel carries the steps that are left to the goal; and the world's atoms carry the steps of each plan that is told.
+-- The opening state is one of a session, and each lawful reply leaves one. Where the world's atoms and all edits are of a valid problem, so
+-- are they after it. Of the tables that a session has, each proper instance of each kernel carries the steps that are left to the goal; and
+-- the world's atoms carry the steps of each plan that is told.
 pub record SessionsAreKept : Type 0 where
   pub opened : (problem : Problem) (facts : List Atom) → IsAtomSet facts → IsSession problem (opening facts)
   pub kept : (problem : Problem) (old : SessionState) (command : Command) (answer : Reply) (new : SessionState)
       → IsSession problem old → Lawful problem old command answer new → IsSession problem new
   pub kernels : (problem : Problem) (state : SessionState) → IsSession problem state
       → All (KernelsCarry problem) (state.plans.tables ++ state.learned.tables)
+  pub own : (problem : Problem) (old : SessionState) (command : Command) (answer : Reply) (new : SessionState)
+      → IsValid problem → IsSession problem old → IsOwnState problem old → HasOwnEdits problem command
+      → Lawful problem old command answer new → IsOwnState problem new
   pub plans : (problem : Problem) (old : SessionState) (name : ℕ) (goal : List Atom)
       (vars given count : ℕ) (steps : List OpInst) (new : SessionState)
       → Lawful problem old (Plan name goal vars) (reply.Plan given count steps) new → Carries problem old.atoms steps vars goal

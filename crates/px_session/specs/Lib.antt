@@ -4,7 +4,9 @@ pub mod Transcripts
 pub mod Demo
 pub mod Runs
 pub mod Planning
+pub mod Running
 pub mod Opened
+pub mod OwnStates
 pub mod Named
 pub mod KeptSessions
 pub mod Determined

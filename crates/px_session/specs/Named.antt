@@ -5,7 +5,7 @@ use Rattle.px_terms.specs.declared.problem.Problem.{Problem}
 use Rattle.px_terms.specs.Validity.{IsAtomOf}
 use Rattle.px_printer.specs.Replies.{IsNamed}
 use Rattle.px_printer.specs.declared.reply.Reply.{Reply}
-use Rattle.px_script.specs.Commands.{Command, Plan, Show, Facts}
+use Rattle.px_script.specs.Commands.{Command, Plan, Show, DisturbAtoms, Run, Facts}
 use Rattle.px_session.specs.Lawful.{Lawful}
 use Rattle.px_session.specs.Sessions.{IsLearnedTable, IsPlanTable, SessionState}
 
@@ -15,11 +15,13 @@ pub record AreNamesOf (problem : Problem) (names : NameLists) : Type 0 where
   pub predicates : length names.predicates ≡ length problem.arities
   pub operators : length names.operators ≡ length problem.schemas
 
--- A plan has the name of a result, and a goal of atoms of the problem with these variables; to show a table takes the name of a result.
--- Other commands than these and the facts aren't built.
+-- A plan has the name of a result, and a goal of atoms of the problem with these variables; to show a table, or to run one, takes the name
+-- of a result. Other commands than these, the facts and edits of atoms aren't built.
 abbrev pub IsTellable : Problem → ℕ → Command → Type 0
 IsTellable problem results (Plan name goal vars) = (name < results) × All (IsAtomOf problem vars) goal
 IsTellable problem results (Show name) = name < results
+IsTellable problem results (DisturbAtoms turn between edits) = Unit {0}
+IsTellable problem results (Run name bindings) = name < results
 IsTellable problem results Facts = Unit {0}
 IsTellable problem results _ = ⊥
 

@@ -6,8 +6,11 @@
 //! # Calling it
 //!
 //! - [`Session::new`] takes a [`px_reader::Script`] of the words that are built. [`Session::execute`] answers command `k`, each once and in
-//!   order: `plan`, `show` and `facts`. Its reply is lawful, each number that it prints as a name has one, and after a refusal for memory
-//!   the session is as it was. Contracts see a session as a `SessionValue` (`specs/Opened`); what it keeps is in `specs/KeptSessions`.
+//!   order: `plan`, `show`, `disturb` with edits of atoms, `run` and `facts`. Its reply is lawful, each number that it prints as a name has
+//!   one, and after a refusal for memory the session is as it was. Contracts see a session as a `SessionValue` (`specs/Opened`); what it
+//!   keeps is in `specs/KeptSessions`.
+//! - A `run` takes all its memory before the first turn: room for each turn that there may be, and for each atom that edits and steps may
+//!   add. It goes on in a copy of the world's atoms (`running`, `turns`; `specs/Running` has the counts).
 //! - A `SessionState` in `specs/Sessions` has the world's atoms, the tables of the stored plans by name, the learned tables by
 //!   name in the order of learning, and the disturbances that are recorded for the next run. `opening` is the one before the
 //!   first command. An `Edit` is one of atoms or one of a building.
@@ -17,7 +20,8 @@
 //! - `IsSession` is what a session keeps: the world's atoms are a set; the table of each stored plan has no parameters, and its
 //!   own steps delete nothing that its later rows rest on; there are at most 32 learned tables, none of them too long or with a
 //!   proof that is too high. The opening state is such where the facts are a set, and each lawful reply leaves such a state
-//!   ([`sessions_are_kept`], which also says that these tables' kernels carry).
+//!   ([`sessions_are_kept`], which also says that these tables' kernels carry, and that atoms and edits of the problem stay such,
+//!   `IsOwnState` in `specs/OwnStates`).
 //! - A session's state and a command have one lawful reply ([`lawful_is_one`]; where a search met the limit of shapes, one of
 //!   several questions may be told, and the text is one).
 //! - `Transcript` in `specs/Transcripts` is what is to be written for the bytes of a script: the texts of lawful replies to its
@@ -36,13 +40,20 @@
 #![tactic(auto)]
 
 mod commands;
+mod disturbance;
 mod laws;
 mod planning;
 mod plans;
+mod running;
 mod session;
+#[cfg(test)]
+mod slow_runs;
 mod state;
+mod stored_runs;
 #[cfg(test)]
 mod tests;
+mod turns;
+mod within;
 
 pub use laws::{
     answers_are_one, causes_in_order, lawful_is_one, one_kind_runs, refused_replies,

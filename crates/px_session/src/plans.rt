@@ -1,7 +1,8 @@
 //! The tables of the stored plans, by name.
-ghost use Rattle.std.specs.Prelude.{◌≡◌, ◌<◌, ◌++◌, ◌∷◌, [], vec_len, vec_capacity, OnOk, OnErr, option_map};
+ghost use Rattle.std.specs.Prelude.{◌≡◌, OnOk, OnErr, option_map};
 ghost use Rattle.px_library.specs.Libraries.{no_tables, table_named, with_table};
 
+use crate::within::push_within;
 use px_base::NoMemory;
 use px_table::Table;
 use std::alloc::Global;
@@ -65,16 +66,5 @@ impl Plans {
             }
         }
         None
-    }
-}
-
-/// Puts an item last where there is room for it.
-fn push_within<T: Drop>(items: &mut Vec<T>, item: T)
-    requires room { vec_len items.old < vec_capacity items.old }
-    ensures { items.new.items ≡ items.old.items ++ item ∷ [] }
-{
-    match items.push(item) {
-        Ok(()) => {}
-        Err(_) => unreachable!(),
     }
 }

@@ -1,29 +1,33 @@
-//! What a session holds, and the commands that only tell of it.
-ghost use Rattle.std.specs.Prelude.{◌≡◌, IfOk, option_map};
-ghost use Rattle.px_session.specs.Lawful.{TellsFacts, TellsShow};
-ghost use Rattle.px_session.specs.Sessions.{any_table, opening};
+//! What a session holds, and the commands that tell of it or record something.
+ghost use Rattle.std.specs.Prelude.{◌≡◌, ◌<◌, IfOk, OnErr, length, map, option_map};
+ghost use Rattle.px_session.specs.Lawful.{Notes, TellsFacts, TellsShow, recorded_for};
+ghost use Rattle.px_session.specs.Sessions.{any_table, of_atoms, opening};
 
+use crate::disturbance::Disturbance;
 use crate::plans::Plans;
-use px_base::{NoMemory, Sequence};
+use px_base::{NoMemory, Sequence, push};
 use px_library::Library;
 use px_ops::Model;
 use px_printer::Reply;
 use px_table::Table;
+use px_world::AtomEdit;
 use std::alloc::Global;
 
-/// The world's atoms, the tables of the stored plans, and the learned tables. No disturbance is recorded.
+/// The world's atoms, the tables of the stored plans, the learned tables, and the disturbances that are recorded for the next run.
 #[derive(Drop)]
 pub(crate) struct State {
     pub(crate) facts: Model,
     pub(crate) plans: Plans,
     pub(crate) learned: Library,
+    pub(crate) recorded: Vec<Disturbance>,
 }
 
 impl std::marker::Model for State {
-    ghost use Rattle.std.specs.Prelude.{[]};
+    ghost use Rattle.std.specs.Prelude.{map};
     ghost use Rattle.std.specs.Coded.{codes};
     ghost use Rattle.px_proof.specs.contracts.proof.Proof as term;
-    ghost use Rattle.px_session.specs.Sessions.{SessionState};
+    ghost use Rattle.px_session.specs.Runs.{as_edits};
+    ghost use Rattle.px_session.specs.Sessions.{SessionState, of_atoms};
 
     ghost Value = { SessionState };
 
@@ -33,7 +37,7 @@ impl std::marker::Model for State {
       atoms = s.facts.atoms;
       plans = s.plans;
       learned = s.learned;
-      recorded = [];
+      recorded = map (as_edits of_atoms) s.recorded.items;
     } };
 }
 
@@ -46,6 +50,7 @@ impl State {
             facts,
             plans: Plans::new(alloc),
             learned: Library::new(alloc),
+            recorded: Vec::new(alloc),
         }
     }
 
@@ -84,6 +89,32 @@ impl State {
     {
         Ok(Reply::FactsAre {
             atoms: Sequence::from_slice(alloc, self.facts.atoms())?,
+        })
+    }
+
+    /// Records edits for the next run.
+    ///
+    /// # Errors
+    /// `NoMemory` where there is none for one disturbance more. Nothing is recorded then.
+    pub(crate) fn note(
+        &mut self,
+        alloc: Global,
+        turn: u32,
+        between: bool,
+        edits: &[AtomEdit],
+    ) -> Result<Reply, NoMemory>
+        requires few { length self.old.recorded < 4294967295 }
+        ensures told { IfOk result (λ reply. Notes self.old (recorded_for turn between (map of_atoms edits.now)) reply self.new) }
+        ensures kept { OnErr result (self.new ≡ self.old) }
+    {
+        let disturbance = Disturbance {
+            turn,
+            between,
+            edits: Sequence::from_slice(alloc, edits)?,
+        };
+        push(&mut self.recorded, disturbance)?;
+        Ok(Reply::Noted {
+            count: self.recorded.len() as u32,
         })
     }
 }

@@ -1,4 +1,4 @@
-//! The laws are calls, and the commands of a small script are answered in order.
+//! The laws are calls, and the commands of small scripts are answered in order.
 ghost use Rattle.std.specs.Prelude.{◌<◌, ◌^◌, ◌-◌, length};
 
 use crate::{
@@ -10,7 +10,7 @@ use std::alloc::Global;
 use std::rt::HostRuntime;
 
 /// Answers the next command, if there is one.
-fn goes_on(session: &mut Session) -> bool {
+pub fn goes_on(session: &mut Session) -> bool {
     let k = session.done();
     k < session.count() && session.execute(k).is_ok()
 }
@@ -33,6 +33,9 @@ fn answered(alloc: Global, bytes: &[u8]) -> Option<usize>
 fn commands_are_answered_in_order(rt: HostRuntime) {
     let alloc = rt.alloc();
     assert!(&rt; answered(alloc, b"predicate P 0\nfact P\nfacts\nfacts\n") == Some(2));
+    assert!(&rt; answered(alloc, b"predicate P 0\nfact P\nplan N P\nshow N\nfacts\n") == Some(3));
+    let run = b"predicate P 0\nfact P\nplan N P\ndisturb 1 before -P\nrun N\n";
+    assert!(&rt; answered(alloc, run) == Some(3));
 }
 
 #[test]

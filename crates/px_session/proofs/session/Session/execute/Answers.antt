@@ -1,4 +1,4 @@
-use Rattle.std.proofs.Common.{◌+◌, ◌<◌, length, sym, subst}
+use Rattle.std.proofs.Common.{◌≡◌, ◌+◌, ◌<◌, length, refl, sym, subst, arith}
 use Rattle.px_printer.specs.Replies.{IsNamed}
 use Rattle.px_reader.specs.CommandViews.{command_view}
 use Rattle.px_session.specs.KeptSessions.{IsRunnable}
@@ -20,7 +20,7 @@ invariant_of-self-2 c =
     let runs = at-place (IsRunnable c.self.inside.problem) c.self.inside.commands c.as_slice.result.now c.args.k c.index-as_slice-k.result
     c.self.invariant.commands c.as_slice.ensures below c.index-as_slice-k.is in
     kept-after (held.the_view c.self.inside) (command_view c.index-as_slice-k.result) c.in_ok-reply.reply c.run_command.new.state (c.self.inside.done + 1)
-    c.self.invariant runs c.in_ok-reply.ensures.lawful
+    c.self.invariant refl runs c.in_ok-reply.ensures.lawful
 
 pub returns-clause-named : goal.returns-clause-named
 returns-clause-named c =
@@ -33,8 +33,11 @@ returns-clause-named c =
 
 pub returns-clause-kernels : goal.returns-clause-kernels
 returns-clause-kernels c =
+    kernels-after (held.the_view c.self.inside) (command_view c.index-as_slice-k.result) c.in_ok-reply.reply c.run_command.new.state c.self.invariant
+    c.in_ok-reply.ensures.lawful
+
+pub run_command-requires-clause-few : goal.run_command-requires-clause-few
+run_command-requires-clause-few c =
     let below = subst (λ (s : SessionValue). c.args.k < length s.commands) (sym c.self.view_is) c.requires.below in
-    let runs = at-place (IsRunnable c.self.inside.problem) c.self.inside.commands c.as_slice.result.now c.args.k c.index-as_slice-k.result
-    c.self.invariant.commands c.as_slice.ensures below c.index-as_slice-k.is in
-    kernels-after (held.the_view c.self.inside) (command_view c.index-as_slice-k.result) c.in_ok-reply.reply c.run_command.new.state (c.self.inside.done + 1)
-    c.self.invariant runs c.in_ok-reply.ensures.lawful
+    let next : c.args.k ≡ c.self.inside.done = subst (λ (s : SessionValue). c.args.k ≡ s.done) (sym c.self.view_is) c.requires.next in
+    omega (arith, below, next, c.self.invariant.few, c.self.invariant.recorded)

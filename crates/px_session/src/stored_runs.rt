@@ -1,0 +1,49 @@
+//! Runs a table of a session.
+ghost use Rattle.std.specs.Prelude.{◌≡◌, IfOk, OnErr};
+ghost use Rattle.px_terms.specs.Validity.{IsValid};
+ghost use Rattle.px_session.specs.Lawful.{TellsRun};
+ghost use Rattle.px_session.specs.Sessions.{IsSession};
+ghost use Rattle.px_session.specs.KeptSessions.{IsBindingToRun};
+ghost use Rattle.px_session.specs.OwnStates.{AreOwnEdits};
+
+use crate::running::{Run, RunErr, run_table};
+use crate::state::State;
+use px_base::NoMemory;
+use px_printer::Reply;
+use px_terms::Problem;
+use std::alloc::Global;
+
+impl State {
+    /// Runs the table of that name with these objects for its parameters, from the world's atoms, disturbed by all that is recorded.
+    /// The world's atoms are then those after the run, and nothing is recorded.
+    ///
+    /// # Errors
+    /// `NoMemory` where there is none for the run. The state is then as it was.
+    pub(crate) fn run(
+        &mut self,
+        alloc: Global,
+        problem: &Problem,
+        name: u32,
+        bound: &[(u32, u32)],
+    ) -> Result<Reply, NoMemory>
+        requires problem { IsValid problem.now }
+        requires session { IsSession problem.now self.old }
+        requires edits { AreOwnEdits problem.now self.old.recorded }
+        requires binding { IsBindingToRun problem.now bound.now }
+        ensures told { IfOk result (λ reply. TellsRun problem.now self.old name bound.now reply self.new) }
+        ensures kept { OnErr result (self.new ≡ self.old) }
+    {
+        let Some(table) = self.table(name) else {
+            return Ok(Reply::Unknown { name });
+        };
+        match run_table(alloc, problem, table, bound, &self.recorded, &self.facts) {
+            Ok(Run { turns, facts }) => {
+                self.facts = facts;
+                self.recorded.clear();
+                Ok(Reply::Ran { name, turns })
+            }
+            Err(RunErr::UnknownParam(param)) => Ok(Reply::UnknownParam { param }),
+            Err(RunErr::NoMemory) => Err(NoMemory),
+        }
+    }
+}

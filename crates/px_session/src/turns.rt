@@ -1,0 +1,150 @@
+//! The turns of a run in a world of atoms.
+ghost use Rattle.std.specs.Prelude.{◌≡◌, ◌≢◌, ◌<◌, ◌≤◌, [], All, MatchBool, None, length, map, vec_capacity};
+ghost use Rattle.px_terms.specs.Validity.{IsValid};
+ghost use Rattle.px_table.specs.Tables.{IsTable};
+ghost use Rattle.px_world.specs.Worlds.{IsGroundEdit};
+ghost use Rattle.px_planex.specs.Turns.{IsLastTurn, edits_at, is_at};
+ghost use Rattle.px_session.specs.Running.{AreGroundEdits, EndsSensed, HasPlaces, HasTaken, IsDisturbed, TakesFrom, TakesNumbered, end_told, most_turns, places_from, places_of_action, places_of_turn, turn_told};
+
+use crate::disturbance::Disturbance;
+use crate::within::push_within;
+use px_planex::{Event, Outcome, Planex};
+use px_printer::{Turn, TurnEnd};
+use px_table::Table;
+use px_world::{AtomEdit, AtomWorld, World};
+
+/// Is it for that turn and point?
+fn is_for(one: &Disturbance, number: usize, between: bool) -> bool
+    ensures { result ≡ is_at number between one.now }
+{
+    let is_of_turn = one.turn as usize == number;
+    if between {
+        is_of_turn && one.between
+    } else {
+        is_of_turn && !one.between
+    }
+}
+
+/// Changes the world by these edits, one after the other.
+fn disturb_by(world: &mut AtomWorld<'_>, edits: &[AtomEdit])
+    requires all_ground { All IsGroundEdit edits.now }
+    requires spare { length edits.now ≤ world.old.spare }
+    ensures { IsDisturbed edits.now world.old world.new }
+{
+    for edit in edits {
+        world.disturb(edit);
+    }
+}
+
+/// Changes the world by the edits that are recorded for the turn and the point.
+fn disturb_at(world: &mut AtomWorld<'_>, recorded: &[Disturbance], number: usize, between: bool)
+    requires all_ground { AreGroundEdits recorded.now }
+    requires spare { length (edits_at recorded.now number between) ≤ world.old.spare }
+    ensures { IsDisturbed (edits_at recorded.now number between) world.old world.new }
+{
+    for one in recorded {
+        if is_for(one, number, between) {
+            disturb_by(world, one.edits.as_slice());
+        }
+    }
+}
+
+/// Ends a turn in which this kernel was sensed: the edits come that are recorded for between, and the executor acts.
+fn act_in_turn(
+    planex: &mut Planex<'_>,
+    world: &mut AtomWorld<'_>,
+    recorded: &[Disturbance],
+    number: usize,
+    kernel: u32,
+) -> Turn
+    requires all_ground { AreGroundEdits recorded.now }
+    requires remembers { planex.old.memory.remembered ≢ None }
+    requires places { HasPlaces planex.old (places_of_action planex.old.problem recorded.now number) world.old }
+    ensures ends { EndsSensed planex.old recorded.now number kernel world.old.atoms result world.new.atoms planex.new.memory }
+    ensures frame { planex.new ≡ record planex.old { memory = planex.new.memory } }
+    ensures taken { HasTaken (places_of_action planex.old.problem recorded.now number) world.old world.new }
+{
+    let op = planex.action();
+    disturb_at(world, recorded, number, true);
+    let end = match planex.step(world, Event::Act) {
+        Outcome::Acted => TurnEnd::Acted,
+        Outcome::Slipped => TurnEnd::Slipped,
+        _ => unreachable!(),
+    };
+    Turn { kernel, op, end }
+}
+
+/// Takes a turn: the edits come that are recorded for it before the sensing, the executor senses, and acts if a kernel fits that
+/// isn't the last.
+fn take_turn(
+    planex: &mut Planex<'_>,
+    world: &mut AtomWorld<'_>,
+    table: &Table,
+    recorded: &[Disturbance],
+    number: usize,
+) -> Turn
+    requires all_ground { AreGroundEdits recorded.now }
+    requires table { planex.old.table ≡ table.now }
+    requires short { length table.now.steps < 4294967295 }
+    requires places { HasPlaces planex.old (places_of_turn planex.old.problem recorded.now number) world.old }
+    ensures takes { TakesNumbered planex.old recorded.now number world.old.atoms result world.new.atoms planex.new.memory }
+    ensures frame { planex.new ≡ record planex.old { memory = planex.new.memory } }
+    ensures taken { HasTaken (places_of_turn planex.old.problem recorded.now number) world.old world.new }
+{
+    disturb_at(world, recorded, number, false);
+    match planex.step(world, Event::Sense) {
+        Outcome::Sensed(kernel) => act_in_turn(planex, world, recorded, number, kernel),
+        Outcome::Goal => Turn {
+            kernel: table.steps.len() as u32 + 1,
+            op: None,
+            end: TurnEnd::Goal,
+        },
+        Outcome::NoKernel => Turn {
+            kernel: 0,
+            op: None,
+            end: TurnEnd::NoKernel,
+        },
+        _ => unreachable!(),
+    }
+}
+
+/// Is a turn that ends so the last one of its run?
+fn ends_run(end: TurnEnd) -> bool
+    ensures { MatchBool result (IsLastTurn (end_told end)) (¬ IsLastTurn (end_told end)) }
+{
+    match end {
+        TurnEnd::Goal | TurnEnd::NoKernel => true,
+        TurnEnd::Acted | TurnEnd::Slipped => false,
+    }
+}
+
+/// Takes turns, from the first on, up to the goal or to a sensing that finds no kernel, and puts them into the list, which has room for
+/// all of them. Takes no memory.
+pub(crate) fn take_turns(
+    planex: &mut Planex<'_>,
+    world: &mut AtomWorld<'_>,
+    table: &Table,
+    recorded: &[Disturbance],
+    turns: Vec<Turn>,
+    most: usize,
+) -> Vec<Turn>
+    requires problem { IsValid planex.old.problem }
+    requires is_table { IsTable planex.old.problem table.now }
+    requires all_ground { AreGroundEdits recorded.now }
+    requires table { planex.old.table ≡ table.now }
+    requires most { most_turns table.now recorded.now < most }
+    requires none { turns.items ≡ [] }
+    requires room { most ≤ vec_capacity turns }
+    requires places { HasPlaces planex.old (places_from planex.old.problem recorded.now most 1) world.old }
+    ensures turns { TakesFrom planex.old recorded.now 1 world.old.atoms (map turn_told result.items) world.new.atoms planex.new.memory }
+    ensures room { length world.new.atoms ≤ planex.old.room }
+{
+    let mut taken = turns;
+    'turns: loop {
+        let Turn { kernel, op, end } = take_turn(planex, world, table, recorded, taken.len() + 1);
+        push_within(&mut taken, Turn { kernel, op, end });
+        if ends_run(end) {
+            return taken;
+        }
+    }
+}
