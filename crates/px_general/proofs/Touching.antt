@@ -20,7 +20,7 @@ use Rattle.px_table.specs.Supports.{IsProofOf, Supports}
 use Rattle.px_table.specs.SupportShapes.{shape_of_support}
 use Rattle.px_table.specs.Tables.{rows_of}
 use Rattle.px_general.specs.General.{Generalises, IsNumbered, is_parameter, row_terms, shape_of}
-use Rattle.px_general.specs.Limits.{fresh_in, fresh_variables}
+use Rattle.px_replay.specs.FreshVariables.{fresh_in, fresh_variables}
 use Rattle.px_general.specs.WorkedGeneral.{GeneralFacts, of_second, plan, touch, touched, touching, touching_twice}
 
 -- the proofs of the table, as derivations

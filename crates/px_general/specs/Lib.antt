@@ -1,3 +1,5 @@
 pub mod General
 pub mod Limits
+pub mod Naming
+pub mod Replayed
 pub mod WorkedGeneral

@@ -10,7 +10,7 @@ use Rattle.px_proof.specs.declared.proof.Proof.TheVariants.{Fact}
 use Rattle.px_proof.specs.Derivation.{Derivation, fact, step, none, also}
 use Rattle.px_table.specs.declared.table.Table.{Table}
 use Rattle.px_general.specs.General.{Generalises, IsNumbered}
-use Rattle.px_general.specs.Limits.{fresh_in, fresh_variables}
+use Rattle.px_replay.specs.FreshVariables.{fresh_in, fresh_variables}
 
 abbrev pub touched : Term → Atom
 touched x = record { pred = 0; args = x ∷ [] }

@@ -1,10 +1,12 @@
-//! What generalising a plan is: the table whose proper instances are the supports of the plan's shape (Fikes, Hart and
-//! Nilsson 1972).
-//!
-//! There is no generaliser yet. These are the definitions that it will meet, and their laws.
+//! Generalising a plan: the table whose proper instances are the supports of the plan's shape (Fikes, Hart and Nilsson 1972).
 //!
 //! # Calling it
 //!
+//! - [`generalise`] makes that table of the table of a plan, which has no parameters (`Generalises` of `specs/General`). It opens
+//!   the plan with fresh variables, replays its proofs (`px_replay`), and names the variables that stay open: equal objects get one
+//!   parameter only where a proof needs them equal, and an object stays only where an operator or an axiom has it.
+//! - It answers `TooLong`, `TooDeep` or `TooWide`, the first that is so, exactly where it is (`specs/Limits`), or `NoMemory`. It
+//!   calls itself once for each level of a proof.
 //! - The shape of a plan's table is its operators in order, its goal without its objects, and the forms of its proofs, with
 //!   the column and the index of each leaf (`shape_of` in `specs/General`). `IsTableInstance` says that steps, a goal, rows
 //!   and atoms are an instance of a table: objects for its parameters are proper from the first step on, and the atoms have
@@ -15,16 +17,26 @@
 //!   which they first occur in the marks, then in the steps, the goal and the proofs (`IsNumbered`).
 //! - A plan whose own steps delete nothing that its later rows rest on has one general table, proofs included
 //!   ([`general_is_one`]). The table of each plan that a search finds is such.
-//! - `fresh_variables` in `specs/Limits` counts what generalising starts from: a variable for each argument of a step, each
-//!   argument of a fact of the initial model, each object and each variable of the goal, and each variable of each axiom. A
-//!   plan is too long above 64 steps (`IsTooLong`), too deep where a proof is higher than 56 (`IsTooDeep`), and too wide above
-//!   1,000,000 variables (`IsTooWide`).
+//! - A plan is too long above 64 steps (`IsTooLong`), too deep where a proof is higher than 56 (`IsTooDeep`), and too wide above
+//!   1,000,000 fresh variables (`IsTooWide`), which `fresh_variables` of `px_replay` counts.
 //! - [`worked_general`] tells of a small plan which tables don't generalise it.
 //! - The laws are calls that do nothing.
 #![tactic(auto)]
 
+mod building;
+mod general_err;
+mod generalising;
 mod laws;
+mod limits;
+mod naming;
+#[cfg(test)]
+mod plain_check;
+#[cfg(test)]
+mod test_plans;
 #[cfg(test)]
 mod tests;
+mod walking;
 
+pub use general_err::GeneralErr;
+pub use generalising::generalise;
 pub use laws::{general_is_one, worked_general};

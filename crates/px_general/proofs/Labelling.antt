@@ -1,0 +1,358 @@
+-- Labels that are given along the walk make the opened plan the general table.
+use Rattle.std.specs.Prelude.{◌≡◌, ◌↔◌, ◌+◌, ◌<◌, ℕ, Bool, true, false, cond, not, Some, List, [], ◌∷◌, map, length, filter, flat_map, slice_get, slice_index_or, All, Contains}
+use Rattle.std.proofs.Common.{zero, suc, refl, sym, ap, ◌∙◌, subst, inl, inr, arith}
+use Rattle.std.proofs.lemmas.Bool.Decides.{nat_tests}
+use Rattle.std.proofs.lemmas.List.{length-map}
+use Rattle.std.proofs.lemmas.List.Elements.{All-nil, All-head, All-tail, All-append, Contains-append_right, Contains-append_cases}
+use Rattle.px_base.specs.ListLaws.{All-at, All-each, Contains-first, Contains-later, Contains-filter}
+use Rattle.px_terms.specs.declared.atom.Atom.{Atom}
+use Rattle.px_terms.specs.declared.instance.OpInst.{OpInst}
+use Rattle.px_terms.specs.declared.problem.Problem.{Problem}
+use Rattle.px_terms.specs.declared.term.Term.{Term}
+use Rattle.px_terms.specs.declared.term.Term.TheVariants.{Obj, Var, Any as WildCard}
+use Rattle.px_terms.specs.Language.{substitute, IsPlainBelow}
+use Rattle.px_terms.specs.Order.{term_eq}
+use Rattle.px_terms.specs.OrderLaws.{term_eq-decides}
+use Rattle.px_terms.specs.Validity.{IsAtomOf, IsTermOf, IsValid}
+use Rattle.px_unify.specs.declared.change.Change.{Change}
+use Rattle.px_unify.specs.Changes.{Fits, HasSolutions, IsRoot, MakesEachEqual, variables_of}
+use Rattle.px_proof.specs.declared.proof.Leaf.{Leaf}
+use Rattle.px_proof.specs.Derivation.{Derivation, terms_of}
+use Rattle.px_proof.specs.PlaceLaws.{All-front, All-back, Contains-mapped, slice_get-read, slice_get-within, some_same}
+use Rattle.px_proof.specs.Proves.{IsName}
+use Rattle.px_table.specs.declared.table.Table.{Table}
+use Rattle.px_table.specs.KernelLaws.{Contains-from_map}
+use Rattle.px_table.specs.Marks.{IsNamed, row_leaves}
+use Rattle.px_table.specs.Once.{each_once}
+use Rattle.px_table.specs.OnceLaws.{Contains-each_once}
+use Rattle.px_table.specs.Supports.{RowsProve, variables, variables_from}
+use Rattle.px_table.specs.Tables.{IsTable, rows_of}
+use Rattle.px_general.specs.General.{Generalises, is_parameter}
+use Rattle.px_general.specs.Naming.{AreLabels, AreNamed, IsBuilt, IsResolved, is_variable, leaf_terms, roots_of, walked_terms}
+use Rattle.px_replay.specs.Opened.{goal_objects, opened_terms, replay_pairs, rows_opened, step_variables, steps_opened}
+use Rattle.px_general.specs.Replayed.{IsReplayed}
+use Rattle.px_general.proofs.Assembling.{IsSolution, own_terms-solve}
+use Rattle.px_general.proofs.GeneralTable.{row_leaf-terms}
+use Rattle.px_general.proofs.InstanceSupports.{read-map}
+use Rattle.px_general.proofs.MostGeneral.{is_most_general, same_list}
+use Rattle.px_general.proofs.Numbering.{walks-number}
+use Rattle.px_general.proofs.Reading.{length-variables}
+use Rattle.px_general.proofs.Opening.{read-at}
+use Rattle.px_general.proofs.Solving.{objects_among, own_of_goal}
+use Rattle.px_general.proofs.SupportInstances.{variable-read}
+use Rattle.px_general.proofs.Together.{generalises}
+use Rattle.px_general.proofs.Under.{Contains-from_each_once, rows_terms-allowed, rows_terms-under, steps_terms-under}
+
+-- ---- replacing, where a name is the label of what is resolved
+
+twice_at : (outer inner : List Term) (v : ℕ) → slice_index_or (map (substitute outer) inner) v WildCard ≡ substitute outer (slice_index_or inner v WildCard)
+twice_at outer [] v = refl
+twice_at outer (t ∷ inner) zero = refl
+twice_at outer (t ∷ inner) (suc v) = twice_at outer inner v
+
+pub twice : (outer inner : List Term) (t : Term) → substitute (map (substitute outer) inner) t ≡ substitute outer (substitute inner t)
+twice outer inner (Obj n) = refl
+twice outer inner (Var v) = twice_at outer inner v
+twice outer inner WildCard = refl
+
+twice_each : (outer inner ts : List Term) → map (substitute (map (substitute outer) inner)) ts ≡ map (substitute outer) (map (substitute inner) ts)
+twice_each outer inner [] = refl
+twice_each outer inner (t ∷ ts) = cc (twice outer inner t, twice_each outer inner ts)
+
+place_of : (xs : List Term) (x : Term) → Contains xs x → (p : ℕ) × (slice_get xs p ≡ Some x)
+place_of xs x has = (has.0, slice_get-read xs has.0 x has.1 ∙ ap Some has.2)
+
+there_at : (xs : List Term) (p : ℕ) (x : Term) → slice_get xs p ≡ Some x → Contains xs x
+there_at [] p x at = absurd (cc)
+there_at (y ∷ xs) zero x at = subst (Contains (y ∷ xs)) (some_same y x at) (Contains-first y xs)
+there_at (y ∷ xs) (suc p) x at = Contains-later y xs x (there_at xs p x at)
+
+same_bool : (a b : Bool) → (a ≡ true → b ≡ true) → (b ≡ true → a ≡ true) → a ≡ b
+same_bool true b f g = sym (f refl)
+same_bool false true f g = absurd (let e = g refl in cc)
+same_bool false false f g = refl
+
+same_number : {v w : ℕ} → Var v ≡ Var w → v ≡ w
+same_number e = cc
+
+-- ---- labels
+
+module _ (resolved labels : List Term) (next : ℕ) (walked : List Term) (are : AreLabels resolved labels next walked) where
+  abbrev roots : List Term
+  roots = roots_of resolved walked
+
+  abbrev found : List Term
+  found = map (substitute resolved) walked
+
+  -- a term with a label
+  abbrev HasLabel : Term → Type 0
+  HasLabel t = (v : ℕ) × (p : ℕ) × (t ≡ Var v) × (slice_get labels v ≡ Some (Var p)) × (p < next)
+
+  label_of_root : (v : ℕ) → Contains roots (Var v) → HasLabel (Var v)
+  label_of_root v has =
+      let place = place_of roots (Var v) has in
+      (v, place.0, refl, (are.exact v place.0).1 place.1, subst (λ n. place.0 < n) are.count (slice_get-within roots place.0 (Var v) place.1))
+
+  root_of_found : (v : ℕ) → Contains found (Var v) → Contains roots (Var v)
+  root_of_found v has = Contains-each_once term_eq term_eq-decides (filter is_variable found) (Var v) ((Contains-filter is_variable found (Var v)).1 (has, refl))
+
+  pub label_of : (t : Term) → Contains walked t → (v : ℕ) → substitute resolved t ≡ Var v → (p : ℕ) × (slice_get labels v ≡ Some (Var p)) × (p < next)
+  label_of t has v is =
+      let label = label_of_root v (root_of_found v (subst (Contains found) is (Contains-mapped (substitute resolved) walked t has))) in
+      let same : label.0 ≡ v = sym (same_number label.2) in
+      (label.1, subst (λ n. slice_get labels n ≡ Some (Var label.1)) same label.3, label.4)
+
+  pub labelled : (v p : ℕ) → slice_get labels v ≡ Some (Var p) → slice_get roots p ≡ Some (Var v)
+  labelled v p at = (are.exact v p).0 at
+
+  abbrev name : Term → Term
+  name t = substitute labels t
+
+  name_is : (v p : ℕ) → slice_get labels v ≡ Some (Var p) → name (Var v) ≡ Var p
+  name_is v p at = read-at labels v (Var p) at
+
+  below_next : (p : ℕ) → p < next → is_parameter next (Var p) ≡ true
+  below_next p below = grind (arith, nat_tests, below)
+
+  -- of the names those that are parameters are the labels of the variables
+  filtered : (rs : List Term) → ((v : ℕ) → Contains rs (Var v) → HasLabel (Var v)) → filter (is_parameter next) (map name rs) ≡ map name (filter is_variable rs)
+  filtered [] each = refl
+  filtered (Obj n ∷ rs) each = filtered rs (λ v has. each v (Contains-later (Obj n) rs (Var v) has))
+  filtered (WildCard ∷ rs) each = filtered rs (λ v has. each v (Contains-later WildCard rs (Var v) has))
+  filtered (Var v ∷ rs) each =
+      let label = each v (Contains-first (Var v) rs) in
+      let is : name (Var v) ≡ Var label.1 = ap name label.2 ∙ name_is label.0 label.1 label.3 in
+      let passes : is_parameter next (name (Var v)) ≡ true = ap (is_parameter next) is ∙ below_next label.1 label.4 in
+      ap (λ b. cond b (name (Var v) ∷ filter (is_parameter next) (map name rs)) (filter (is_parameter next) (map name rs))) passes
+      ∙ ap (λ l. name (Var v) ∷ l) (filtered rs (λ w has. each w (Contains-later (Var v) rs (Var w) has)))
+
+  same_test : (t u : Term) → HasLabel t → HasLabel u → term_eq (name t) (name u) ≡ term_eq t u
+  same_test t u a b =
+      let t_is : name t ≡ Var a.1 = ap name a.2 ∙ name_is a.0 a.1 a.3 in
+      let u_is : name u ≡ Var b.1 = ap name b.2 ∙ name_is b.0 b.1 b.3 in
+      same_bool (term_eq (name t) (name u)) (term_eq t u)
+      (λ yes.
+      let one : a.1 ≡ b.1 = same_number (sym t_is ∙ (term_eq-decides (name t) (name u)).0 yes ∙ u_is) in
+      let here : Var a.0 ≡ Var b.0 = some_same _ _ (sym (labelled a.0 a.1 a.3) ∙ ap (slice_get roots) one ∙ labelled b.0 b.1 b.3) in
+      (term_eq-decides t u).1 (a.2 ∙ here ∙ sym b.2))
+      (λ yes. (term_eq-decides (name t) (name u)).1 (ap name ((term_eq-decides t u).0 yes)))
+
+  filtered_once : (t : Term) (us : List Term) → HasLabel t → All HasLabel us → filter (λ u. not (term_eq (name t) u)) (map name us) ≡ map name (filter (λ u. not (term_eq t u)) us)
+  filtered_once t [] a all = refl
+  filtered_once t (u ∷ us) a all =
+      let rest = filtered_once t us a (All-tail HasLabel u us all) in
+      ap (λ b. cond (not b) (name u ∷ filter (λ w. not (term_eq (name t) w)) (map name us)) (filter (λ w. not (term_eq (name t) w)) (map name us))) (same_test t u a (All-head HasLabel u us all))
+      ∙ by_case (term_eq t u) rest
+    where
+      by_case : (b : Bool) → filter (λ w. not (term_eq (name t) w)) (map name us) ≡ map name (filter (λ w. not (term_eq t w)) us)
+          → cond (not b) (name u ∷ filter (λ w. not (term_eq (name t) w)) (map name us)) (filter (λ w. not (term_eq (name t) w)) (map name us)) ≡ map name (cond (not b) (u ∷ filter (λ w. not (term_eq t w)) us) (filter (λ w. not (term_eq t w)) us))
+      by_case true rest = rest
+      by_case false rest = ap (λ l. name u ∷ l) rest
+
+  once_named : (us : List Term) → All HasLabel us → each_once term_eq (map name us) ≡ map name (each_once term_eq us)
+  once_named [] all = refl
+  once_named (u ∷ us) all =
+      let rest_all = All-tail HasLabel u us all in
+      ap (λ l. name u ∷ filter (λ w. not (term_eq (name u) w)) l) (once_named us rest_all)
+      ∙ ap (λ l. name u ∷ l) (filtered_once u (each_once term_eq us) (All-head HasLabel u us all) (All-each HasLabel (each_once term_eq us) (λ w has. All-at HasLabel us w rest_all (Contains-from_each_once term_eq us w has))))
+
+  variable_found : (t : Term) → Contains (filter is_variable found) t → (v : ℕ) × (t ≡ Var v)
+  variable_found t has = by_term t ((Contains-filter is_variable found t).0 has).1
+    where
+      by_term : (t : Term) → is_variable t ≡ true → (v : ℕ) × (t ≡ Var v)
+      by_term (Obj n) e = absurd (cc)
+      by_term (Var v) e = (v, refl)
+      by_term WildCard e = absurd (cc)
+
+  labels_found : All HasLabel (filter is_variable found)
+  labels_found = All-each HasLabel (filter is_variable found) (λ t has.
+      let v = variable_found t has in
+      let label = label_of_root v.0 (Contains-each_once term_eq term_eq-decides (filter is_variable found) (Var v.0) (subst (Contains (filter is_variable found)) v.1 has)) in
+      subst HasLabel (sym v.1) label)
+
+  -- the root at a place
+  pub root_at : (p : ℕ) → p < next → (v : ℕ) × (slice_get roots p ≡ Some (Var v)) × (slice_get labels v ≡ Some (Var p))
+  root_at p below =
+      let read = slice_get-read roots p WildCard (subst (λ n. p < n) (sym are.count) below) in
+      let v = variable_found (slice_index_or roots p WildCard) (Contains-from_each_once term_eq (filter is_variable found) _ (there_at roots p _ read)) in
+      let at : slice_get roots p ≡ Some (Var v.0) = read ∙ ap Some v.1 in
+      (v.0, at, (are.exact v.0 p).1 at)
+
+  names_in_order : map name roots ≡ variables next
+  names_in_order =
+      same_list (map name roots) (variables next) (length-map roots name ∙ are.count ∙ sym (length-variables 0 next)) (λ p below.
+      let under : p < next = omega (arith, below, length-map roots name, are.count) in
+      let root = root_at p under in
+      read-map name roots p (omega (arith, under, are.count)) ∙ ap name (read-at roots p (Var root.0) root.1) ∙ name_is root.0 p root.2 ∙ ap Var (omega arith) ∙ sym (variable-read 0 next p under))
+
+  pub walk-numbered : each_once term_eq (filter (is_parameter next) (map (substitute (map (substitute labels) resolved)) walked)) ≡ variables next
+  walk-numbered =
+      ap (λ l. each_once term_eq (filter (is_parameter next) l)) (twice_each labels resolved walked)
+      ∙ ap (each_once term_eq) (filtered found (λ v has. label_of_root v (root_of_found v has)))
+      ∙ once_named (filter is_variable found) labels_found
+      ∙ names_in_order
+
+  -- each parameter is the name of a term of the walk
+  pub used_on_walk : (p : ℕ) → p < next → (t : Term) × Contains walked t × (substitute (map (substitute labels) resolved) t ≡ Var p)
+  used_on_walk p below =
+      let root = root_at p below in
+      let there = ((Contains-filter is_variable found (Var root.0)).0 (Contains-from_each_once term_eq (filter is_variable found) (Var root.0) (there_at roots p (Var root.0) root.1))).0 in
+      let from = Contains-from_map (substitute resolved) walked (Var root.0) there in
+      (from.0, from.1, twice labels resolved from.0 ∙ ap name from.2 ∙ name_is root.0 p root.2)
+
+-- ---- leaves' terms are terms of the proofs
+
+pub leaf_terms-among : (P : Term → Type 0) (rows : List (List Derivation)) → All P (flat_map (flat_map terms_of) rows) → All P (leaf_terms rows)
+leaf_terms-among P [] all = All-nil P
+leaf_terms-among P (row ∷ rows) all =
+    All-append P (flat_map (λ (leaf : Leaf). leaf.atom.args) (row_leaves row)) (leaf_terms rows)
+    (own (row_leaves row) (λ leaf has. row_leaf-terms P row leaf (All-front P (flat_map terms_of row) (flat_map (flat_map terms_of) rows) all) has))
+    (leaf_terms-among P rows (All-back P (flat_map terms_of row) (flat_map (flat_map terms_of) rows) all))
+  where
+    own : (leaves : List Leaf) → ((leaf : Leaf) → Contains leaves leaf → All P leaf.atom.args) → All P (flat_map (λ (leaf : Leaf). leaf.atom.args) leaves)
+    own [] each = All-nil P
+    own (leaf ∷ leaves) each = All-append P leaf.atom.args (flat_map (λ (l : Leaf). l.atom.args) leaves) (each leaf (Contains-first leaf leaves)) (own leaves (λ l has. each l (Contains-later leaf leaves l has)))
+
+-- ---- the plan's own terms are objects of the problem
+
+name_of_term : (problem : Problem) (t : Term) → IsTermOf problem 0 t → IsName problem.objects 0 t
+name_of_term problem (Obj n) is = is
+name_of_term problem (Var v) is = is
+name_of_term problem WildCard is = is
+
+steps_terms-names : (problem : Problem) (steps : List OpInst) → All (λ (inst : OpInst). All (IsTermOf problem 0) inst.args) steps → All (IsName problem.objects 0) (flat_map (λ (inst : OpInst). inst.args) steps)
+steps_terms-names problem [] all = All-nil (IsName problem.objects 0)
+steps_terms-names problem (s ∷ steps) all =
+    All-append (IsName problem.objects 0) s.args (flat_map (λ (inst : OpInst). inst.args) steps)
+    (λ k d below. name_of_term problem _ (All-head (λ (inst : OpInst). All (IsTermOf problem 0) inst.args) s steps all k d below)) (steps_terms-names problem steps (All-tail (λ (inst : OpInst). All (IsTermOf problem 0) inst.args) s steps all))
+
+objects_among-names : (problem : Problem) (vars : ℕ) (ts : List Term) → All (IsTermOf problem vars) ts → All (IsName problem.objects 0) (objects_among ts)
+objects_among-names problem vars [] all = All-nil (IsName problem.objects 0)
+objects_among-names problem vars (Obj n ∷ ts) all = All-append (IsName problem.objects 0) (Obj n ∷ []) (objects_among ts) one (objects_among-names problem vars ts (All-tail (IsTermOf problem vars) (Obj n) ts all))
+  where
+    one : All (IsName problem.objects 0) (Obj n ∷ [])
+    one zero d below = All-head (IsTermOf problem vars) (Obj n) ts all
+    one (suc k) d below = absurd (omega (arith, below))
+objects_among-names problem vars (Var v ∷ ts) all = objects_among-names problem vars ts (All-tail (IsTermOf problem vars) (Var v) ts all)
+objects_among-names problem vars (WildCard ∷ ts) all = objects_among-names problem vars ts (All-tail (IsTermOf problem vars) WildCard ts all)
+
+own_of_goal-names : (problem : Problem) (vars : ℕ) (goal : List Atom) → All (IsAtomOf problem vars) goal → All (IsName problem.objects 0) (own_of_goal goal)
+own_of_goal-names problem vars [] all = All-nil (IsName problem.objects 0)
+own_of_goal-names problem vars (a ∷ goal) all =
+    All-append (IsName problem.objects 0) (objects_among a.args) (own_of_goal goal) (objects_among-names problem vars a.args (All-head (IsAtomOf problem vars) a goal all).1) (own_of_goal-names problem vars goal (All-tail (IsAtomOf problem vars) a goal all))
+
+module _ (problem : Problem) (plan : Table) (is_table : IsTable problem plan) (no_params : plan.params ≡ 0) where
+  plan_prove : RowsProve (IsName problem.objects 0) problem 0 plan.steps plan.goal plan.goal_vars (rows_of plan.proofs)
+  plan_prove = subst (λ (n : ℕ). RowsProve (IsName problem.objects n) problem n plan.steps plan.goal plan.goal_vars (rows_of plan.proofs)) no_params is_table.prove
+
+  plan_solution : (terms : List Term) × IsSolution problem plan plan.steps plan.goal (rows_of plan.proofs) terms
+  plan_solution = (
+    _,
+    own_terms-solve problem plan is_table no_params (IsName problem.objects 0) plan.steps plan.goal (rows_of plan.proofs) plan_prove (λ k d below. (is_table.in_range.steps k d below).count)
+        (subst (All (IsNamed problem plan.steps)) is_table.marks is_table.named) refl,
+  )
+
+  own-names : (own : List Term) → IsSolution problem plan plan.steps plan.goal (rows_of plan.proofs) own → (t : Term) → Contains (opened_terms problem plan) t → IsName problem.objects 0 (substitute own t)
+  own-names own solution t has = elim (Contains-append_cases (flat_map (λ (inst : OpInst). inst.args) (steps_opened plan)) _ t has) [
+    | inl in_steps ↦
+        All-at (IsName problem.objects 0) (flat_map (λ (inst : OpInst). inst.args) plan.steps) (substitute own t)
+        (steps_terms-names problem plan.steps (λ k d below. subst (λ (n : ℕ). All (IsTermOf problem n) ((slice_index_or plan.steps k d).args)) no_params (is_table.in_range.steps k d below).terms))
+        (subst (λ (l : List Term). Contains l (substitute own t)) (sym (steps_terms-under own (steps_opened plan)) ∙ ap (flat_map (λ (inst : OpInst). inst.args)) solution.steps_are) (Contains-mapped (substitute own) _ t in_steps))
+    | inr later ↦ elim (Contains-append_cases (variables_from (step_variables plan.steps) (goal_objects plan.goal)) (flat_map (flat_map terms_of) (rows_opened problem plan)) t later) [
+      | inl in_goal ↦
+          All-at (IsName problem.objects 0) (own_of_goal plan.goal) (substitute own t) (own_of_goal-names problem (plan.params + plan.goal_vars) plan.goal is_table.in_range.goal)
+          (subst (λ (l : List Term). Contains l (substitute own t)) solution.objects_are (Contains-mapped (substitute own) _ t in_goal))
+      | inr in_rows ↦
+          All-at (IsName problem.objects 0) (flat_map (flat_map terms_of) (rows_of plan.proofs)) (substitute own t) (rows_terms-allowed (IsName problem.objects 0) problem 0 plan.goal plan.goal_vars plan.steps (rows_of plan.proofs) plan_prove)
+          (subst (λ (l : List Term). Contains l (substitute own t)) (sym (rows_terms-under own (rows_opened problem plan)) ∙ ap (flat_map (flat_map terms_of)) solution.rows_are) (Contains-mapped (substitute own) _ t in_rows))
+    ]
+  ]
+
+  pub plan-own : (terms : List Term) × MakesEachEqual (replay_pairs problem plan) terms × ((t : Term) → Contains (opened_terms problem plan) t → IsName problem.objects 0 (substitute terms t))
+  plan-own = (plan_solution.0, plan_solution.1.equal, own-names plan_solution.0 plan_solution.1)
+
+-- ---- all together
+
+module _ (problem : Problem) (plan general : Table) (changes : List Change) (resolved labels : List Term) (valid : IsValid problem) (is_table : IsTable problem plan) (no_params : plan.params ≡ 0)
+    (solutions : HasSolutions changes) (fits : (terms : List Term) → Fits terms changes ↔ MakesEachEqual (replay_pairs problem plan) terms) (below : All (IsPlainBelow (variables_of changes)) (opened_terms problem plan))
+    (resolved_are : IsResolved changes resolved) (long : length labels ≡ variables_of changes) (are : AreLabels resolved labels general.params (walked_terms problem plan))
+    (built : IsBuilt problem plan general (map (substitute labels) resolved)) where
+  abbrev the_names : List Term
+  the_names = map (substitute labels) resolved
+
+  abbrev the_roots : List Term
+  the_roots = roots_of resolved (walked_terms problem plan)
+
+  on_walk : (t : Term) → Contains (opened_terms problem plan) t → Contains (walked_terms problem plan) t
+  on_walk t has = Contains-append_right (leaf_terms (rows_opened problem plan)) (opened_terms problem plan) t has
+
+  off_walk : (t : Term) → Contains (walked_terms problem plan) t → Contains (opened_terms problem plan) t
+  off_walk t has = elim (Contains-append_cases (leaf_terms (rows_opened problem plan)) (opened_terms problem plan) t has) [
+    | inl in_leaves ↦
+        All-at (Contains (opened_terms problem plan)) (leaf_terms (rows_opened problem plan)) t
+        (leaf_terms-among (Contains (opened_terms problem plan)) (rows_opened problem plan)
+        (All-each (Contains (opened_terms problem plan)) (flat_map (flat_map terms_of) (rows_opened problem plan)) (λ u inside.
+        Contains-append_right (flat_map (λ (inst : OpInst). inst.args) (steps_opened plan)) _ u (Contains-append_right (variables_from (step_variables plan.steps) (goal_objects plan.goal)) _ u inside))))
+        in_leaves
+    | inr later ↦ later
+  ]
+
+  named : AreNamed changes (opened_terms problem plan) resolved labels the_names the_roots
+  named = record {
+    resolved_are = resolved_are;
+    long = long;
+    labelled = labelled resolved labels general.params (walked_terms problem plan) are;
+    each_root = λ t has v is. let label = label_of resolved labels general.params (walked_terms problem plan) are t (on_walk t has) v is in (label.0, label.1);
+    names_are = refl;
+  }
+
+  -- the object to which a term is bound is the problem's
+  bound_object : (t : Term) → Contains (opened_terms problem plan) t → IsPlainBelow (variables_of changes) t → (n : ℕ) → substitute resolved t ≡ Obj n → n < problem.objects
+  bound_object (Obj m) has inside n is =
+      let own = plan-own problem plan is_table no_params in
+      let same : m ≡ n = same_object is in
+      subst (λ k. k < problem.objects) same (own.2 (Obj m) has)
+    where
+      same_object : {a b : ℕ} → Obj a ≡ Obj b → a ≡ b
+      same_object e = cc
+  bound_object (Var v) has inside n is =
+      let own = plan-own problem plan is_table no_params in
+      let value : substitute own.0 (Var v) ≡ Obj n = resolved_are.value v inside own.0 ((fits own.0).1 own.1) ∙ ap (substitute own.0) is in
+      subst (IsName problem.objects 0) value (own.2 (Var v) has)
+  bound_object WildCard has inside n is = absurd inside
+
+  name-there : (t : Term) → Contains (opened_terms problem plan) t → IsName problem.objects general.params (substitute the_names t)
+  name-there t has = subst (IsName problem.objects general.params) (sym (twice labels resolved t)) (by_root (substitute resolved t) refl)
+    where
+      inside : IsPlainBelow (variables_of changes) t
+      inside = All-at (IsPlainBelow (variables_of changes)) (opened_terms problem plan) t below has
+
+      rooted : (t : Term) → IsPlainBelow (variables_of changes) t → IsRoot changes (substitute resolved t)
+      rooted (Obj n) h = tt
+      rooted (Var v) h = resolved_are.root v h
+      rooted WildCard h = absurd h
+
+      by_root : (r : Term) → substitute resolved t ≡ r → IsName problem.objects general.params (substitute labels r)
+      by_root (Obj n) e = bound_object t has inside n e
+      by_root (Var w) e =
+          let label = label_of resolved labels general.params (walked_terms problem plan) are t (on_walk t has) w e in
+          subst (IsName problem.objects general.params) (sym (read-at labels w (Var label.0) label.1)) label.2
+      by_root WildCard e = absurd (subst (IsRoot changes) e (rooted t inside))
+
+  replayed : IsReplayed problem plan general the_names the_roots
+  replayed = record {
+    most_general = is_most_general changes (replay_pairs problem plan) (opened_terms problem plan) resolved labels the_names the_roots solutions fits named below;
+    are_names = All-each (λ t. IsName problem.objects general.params (substitute the_names t)) (opened_terms problem plan) name-there;
+    used = λ v inside. let on = used_on_walk resolved labels general.params (walked_terms problem plan) are v inside in (on.0, off_walk on.0 on.1, on.2);
+    count = are.count;
+    steps = built.steps_are;
+    goal = built.goal_is;
+    goal_vars = built.goal_vars;
+    rows = built.rows_are;
+    marks = built.marks_are;
+  }
+
+  -- it is the general table
+  pub general-is : Generalises problem plan general
+  general-is = generalises problem plan general the_names the_roots valid is_table no_params replayed
+      (walks-number problem plan general the_names the_roots is_table no_params replayed (walk-numbered resolved labels general.params (walked_terms problem plan) are))

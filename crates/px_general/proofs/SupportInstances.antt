@@ -1,0 +1,271 @@
+-- Each support of the plan's shape is a proper instance of the general table.
+use Rattle.std.specs.Prelude.{◌≡◌, ◌+◌, ◌<◌, ◌≤◌, ◌&&◌, true, nat_le, nat_lt, ℕ, Some, List, [], ◌∷◌, ◌++◌, map, length, flat_map, count_by, slice_get, slice_index_or, All, Contains}
+use Rattle.std.proofs.Common.{zero, suc, refl, sym, ap, ◌∙◌, subst, inl, inr, arith}
+use Rattle.std.proofs.lemmas.Bool.Decides.{nat_tests}
+use Rattle.std.proofs.lemmas.List.{length-map}
+use Rattle.std.proofs.lemmas.List.Elements.{All-head, All-tail, All-append, Contains-append_left, Contains-append_right, Contains-append_cases}
+use Rattle.std.proofs.lemmas.List.Sums.{sum_by-cons}
+use Rattle.px_base.specs.ListLaws.{All-at, All-each, Contains-filter}
+use Rattle.px_terms.specs.declared.atom.Atom.{Atom}
+use Rattle.px_terms.specs.declared.instance.OpInst.{OpInst}
+use Rattle.px_terms.specs.declared.problem.Problem.{Problem}
+use Rattle.px_terms.specs.declared.term.Term.{Term}
+use Rattle.px_terms.specs.declared.term.Term.TheVariants.{Obj, Var, Any as WildCard}
+use Rattle.px_terms.specs.Language.{substitute, IsObject}
+use Rattle.px_terms.specs.Order.{atom_eq}
+use Rattle.px_terms.specs.Substitution.{substitute_atom, substitute_instance}
+use Rattle.px_terms.specs.Validity.{IsAtomOf, IsTermOf, IsGroundInstanceOf}
+use Rattle.px_proof.specs.Derivation.{Derivation, terms_of}
+use Rattle.px_proof.specs.PlaceLaws.{All-front, All-back, Contains-mapped}
+use Rattle.px_proof.specs.Proves.{IsName}
+use Rattle.px_proof.specs.Substitution.{derivation_under}
+use Rattle.px_table.specs.declared.mark.Mark.{Mark}
+use Rattle.px_table.specs.declared.table.Table.{Table}
+use Rattle.px_table.specs.KernelLaws.{Contains-from_map}
+use Rattle.px_table.specs.Kernels.{atom_under, goal_under, kernel_marks, kernel_of, kernel_under, mark_under, rows_under, steps_under}
+use Rattle.px_table.specs.Marks.{IsKept, marks_from}
+use Rattle.px_table.specs.Supports.{Supports, variables, variables_from}
+use Rattle.px_table.specs.SupportShapes.{SupportShape, shape_of_support, without_object}
+use Rattle.px_table.specs.Tables.{IsTable, rows_of}
+use Rattle.px_general.specs.General.{IsGeneralFor, IsTableInstance, shape_of}
+use Rattle.px_replay.specs.FreshVariables.{is_object}
+use Rattle.px_replay.specs.Opened.{goal_objects, named_args, named_goal, opened_terms, rows_opened, step_variables, steps_opened}
+use Rattle.px_general.specs.Replayed.{IsReplayed}
+use Rattle.px_general.proofs.Assembling.{IsSolution, own_terms-solve, solution_terms}
+use Rattle.px_general.proofs.Opening.{HasFrom, HasFrom-front, HasFrom-back, read-at}
+use Rattle.px_general.proofs.Solving.{HasItsArguments, atom_without, cons_same, count-object, count-variable, objects-counted, objects_among, own_of_goal}
+use Rattle.px_general.proofs.Under.{All-places, Agrees, Contains-from_each_once, marks-under, rows-agree, rows_terms-allowed, rows_terms-under, steps-agree, steps_terms-under, variables_from-has}
+
+-- ---- objects
+
+-- the object's number
+abbrev pub number_of : Term → ℕ
+number_of (Obj n) = n
+number_of (Var v) = 0
+number_of WildCard = 0
+
+pub numbers-back : (ts : List Term) → All IsObject ts → map Obj (map number_of ts) ≡ ts
+numbers-back [] all = refl
+numbers-back (Obj n ∷ ts) all = ap (λ l. Obj n ∷ l) (numbers-back ts (All-tail IsObject (Obj n) ts all))
+numbers-back (Var v ∷ ts) all = absurd (All-head IsObject (Var v) ts all)
+numbers-back (WildCard ∷ ts) all = absurd (All-head IsObject WildCard ts all)
+
+objects_among-are : (ts : List Term) → All IsObject (objects_among ts)
+objects_among-are [] = λ k d below. absurd (omega (arith, below))
+objects_among-are (Obj n ∷ ts) = All-append IsObject (Obj n ∷ []) (objects_among ts) (λ k d below. one k d below) (objects_among-are ts)
+  where
+    one : (k : ℕ) (d : Term) → k < 1 → IsObject (slice_index_or (Obj n ∷ []) k d)
+    one zero d below = tt
+    one (suc k) d below = absurd (omega (arith, below))
+objects_among-are (Var v ∷ ts) = objects_among-are ts
+objects_among-are (WildCard ∷ ts) = objects_among-are ts
+
+own_of_goal-are : (goal : List Atom) → All IsObject (own_of_goal goal)
+own_of_goal-are [] = λ k d below. absurd (omega (arith, below))
+own_of_goal-are (a ∷ goal) = All-append IsObject (objects_among a.args) (own_of_goal goal) (objects_among-are a.args) (own_of_goal-are goal)
+
+steps_terms-objects : (problem : Problem) (steps : List OpInst) → All (IsGroundInstanceOf problem) steps → All IsObject (flat_map (λ (inst : OpInst). inst.args) steps)
+steps_terms-objects problem [] all = λ k d below. absurd (omega (arith, below))
+steps_terms-objects problem (s ∷ steps) all =
+    All-append IsObject s.args (flat_map (λ (inst : OpInst). inst.args) steps) (All-head (IsGroundInstanceOf problem) s steps all).all_objects (steps_terms-objects problem steps (All-tail (IsGroundInstanceOf problem) s steps all))
+
+-- ---- kernels
+
+tests_between : (i r c : ℕ) → nat_le i r && nat_lt c i ≡ true → (i ≤ r) × (c < i)
+tests_between i r c e = (grind (arith, nat_tests), grind (arith, nat_tests))
+
+-- an atom of a kernel is that of a mark that the kernel rests on
+pub from_kernel : (table : Table) (i : ℕ) (atom : Atom) → Contains (kernel_of table i) atom → (mark : Mark) × Contains table.marks mark × (mark.atom ≡ atom) × (i ≤ mark.row) × (mark.column < i)
+from_kernel table i atom has =
+    let once = Contains-from_each_once atom_eq (map (λ (m : Mark). m.atom) (kernel_marks table i)) atom has in
+    let from = Contains-from_map (λ (m : Mark). m.atom) (kernel_marks table i) atom once in
+    let passed = (Contains-filter (λ (m : Mark). nat_le i m.row && nat_lt m.column i) table.marks from.0).0 from.1 in
+    let between = tests_between i from.0.row from.0.column passed.1 in
+    (from.0, passed.0, from.2, between.0, between.1)
+
+-- ---- the goal
+
+pub read-left : (xs ys : List Term) (k : ℕ) → k < length xs → slice_index_or (xs ++ ys) k WildCard ≡ slice_index_or xs k WildCard
+read-left [] ys k below = absurd (omega (arith, below))
+read-left (x ∷ xs) ys zero below = refl
+read-left (x ∷ xs) ys (suc k) below = read-left xs ys k (omega (arith, below))
+
+pub read-right : (xs ys : List Term) (n k : ℕ) → n ≡ length xs → slice_index_or (xs ++ ys) (n + k) WildCard ≡ slice_index_or ys k WildCard
+read-right [] ys n k e = ap (λ j. slice_index_or ys j WildCard) (omega arith)
+read-right (x ∷ xs) ys zero k e = absurd (omega (arith, e))
+read-right (x ∷ xs) ys (suc n) k e =
+    let later : suc n + k ≡ suc (n + k) = omega arith in
+    ap (λ j. slice_index_or (x ∷ (xs ++ ys)) j WildCard) later ∙ read-right xs ys n k (omega (arith, e))
+
+pub variable-read : (first count k : ℕ) → k < count → slice_index_or (variables_from first count) k WildCard ≡ Var (first + k)
+variable-read first zero k below = absurd (omega (arith, below))
+variable-read first (suc count) zero below = ap Var (omega arith)
+variable-read first (suc count) (suc k) below = variable-read (suc first) count k (omega (arith, below)) ∙ ap Var (omega arith)
+
+-- a name of fewer parameters doesn't see what follows them
+pub name-read : (objects params : ℕ) (xs ys : List Term) (t : Term) → params ≤ length xs → IsName objects params t → substitute (xs ++ ys) t ≡ substitute xs t
+name-read objects params xs ys (Obj n) enough is = refl
+name-read objects params xs ys (Var v) enough is = read-left xs ys v (omega (arith, enough, is))
+name-read objects params xs ys WildCard enough is = absurd is
+
+module _ (problem : Problem) (vars params : ℕ) (terms names values : List Term) (count : length values ≡ params) where
+  -- at the variable the terms are the names under the values, and its name is one
+  abbrev pub IsNamedAt : ℕ → Type 0
+  IsNamedAt v = Agrees terms values names (Var v) × IsName problem.objects params (substitute names (Var v))
+
+  named_args-are : (first : ℕ) (ts us : List Term) → map without_object us ≡ map without_object ts → All (IsTermOf problem vars) ts → HasFrom terms first (objects_among us)
+      → ((v : ℕ) → first ≤ v → v < first + count_by is_object ts → IsNamedAt v) → map (substitute (values ++ variables vars)) (named_args names params first ts) ≡ us
+  named_args-are first [] [] same are has at = refl
+  named_args-are first [] (u ∷ us) same are has at = absurd (cc)
+  named_args-are first (t ∷ ts) [] same are has at = absurd (cc)
+  named_args-are first (Obj n ∷ ts) (Obj m ∷ us) same are has at =
+      let counted = count-object n ts in
+      let here = at first (omega arith) (omega (arith, counted)) in
+      let one : substitute terms (Var first) ≡ Obj m = read-at terms first (Obj m) (subst (λ (k : ℕ). slice_get terms k ≡ Some (Obj m)) (omega arith) (has 0 (Obj m) refl)) in
+      let name = name-read problem.objects params values (variables vars) (substitute names (Var first)) (omega (arith, count)) here.1 in
+      let head : substitute (values ++ variables vars) (substitute names (Var first)) ≡ Obj m = name ∙ sym here.0 ∙ one in
+      let rest = named_args-are (first + 1) ts us (cons_same _ _ _ _ same).1 (All-tail (IsTermOf problem vars) (Obj n) ts are) (HasFrom-back terms first (first + 1) (Obj m ∷ []) (objects_among us) (omega arith) has)
+      (λ v low high. at v (omega (arith, low)) (omega (arith, high, counted))) in
+      λ i. head i ∷ rest i
+  named_args-are first (Var v ∷ ts) (Var w ∷ us) same are has at =
+      let same_var : w ≡ v = number (cons_same (Var w) (Var v) _ _ same).0 in
+      let below : v < vars = All-head (IsTermOf problem vars) (Var v) ts are in
+      let head : substitute (values ++ variables vars) (Var (params + v)) ≡ Var w = read-right values (variables vars) params v (sym count) ∙ variable-read 0 vars v below ∙ ap Var (omega (arith, same_var)) in
+      let counted = count-variable v ts in
+      let rest = named_args-are first ts us (cons_same _ _ _ _ same).1 (All-tail (IsTermOf problem vars) (Var v) ts are) has (λ x low high. at x low (omega (arith, high, counted))) in
+      λ i. head i ∷ rest i
+    where
+      number : {v w : ℕ} → Var w ≡ Var v → w ≡ v
+      number e = cc
+  named_args-are first (WildCard ∷ ts) us same are has at = absurd (All-head (IsTermOf problem vars) WildCard ts are)
+  named_args-are first (Obj n ∷ ts) (Var w ∷ us) same are has at = absurd (cc)
+  named_args-are first (Obj n ∷ ts) (WildCard ∷ us) same are has at = absurd (cc)
+  named_args-are first (Var v ∷ ts) (Obj m ∷ us) same are has at = absurd (cc)
+  named_args-are first (Var v ∷ ts) (WildCard ∷ us) same are has at = absurd (cc)
+
+  pub named_goal-is : (first : ℕ) (goal others : List Atom) → map atom_without others ≡ map atom_without goal → All (IsAtomOf problem vars) goal → HasFrom terms first (own_of_goal others)
+      → ((v : ℕ) → first ≤ v → v < first + goal_objects goal → IsNamedAt v) → map (substitute_atom (values ++ variables vars)) (named_goal names params first goal) ≡ others
+  named_goal-is first [] [] same are has at = refl
+  named_goal-is first [] (o ∷ others) same are has at = absurd (cc)
+  named_goal-is first (a ∷ goal) [] same are has at = absurd (cc)
+  named_goal-is first (a ∷ goal) (o ∷ others) same are has at =
+      let both = cons_same (atom_without o) (atom_without a) (map atom_without others) (map atom_without goal) same in
+      let same_args = ap (λ (x : Atom). x.args) both.0 in
+      let counted = sum_by-cons (λ (atom : Atom). count_by is_object atom.args) a goal in
+      let args = named_args-are first a.args o.args same_args (All-head (IsAtomOf problem vars) a goal are).1 (HasFrom-front terms first (objects_among o.args) (own_of_goal others) has)
+      (λ v low high. at v low (omega (arith, high, counted))) in
+      let rest = named_goal-is (first + count_by is_object a.args) goal others both.1 (All-tail (IsAtomOf problem vars) a goal are)
+      (HasFrom-back terms first (first + count_by is_object a.args) (objects_among o.args) (own_of_goal others) (omega (arith, objects-counted a.args o.args same_args)) has)
+      (λ v low high. at v (omega (arith, low)) (omega (arith, high, counted))) in
+      λ i. record { pred = sym (ap (λ (x : Atom). x.pred) both.0) i; args = args i } ∷ rest i
+
+-- ---- the instance
+
+module _ (problem : Problem) (plan general : Table) (names roots : List Term) (is_table : IsTable problem plan) (no_params : plan.params ≡ 0) (replayed : IsReplayed problem plan general names roots)
+    (atoms : List Atom) (steps : List OpInst) (goal : List Atom) (rows : List (List Derivation)) (support : Supports problem atoms steps goal plan.goal_vars rows) (shape : shape_of_support steps goal rows ≡ shape_of plan) where
+  have_arguments : All (HasItsArguments problem) steps
+  have_arguments k d below = (support.instances k d below).count
+
+  abbrev own : List Term
+  own = solution_terms problem plan is_table no_params IsObject steps goal rows support.prove have_arguments support.named shape
+
+  solution : IsSolution problem plan steps goal rows own
+  solution = own_terms-solve problem plan is_table no_params IsObject steps goal rows support.prove have_arguments support.named shape
+
+  -- what the parameters stand for
+  abbrev values : List Term
+  values = map (substitute own) roots
+
+  abbrev objects : List ℕ
+  objects = map number_of values
+
+  abbrev step_terms : List Term
+  step_terms = flat_map (λ (inst : OpInst). inst.args) (steps_opened plan)
+
+  abbrev goal_slots : List Term
+  goal_slots = variables_from (step_variables plan.steps) (goal_objects plan.goal)
+
+  abbrev row_terms : List Term
+  row_terms = flat_map (flat_map terms_of) (rows_opened problem plan)
+
+  agree : All (Agrees own values names) (opened_terms problem plan)
+  agree = All-each (Agrees own values names) (opened_terms problem plan) (λ t has. replayed.most_general.factors own solution.equal t has)
+
+  -- each term of the opened plan is an object in the support
+  own-objects : (t : Term) → Contains (opened_terms problem plan) t → IsObject (substitute own t)
+  own-objects t has = elim (Contains-append_cases step_terms (goal_slots ++ row_terms) t has) [
+    | inl in_steps ↦
+        All-at IsObject (flat_map (λ (inst : OpInst). inst.args) steps) (substitute own t) (steps_terms-objects problem steps support.instances)
+        (subst (λ (l : List Term). Contains l (substitute own t)) (sym (steps_terms-under own (steps_opened plan)) ∙ ap (flat_map (λ (inst : OpInst). inst.args)) solution.steps_are) (Contains-mapped (substitute own) step_terms t in_steps))
+    | inr later ↦ elim (Contains-append_cases goal_slots row_terms t later) [
+      | inl in_goal ↦
+          All-at IsObject (own_of_goal goal) (substitute own t) (own_of_goal-are goal)
+          (subst (λ (l : List Term). Contains l (substitute own t)) solution.objects_are (Contains-mapped (substitute own) goal_slots t in_goal))
+      | inr in_rows ↦
+          All-at IsObject (flat_map (flat_map terms_of) rows) (substitute own t) (rows_terms-allowed IsObject problem 0 goal plan.goal_vars steps rows support.prove)
+          (subst (λ (l : List Term). Contains l (substitute own t)) (sym (rows_terms-under own (rows_opened problem plan)) ∙ ap (flat_map (flat_map terms_of)) solution.rows_are) (Contains-mapped (substitute own) row_terms t in_rows))
+    ]
+  ]
+
+  values-count : length values ≡ general.params
+  values-count = length-map roots (substitute own) ∙ replayed.count
+
+  values-objects : All IsObject values
+  values-objects = All-places IsObject values WildCard (λ v below.
+      let used = replayed.used v (omega (arith, below, values-count)) in
+      let value : substitute own used.0 ≡ slice_index_or values v WildCard = replayed.most_general.factors own solution.equal used.0 used.1 ∙ ap (substitute values) used.2 in
+      subst IsObject value (own-objects used.0 used.1))
+
+  values-are : map Obj objects ≡ values
+  values-are = numbers-back values values-objects
+
+  steps-are : steps ≡ steps_under general objects
+  steps-are =
+      sym solution.steps_are ∙ steps-agree own values names (steps_opened plan) (All-front (Agrees own values names) step_terms (goal_slots ++ row_terms) agree)
+      ∙ ap (λ l. map (substitute_instance l) (map (substitute_instance names) (steps_opened plan))) (sym values-are) ∙ ap (map (substitute_instance (map Obj objects))) (sym replayed.steps)
+
+  rows-are : rows ≡ rows_under general objects
+  rows-are =
+      sym solution.rows_are ∙ rows-agree own values names (rows_opened problem plan) (All-back (Agrees own values names) goal_slots row_terms (All-back (Agrees own values names) step_terms (goal_slots ++ row_terms) agree))
+      ∙ ap (λ l. map (map (derivation_under l)) (map (map (derivation_under names)) (rows_opened problem plan))) (sym values-are) ∙ ap (map (map (derivation_under (map Obj objects)))) (sym replayed.rows)
+
+  slot-named : (v : ℕ) → step_variables plan.steps ≤ v → v < step_variables plan.steps + goal_objects plan.goal → IsNamedAt problem plan.goal_vars general.params own names values values-count v
+  slot-named v low high =
+      let has : Contains (opened_terms problem plan) (Var v) = Contains-append_right step_terms (goal_slots ++ row_terms) (Var v)
+      (Contains-append_left goal_slots row_terms (Var v) (variables_from-has (step_variables plan.steps) (goal_objects plan.goal) v low high)) in
+      (replayed.most_general.factors own solution.equal (Var v) has, All-at (λ t. IsName problem.objects general.params (substitute names t)) (opened_terms problem plan) (Var v) replayed.are_names has)
+
+  goal-is : goal ≡ goal_under general objects
+  goal-is =
+      let goal_are : All (IsAtomOf problem plan.goal_vars) plan.goal = subst (λ (n : ℕ). All (IsAtomOf problem n) plan.goal) (omega (arith, no_params)) is_table.in_range.goal in
+      sym (named_goal-is problem plan.goal_vars general.params own names values values-count (step_variables plan.steps) plan.goal goal (ap (λ (s : SupportShape). s.goal) shape) goal_are solution.objects slot-named)
+      ∙ ap (λ l. map (substitute_atom (l ++ variables plan.goal_vars)) (named_goal names general.params (step_variables plan.steps) plan.goal)) (sym values-are)
+      ∙ ap (λ n. map (substitute_atom (map Obj objects ++ variables n)) (named_goal names general.params (step_variables plan.steps) plan.goal)) (sym replayed.goal_vars)
+      ∙ ap (map (substitute_atom (map Obj objects ++ variables general.goal_vars))) (sym replayed.goal)
+
+  -- the instance of each mark of the general table is a mark of the support
+  mark-there : (mark : Mark) → Contains general.marks mark → Contains (marks_from 1 rows) (mark_under objects mark)
+  mark-there mark has =
+      subst (λ (r : List (List Derivation)). Contains (marks_from 1 r) (mark_under objects mark)) (sym rows-are)
+      (marks-under (map Obj objects) 1 (rows_of general.proofs) mark (subst (λ (l : List Mark). Contains l mark) replayed.marks has))
+
+  support-is_instance : IsTableInstance problem general objects atoms steps goal rows
+  support-is_instance = record {
+    count = length-map values number_of ∙ values-count;
+    proper = All-each (λ mark. IsKept problem (steps_under general objects) 1 (mark_under objects mark)) general.marks
+        (λ mark has. subst (λ (l : List OpInst). IsKept problem l 1 (mark_under objects mark)) steps-are
+        (All-at (IsKept problem steps 1) (marks_from 1 rows) (mark_under objects mark) support.kept (mark-there mark has)));
+    steps_are = steps-are;
+    goal_is = goal-is;
+    rows_are = rows-are;
+    kernel = All-each (Contains atoms) (kernel_under general objects 1)
+        (λ atom has.
+        let from = Contains-from_map (atom_under objects) (kernel_of general 1) atom has in
+        let mark = from_kernel general 1 from.0 from.1 in
+        subst (Contains atoms) (ap (atom_under objects) mark.2 ∙ from.2)
+        (All-at (λ (m : Mark). m.column ≡ 0 → Contains atoms m.atom) (marks_from 1 rows) (mark_under objects mark.0) support.given (mark-there mark.0 mark.1) (omega (arith, mark.4))));
+  }
+
+pub general_for : (problem : Problem) (plan general : Table) (names roots : List Term) → IsTable problem plan → plan.params ≡ 0 → IsReplayed problem plan general names roots → IsGeneralFor problem plan general
+general_for problem plan general names roots is_table no_params replayed atoms steps goal rows support shape =
+    (objects problem plan general names roots is_table no_params replayed atoms steps goal rows support shape, support-is_instance problem plan general names roots is_table no_params replayed atoms steps goal rows support shape)

@@ -1,0 +1,32 @@
+-- The laws of generalisation put together.
+use Rattle.std.specs.Prelude.{◌≡◌, List, All}
+use Rattle.px_terms.specs.declared.problem.Problem.{Problem}
+use Rattle.px_terms.specs.declared.term.Term.{Term}
+use Rattle.px_terms.specs.Validity.{IsValid}
+use Rattle.std.proofs.Common.{ℕ, refl, subst}
+use Rattle.px_unify.specs.Changes.{MakesEachEqual}
+use Rattle.px_proof.specs.Proves.{IsName}
+use Rattle.px_table.specs.declared.table.Table.{Table}
+use Rattle.px_table.specs.Marks.{IsNamed}
+use Rattle.px_table.specs.Supports.{RowsProve}
+use Rattle.px_table.specs.Tables.{IsTable, rows_of}
+use Rattle.px_general.specs.General.{Generalises, IsNumbered}
+use Rattle.px_replay.specs.Opened.{replay_pairs}
+use Rattle.px_general.specs.Replayed.{IsReplayed}
+use Rattle.px_general.proofs.Assembling.{own_terms-solve}
+use Rattle.px_general.proofs.GeneralTable.{general-is_table}
+use Rattle.px_general.proofs.MostGeneral.{is_most_general}
+use Rattle.px_general.proofs.Shaped.{sound_for}
+use Rattle.px_general.proofs.SupportInstances.{general_for}
+
+pub generalises : (problem : Problem) (plan general : Table) (names roots : List Term) → IsValid problem → IsTable problem plan → plan.params ≡ 0 → IsReplayed problem plan general names roots → IsNumbered general → Generalises problem plan general
+generalises problem plan general names roots valid is_table no_params replayed numbered =
+    let is_general = general-is_table problem valid plan general names roots is_table no_params replayed in
+    record {
+      no_params = no_params;
+      table = is_general;
+      goal_vars = replayed.goal_vars;
+      numbered = numbered;
+      sound = sound_for problem plan general names roots is_table no_params replayed is_general;
+      all = general_for problem plan general names roots is_table no_params replayed;
+    }

@@ -1,0 +1,8 @@
+use Rattle.std.proofs.Common.{◌≡◌, ◌++◌, List, take, map}
+use Rattle.std.specs.Prelude.{flat_map}
+use Rattle.px_proof.specs.ProofTerm.{derivation_of}
+use Rattle.px_proof.specs.Substitution.{derivation_under}
+use Rattle.px_general.proofs.building.named_proofs.Given as goal
+
+abbrev pub invariant-loop-proof : goal.invariant-loop-proof
+invariant-loop-proof l = map derivation_of l.made.items ≡ map (derivation_under l.names) (map derivation_of (take l.proof-index l.proofs))

@@ -1,0 +1,7 @@
+use Rattle.std.proofs.Common.{◌≡◌, ◌++◌, List, take, map}
+use Rattle.std.specs.Prelude.{flat_map}
+use Rattle.px_general.proofs.WalkSteps.{proof_terms}
+use Rattle.px_general.proofs.walking.+terms.Given as goal
+
+abbrev pub invariant-add_each-loop-proof : goal.invariant-add_each-loop-proof
+invariant-add_each-loop-proof l = l.walked.items ≡ l.initial.walked.items ++ flat_map proof_terms (take l.proof-index l.proofs)

@@ -1,0 +1,6 @@
+pub mod GoalSteps
+pub mod OpenSteps
+pub mod PlanSteps
+pub mod Replaying
+pub mod ReplaySteps
+pub mod RowSteps

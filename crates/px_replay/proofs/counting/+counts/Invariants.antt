@@ -1,0 +1,7 @@
+use Rattle.std.proofs.Common.{◌≡◌, ◌-◌, ◌^◌, take}
+use Rattle.std.specs.Prelude.{min}
+use Rattle.px_replay.specs.FreshOf.{row_fresh}
+use Rattle.px_replay.proofs.counting.+counts.Given as goal
+
+abbrev pub invariant-count_each-loop-proof : goal.invariant-count_each-loop-proof
+invariant-count_each-loop-proof l = l.count ≡ min (row_fresh (take l.proof-index l.proofs)) (2 ^ 64 - 1)

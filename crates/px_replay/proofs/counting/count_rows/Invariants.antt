@@ -1,0 +1,7 @@
+use Rattle.std.proofs.Common.{◌≡◌, ◌-◌, ◌^◌, take, sum_by}
+use Rattle.std.specs.Prelude.{min}
+use Rattle.px_replay.specs.FreshOf.{row_fresh}
+use Rattle.px_replay.proofs.counting.count_rows.Given as goal
+
+abbrev pub invariant-loop-row : goal.invariant-loop-row
+invariant-loop-row l = l.count ≡ min (sum_by row_fresh (take l.row-index l.rows)) (2 ^ 64 - 1)

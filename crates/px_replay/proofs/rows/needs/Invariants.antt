@@ -1,0 +1,6 @@
+use Rattle.std.proofs.Common.{◌≡◌, map, take}
+use Rattle.px_terms.specs.Substitution.{substitute_atom}
+use Rattle.px_replay.proofs.rows.needs.Given as goal
+
+abbrev pub invariant-loop-atom : goal.invariant-loop-atom
+invariant-loop-atom l = l.atoms.items ≡ map (substitute_atom l.inst.args) (take l.atom-index l.atom-items)

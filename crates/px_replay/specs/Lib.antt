@@ -1,0 +1,5 @@
+pub mod FreshOf
+pub mod FreshVariables
+pub mod Opened
+pub mod Replay
+pub mod Replaying
