@@ -111,7 +111,7 @@ pub fn building(alloc: Global) -> Result<Problem, NoMemory> {
     })
 }
 
-fn insert(model: &mut Model, pred: u32, numbers: &[u32]) -> Result<(), NoMemory> {
+pub fn insert(model: &mut Model, pred: u32, numbers: &[u32]) -> Result<(), NoMemory> {
     let mut terms = [Term::Obj(0); 3];
     for (k, number) in numbers.iter().enumerate() {
         if k < 3 {

@@ -4,6 +4,8 @@
 //!
 //! Each line of standard input is a question, and is answered by a line.
 //!
+//! - `macros`: which entries may be pushed for the robot to be in the first room of a corridor of 200 objects and 800 facts,
+//!   with a learned table of 39 parameters and 12 steps. The answer is as for the following two.
 //! - `robot` and `box`: which entries may be pushed for the robot, or for a box, to be in room 1 of a building of 200
 //!   objects and 800 facts. The answer is the number of these entries, and how many questions to the prover that took.
 //! - `pushes N`: the same for one thing to stand on another, of N things, where standing on is transitive.
@@ -11,38 +13,51 @@
 #![tactic(auto)]
 
 mod building;
+mod corridor;
 mod standing;
 
 use building::{atom, building, facts};
-use px_diff::{AskErr, gaps, relevant_measured};
+use corridor::{corridor, corridor_facts, in_first_room, long_way};
+use px_diff::{AskErr, are_learned, gaps, relevant_measured};
 use px_ops::Model;
 use px_prover::{ProveErr, prove};
+use px_table::Table;
 use px_terms::{Atom, NoMemory, Problem, Term, are_atoms_of, is_valid};
 use standing::{first_on_second, standing};
 use std::alloc::Global;
 use std::io;
 
-/// What is asked of: the building, what holds in it, and a box and the robot that are to be in another room.
+/// What is asked of: the building, what holds in it, and a box and the robot that are to be in another room; and the corridor,
+/// what holds there, and the learned table.
 #[derive(Drop)]
 struct Asked {
     problem: Problem,
     model: Model,
     for_box: Atom,
     for_robot: Atom,
+    corridor: Problem,
+    corridor_model: Model,
+    tables: Vec<Table>,
 }
 
-fn large_building(alloc: Global) -> Result<Asked, NoMemory> {
+fn large_problems(alloc: Global) -> Result<Asked, NoMemory> {
+    let mut tables = Vec::new(alloc);
+    tables.push(long_way(alloc)?)?;
     Ok(Asked {
         problem: building(alloc)?,
         model: facts(alloc)?,
         for_box: atom(0, &[Term::Obj(141), Term::Obj(1)]),
         for_robot: atom(0, &[Term::Obj(0), Term::Obj(1)]),
+        corridor: corridor(alloc)?,
+        corridor_model: corridor_facts(alloc)?,
+        tables,
     })
 }
 
 /// What a line asks.
 #[derive(Clone, Copy)]
 enum Question {
+    Macros,
     Robot,
     Box,
     Pushes(u32),
@@ -52,6 +67,7 @@ enum Question {
 /// What the line asks, if it is a question.
 fn question_of(line: &str) -> Option<Question> {
     match line {
+        "macros" => return Some(Question::Macros),
         "robot" => return Some(Question::Robot),
         "box" => return Some(Question::Box),
         _ => {}
@@ -73,11 +89,20 @@ struct Pushes {
 }
 
 /// What may be pushed for the atom. None where there is no answer.
-fn count_pushes(alloc: Global, problem: &Problem, model: &Model, wanted: Atom) -> Option<Pushes> {
+fn count_pushes(
+    alloc: Global,
+    problem: &Problem,
+    model: &Model,
+    wanted: Atom,
+    tables: &[Table],
+) -> Option<Pushes> {
     if !is_valid(problem) {
         return None;
     }
-    match relevant_measured(alloc, problem, &[wanted], &[], model, &[]) {
+    if !are_learned(problem, tables) {
+        return None;
+    }
+    match relevant_measured(alloc, problem, &[wanted], &[], model, tables) {
         Ok(measured) => Some(Pushes {
             entries: measured.entries.len(),
             questions: measured.questions,
@@ -85,6 +110,12 @@ fn count_pushes(alloc: Global, problem: &Problem, model: &Model, wanted: Atom) -
         Err(AskErr::ShapeLimit { .. }) => None,
         Err(AskErr::NoMemory) => None,
     }
+}
+
+/// What may be pushed for the robot to be in the first room of the corridor.
+fn count_macros(alloc: Global, asked: &Asked) -> Option<Pushes> {
+    let (problem, model) = (&asked.corridor, &asked.corridor_model);
+    count_pushes(alloc, problem, model, in_first_room(), &asked.tables)
 }
 
 /// How many gaps the atom has. None where it has a proof, or where there is no answer.
@@ -105,7 +136,7 @@ fn count_gaps(alloc: Global, problem: &Problem, model: &Model, atom: Atom) -> Op
 /// What may be pushed for one thing to stand on another, where nothing stands on anything.
 fn pushes_of_things(alloc: Global, objects: u32) -> Option<Pushes> {
     match standing(alloc, objects) {
-        Ok(problem) => count_pushes(alloc, &problem, &Model::new(alloc), first_on_second()),
+        Ok(problem) => { count_pushes(alloc, &problem, &Model::new(alloc), first_on_second(), &[]) }
         Err(NoMemory) => None,
     }
 }
@@ -142,10 +173,16 @@ fn answer(rt: &HostRuntime, asked: &Asked, line: &str) -> io::Result<()> {
     let problem = &asked.problem;
     let model = &asked.model;
     match question_of(line) {
+        Some(Question::Macros) => print_pushes(rt, count_macros(alloc, asked)),
         Some(Question::Robot) => {
-            print_pushes(rt, count_pushes(alloc, problem, model, asked.for_robot))
+            print_pushes(
+                rt,
+                count_pushes(alloc, problem, model, asked.for_robot, &[]),
+            )
         }
-        Some(Question::Box) => print_pushes(rt, count_pushes(alloc, problem, model, asked.for_box)),
+        Some(Question::Box) => {
+            print_pushes(rt, count_pushes(alloc, problem, model, asked.for_box, &[]))
+        }
         Some(Question::Pushes(objects)) => print_pushes(rt, pushes_of_things(alloc, objects)),
         Some(Question::Gaps(objects)) => print_gaps(rt, gaps_of_things(alloc, objects)),
         None => println!(rt; "no question"),
@@ -154,7 +191,7 @@ fn answer(rt: &HostRuntime, asked: &Asked, line: &str) -> io::Result<()> {
 
 fn main(rt: HostRuntime) -> io::Result<()> {
     let alloc = rt.alloc();
-    let Ok(asked) = large_building(alloc) else {
+    let Ok(asked) = large_problems(alloc) else {
         println!(rt; "out of memory")?;
         return Ok(());
     };

@@ -1,6 +1,6 @@
 -- What operators may add, of a problem and in a setting.
 use Rattle.std.proofs.Common.{◌≡◌, ◌⊎◌, ℕ, zero, suc, List, [], ◌∷◌, refl, sym, subst, inl, inr, arith}
-use Rattle.std.specs.Prelude.{◌↔◌, map, flat_map, Any, Contains}
+use Rattle.std.specs.Prelude.{◌↔◌, flat_map, Any, Contains}
 use Rattle.std.proofs.lemmas.List.Concat.{flat_map-cons}
 use Rattle.std.proofs.lemmas.List.Elements.{Contains-append_cases, Contains-append_left, Contains-append_right}
 use Rattle.px_base.specs.ListLaws.{Contains-none}

@@ -1,12 +1,12 @@
 -- What an answer of the prover gives to a support.
-use Rattle.std.specs.Prelude.{◌≡◌, ℕ, List, [], ◌∷◌, length, map, All}
+use Rattle.std.specs.Prelude.{List, [], ◌∷◌, map, All}
 use Rattle.std.proofs.Common.{◌∙◌, sym, subst}
 use Rattle.std.specs.List.{AllZip}
 use Rattle.std.proofs.lemmas.List.{length-map}
 use Rattle.std.proofs.lemmas.List.Elements.{All-cons, All-nil}
 use Rattle.px_terms.specs.Language.{IsObject}
 use Rattle.px_terms.specs.Substitution.{substitute_atom}
-use Rattle.px_terms.specs.Validity.{IsAtomOf, IsTermOf, HasArity}
+use Rattle.px_terms.specs.Validity.{IsTermOf, HasArity}
 use Rattle.px_terms.specs.declared.atom.Atom.{Atom}
 use Rattle.px_terms.specs.declared.problem.Problem.{Problem}
 use Rattle.px_terms.specs.declared.term.Term.TheVariants.{Obj}

@@ -17,7 +17,7 @@ use Rattle.px_diff.proofs.Loops.{level_or_below}
 
 -- ---- lists with one place changed
 
-set-at : (xs : List Term) (v w : ℕ) (x t : Term) → slice_get (set xs v x) w ≡ Some t → ((v ≡ w) × (x ≡ t)) ⊎ (slice_get xs w ≡ Some t)
+pub set-at : (xs : List Term) (v w : ℕ) (x t : Term) → slice_get (set xs v x) w ≡ Some t → ((v ≡ w) × (x ≡ t)) ⊎ (slice_get xs w ≡ Some t)
 set-at [] v w x t at = inr at
 set-at (y ∷ xs) zero zero x t at = inl (refl, some_same x t at)
 set-at (y ∷ xs) zero (suc w) x t at = inr at

@@ -1,9 +1,9 @@
 -- An atom and its form have the same instances.
-use Rattle.std.proofs.Common.{◌≡◌, ◌∙◌, ◌⊎◌, ◌↔◌, ℕ, zero, suc, ◌+◌, ◌<◌, ◌≤◌, Bool, true, false, Some, List, [], ◌∷◌, length, map, slice_get, get_or, refl, ap, sym, subst, inl, inr, arith}
-use Rattle.std.specs.Prelude.{All, Contains, cond, slice_index, slice_index_or}
+use Rattle.std.proofs.Common.{◌≡◌, ◌∙◌, ◌⊎◌, ◌↔◌, ℕ, zero, suc, ◌+◌, ◌<◌, Bool, true, false, Some, List, [], ◌∷◌, length, map, slice_get, get_or, refl, ap, sym, subst, inl, inr, arith}
+use Rattle.std.specs.Prelude.{All, Contains, cond, slice_index}
 use Rattle.std.proofs.lemmas.List.{length-map, get_or-map}
 use Rattle.std.proofs.lemmas.Option.{get_or_from_slice_get, slice_get_within}
-use Rattle.px_base.specs.ListLaws.{All-each, Contains-cases, Contains-first, Contains-later, Contains-none}
+use Rattle.px_base.specs.ListLaws.{Contains-cases, Contains-first, Contains-later, Contains-none}
 use Rattle.px_prover.specs.Patterns.{AreChosen, object_under}
 use Rattle.px_question.specs.Answers.{object_of, object_terms}
 use Rattle.px_terms.specs.Language.{substitute}

@@ -11,9 +11,8 @@ use Rattle.px_terms.specs.declared.clause.Lit.{Lit}
 use Rattle.px_terms.specs.declared.problem.Problem.{Problem}
 use Rattle.px_terms.specs.declared.term.Term.{Term}
 use Rattle.px_terms.specs.declared.term.Term.TheVariants.{Obj, Var, Any}
-use Rattle.px_terms.specs.Instances.{IsGround}
 use Rattle.px_terms.specs.Validity.{IsValid, IsAtomOf, IsAxiomOf, IsTermOf}
-use Rattle.px_terms.specs.ValidityLaws.{atom-is_of, atom_of-is_ground}
+use Rattle.px_terms.specs.ValidityLaws.{atom-is_of}
 use Rattle.px_proof.specs.Derivation.{Derivation, Derivations, fact, ancestor, step, gap, open_place, none, also}
 use Rattle.px_proof.specs.Literals.{complement_of, positive_of, substitute_literal}
 use Rattle.px_proof.specs.PlaceLaws.{All-got}

@@ -1,5 +1,5 @@
 -- The gaps of a formula, by what one question of gaps tells of it.
-use Rattle.std.specs.Prelude.{◌≡◌, ◌↔◌, ℕ, List, [], ◌∷◌, All, Any, Contains}
+use Rattle.std.specs.Prelude.{◌↔◌, ℕ, List, All, Any, Contains}
 use Rattle.std.proofs.Common.{sym, subst, inl, inr}
 use Rattle.px_base.specs.ListLaws.{All-at}
 use Rattle.px_terms.specs.declared.atom.Atom.{Atom}

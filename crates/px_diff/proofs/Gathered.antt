@@ -1,27 +1,17 @@
 -- Gathering the instances that may be pushed, part by part.
 use Rattle.std.proofs.Common.{◌≡◌, ◌⊎◌, zero, suc, List, [], ◌∷◌, ◌++◌, refl, sym, subst, inl, inr, arith}
-use Rattle.std.specs.Prelude.{◌↔◌, ℕ, Some, slice_get, Any, Contains}
-use Rattle.px_base.specs.ListLaws.{Contains-none}
+use Rattle.std.specs.Prelude.{Any, Contains}
 use Rattle.px_diff.proofs.Loops.{Contains-pushed}
 use Rattle.px_terms.specs.declared.atom.Atom.{Atom}
 use Rattle.px_terms.specs.declared.instance.OpInst.{OpInst}
 use Rattle.px_terms.specs.declared.problem.Problem.{Problem}
-use Rattle.px_terms.specs.Operators.{adds}
-use Rattle.px_terms.specs.Validity.{IsInstanceOf}
 use Rattle.px_table.specs.declared.entry.Entry.{Entry}
 use Rattle.px_table.specs.declared.table.Table.{Table}
-use Rattle.px_table.specs.declared.entry.Entry.TheVariants.{Op, Macro}
-use Rattle.px_diff.specs.Closings.{OneOf}
+use Rattle.px_table.specs.declared.entry.Entry.TheVariants.{Op}
 use Rattle.px_diff.specs.Entries.{obligations_of}
 use Rattle.px_diff.specs.Gathering.{Gathers}
-use Rattle.px_diff.specs.Instances.{Covers, IsCovered}
-use Rattle.px_diff.specs.Pushes.{IsPushable, IsRelevant}
+use Rattle.px_diff.specs.Pushes.{IsPushable}
 use Rattle.px_diff.specs.Questions.{AreUnlimited}
-use Rattle.px_diff.specs.declared.partial.PartialInstance.{PartialInstance}
-
--- an empty list has nothing at any place
-no_table : (number : ℕ) (table : Table) → slice_get [] number ≡ Some table → ⊥
-no_table number table is = cc
 
 module _ (problem : Problem) (tables : List Table) (wanted : List Atom) (stack : List Entry) (model : List Atom) where
   pub gathers_less : (V W : OpInst → Type 0) (old new : List OpInst) → ((inst : OpInst) → W inst → V inst) → Gathers problem tables wanted stack model V old new → Gathers problem tables wanted stack model W old new
@@ -35,25 +25,6 @@ module _ (problem : Problem) (tables : List Table) (wanted : List Atom) (stack :
     all = λ inst w p. elim (f inst w) [ inl v ↦ h.kept inst (g.all inst v p) | inr u ↦ h.all inst u p ];
     unlimited = λ inst w r. elim (f inst w) [ inl v ↦ g.unlimited inst v r | inr u ↦ h.unlimited inst u r ];
   }
-
-  -- where no table is learned, a relevant entry is an instance that adds a wanted atom
-  pub relevant_instance : (none : tables ≡ []) (entry : Entry) → IsRelevant problem tables wanted stack entry → (inst : OpInst) × (Op inst ≡ entry) × IsInstanceOf problem inst × OneOf wanted (Contains (adds problem inst))
-  relevant_instance none (Op inst) relevant = (inst, refl, relevant.is_entry, (relevant.atom, relevant.is_wanted, elim relevant.added [ inl now ↦ now.0 | inr never ↦ absurd never ]))
-  relevant_instance none (Macro number prefix sigma) relevant = absurd (no_table number relevant.is_entry.0 (subst (λ (l : List Table). slice_get l number ≡ Some relevant.is_entry.0) none relevant.is_entry.1))
-
-  module _ (none : tables ≡ []) (matches : List PartialInstance) (found : List OpInst) (covers : Covers problem (λ full. OneOf wanted (Contains (adds problem full))) [] matches) (gathers : Gathers problem tables wanted stack model (IsCovered problem matches) [] found) where
-    pub pushable_found : (entry : Entry) → ((inst : OpInst) × Contains found inst × (Op inst ≡ entry)) ↔ IsPushable problem tables wanted stack model entry
-    pushable_found entry = (
-      λ h. elim (gathers.only h.0 h.1) [ inl never ↦ absurd (Contains-none h.0 never) | inr p ↦ subst (IsPushable problem tables wanted stack model) h.2 p ],
-      λ p.
-          let r = relevant_instance none entry p.relevant in
-          (r.0, gathers.all r.0 (covers.all r.0 r.2 r.3) (subst (IsPushable problem tables wanted stack model) (sym r.1) p), r.1),
-    )
-
-    pub relevant_unlimited : (entry : Entry) → IsRelevant problem tables wanted stack entry → AreUnlimited problem (obligations_of problem tables model entry)
-    relevant_unlimited entry relevant =
-        let r = relevant_instance none entry relevant in
-        subst (λ (e : Entry). AreUnlimited problem (obligations_of problem tables model e)) r.1 (gathers.unlimited r.0 (covers.all r.0 r.2 r.3) (subst (IsRelevant problem tables wanted stack) (sym r.1) relevant))
 
   -- one instance that may be pushed, and whose questions don't meet the limit
   pub gathers_one : (inst : OpInst) (old new : List OpInst) → new ≡ old ++ inst ∷ [] → IsPushable problem tables wanted stack model (Op inst) → AreUnlimited problem (obligations_of problem tables model (Op inst)) → Gathers problem tables wanted stack model (λ other. inst ≡ other) old new

@@ -1,7 +1,6 @@
 -- What is known of two lists of needs together.
 use Rattle.std.proofs.Common.{◌≡◌, ◌⊎◌, ◌++◌, List, [], sym, subst, inl, inr, arith}
 use Rattle.std.specs.Prelude.{◌↔◌, All, Any, Contains}
-use Rattle.std.proofs.lemmas.List.{append-nil}
 use Rattle.std.proofs.lemmas.List.Elements.{All-append, Contains-append_cases, Contains-append_left, Contains-append_right}
 use Rattle.std.proofs.lemmas.List.Kept.{IsStrictlySortedBy-dedup}
 use Rattle.std.specs.List.{dedup}
@@ -13,11 +12,11 @@ use Rattle.px_terms.specs.OrderLaws.{atom_cmp-matches_eq, atom_cmp-total, atom_e
 use Rattle.px_terms.specs.declared.atom.Atom.{Atom}
 use Rattle.px_terms.specs.declared.problem.Problem.{Problem}
 use Rattle.px_proof.specs.declared.shape.Tick.{Tick}
-use Rattle.px_diff.specs.Entries.{Obligation, HasAnswer, HasGap, IsApplicable, IsOpen, IsGapOfNeeds}
+use Rattle.px_diff.specs.Entries.{Obligation, HasAnswer, HasGap, IsApplicable, IsOpen}
 use Rattle.px_diff.specs.Known.{AreAllBelow, IsKnownOf, IsOpenWith, LimitsNeeds}
 use Rattle.px_diff.specs.Joined.{IsAtLimit, Joins}
 use Rattle.px_diff.proofs.Ordered.{sorted_members}
-use Rattle.px_diff.specs.Questions.{Question, Proving, FindingGaps, AsksOf, MeetsLimit}
+use Rattle.px_diff.specs.Questions.{Question, Proving, FindingGaps}
 use Rattle.px_diff.specs.declared.known.Known.{Known}
 use Rattle.px_diff.specs.declared.known.Known.TheVariants.{Applicable, Open, Closed, Limited}
 

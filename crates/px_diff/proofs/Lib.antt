@@ -8,7 +8,7 @@ mod AddableLaws
 mod AnswerRowLaws
 mod JoinSteps
 mod LeftSteps
-mod RowSteps
+pub mod RowSteps
 mod KnownSteps
 mod StackLaws
 mod Limits
@@ -28,3 +28,15 @@ mod Ordered
 mod Gathered
 pub mod Opening
 pub mod Below
+mod Slices
+mod ParameterLemmas
+mod EntryLemmas
+mod RowLemmas
+mod PrefixLemmas
+mod MacroLemmas
+mod MatchLemmas
+mod RowAnswerLemmas
+mod AddedLemmas
+mod FittingLemmas
+mod GatherLemmas
+mod WholeLemmas

@@ -1,8 +1,7 @@
 -- Steps of loops that look for an element, or make a list.
 use Rattle.std.proofs.Common.{◌≡◌, ◌+◌, ◌<◌, ◌≤◌, ◌⊎◌, ℕ, Bool, true, false, List, [], ◌∷◌, ◌++◌, length, take, get_or, refl, sym, ap, ◌∙◌, subst, inl, inr, arith}
-use borrow.Author.Tests.{eqb-true}
-use Rattle.std.specs.Prelude.{◌↔◌, ◌==◌, not, All, Any, Contains, IsTrue, Result, Ok, Err, Option, Some, None, IfOk, IfSome, OnOk}
-use Rattle.std.proofs.lemmas.List.{get_or_default, take_more, take_all}
+use Rattle.std.specs.Prelude.{◌↔◌, All, Any, Contains, IsTrue, Result, Ok, Err, Option, Some, None, IfSome, OnOk}
+use Rattle.std.proofs.lemmas.List.{get_or_default, take_more}
 use Rattle.std.proofs.lemmas.List.Elements.{Contains-append_left, Contains-push, Contains-push_cases}
 
 pub both_answers : {G : Type 0} (b : Bool) → b ≡ false → b ≡ true → G

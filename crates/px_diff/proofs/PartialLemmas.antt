@@ -98,7 +98,7 @@ term_in problem vars args all (Obj n) of = of
 term_in problem vars args all (Var v) of = all v Any of
 term_in problem vars args all Any of = absurd of
 
-atom_in : (problem : Problem) (vars : ℕ) (args : List Term) → All (IsTermOf problem vars) args → (atom : Atom) → IsAtomOf problem (length args) atom → IsAtomOf problem vars (substitute_atom args atom)
+pub atom_in : (problem : Problem) (vars : ℕ) (args : List Term) → All (IsTermOf problem vars) args → (atom : Atom) → IsAtomOf problem (length args) atom → IsAtomOf problem vars (substitute_atom args atom)
 atom_in problem vars args all atom of =
     ((of.0.0, length-map atom.args (substitute args) ∙ of.0.1), All-map (IsTermOf problem vars) (substitute args) atom.args (λ k d below. term_in problem vars args all _ (of.1 k d below)))
 

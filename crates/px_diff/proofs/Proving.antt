@@ -1,9 +1,7 @@
 -- What a question about an atom with variables says of its instances.
-use Rattle.std.proofs.Common.{◌≡◌, ◌∙◌, ◌⊎◌, ◌↔◌, ℕ, zero, suc, ◌+◌, ◌<◌, ◌≤◌, Some, List, [], ◌∷◌, length, map, set, take, slice_get, get_or, refl, ap, sym, subst, inl, inr, arith}
-use Rattle.std.specs.Prelude.{All, Any, Contains, slice_index}
-use Rattle.std.proofs.lemmas.List.{length-map, take_all}
-use Rattle.std.proofs.lemmas.List.Elements.{All-nil}
-use Rattle.px_base.specs.ListLaws.{All-at, Contains-none}
+use Rattle.std.proofs.Common.{◌≡◌, ◌∙◌, ◌⊎◌, ◌↔◌, ℕ, zero, suc, ◌+◌, ◌<◌, ◌≤◌, Some, List, [], ◌∷◌, length, map, set, slice_get, get_or, refl, ap, sym, subst, inl, inr, arith}
+use Rattle.std.specs.Prelude.{All, Contains}
+use Rattle.std.proofs.lemmas.List.{length-map}
 use Rattle.px_proof.specs.declared.shape.Tick.{Tick}
 use Rattle.px_proof.specs.Derivation.{Derivations}
 use Rattle.px_proof.specs.Literals.{positive_of}
@@ -22,14 +20,12 @@ use Rattle.px_terms.specs.declared.term.Term.{Term}
 use Rattle.px_terms.specs.declared.term.Term.TheVariants.{Obj, Var, Any as Wild}
 use Rattle.px_prover.specs.Patterns.{AreChosen}
 use Rattle.px_diff.specs.Bindings.{AreUnbound, IsBinding, IsInstanceUnder, IsOpenBefore, IsPlain, IsSlot}
-use Rattle.px_diff.specs.Closings.{OneOf}
-use Rattle.px_diff.specs.Forms.{IsInstanceIn, IsStoodFor}
+use Rattle.px_diff.specs.Forms.{IsInstanceIn}
 use Rattle.px_diff.specs.Provable.{FindsProvable, LimitsOne}
-use Rattle.px_diff.proofs.Choosing.{atom-under, before-all, before-next, before-none, closed-under, some-values}
+use Rattle.px_diff.proofs.Choosing.{atom-under, before-all, before-next, closed-under, some-values}
 use Rattle.px_diff.proofs.Describing.{atom-plain, chosen-extends, none-taken}
 use Rattle.px_diff.proofs.Fewness.{few-none}
 use Rattle.px_diff.proofs.GapAtoms.{object_terms-are}
-use Rattle.px_diff.proofs.Grows.{one_next, one_none}
 
 -- ---- atoms of the problem under a binding
 

@@ -1,5 +1,5 @@
 -- The rows of a table's first steps, asked one after the other, each from what the steps before leave.
-use Rattle.std.proofs.Common.{◌≡◌, ◌+◌, ◌<◌, ◌≤◌, ◌++◌, ℕ, suc, min, Bool, true, List, [], ◌∷◌, length, take, drop, get_or, refl, sym, ap, ◌∙◌, subst, inr, arith, append_assoc, append-nil}
+use Rattle.std.proofs.Common.{◌≡◌, ◌<◌, ◌≤◌, ◌++◌, ℕ, suc, true, List, [], ◌∷◌, length, take, drop, get_or, refl, sym, ap, ◌∙◌, subst, inr, arith, append_assoc, append-nil}
 use Rattle.std.specs.Option.{option_map}
 use Rattle.std.specs.Prelude.{◌==◌, ◌&&◌, not, map, filter, slice_get, unwrap_or, Option, Some, Result, IfOk, All, Contains}
 use Rattle.std.proofs.Math.Seq.{drop-cons}
@@ -16,7 +16,7 @@ use Rattle.px_terms.specs.declared.problem.Problem.{Problem}
 use Rattle.px_terms.specs.declared.term.Term.{Term}
 use Rattle.px_terms.specs.declared.term.Term.TheVariants.{Obj, Var, Any}
 use Rattle.px_table.specs.Kernels.{atom_under, instance_under, steps_under}
-use Rattle.px_table.specs.Prefixes.{IsMacro, IsUsed}
+use Rattle.px_table.specs.Prefixes.{IsMacro}
 use Rattle.px_table.specs.Tables.{IsStepOf, IsTable}
 use Rattle.px_table.specs.UnderLaws.{step_under-objects}
 use Rattle.px_base.specs.declared.no_memory.NoMemory.{NoMemory}
@@ -72,17 +72,17 @@ step-at table sigma place step under below is under_is =
 
 -- ---- the atoms of a row are the problem's
 
-object-of : (problem : Problem) (sigma : List ℕ) (v : ℕ) → v < length sigma → get_or sigma v 0 < problem.objects → IsTermOf problem 0 (substitute (map Obj sigma) (Var v))
+pub object-of : (problem : Problem) (sigma : List ℕ) (v : ℕ) → v < length sigma → get_or sigma v 0 < problem.objects → IsTermOf problem 0 (substitute (map Obj sigma) (Var v))
 object-of problem sigma v below small = subst (IsTermOf problem 0) (sym (get_or-map Obj sigma v 0 Any below)) small
 
 module _ (problem : Problem) (table : Table) (prefix : ℕ) (sigma : List ℕ) (is : IsTable problem table) (m : IsMacro problem table prefix sigma) where
-  term-used : (mark : Mark) → Contains table.marks mark → mark.row ≤ prefix → (t : Term) → Contains mark.atom.args t → IsTermOf problem table.params t → IsTermOf problem 0 (substitute (map Obj sigma) t)
+  pub term-used : (mark : Mark) → Contains table.marks mark → mark.row ≤ prefix → (t : Term) → Contains mark.atom.args t → IsTermOf problem table.params t → IsTermOf problem 0 (substitute (map Obj sigma) t)
   term-used mark has early (Obj n) there h = h
   term-used mark has early (Var v) there h =
       object-of problem sigma v (omega (arith, h, m.count)) (m.used v h (inr (has.0, mark, has.1, has.2, (early, there))))
   term-used mark has early Any there h = h
 
-  mark-is_of : (mark : Mark) → Contains table.marks mark → mark.row ≤ prefix → IsAtomOf problem 0 (atom_under sigma mark.atom)
+  pub mark-is_of : (mark : Mark) → Contains table.marks mark → mark.row ≤ prefix → IsAtomOf problem 0 (atom_under sigma mark.atom)
   mark-is_of mark has early =
       let of = All-at (λ (one : Mark). IsAtomOf problem table.params one.atom) table.marks mark is.atoms has in
       let args = mark.atom.args in (

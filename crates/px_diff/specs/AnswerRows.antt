@@ -1,5 +1,5 @@
 -- What an answer of the prover gives to the support from which a triangle table is built.
-use Rattle.std.specs.Prelude.{◌≡◌, ◌<◌, ℕ, List, [], ◌∷◌, map, All}
+use Rattle.std.specs.Prelude.{◌≡◌, ℕ, List, [], ◌∷◌, map, All}
 use Rattle.std.specs.List.{AllZip}
 use Rattle.px_terms.specs.Language.{IsObject}
 use Rattle.px_terms.specs.Validity.{IsAtomOf, IsValid}

@@ -15,9 +15,12 @@ pub mod Joined
 pub mod Known
 pub mod Learned
 pub mod Listed
+pub mod Macros
 pub mod Outcomes
+pub mod Parameters
 pub mod Provable
 pub mod Pushes
 pub mod Questions
 pub mod Requests
+pub mod RowQuestions
 pub mod Stacks

@@ -38,3 +38,7 @@ LimitsFor request = LimitsRelevant request.problem.now request.tables.now reques
 -- gathering what of the part may be pushed for it makes the new list from the old one
 abbrev pub GathersFor : Request → (OpInst → Type 0) → List OpInst → List OpInst → Type 0
 GathersFor request = Gathers request.problem.now request.tables.now request.wanted.now request.stack.now request.model.now.atoms
+
+-- the entry is relevant for it
+abbrev pub IsRelevantEntryFor : Request → Entry → Type 0
+IsRelevantEntryFor request = IsRelevant request.problem.now request.tables.now request.wanted.now request.stack.now

@@ -64,7 +64,7 @@ pub fn object_of(term: Term) -> u32
 }
 
 /// The first variable.
-fn first_variable(args: &[Term]) -> Option<u32>
+pub fn first_variable(args: &[Term]) -> Option<u32>
     ensures some { IfSome result (λ variable. Contains args.now (Var variable)) }
     ensures none { IfNone result (All (λ t. (v : ℕ) → ¬ (t ≡ Var v)) args.now) }
 {

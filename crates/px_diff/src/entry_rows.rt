@@ -57,14 +57,14 @@ fn known_instance(
 }
 
 /// Is the mark one of the row that comes from the initial model?
-fn is_initial(mark: &Mark, row: u32) -> bool
+pub fn is_initial(mark: &Mark, row: u32) -> bool
     ensures { result ≡ ((mark.now.row == row) && (mark.now.column == 0)) }
 {
     mark.row == row && mark.column == 0
 }
 
 /// Puts the atom last, where it is wanted.
-fn push_wanted(atoms: &mut Vec<Atom>, atom: Atom, is_wanted: bool) -> Result<(), NoMemory>
+pub fn push_wanted(atoms: &mut Vec<Atom>, atom: Atom, is_wanted: bool) -> Result<(), NoMemory>
     ensures { OnOk result (MatchBool is_wanted (atoms.new.items ≡ atoms.old.items ++ atom ∷ []) (atoms.new.items ≡ atoms.old.items)) }
 {
     if is_wanted {
@@ -74,7 +74,15 @@ fn push_wanted(atoms: &mut Vec<Atom>, atom: Atom, is_wanted: bool) -> Result<(),
 }
 
 /// The atoms of the row's marks that come from the initial model, with the objects of `sigma` for the parameters.
-fn initial_of(alloc: Global, table: &Table, sigma: &[u32], row: u32) -> Result<Vec<Atom>, NoMemory>
+///
+/// # Errors
+/// `NoMemory` where there is none.
+pub fn initial_of(
+    alloc: Global,
+    table: &Table,
+    sigma: &[u32],
+    row: u32,
+) -> Result<Vec<Atom>, NoMemory>
     requires marks { All (λ mark. All (IsVariableBelow (length sigma.now)) mark.atom.args) table.now.marks }
     ensures { IfOk result (λ atoms. atoms.items ≡ initial_atoms table.now sigma.now row) }
 {
@@ -100,7 +108,10 @@ fn insert_undeleted(left: &mut Model, atom: &Atom, is_deleted: bool) -> Result<(
 }
 
 /// What the instance leaves of the facts, without what it adds.
-fn left_of(
+///
+/// # Errors
+/// `NoMemory` where there is none.
+pub fn left_of(
     alloc: Global,
     problem: &Problem,
     facts: &Model,
@@ -120,8 +131,8 @@ fn left_of(
     Ok(left)
 }
 
-/// The step at the place, with the objects of `sigma` for the parameters.
-fn step_under(table: &Table, sigma: &[u32], place: u32) -> OpInst
+/// The step at the place, with the objects of `sigma` for the parameters. Takes no memory.
+pub fn step_under(table: &Table, sigma: &[u32], place: u32) -> OpInst
     requires place { place < length table.now.steps }
     requires steps { All (λ step. All (IsVariableBelow (length sigma.now)) step.args) table.now.steps }
     ensures { slice_get (steps_under table.now sigma.now) place ≡ Some result }

@@ -1,13 +1,13 @@
 //! What is known of formulas, of operators and of the first steps of a table.
 
 use crate::test_problems::{atom, blocks, chain, model_of, o, stacked, two_steps};
+use crate::test_tables::both_steps;
 use crate::{
     Known, Tried, addable_alike, answers_support, are_learned, is_entry, known_entry,
     known_formula, relevance_over_stacks, try_formula,
 };
 use px_ops::Model;
-use px_proof::{Leaf, Proof};
-use px_table::{Entry, Mark, Row, Table};
+use px_table::{Entry, Table};
 use px_terms::{Atom, NoMemory, OpInst, Problem, Sequence, Term, are_atoms_of, is_valid};
 use std::alloc::Global;
 use std::process::Abort;
@@ -128,55 +128,6 @@ fn operators_are_known(rt: HostRuntime) -> Result<(), Fail> {
     let known = entry_known(alloc, &rt, &problem, &[], &same, &stacked(alloc, &rt)?)?;
     assert!(&rt; matches!(&known, Known::Closed));
     Ok(())
-}
-
-/// The row of these leaves.
-fn row_of(alloc: Global, leaves: &[Leaf]) -> Result<Row, NoMemory> {
-    let mut proofs = Vec::new(alloc);
-    for leaf in leaves {
-        proofs.push(Proof::Fact(*leaf))?;
-    }
-    Ok(Row::from_proofs(proofs))
-}
-
-/// A leaf in that column.
-fn leaf(column: u32, atom: Atom) -> Leaf {
-    Leaf {
-        column,
-        index: 0,
-        atom,
-    }
-}
-
-/// The mark of that leaf in the row.
-fn mark(row: u32, leaf: &Leaf) -> Mark {
-    Mark {
-        atom: leaf.atom,
-        row,
-        column: leaf.column,
-        index: leaf.index,
-    }
-}
-
-/// Both operators one after the other: the second row needs atom 1, given at first, and atom 2, which the first step adds.
-fn both_steps(alloc: Global, rt: &impl Abort) -> Result<Table, NoMemory> {
-    let given = leaf(0, atom(rt, 1, &[]));
-    let made = leaf(1, atom(rt, 2, &[]));
-    let reached = leaf(2, atom(rt, 3, &[]));
-    let mut rows = Vec::new(alloc);
-    rows.push(row_of(alloc, &[])?)?;
-    rows.push(row_of(alloc, &[given, made])?)?;
-    rows.push(row_of(alloc, &[reached])?)?;
-    let first = OpInst::new(0, &[]).expect(rt, "few arguments");
-    let second = OpInst::new(1, &[]).expect(rt, "few arguments");
-    Ok(Table {
-        params: 0,
-        steps: Sequence::from_slice(alloc, &[first, second])?,
-        goal: Sequence::from_slice(alloc, &[reached.atom])?,
-        goal_vars: 0,
-        marks: Sequence::from_slice(alloc, &[mark(2, &given), mark(2, &made), mark(3, &reached)])?,
-        proofs: Sequence::from_vec(rows),
-    })
 }
 
 /// Atom 1 follows from atom 0, which the first step deletes: the second row has no answer from what is left, and atom 0 is

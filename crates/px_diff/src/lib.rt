@@ -10,7 +10,7 @@
 //! - [`relevant`] takes wanted atoms, as gaps are, the entries that are on the stack, a world model, and the learned
 //!   tables. It answers the entries that may be pushed, in order, each once: those that aren't on the stack, add a wanted
 //!   atom, and are open, which is to say that each formula that they need has an answer or a gap. An entry is an instance
-//!   of an operator, or a MACROP of a table. The list of tables has to be empty so far.
+//!   of an operator, or a MACROP of a table. The tables have to be learned ones, as for `known_entry`.
 //! - Both have a valid problem as their condition, and the formula of `gaps` is of the problem's atoms over its variables.
 //!   They stop with [`AskErr::ShapeLimit`] where a question meets the shape limit. It has the formula at which it does,
 //!   which is the question's own or one atom that a gap would close, and the first shapes. `gaps` is one question, finding
@@ -23,11 +23,14 @@
 //!   MACROP's rows are asked each from what the steps before leave of the model. The tables have to be learned ones
 //!   (`AreLearned`: at most 32, of at most 64 steps, which `check_table` of `px_table` accepts), as [`are_learned`] tests, and
 //!   the entry has to be one, as [`is_entry`] tests. The limit is an answer like the others, so their only error is `NoMemory`.
+//! - [`initial_of`], [`step_under`] and [`left_of`] are what a MACROP's needs are made of: the initial facts of a row, a step with
+//!   objects for its parameters, and what it leaves of the facts.
 //! - What `relevant` answers with an empty stack serves every stack: what may be pushed over a stack is its list without the
 //!   stack's entries ([`relevance_over_stacks`]). [`answers_support`] says what the prover's answers give to `build` of
 //!   `px_table`, and [`addable_alike`] that the prover takes for addable what an operator of the problem may add.
 //! - All calls answer `NoMemory` where there is none, of which nothing more is said.
-//! - [`relevant_measured`] is `relevant` with a number beside the entries, for benchmarks: how often the prover was asked.
+//! - [`relevant_measured`] is `relevant` with a number beside the entries, for benchmarks: how often the prover was asked,
+//!   but for what is asked of each MACROP by itself.
 //!   Finding gaps asks it for the gap patterns, and of the atoms that these close whether they have a proof. No clause of the
 //!   call speaks of this number.
 //!
@@ -49,7 +52,17 @@
 //! `relevant` matches what operators add with the wanted atoms. A match has objects for those parameters that the atom
 //! determines, and the others stay variables. One question of gaps is asked for each match. Where it meets the limit, the
 //! first variable is bound to each object in turn, and each of these narrower matches is asked in the same way. That ends
-//! where a question answers, or where no variable is left. All asking goes through one struct (`asker`), which counts.
+//! where a question answers, or where no variable is left. All asking of operators goes through one struct (`asker`), which
+//! counts.
+//!
+//! Then it matches what the steps of each table add with the wanted atoms (`macro_matching`), for each number of first steps. A
+//! match has an object for each parameter that the atom determines, and object 0 for each that these steps don't use
+//! (`parameters`). One question of gaps is asked for each row, from the whole model (`row_questions`). A MACROP's row is proved
+//! from what the steps before it leave of the model, so it has no more shapes than that question, and nothing that the question
+//! doesn't offer. What is provable from the whole model says nothing of it, so nothing is left out for that. The objects that
+//! the rows offer are joined, the row with the fewest choices first (`fitting`), so tuples of objects are never listed. Each
+//! MACROP that comes out is tried by itself (`macros`). Where a question meets the limit, a parameter of its row is bound to each
+//! object in turn, and each of these narrower matches is asked in the same way, in the end each MACROP by itself.
 #![tactic(auto)]
 
 mod apart;
@@ -60,7 +73,9 @@ mod bindings;
 mod choices;
 mod differences;
 mod entry_rows;
+mod fitting;
 mod forms;
+mod front;
 mod gap_answer;
 mod instances;
 mod joining;
@@ -70,23 +85,35 @@ mod known;
 mod known_tests;
 mod laws;
 mod learned;
+mod macro_matching;
+#[cfg(test)]
+mod macro_reference;
+mod macro_steps;
+#[cfg(test)]
+mod macro_tests;
+mod macros;
 mod matching;
 mod measured;
 mod missing;
+mod parameters;
 mod partial;
 mod pushes;
 #[cfg(test)]
 mod reference;
 mod relevance;
 mod request;
+mod row_choices;
+mod row_questions;
 #[cfg(test)]
 mod test_problems;
+#[cfg(test)]
+mod test_tables;
 #[cfg(test)]
 mod tests;
 
 pub use ask_err::AskErr;
 pub use differences::gaps;
-pub use entry_rows::known_entry;
+pub use entry_rows::{initial_of, known_entry, left_of, step_under};
 pub use knowing::{known_formula, try_formula};
 pub use known::{Known, Tried};
 pub use laws::{addable_alike, answers_support, relevance_over_stacks};

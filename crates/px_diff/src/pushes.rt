@@ -16,6 +16,7 @@ ghost use Rattle.px_diff.specs.Entries.{obligations_of};
 ghost use Rattle.px_diff.specs.GapAnswers.{IsGapAnswer};
 ghost use Rattle.px_diff.specs.Gathering.{AreObjectsFor, instance_by};
 ghost use Rattle.px_diff.specs.Instances.{IsCovered, IsPartialInstance, StandsFor};
+ghost use Rattle.px_diff.specs.Learned.{AreLearned};
 ghost use Rattle.px_diff.specs.Outcomes.{AtLimit, IfLimit};
 ghost use Rattle.px_diff.specs.Pushes.{IsRelevant, IsPushable};
 ghost use Rattle.px_diff.specs.Questions.{AreBelow, AreUnlimited, LimitsRelevant};
@@ -27,6 +28,7 @@ use crate::asking::copied;
 use crate::choices::choices_of;
 use crate::gap_answer::{GapAnswer, ask_gaps};
 use crate::instances::{bound, filled};
+use crate::macros::gather_tables;
 use crate::matching::matches_of;
 use crate::measured::Measured;
 use crate::partial::PartialInstance;
@@ -221,21 +223,20 @@ fn entries_of(alloc: Global, insts: &[OpInst]) -> Result<Vec<Entry>, NoMemory>
     Ok(entries)
 }
 
-/// The entries of the instances in order, each once.
-fn ordered(alloc: Global, mut found: Vec<OpInst>) -> Result<Vec<Entry>, NoMemory>
-    ensures members { IfOk result (λ entries. (entry : Entry) → Contains entries.items entry ↔ ((inst : OpInst) × Contains found.items inst × (Op inst ≡ entry))) }
-    ensures order { IfOk result (λ entries. IsStrictlySortedBy order_of entries.items) }
+/// The entries in order, each once.
+fn ordered(mut found: Vec<Entry>) -> Vec<Entry>
+    ensures members { (entry : Entry) → Contains result.items entry ↔ Contains found.items entry }
+    ensures order { IsStrictlySortedBy order_of result.items }
 {
     found.sort_unstable();
     found.dedup();
-    let entries = entries_of(alloc, &found)?;
-    Ok(entries)
+    found
 }
 
 /// The entries that may be pushed for the request.
 fn pushable_for(asker: &mut Asker, request: &Request) -> Result<Vec<Entry>, AskErr>
     requires problem { IsValid request.now.problem.now }
-    requires no_tables { request.now.tables.now ≡ [] }
+    requires tables { AreLearned request.now.problem.now request.now.tables.now }
     ensures exact { IfOk result (λ entries. (entry : Entry) → Contains entries.items entry ↔ IsPushableFor request.now entry) }
     ensures order { IfOk result (λ entries. IsStrictlySortedBy order_of entries.items) }
     ensures unlimited { IfOk result (λ entries. AreUnlimitedFor request.now) }
@@ -245,8 +246,9 @@ fn pushable_for(asker: &mut Asker, request: &Request) -> Result<Vec<Entry>, AskE
     let matches = matches_of(asker.alloc, request.problem, request.wanted)?;
     let mut found = Vec::new(asker.alloc);
     gather_matches(asker, &mut found, request, &matches)?;
-    let entries = ordered(asker.alloc, found)?;
-    Ok(entries)
+    let mut entries = entries_of(asker.alloc, &found)?;
+    gather_tables(asker, &mut entries, request)?;
+    Ok(ordered(entries))
 }
 
 /// What `relevant` answers, with the number of questions that it asks the prover. The number is measured: it begins with 0,
@@ -264,7 +266,7 @@ pub fn relevant_measured(
     tables: &[Table],
 ) -> Result<Measured, AskErr>
     requires problem { IsValid problem.now }
-    requires no_tables { tables.now ≡ [] }
+    requires tables { AreLearned problem.now tables.now }
     ensures exact { IfOk result (λ measured. (entry : Entry) → Contains measured.entries.items entry ↔ IsPushable problem.now tables.now wanted.now stack.now model.now.atoms entry) }
     ensures order { IfOk result (λ measured. IsStrictlySortedBy order_of measured.entries.items) }
     ensures unlimited { IfOk result (λ measured. (entry : Entry) → IsRelevant problem.now tables.now wanted.now stack.now entry → AreUnlimited problem.now (obligations_of problem.now tables.now model.now.atoms entry)) }
@@ -289,8 +291,9 @@ pub fn relevant_measured(
 }
 
 /// The entries that may be pushed where these atoms are wanted, in order, each once: operators by number, then by
-/// arguments. They aren't on the stack, add a wanted atom, and what they need has an answer or a gap in the model (Fikes
-/// and Nilsson 1971). No table is learned so far.
+/// arguments, and after them MACROPs by the table's number, then by the number of steps, then by objects. They aren't on the
+/// stack, add a wanted atom, and all that they need has an answer or a gap in the model (Fikes and Nilsson 1971; Fikes, Hart
+/// and Nilsson 1972). There are at most 32 tables, which `check_table` of `px_table` accepts, of at most 64 steps each.
 ///
 /// # Errors
 /// `ShapeLimit` where a question about an entry that isn't on the stack and adds a wanted atom meets the limit: proving
@@ -304,7 +307,7 @@ pub fn relevant(
     tables: &[Table],
 ) -> Result<Vec<Entry>, AskErr>
     requires problem { IsValid problem.now }
-    requires no_tables { tables.now ≡ [] }
+    requires tables { AreLearned problem.now tables.now }
     ensures exact { IfOk result (λ entries. (entry : Entry) → Contains entries.items entry ↔ IsPushable problem.now tables.now wanted.now stack.now model.now.atoms entry) }
     ensures order { IfOk result (λ entries. IsStrictlySortedBy order_of entries.items) }
     ensures unlimited { IfOk result (λ entries. (entry : Entry) → IsRelevant problem.now tables.now wanted.now stack.now entry → AreUnlimited problem.now (obligations_of problem.now tables.now model.now.atoms entry)) }

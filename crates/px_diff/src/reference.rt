@@ -5,6 +5,7 @@ ghost use Rattle.std.specs.Prelude.{◌≡◌};
 ghost use Rattle.px_question.specs.Answers.{IsAnswer};
 ghost use Rattle.px_question.specs.Settings.{setting_of};
 
+use crate::macro_reference::push_macros;
 use crate::request::Request;
 use px_ops::Model;
 use px_proof::{Shape, Tick};
@@ -123,7 +124,7 @@ fn lists_of(
 }
 
 /// How many lists of so many objects there are; at most eight of at most seven.
-fn lists_count(objects: u32, places: u32) -> u32 {
+pub fn lists_count(objects: u32, places: u32) -> u32 {
     let mut count = 1u32;
     for _ in 0..places {
         count = count.wrapping_mul(objects);
@@ -132,7 +133,7 @@ fn lists_count(objects: u32, places: u32) -> u32 {
 }
 
 /// The list of that number, in the order of the lists.
-fn list_at(objects: u32, places: u32, number: u32) -> [Term; 8] {
+pub fn list_at(objects: u32, places: u32, number: u32) -> [Term; 8] {
     let mut terms = [Term::Obj(0); 8];
     let mut rest = number;
     for k in 0..8 {
@@ -145,7 +146,7 @@ fn list_at(objects: u32, places: u32, number: u32) -> [Term; 8] {
 }
 
 /// The atom with these terms for its variables.
-fn under(rt: &impl Abort, terms: &[Term], atom: &Atom) -> Atom {
+pub fn under(rt: &impl Abort, terms: &[Term], atom: &Atom) -> Atom {
     assert!(rt; are_variables_below(terms.len(), atom.args()));
     apply(terms, atom)
 }
@@ -293,7 +294,7 @@ pub fn plain_gaps(
 }
 
 /// Has what an instance needs an answer or a gap? Of no use where a limit is met.
-fn is_open(
+pub fn is_open(
     alloc: Global,
     rt: &impl Abort,
     problem: &Problem,
@@ -345,7 +346,8 @@ fn push_instances(
     Ok(())
 }
 
-/// The entries that may be pushed, and the limits that questions meet: each instance of each operator is tried.
+/// The entries that may be pushed, and the limits that questions meet: each instance of each operator is tried, and each list of
+/// objects for the parameters of each table.
 pub fn plain_relevant(
     alloc: Global,
     rt: &impl Abort,
@@ -356,5 +358,6 @@ pub fn plain_relevant(
     for schema in request.problem.schemas.as_slice() {
         push_instances(alloc, rt, request, schema, &mut entries, limits)?;
     }
+    push_macros(alloc, rt, request, &mut entries, limits)?;
     Ok(entries)
 }

@@ -21,7 +21,7 @@ pub fn schema_of<'a>(problem: &'a Problem, inst: &OpInst) -> &'a Schema
 }
 
 /// Is the entry on the stack?
-fn is_stacked(stack: &[Entry], entry: &Entry) -> bool
+pub fn is_stacked(stack: &[Entry], entry: &Entry) -> bool
     ensures { IsTrue result ↔ Contains stack.now entry.now }
 {
     stack.contains(entry)

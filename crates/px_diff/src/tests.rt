@@ -4,7 +4,7 @@ use crate::request::Request;
 use crate::test_problems::{
     atom, blocks, chain, model_of, o, opening, rooms, stacked, transitive, v,
 };
-use crate::{AskErr, gaps, relevant};
+use crate::{AskErr, are_learned, gaps, relevant};
 use px_ops::Model;
 use px_prover::ProveErr;
 use px_table::Entry;
@@ -62,15 +62,16 @@ fn is_at(
 }
 
 /// The entries that may be pushed, in a problem of which it is seen that it is valid.
-fn pushes_of(alloc: Global, rt: &impl Abort, request: &Request) -> Result<Vec<Entry>, AskErr> {
+pub fn pushes_of(alloc: Global, rt: &impl Abort, request: &Request) -> Result<Vec<Entry>, AskErr> {
     assert!(rt; is_valid(request.problem));
+    assert!(rt; are_learned(request.problem, request.tables));
     relevant(
         alloc,
         request.problem,
         request.wanted,
         request.stack,
         request.model,
-        &[],
+        request.tables,
     )
 }
 
@@ -137,7 +138,11 @@ fn the_robot_in_the_second_room(rt: HostRuntime) -> Result<(), Fail> {
 }
 
 /// Does `relevant` answer what the plain program finds: the same entries, or one of its limits?
-fn agrees_on_pushes(alloc: Global, rt: &impl Abort, request: &Request) -> Result<bool, NoMemory> {
+pub fn agrees_on_pushes(
+    alloc: Global,
+    rt: &impl Abort,
+    request: &Request,
+) -> Result<bool, NoMemory> {
     let mut limits = Vec::new(alloc);
     let others = plain_relevant(alloc, rt, request, &mut limits)?;
     match pushes_of(alloc, rt, request) {
@@ -177,7 +182,7 @@ fn asks_gaps(
 }
 
 /// Is the answer that the limit is met?
-fn is_limited(found: &Result<Vec<Entry>, AskErr>) -> bool {
+pub fn is_limited(found: &Result<Vec<Entry>, AskErr>) -> bool {
     matches!(found, Err(AskErr::ShapeLimit { .. }))
 }
 

@@ -3,6 +3,9 @@ pub mod Guarding
 pub mod InAtoms
 pub mod OneRun
 pub mod OneTrace
+mod Decided
+mod FirstLists
+mod Existing
 pub mod Places
 pub mod Progressing
 pub mod TracedRuns

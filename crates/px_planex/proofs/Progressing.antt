@@ -25,7 +25,7 @@ use Rattle.px_planex.specs.declared.event.Event.TheVariants.{Sense, Act}
 use Rattle.px_planex.specs.declared.event.Outcome.{Outcome}
 use Rattle.px_planex.specs.declared.event.Outcome.TheVariants.{Disturbed, Sensed, Acted, Slipped, Goal, NoKernel, NotSensed}
 
-below_or_at : (a b : ℕ) → a < suc b → (a < b) ⊎ (a ≡ b)
+pub below_or_at : (a b : ℕ) → a < suc b → (a < b) ⊎ (a ≡ b)
 below_or_at a b h = grind arith
 
 module _ (problem : Problem) (valid : IsValid problem) (table : Table) (is_table : IsTable problem table) (bound : List (ℕ × ℕ)) where

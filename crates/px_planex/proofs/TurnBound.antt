@@ -1,6 +1,7 @@
 -- A run has at most (D + 1) * (n + 1) turns: between disturbances each turn's kernel is greater than the one before.
-use Rattle.std.specs.Prelude.{◌≡◌, ◌⊎◌, ◌<◌, ◌≤◌, ◌+◌, ◌-◌, ◌*◌, ◌==◌, ◌&&◌, ◌||◌, ℕ, Bool, true, false, not, cond, nat_lt, Option, Some, None, List, [], ◌∷◌, length, filter}
+use Rattle.std.specs.Prelude.{◌≡◌, ◌⊎◌, ◌<◌, ◌≤◌, ◌+◌, ◌-◌, ◌*◌, ◌==◌, ◌&&◌, ◌||◌, ℕ, Bool, true, false, cond, nat_lt, Option, Some, None, List, [], ◌∷◌, length, filter}
 use Rattle.std.proofs.Common.{zero, suc, refl, sym, ap, subst, inl, inr, arith}
+use mathlib.Core.Bool.{beq}
 use Rattle.std.proofs.lemmas.Bool.Decides.{nat_tests}
 use Rattle.std.proofs.lemmas.List.{length-map}
 use Rattle.std.proofs.Math.Nat.{mul-le-mul_left}
@@ -26,11 +27,11 @@ later_test : (number turn : ℕ) (b : Bool) → after_test (suc number) turn b �
 later_test number turn true e = grind (arith, nat_tests)
 later_test number turn false e = grind (arith, nat_tests)
 
-before_test : (number turn : ℕ) (b : Bool) → (turn == suc number) && not b ≡ true → (after_test number turn b ≡ true) × (after_test (suc number) turn b ≡ false)
+before_test : (number turn : ℕ) (b : Bool) → (turn == suc number) && beq b false ≡ true → (after_test number turn b ≡ true) × (after_test (suc number) turn b ≡ false)
 before_test number turn true e = (grind (arith, nat_tests), grind (arith, nat_tests))
 before_test number turn false e = (grind (arith, nat_tests), grind (arith, nat_tests))
 
-between_test : (number turn : ℕ) (b : Bool) → (turn == number) && b ≡ true → (after_test number turn b ≡ true) × (after_test (suc number) turn b ≡ false)
+between_test : (number turn : ℕ) (b : Bool) → (turn == number) && beq b true ≡ true → (after_test number turn b ≡ true) × (after_test (suc number) turn b ≡ false)
 between_test number turn true e = (grind (arith, nat_tests), grind (arith, nat_tests))
 between_test number turn false e = (grind (arith, nat_tests), grind (arith, nat_tests))
 
@@ -72,9 +73,9 @@ module _ {E : Type 0} where
   -- an edit before the next sensing, or one between this sensing and the action, is one fewer that comes later
   edits_before : (number : ℕ) (rs : List (Recorded E)) → (edits_at rs (suc number) false ≡ []) ⊎ (count_after (suc number) rs < count_after number rs)
   edits_before number [] = inl refl
-  edits_before number (r ∷ rs) = by ((r.turn == suc number) && not r.between) refl (edits_before number rs)
+  edits_before number (r ∷ rs) = by ((r.turn == suc number) && beq r.between false) refl (edits_before number rs)
     where
-      by : (b : Bool) → (r.turn == suc number) && not r.between ≡ b → (edits_at rs (suc number) false ≡ []) ⊎ (count_after (suc number) rs < count_after number rs) →
+      by : (b : Bool) → (r.turn == suc number) && beq r.between false ≡ b → (edits_at rs (suc number) false ≡ []) ⊎ (count_after (suc number) rs < count_after number rs) →
           (flat_map (λ (r : Recorded E). r.edits) (cond b (r ∷ filter (is_at (suc number) false) rs) (filter (is_at (suc number) false) rs)) ≡ [])
           ⊎ (count_after (suc number) (r ∷ rs) < count_after number (r ∷ rs))
       by true e h = inr (count_used (after_test (suc number) r.turn r.between) (after_test number r.turn r.between) _ _ (before_test number r.turn r.between e) (count_falls number rs))
@@ -83,9 +84,9 @@ module _ {E : Type 0} where
 
   edits_between : (number : ℕ) (rs : List (Recorded E)) → (edits_at rs number true ≡ []) ⊎ (count_after (suc number) rs < count_after number rs)
   edits_between number [] = inl refl
-  edits_between number (r ∷ rs) = by ((r.turn == number) && r.between) refl (edits_between number rs)
+  edits_between number (r ∷ rs) = by ((r.turn == number) && beq r.between true) refl (edits_between number rs)
     where
-      by : (b : Bool) → (r.turn == number) && r.between ≡ b → (edits_at rs number true ≡ []) ⊎ (count_after (suc number) rs < count_after number rs) →
+      by : (b : Bool) → (r.turn == number) && beq r.between true ≡ b → (edits_at rs number true ≡ []) ⊎ (count_after (suc number) rs < count_after number rs) →
           (flat_map (λ (r : Recorded E). r.edits) (cond b (r ∷ filter (is_at number true) rs) (filter (is_at number true) rs)) ≡ [])
           ⊎ (count_after (suc number) (r ∷ rs) < count_after number (r ∷ rs))
       by true e h = inr (count_used (after_test (suc number) r.turn r.between) (after_test number r.turn r.between) _ _ (between_test number r.turn r.between e) (count_falls number rs))

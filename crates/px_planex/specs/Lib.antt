@@ -1,5 +1,6 @@
 pub mod Execution
 pub mod Executors
+pub mod Existing
 pub mod Guards
 pub mod Progress
 pub mod Turns

@@ -1,6 +1,7 @@
 -- Runs: the turns of an executor in a world that is disturbed.
-use Rattle.std.specs.Prelude.{◌≡◌, ◌⊎◌, ℕ, Bool, true, false, not, ◌==◌, ◌&&◌, ◌+◌, ◌*◌, ◌≤◌, None, Option, List, [], ◌∷◌, length, filter, flat_map}
+use Rattle.std.specs.Prelude.{◌≡◌, ◌⊎◌, ℕ, Bool, true, false, ◌==◌, ◌&&◌, ◌+◌, ◌*◌, ◌≤◌, None, Option, List, [], ◌∷◌, length, filter, flat_map}
 use Rattle.std.proofs.Common.{suc}
+use mathlib.Core.Bool.{beq}
 use Rattle.px_terms.specs.declared.atom.Atom.{Atom}
 use Rattle.px_terms.specs.declared.instance.OpInst.{OpInst}
 use Rattle.px_terms.specs.declared.problem.Problem.{Problem}
@@ -20,8 +21,7 @@ pub record Recorded (E : Type 0) : Type 0 where
 
 -- the edits are for that turn and point
 abbrev pub is_at : {E : Type 0} → ℕ → Bool → Recorded E → Bool
-is_at turn true recorded = (recorded.turn == turn) && recorded.between
-is_at turn false recorded = (recorded.turn == turn) && not recorded.between
+is_at turn between recorded = (recorded.turn == turn) && beq recorded.between between
 
 -- the edits for that turn and point, in their order
 abbrev pub edits_at : {E : Type 0} → List (Recorded E) → ℕ → Bool → List E

@@ -1,6 +1,7 @@
 //! Laws about the definitions, whatever an edit leaves in a world. The calls do nothing.
 ghost use Rattle.px_planex.specs.Execution.{TracesAreOne};
 ghost use Rattle.px_planex.specs.Executors.{EventsTakePlaces};
+ghost use Rattle.px_planex.specs.Existing.{TracesExist};
 ghost use Rattle.px_planex.specs.Guards.{GuardNever};
 ghost use Rattle.px_planex.specs.Progress.{ActsAndGoesOn, GoalIsReached};
 ghost use Rattle.px_planex.specs.RunTraces.{RunsAreTraces};
@@ -12,6 +13,11 @@ use px_world::World;
 /// What comes of a list of events is determined.
 pub fn traces_are_one<W: World>()
     ensures { TracesAreOne W.leaves }
+{}
+
+/// Each list of events has a trace, where nothing is remembered or a kernel of a step.
+pub fn traces_exist<W: World>()
+    ensures { TracesExist W.leaves }
 {}
 
 /// Where an edit leaves at most one atom more, an event leaves at most as many more as it may want places, and the same atoms

@@ -16,7 +16,8 @@
 //!   step was taken (`unchanged`). No world refuses a step whose row is true, so no outcome says it.
 //! - [`Planex::action`] is the remembered step, which is there exactly where an action wouldn't be told as not sensed;
 //!   [`Planex::instance`] has the objects of the last kernel that was sensed.
-//! - `Traces` is a list of events with their outcomes ([`traces_are_one`]: it is determined). `RunsTable` in `specs/Turns` is a run: turn by
+//! - `Traces` is a list of events with their outcomes. Each list of events has one ([`traces_exist`]), and it is determined
+//!   ([`traces_are_one`]). `RunsTable` in `specs/Turns` is a run: turn by
 //!   turn the edits that are recorded for it before the sensing, the sensing, the edits between that and the action, and the
 //!   action, up to the goal or to a sensing that finds no kernel.
 //! - The laws are about sets of atoms, whatever an edit leaves of them. Where nothing disturbs the world each sensed action is taken and
@@ -32,11 +33,15 @@ mod event;
 mod laws;
 mod planex;
 #[cfg(test)]
+mod slow_executor;
+#[cfg(test)]
+mod test_tables;
+#[cfg(test)]
 mod tests;
 
 pub use event::{Event, Outcome};
 pub use laws::{
     acts_and_goes_on, danger_runs, events_take_places, goal_is_reached, guard_never, runs_are_one,
-    runs_are_traces, traces_are_one, turns_are_few,
+    runs_are_traces, traces_are_one, traces_exist, turns_are_few,
 };
 pub use planex::Planex;

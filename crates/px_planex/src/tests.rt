@@ -3,7 +3,7 @@ ghost use Rattle.px_terms.specs.Validity.{IsValid};
 
 use crate::{
     Event, Outcome, Planex, acts_and_goes_on, danger_runs, events_take_places, goal_is_reached,
-    guard_never, runs_are_one, runs_are_traces, traces_are_one, turns_are_few,
+    guard_never, runs_are_one, runs_are_traces, traces_are_one, traces_exist, turns_are_few,
 };
 use px_ops::Model;
 use px_proof::{Leaf, Proof};
@@ -17,6 +17,7 @@ use std::rt::HostRuntime;
 #[test]
 fn laws_are_calls(_rt: HostRuntime) {
     traces_are_one::<AtomWorld<'_>>();
+    traces_exist::<AtomWorld<'_>>();
     events_take_places::<AtomWorld<'_>>();
     acts_and_goes_on::<AtomWorld<'_>>();
     goal_is_reached::<AtomWorld<'_>>();

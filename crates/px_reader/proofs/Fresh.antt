@@ -1,10 +1,10 @@
 -- The names that a line without a fault declares are welcome: they are names, they are new, and there is room for them.
-use Rattle.std.proofs.Common.{◌≡◌, ◌<◌, ◌≤◌, ◌+◌, ℕ, zero, suc, Bool, true, false, List, [], ◌∷◌, ◌++◌, map, take, length, get_or, refl, sym, ap, subst, arith, append_assoc}
+use Rattle.std.proofs.Common.{◌≡◌, ◌<◌, ◌≤◌, ◌+◌, ℕ, zero, suc, Bool, true, false, List, [], ◌∷◌, ◌++◌, map, take, length, get_or, refl, sym, ap, ◌∙◌, subst, arith, append_assoc}
 use Rattle.std.specs.Prelude.{None, Result, Err, nat_lt, All, Contains}
 use Rattle.std.proofs.lemmas.Bool.Decides.{nat_tests}
-use Rattle.std.proofs.lemmas.List.{append-nil, length-append, length-map, length-take-le}
+use Rattle.std.proofs.lemmas.List.{append-nil, length-append, length-map, length-take-le, map-append, take_more}
 use Rattle.std.proofs.lemmas.List.Elements.{All-head}
-use Rattle.px_names.specs.Lists.{NameLists, IsOneTooMany, names_of, limit_of, has_name, refusal}
+use Rattle.px_names.specs.Lists.{NameLists, IsOneTooMany, names_of, limit_of, has_name, refusal, with_name}
 use Rattle.px_names.specs.Name.{IsName, is_name_text}
 use Rattle.px_names.specs.NameLaws.{refusal-none}
 use Rattle.px_names.specs.declared.kind.Kind.{Kind}
@@ -16,7 +16,7 @@ use Rattle.px_script.specs.Declarations.{Declared, variables_of}
 use Rattle.px_script.specs.Items.{SignedAtom}
 use Rattle.px_script.specs.Limits as limit
 use Rattle.px_script.specs.Limits.{greatest}
-use Rattle.px_script.specs.Statements.{Statement, line_of, object, predicate, operator, building, room, door, box, plan, learn}
+use Rattle.px_script.specs.Statements.{line_of, object, predicate, operator, building, room, door, box, plan, learn}
 use Rattle.px_script.proofs.Faultless.{IsFaultless, stands-right}
 use Rattle.px_script.proofs.KeptDomain.{no-building}
 use Rattle.px_script.proofs.KeptNames.{is-new}
@@ -24,6 +24,8 @@ use Rattle.px_script.proofs.States.{AreInRange, HasNoDomain}
 use Rattle.px_script.proofs.Tests.{or-false, at-most, passes-test}
 use Rattle.px_script.proofs.Twice.{repeats-none}
 use Rattle.px_reader.specs.Checks.{DeclaresNames}
+use Rattle.px_reader.specs.Readers.{with_more}
+use Rattle.px_reader.specs.declared.reader.Reader.{Reader}
 use Rattle.px_reader.specs.StatementViews.{text_of}
 use denote.Ref.{Bor}
 
@@ -122,19 +124,60 @@ module _ (d : Declared) (r : AreInRange d) where
   pub building-alone : IsFaultless d building → HasNoDomain d.names d.arities
   building-alone f = r.own_domain (stands-right d (line_of building) f.right.order).domains (no-building d f.right.single)
 
--- the next of the objects that a line declares in turn
-pub object-next : (first now : NameLists) (names : List (Bor (List ℕ))) (k : ℕ) (x : Bor (List ℕ))
-    → now ≡ record first { objects = first.objects ++ map text_of (take k names) } → All (λ n. is_name_text n.now ≡ true) names
-    → repeats first.objects (map text_of names) ≡ false → length first.objects + length names ≤ 256 → k < length names
-    → refusal kind.Object now (get_or names k x).now ≡ None
-object-next first now names k x is named single few below =
-    let known = first.objects ++ map text_of (take k names) in
-    let P : NameLists → Type 0 = λ t. refusal kind.Object t (get_or names k x).now ≡ None in
-    let size : length known ≡ length first.objects + k =
-    omega (arith, below, length-append first.objects (map text_of (take k names)), length-map (take k names) text_of, length-take-le k names (omega (arith, below))) in
-    subst P (sym is)
-    (welcome kind.Object (record first { objects = known }) (get_or names k x).now (named k x below) (new-at first.objects names k x single below)
-    (omega (arith, size, few, below)))
+-- the names of a kind with more of them
+
+pub more-none : (k : Kind) (names : NameLists) → names ≡ with_more k [] names
+more-none kind.Object names = let P : List (List ℕ) → NameLists = λ t. record names { objects = t } in ap P (sym (append-nil names.objects))
+more-none kind.Predicate names = let P : List (List ℕ) → NameLists = λ t. record names { predicates = t } in ap P (sym (append-nil names.predicates))
+more-none kind.Operator names = let P : List (List ℕ) → NameLists = λ t. record names { operators = t } in ap P (sym (append-nil names.operators))
+more-none kind.Result names = let P : List (List ℕ) → NameLists = λ t. record names { results = t } in ap P (sym (append-nil names.results))
+
+pub more-next : (k : Kind) (ns : List (List ℕ)) (n : List ℕ) (names : NameLists)
+    → with_name k n (with_more k ns names) ≡ with_more k (ns ++ n ∷ []) names
+more-next kind.Object ns n names = let P : List (List ℕ) → NameLists = λ t. record names { objects = t } in ap P (append_assoc names.objects ns (n ∷ []))
+more-next kind.Predicate ns n names = let P : List (List ℕ) → NameLists = λ t. record names { predicates = t } in ap P (append_assoc names.predicates ns (n ∷ []))
+more-next kind.Operator ns n names = let P : List (List ℕ) → NameLists = λ t. record names { operators = t } in ap P (append_assoc names.operators ns (n ∷ []))
+more-next kind.Result ns n names = let P : List (List ℕ) → NameLists = λ t. record names { results = t } in ap P (append_assoc names.results ns (n ∷ []))
+
+more-names : (k : Kind) (ns : List (List ℕ)) (names : NameLists) → names_of k (with_more k ns names) ≡ names_of k names ++ ns
+more-names kind.Object ns names = refl
+more-names kind.Predicate ns names = refl
+more-names kind.Operator ns names = refl
+more-names kind.Result ns names = refl
+
+-- the next of the names that are declared in turn
+pub name-next : (kind : Kind) (first now : NameLists) (names : List (Bor (List ℕ))) (k : ℕ) (x : Bor (List ℕ))
+    → now ≡ with_more kind (map text_of (take k names)) first → All (λ n. is_name_text n.now ≡ true) names
+    → repeats (names_of kind first) (map text_of names) ≡ false → length (names_of kind first) + length names ≤ limit_of kind
+    → k < length names → refusal kind now (get_or names k x).now ≡ None
+name-next kind first now names k x is named single few below =
+    let known = names_of kind first ++ map text_of (take k names) in
+    let known_is : names_of kind now ≡ known = ap (names_of kind) is ∙ more-names kind (map text_of (take k names)) first in
+    let N : List (List ℕ) → Type 0 = λ t. has_name (get_or names k x).now t ≡ false in
+    let size : length (names_of kind now) ≡ length (names_of kind first) + k =
+    omega (
+      arith,
+      below,
+      ap length known_is,
+      length-append (names_of kind first) (map text_of (take k names)),
+      length-map (take k names) text_of,
+      length-take-le k names (omega (arith, below)),
+    ) in
+    welcome kind now (get_or names k x).now (named k x below)
+    (subst N (sym known_is) (new-at (names_of kind first) names k x single below)) (omega (arith, size, few, below))
+
+-- the reader with one more of the names
+pub one-more-name : (k : Kind) (first now after : Reader) (names : List (Bor (List ℕ))) (i : ℕ) (x : Bor (List ℕ))
+    → after ≡ record now { names = with_name k (get_or names i x).now now.names }
+    → now ≡ record first { names = with_more k (map text_of (take i names)) first.names } → i < length names
+    → after ≡ record first { names = with_more k (map text_of (take (i + 1) names)) first.names }
+one-more-name k first now after names i x is was below =
+    let step : Reader → Reader = λ r. record r { names = with_name k (get_or names i x).now r.names } in
+    let known : List (List ℕ) → Reader = λ ns. record first { names = with_more k ns first.names } in
+    let changed : NameLists → Reader = λ t. record first { names = t } in
+    let texts : map text_of (take i names) ++ (get_or names i x).now ∷ [] ≡ map text_of (take (i + 1) names) =
+    sym (ap (map text_of) (take_more names i x below) ∙ map-append text_of (take i names) (get_or names i x ∷ [])) in
+    is ∙ ap step was ∙ ap changed (more-next k (map text_of (take i names)) (get_or names i x).now first.names) ∙ ap known texts
 
 -- a welcome name is refused for want of memory alone
 pub only-memory : (k : Kind) (names : NameLists) (name : List ℕ) (r : Result ℕ NameErr) (e : NameErr) → refusal k names name ≡ None

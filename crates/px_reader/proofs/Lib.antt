@@ -18,8 +18,8 @@ pub mod Facts
 pub mod Named
 pub mod Right
 pub mod Fresh
-pub mod Building
 -- lines, and the whole input
+pub mod Finishing
 pub mod LineLemmas
 pub mod LineSteps
 pub mod Outcomes

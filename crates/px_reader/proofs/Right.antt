@@ -12,15 +12,15 @@ use Rattle.px_terms.specs.declared.problem.Problem.{Problem}
 use Rattle.px_terms.specs.declared.term.Term.{Term}
 use Rattle.px_terms.specs.declared.term.Term.TheVariants.{Obj, Var, Any}
 use Rattle.px_script.specs.Causes.{has_wrong_arity}
-use Rattle.px_script.specs.Declarations.{Declared, OpenOperator, operator_here, parameters_of, parameters_here, number_in, atom_of, literal_of, clause_of, variables_of, after_line}
-use Rattle.px_script.specs.Content.{problem_of}
+use Rattle.px_script.specs.Declarations.{Declared, OpenOperator, operator_here, parameters_of, parameters_here, number_in, atom_of, literal_of, clause_of, variables_of}
+use Rattle.px_script.specs.Content.{own_problem}
 use Rattle.px_script.specs.Faults.{first_of, passed, own_limits, disturbance_limits}
 use Rattle.px_script.specs.Forms.{atoms_of, is_formed}
-use Rattle.px_script.specs.Items.{SignedAtom, WrittenRoomEdit}
+use Rattle.px_script.specs.Items.{SignedAtom}
 use Rattle.px_script.specs.Limits as limit
 use Rattle.px_script.specs.Limits.{greatest}
 use Rattle.px_script.specs.Stages.{whole_language}
-use Rattle.px_script.specs.Statements.{Statement, Line, plain, line_of, «axiom», fact, plan, disturb_atoms, disturb_rooms}
+use Rattle.px_script.specs.Statements.{Statement, Line, plain, line_of, «axiom», fact, plan}
 use Rattle.px_script.proofs.Faultless.{IsRight, IsFaultless, fault-none, whole-built, stands-right, at-top}
 use Rattle.px_script.proofs.Arguments.{has_other_arity}
 use Rattle.px_script.proofs.LineAtoms.{atoms-right, atoms-ground, names-plain}
@@ -32,7 +32,7 @@ use Rattle.px_reader.specs.Checks.{AreReadable}
 use Rattle.px_reader.specs.StatementViews.{argument_view, signed_view}
 use Rattle.px_reader.specs.declared.statement.SignedAtom as code
 
-few-in : (d : Declared) (o : Option OpenOperator) → OperatorsInRange d.version d.names (problem_of d) o → length (parameters_of o) ≤ 8
+few-in : (d : Declared) (o : Option OpenOperator) → OperatorsInRange d.version d.names (own_problem d) d.things o → length (parameters_of o) ≤ 8
 few-in d None h = omega arith
 few-in d (Some o) h = let params = h.schema.params in omega (arith, h.params, params)
 
@@ -64,7 +64,7 @@ facts-are d xs r f =
     let top = at-top d (line_of (fact xs)) (stands-right d (line_of (fact xs)) f.order) (λ b. refl) in
     let all = atoms-ground d r xs plain (names-plain d) (no-parameters d top)
     (atoms-right d (fact xs) xs (record { atoms = refl; arguments = refl }) f) in
-    λ k a below. λ j t inner. object-term (problem_of d) _ ((all k a below).1 j t inner)
+    λ k a below. λ j t inner. object-term (own_problem d) _ ((all k a below).1 j t inner)
 
 -- the atoms of a line can be told by numbers
 pub readable : (d : Declared) (l : Line) (atoms : List code.SignedAtom) → AreInRange d → has_wrong_arity d l ≡ false

@@ -1,11 +1,12 @@
 -- What the definitions see of a script, by its parts.
 use Rattle.std.specs.Prelude.{ℕ, List, map, Option}
+use Rattle.std.specs.Option.{option_map}
 use Rattle.px_names.specs.Lists.{NameLists}
 use Rattle.px_ops.specs.ModelValue.{ModelValue}
 use Rattle.px_script.specs.Commands as spec
 use Rattle.px_script.specs.Content.{ScriptValue}
 use Rattle.px_terms.specs.declared.problem.Problem.{Problem}
-use Rattle.px_world.specs.declared.thing.Thing.{Thing}
+use Rattle.px_rooms.specs.declared.building.Building.{Building}
 use Rattle.px_reader.specs.declared.command.Binding.{Binding}
 use Rattle.px_reader.specs.declared.command.Command.{Command}
 use Rattle.px_reader.specs.declared.command.Command.TheVariants as command
@@ -23,12 +24,12 @@ command_view (command.Run name bindings) = spec.Run name (map binding_pair bindi
 command_view command.Facts = spec.Facts
 
 -- what a script with these parts is about
-abbrev pub script_of : ℕ → NameLists → Problem → ModelValue → Option (List Thing) → List Command → ScriptValue
+abbrev pub script_of : ℕ → NameLists → Problem → ModelValue → Option Building → List Command → ScriptValue
 script_of version names problem facts building commands = record {
   version = version;
   names = names;
   problem = problem;
   facts = facts.atoms;
-  building = building;
+  building = option_map (λ building. building.things) building;
   commands = map command_view commands;
 }

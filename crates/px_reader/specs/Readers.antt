@@ -2,15 +2,16 @@
 use Rattle.std.specs.Prelude.{ℕ, List, [], ◌++◌, map, length}
 use Rattle.std.specs.Option.{option_map}
 use Rattle.std.specs.String.{string_bytes}
-use Rattle.px_script.specs.Declarations.{Declared, OpenBlock, OpenOperator, BlockKind, of_operator, of_building, declares, declared_by, with_names, with_all_names}
-use Rattle.px_script.specs.Domain.{building_predicates}
-use Rattle.px_script.specs.Items.{a_predicate}
+use Rattle.px_names.specs.Lists.{NameLists}
+use Rattle.px_names.specs.declared.kind.Kind.{Kind}
+use Rattle.px_names.specs.declared.kind.Kind.TheVariants as kind
+use Rattle.px_script.specs.Declarations.{Declared, OpenBlock, OpenOperator, BlockKind, of_operator, of_building, declares, declared_by, with_all_names}
 use Rattle.px_script.specs.Statements.{Statement, line_of}
 pub use Rattle.px_reader.specs.CommandViews.{command_view}
 use Rattle.px_reader.specs.declared.reader.Reader.{Reader}
 use Rattle.px_reader.specs.declared.block.OpenBlock as code
 use Rattle.px_reader.specs.declared.block.OpenOperator as operator
-use Rattle.px_reader.specs.declared.block.BlockKind as kind
+use Rattle.px_reader.specs.declared.block.BlockKind as block
 
 -- an open operator with the number that its schema will have
 abbrev pub operator_view : ℕ → operator.OpenOperator → OpenOperator
@@ -25,9 +26,9 @@ operator_view number o = record {
   };
 }
 
-abbrev pub kind_view : ℕ → kind.BlockKind → BlockKind
-kind_view number (kind.TheVariants.Operator o) = of_operator (operator_view number o)
-kind_view number kind.TheVariants.Building = of_building
+abbrev pub kind_view : ℕ → block.BlockKind → BlockKind
+kind_view number (block.TheVariants.Operator o) = of_operator (operator_view number o)
+kind_view number block.TheVariants.Building = of_building
 
 abbrev pub block_view : ℕ → code.OpenBlock → OpenBlock
 block_view number block = record { line = block.line; kind = kind_view number block.kind }
@@ -64,7 +65,9 @@ declared_of reader = record {
 abbrev pub leaves : ℕ → Declared → Statement → Declared
 leaves n d s = with_all_names (declared_by (line_of s)) (declares n d s)
 
--- what a building gives to its script, but for the robot
-abbrev pub with_building_predicates : Declared → Declared
-with_building_predicates d = record (with_names a_predicate (map (λ p. p.0) building_predicates) d)
-    { arities = d.arities ++ map (λ p. p.1) building_predicates }
+-- the lists with more names of a kind
+abbrev pub with_more : Kind → List (List ℕ) → NameLists → NameLists
+with_more kind.Object more names = record names { objects = names.objects ++ more }
+with_more kind.Predicate more names = record names { predicates = names.predicates ++ more }
+with_more kind.Operator more names = record names { operators = names.operators ++ more }
+with_more kind.Result more names = record names { results = names.results ++ more }

@@ -4,9 +4,9 @@ ghost use Rattle.std.specs.String.{string_bytes};
 ghost use Rattle.px_names.specs.Lists.{refusal};
 ghost use Rattle.px_script.specs.Declarations.{parameters_here, with_thing};
 ghost use Rattle.px_script.specs.Statements as spec;
-ghost use Rattle.px_script.proofs.States.{AreInRange};
+ghost use Rattle.px_script.proofs.States.{AreInRange, HasNoDomain};
 ghost use Rattle.px_reader.specs.Checks.{AreReadable};
-ghost use Rattle.px_reader.specs.Readers.{declared_of, leaves, operator_view, with_building_predicates};
+ghost use Rattle.px_reader.specs.Readers.{declared_of, leaves, operator_view};
 ghost use Rattle.px_reader.specs.Roles.{in_role};
 ghost use Rattle.px_reader.specs.StatementViews.{signed_view, text_of};
 
@@ -19,6 +19,19 @@ use px_names::Kind;
 use px_terms::Schema;
 use px_world::Thing;
 use std::alloc::Global;
+
+/// The predicates of every building, by number.
+const PREDICATES: [&str; 8] = [
+    "INROOM", "NEXTTO", "CONNECTS", "OPENED", "CLOSED", "ROOM", "DOOR", "BOX",
+];
+
+/// The numbers of their arguments.
+const ARITIES: [u8; 8] = [2, 2, 3, 1, 1, 1, 1, 1];
+
+/// The operators of every building, by number.
+const OPERATORS: [&str; 7] = [
+    "GOTOB", "GOTOD", "OPEN", "CLOSE", "GOTHRU", "PUSHD", "PUSHTHRU",
+];
 
 /// The names as texts of their own.
 fn owned(alloc: Global, names: &[&str]) -> Result<Vec<String>, NoMemory>
@@ -116,34 +129,21 @@ impl Reader {
         Ok(())
     }
 
-    /// Opens the building's block, and declares the names that a building gives to its script.
+    /// Opens the building's block, and declares the names that every building gives to its script.
     pub fn open_building(&mut self, line: u32) -> Result<(), NoMemory>
-        requires objects { self.old.names.objects ≡ [] }
-        requires predicates { self.old.names.predicates ≡ [] }
+        requires { HasNoDomain self.old.names self.old.arities.items }
         ensures { OnOk result (declared_of self.new ≡ leaves line (declared_of self.old) (spec.building)) }
     {
-        self.add_name(Kind::Object, "ROBOT")?;
-        self.declare_building_predicates()?;
+        self.declare_names(Kind::Object, &["ROBOT"])?;
+        self.declare_names(Kind::Predicate, &PREDICATES)?;
+        self.declare_names(Kind::Operator, &OPERATORS)?;
+        self.arities.extend_from_slice(&ARITIES)?;
         self.things = Some(Vec::new(self.alloc));
         self.block = Some(OpenBlock {
             line,
             kind: BlockKind::Building,
         });
         Ok(())
-    }
-
-    fn declare_building_predicates(&mut self) -> Result<(), NoMemory>
-        requires { self.old.names.predicates ≡ [] }
-        ensures { OnOk result (declared_of self.new ≡ with_building_predicates (declared_of self.old)) }
-    {
-        self.declare_predicate("INROOM", 2)?;
-        self.declare_predicate("NEXTTO", 2)?;
-        self.declare_predicate("CONNECTS", 3)?;
-        self.declare_predicate("OPENED", 1)?;
-        self.declare_predicate("CLOSED", 1)?;
-        self.declare_predicate("ROOM", 1)?;
-        self.declare_predicate("DOOR", 1)?;
-        self.declare_predicate("BOX", 1)
     }
 
     pub fn add_room(&mut self, name: &str) -> Result<(), NoMemory>

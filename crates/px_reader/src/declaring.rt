@@ -1,6 +1,7 @@
 //! What a line without a fault adds.
 ghost use Rattle.std.specs.Prelude.{◌≡◌, ◌≤◌, ◌+◌, ◌++◌, [], true, false, None, length, map, All, IfOk, OnOk};
-ghost use Rattle.px_names.specs.Lists.{names_of, refusal, with_name};
+ghost use Rattle.std.specs.List.{AllByRecursion};
+ghost use Rattle.px_names.specs.Lists.{limit_of, names_of, refusal, with_name};
 ghost use Rattle.px_names.specs.Name.{is_name_text};
 ghost use Rattle.px_terms.specs.AtomSets.{atom_set, with_atom, IsAtomSet};
 ghost use Rattle.px_terms.specs.Clauses.{ArePlainBelow};
@@ -13,7 +14,7 @@ ghost use Rattle.px_script.specs.Statements.{line_of};
 ghost use Rattle.px_script.proofs.Faultless.{IsFaultless};
 ghost use Rattle.px_script.proofs.States.{AreInRange};
 ghost use Rattle.px_reader.specs.Checks.{AreReadable, DeclaresNames};
-ghost use Rattle.px_reader.specs.Readers.{declared_of, leaves};
+ghost use Rattle.px_reader.specs.Readers.{declared_of, leaves, with_more};
 ghost use Rattle.px_reader.specs.StatementViews.{signed_view, statement_view, text_of};
 
 use crate::command::Command;
@@ -39,7 +40,7 @@ impl Reader {
                 self.version = version;
                 Ok(())
             }
-            Statement::Object(names) => self.declare_objects(&names),
+            Statement::Object(names) => self.declare_names(Kind::Object, &names),
             Statement::Predicate(name, arity) => self.declare_predicate(name, arity as u8),
             Statement::Axiom(literals) => self.add_axiom(&literals),
             Statement::Operator(name, parameters) => self.open_operator_block(
@@ -98,20 +99,20 @@ impl Reader {
         }
     }
 
-    fn declare_objects(&mut self, names: &[&str]) -> Result<(), NoMemory>
-        requires named { All (λ name. is_name_text name.now ≡ true) names.now }
-        requires single { repeats self.old.names.objects (map text_of names.now) ≡ false }
-        requires few { length self.old.names.objects + length names.now ≤ 256 }
-        ensures { OnOk result (self.new
-            ≡ record self.old { names = record self.old.names { objects = self.old.names.objects ++ map text_of names.now } }) }
+    /// Adds names that their kind hasn't and has room for.
+    pub fn declare_names(&mut self, kind: Kind, names: &[&str]) -> Result<(), NoMemory>
+        requires named { AllByRecursion (λ name. is_name_text name.now ≡ true) names.now }
+        requires single { repeats (names_of kind self.old.names) (map text_of names.now) ≡ false }
+        requires few { length (names_of kind self.old.names) + length names.now ≤ limit_of kind }
+        ensures { OnOk result (self.new ≡ record self.old { names = with_more kind (map text_of names.now) self.old.names }) }
     {
         for name in names {
-            self.add_name(Kind::Object, name)?;
+            self.add_name(kind, name)?;
         }
         Ok(())
     }
 
-    pub fn declare_predicate(&mut self, name: &str, arity: u8) -> Result<(), NoMemory>
+    fn declare_predicate(&mut self, name: &str, arity: u8) -> Result<(), NoMemory>
         requires { refusal Kind.Predicate self.old.names name.now ≡ None }
         ensures { OnOk result (declared_of self.new ≡ leaves 0 (declared_of self.old) (spec.predicate name.now arity)) }
     {

@@ -11,13 +11,12 @@
 //! - Where the bytes are no script it answers [`ScriptErr::Refused`] with the first fault: its line from 1, its code, and
 //!   the number of the limit that is passed, or 0. That comes exactly where `FirstFault` of `px_script` holds.
 //! - [`Command`] is what a script asks for, in its order.
-//! - All words of version 1 are read, and what they say is declared and checked, but for what a building gives to its
-//!   script, its problem and its first facts: that comes with buildings. Which words are built is told in one place, the list
-//!   `STAGE` of `reading` (`stage_now` of `px_script`); below it all is proved for whatever words are built. A line of another
-//!   word is refused with code 11 where no cause stands before it. A bad form has code 2, as the bare word `room`; and a line out
-//!   of order has code 9, as those of `room`, `door`, `box` and `robot` that have their form always are, since no building's
-//!   block can be open.
-//! - Tokens and names borrow from the input. How fast it reads is measured (`bench/reading`).
+//! - All words of version 1 are read and built, and what they say is declared and checked. A building's script has the problem of
+//!   `px_rooms` and the facts of its first state. Which words are built is told in one place, the list `STAGE` of `reading`
+//!   (`stage_now` of `px_script`); below it all is proved for whatever words are built. A line of another word is refused with
+//!   code 11 where no cause stands before it. A bad form has code 2, as the bare word `room`; and a line out of order has code 9.
+//! - Tokens and names borrow from the input. How fast it reads is measured (`bench/reading`). Its tests stand in `px_run`
+//!   (`reading_tests`), since a crate with tests is proved twice.
 //!
 //! # How it is made
 //!
@@ -36,6 +35,7 @@ mod commands;
 mod declaring;
 mod duplicates;
 mod fault;
+mod first_facts;
 mod forms;
 mod lexing;
 mod limits;
@@ -51,8 +51,6 @@ mod script;
 mod series;
 mod statement;
 mod terms;
-#[cfg(test)]
-mod tests;
 mod token;
 mod word;
 

@@ -1,8 +1,9 @@
 //! The lines so far, and the next one.
-ghost use Rattle.std.specs.Prelude.{◌≡◌, ◌∷◌, true, false, None, Some, drop, IfOk, IfErr, OnOk, MatchOption, MatchResult};
+ghost use Rattle.std.specs.Prelude.{◌≡◌, ◌<◌, ◌≤◌, ◌+◌, ◌∷◌, true, false, None, Some, drop, length, IfOk, IfErr, IfSome, OnOk, MatchOption, unwrap_or};
 ghost use Rattle.std.specs.Option.{option_map};
 ghost use Rattle.std.specs.Str.{chars};
-ghost use Rattle.px_script.specs.Content.{content_of};
+ghost use Rattle.px_rooms.specs.States.{IsBuilding, standings};
+ghost use Rattle.px_script.specs.Content.{content_of, facts_of, problem_of};
 ghost use Rattle.px_script.specs.Declarations.{OpenBlock as Opened, nothing_declared, after_line};
 ghost use Rattle.px_script.specs.Faults.{fault_at};
 ghost use Rattle.px_script.specs.Forms.{begins_with_word, is_formed};
@@ -21,6 +22,7 @@ ghost use Rattle.px_reader.specs.Words.{word_text};
 use crate::block::OpenBlock;
 use crate::command::Command;
 use crate::fault::{Fault, LineErr};
+use crate::first_facts::first_facts;
 use crate::lexing::tokens;
 use crate::parsing::statement;
 use crate::script::Script;
@@ -30,6 +32,7 @@ use crate::word::Word;
 use px_base::{NoMemory, Sequence};
 use px_names::{Kind, Names};
 use px_ops::Model;
+use px_rooms::{Building, rooms_problem};
 use px_terms::{ClauseArena, Problem, Schema};
 use px_world::Thing;
 use std::alloc::Global;
@@ -66,6 +69,7 @@ pub struct Reader {
 }
 
 impl Reader {
+    /// The reader before the first line.
     pub fn new(alloc: Global) -> Result<Reader, NoMemory>
         ensures { IfOk result (λ reader. declared_of reader ≡ nothing_declared) }
     {
@@ -181,7 +185,7 @@ impl Reader {
     }
 
     /// The line that opened the block, if one is open.
-    fn open_line(&self) -> Option<u32>
+    pub fn open_line(&self) -> Option<u32>
         ensures { MatchOption result ((declared_of self.now).block ≡ None)
             (λ line. (block : Opened) × ((declared_of self.now).block ≡ Some block) × (line ≡ block.line)) }
     {
@@ -191,17 +195,14 @@ impl Reader {
         }
     }
 
-    /// The script, where no block is open, or the line that opened the block.
-    pub fn finish(self) -> Result<Script, u32>
-        requires { (declared_of self).block ≡ None → IsInRange (content_of (declared_of self)) }
-        ensures { MatchResult result
-            (λ script. ((declared_of self).block ≡ None) × (content script ≡ content_of (declared_of self)))
-            (λ line. (block : Opened) × ((declared_of self).block ≡ Some block) × (line ≡ block.line)) }
+    /// The script, where no block is open.
+    #[tactic(auto, using(crate::proofs::Finishing::content_is, crate::proofs::Finishing::content_in_range))]
+    pub fn finish(self) -> Result<Script, NoMemory>
+        requires { IsInRange (content_of (declared_of self)) }
+        ensures { IfOk result (λ script. content script ≡ content_of (declared_of self)) }
     {
-        if let Some(line) = self.open_line() {
-            return Err(line);
-        }
         let Reader {
+            alloc,
             version,
             names,
             arities,
@@ -215,31 +216,84 @@ impl Reader {
             commands,
             ..
         } = self;
+        let own = own_problem(&names, arities, axioms, schemas, (height, nodes, shapes));
+        let building = building(things);
+        let (problem, facts) = subject(alloc, &building, own, facts)?;
         Ok(Script {
             version,
-            problem: Problem {
-                objects: names.count(Kind::Object),
-                arities: Sequence::from_vec(arities),
-                axioms,
-                schemas: Sequence::from_vec(schemas),
-                height: height.unwrap_or(4),
-                nodes: nodes.unwrap_or(10_000),
-                shapes: shapes.unwrap_or(10_000),
-            },
             names,
+            problem,
             facts,
-            building: building(things),
+            building,
             commands: Sequence::from_vec(commands),
         })
     }
 }
 
-/// The things of a building, if there is one.
-fn building(things: Option<Vec<Thing>>) -> Option<Sequence<Thing>>
-    ensures { result ≡ option_map (λ things. things.items) things }
+/// The building with these things, if there is one.
+fn building(things: Option<Vec<Thing>>) -> Option<Building>
+    ensures { option_map (λ building. building.things) result ≡ option_map (λ things. things.items) things }
 {
     match things {
-        Some(things) => Some(Sequence::from_vec(things)),
+        Some(things) => Some(Building {
+            things: Sequence::from_vec(things),
+        }),
         None => None,
+    }
+}
+
+/// The problem of a script's own lines, with the limits that they give, or those that hold where they give none.
+fn own_problem(
+    names: &Names,
+    arities: Vec<u8>,
+    axioms: ClauseArena,
+    schemas: Vec<Schema>,
+    limits: (Option<u32>, Option<u32>, Option<u32>),
+) -> Problem
+    ensures { result ≡ record {
+      objects = length names.now.objects;
+      arities = arities.items;
+      axioms = axioms;
+      schemas = schemas.items;
+      height = unwrap_or limits.0 4;
+      nodes = unwrap_or limits.1 10000;
+      shapes = unwrap_or limits.2 10000;
+    } }
+{
+    Problem {
+        objects: names.count(Kind::Object),
+        arities: Sequence::from_vec(arities),
+        axioms,
+        schemas: Sequence::from_vec(schemas),
+        height: limits.0.unwrap_or(4),
+        nodes: limits.1.unwrap_or(10_000),
+        shapes: limits.2.unwrap_or(10_000),
+    }
+}
+
+/// The problem and the first facts of a script: its own, or those of its building with the limits of its own problem.
+#[tactic(auto, using(crate::proofs::Finishing::building_made, crate::proofs::Finishing::facts_made))]
+fn subject(
+    alloc: Global,
+    building: &Option<Building>,
+    own: Problem,
+    facts: Model,
+) -> Result<(Problem, Model), NoMemory>
+    requires building { IfSome building.now (λ building. IsBuilding building.things) }
+    requires short { IfSome building.now (λ building. length building.things < 4294967295) }
+    requires objects { IfSome building.now (λ building. own.objects ≡ length (standings building.things) + 1) }
+    requires height { (1 ≤ own.height) × (own.height ≤ 8) }
+    requires nodes { (1 ≤ own.nodes) × (own.nodes ≤ 50000) }
+    requires shapes { (2 ≤ own.shapes) × (own.shapes ≤ 70000) }
+    ensures problem { IfOk result (λ parts. parts.0 ≡ problem_of own (option_map (λ building. building.things) building.now)) }
+    ensures facts { IfOk result (λ parts. parts.1.atoms ≡ facts_of facts.atoms (option_map (λ building. building.things) building.now)) }
+{
+    match building {
+        None => Ok((own, facts)),
+        Some(building) => {
+            let problem = rooms_problem(alloc, building, own.height, own.nodes, own.shapes)?;
+            let facts = first_facts(alloc, building)?;
+            Ok((problem, facts))
+        }
     }
 }

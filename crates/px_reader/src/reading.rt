@@ -17,7 +17,7 @@ use std::alloc::Global;
 use std::str;
 
 /// The words that are built.
-const STAGE: [&str; 18] = [
+const STAGE: [&str; 24] = [
     "script",
     "object",
     "predicate",
@@ -26,12 +26,18 @@ const STAGE: [&str; 18] = [
     "pre",
     "delete",
     "add",
+    "building",
+    "room",
+    "door",
+    "box",
+    "robot",
     "end",
     "fact",
     "height",
     "nodes",
     "shapes",
     "plan",
+    "learn",
     "show",
     "disturb",
     "run",
@@ -79,9 +85,12 @@ fn read_text(alloc: Global, stage: &[&str], text: &str) -> Result<Script, Script
         return Err(ScriptErr::NoMemory);
     };
     read_each(stage, &mut reader, &lines)?;
-    match reader.finish() {
-        Ok(script) => Ok(script),
-        Err(line) => Err(refused(line, Fault::MissingEnd)),
+    match reader.open_line() {
+        Some(line) => Err(refused(line, Fault::MissingEnd)),
+        None => match reader.finish() {
+            Ok(script) => Ok(script),
+            Err(_) => Err(ScriptErr::NoMemory),
+        },
     }
 }
 

@@ -7,20 +7,27 @@ use crate::command::Command;
 use px_base::Sequence;
 use px_names::Names;
 use px_ops::Model;
+use px_rooms::Building;
 use px_terms::Problem;
-use px_world::Thing;
 use thiserror::Error;
 
 /// A script that was read. It keeps that its problem is valid, that each of its numbers has a name and no name stands twice in
-/// its kind, that the facts and the commands are over its numbers, that all is within the limits, and that no result is given
-/// twice (`in_range`). That each name is one is kept by `Names`.
+/// its kind, that the facts and the commands are over its numbers, that all is within the limits, that no result is given
+/// twice, and that with a building the problem is the building's and the facts are those of its first state (`in_range`). That
+/// each name is one is kept by `Names`.
 #[derive(Drop)]
 pub struct Script {
+    /// The version of the language.
     pub version: u32,
+    /// The names of objects, predicates, operators and results, by their numbers.
     pub names: Names,
+    /// The problem, with the script's limits.
     pub problem: Problem,
+    /// The facts at first.
     pub facts: Model,
-    pub building: Option<Sequence<Thing>>,
+    /// The building, if the script has one.
+    pub building: Option<Building>,
+    /// The commands, in their order.
     pub commands: Sequence<Command>,
     pub ghost in_range: { IsInRange (script_of version names problem facts building commands) } by { IsInRange-prop (script_of version names problem facts building commands) },
 }
@@ -28,16 +35,21 @@ pub struct Script {
 /// The first fault of an input: its line from 1, its code, and the number of the limit that is passed, or 0.
 #[derive(Clone, Copy, Debug, PartialEq, Eq)]
 pub struct Refused {
+    /// The line, from 1.
     pub line: u32,
+    /// The code of the fault.
     pub code: u8,
+    /// The number of the limit that is passed, or 0.
     pub limit: u8,
 }
 
 /// Why no script is read.
 #[derive(Debug, Drop, Error)]
 pub enum ScriptErr {
+    /// The input is no script.
     #[error("no script")]
     Refused(Refused),
+    /// There is no memory for it.
     #[error("out of memory")]
     NoMemory,
 }

@@ -73,7 +73,7 @@ told-refused : (source : SourceEnds) (bytes came : List ℕ) (refused : Refused)
 told-refused source bytes came refused told all fault = subst (λ b. IsRefused b refused) (told-all source.left source.left_after bytes came told all.all all.at_end) fault
 
 -- a script has no first fault
-not-both : (bytes : List ℕ) (script : ScriptValue) (refused : Refused) → IsScript stage_now bytes script → IsRefused bytes refused → ⊥
+pub not-both : (bytes : List ℕ) (script : ScriptValue) (refused : Refused) → IsScript stage_now bytes script → IsRefused bytes refused → ⊥
 not-both bytes script refused is fault = (reads-one-way stage_now bytes).not_both is.last refused.line (record { code = refused.code; limit = refused.limit }) is.spells fault
 
 abbrev code_of : Refusal → ℕ
@@ -83,7 +83,7 @@ abbrev limit_of : Refusal → ℕ
 limit_of r = r.limit
 
 -- bytes have one first fault
-one-fault : (bytes : List ℕ) (a b : Refused) → IsRefused bytes a → IsRefused bytes b → a ≡ b
+pub one-fault : (bytes : List ℕ) (a b : Refused) → IsRefused bytes a → IsRefused bytes b → a ≡ b
 one-fault bytes a b p q =
     let same = (reads-one-way stage_now bytes).one_fault a.line b.line (record { code = a.code; limit = a.limit }) (record { code = b.code; limit = b.limit }) p q in
     let codes : a.code ≡ b.code = ap code_of same.1 in

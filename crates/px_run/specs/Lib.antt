@@ -2,4 +2,5 @@ pub mod Transcripts
 pub mod Outcomes
 pub mod Exits
 pub mod Answers
+pub mod Fronts
 pub mod Laws

@@ -14,12 +14,15 @@
 //!   ([`laws::transcripts_carry`]; the clause `carries` of the top call says it of the bytes that came).
 //! - Bytes that aren't a script are refused with the line, the code and the limit of their first fault, as `px_script`
 //!   defines it. Nothing is answered before the whole script was read.
-//! - After a write that failed, the replies before it and a proper front of the next text were written. Each reply is put
-//!   as a whole; no clause says so, a test shows it.
+//! - After a write that failed, the replies before it and a proper front of the next text were written, and so a proper front of what
+//!   the bytes demand (the clause `front` of the top call, `specs/Fronts`). Each reply is put as a whole; no clause says so, a test
+//!   shows it.
 //! - A script has at most 1,048,576 bytes. Where more came, the answer is `TooLong`.
 #![tactic(auto)]
 
 mod laws;
+#[cfg(test)]
+mod reading_tests;
 mod running;
 mod status;
 #[cfg(test)]

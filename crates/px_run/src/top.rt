@@ -5,6 +5,7 @@ ghost use Rattle.px_reader.specs.LineReads.{content};
 ghost use Rattle.px_script.specs.StageRanges.{IsOfStage};
 ghost use Rattle.px_script.specs.Stages.{stage_now};
 ghost use Rattle.px_session.specs.Opened.{opened};
+ghost use Rattle.px_run.specs.Fronts.{HasFront};
 ghost use Rattle.px_run.specs.Laws.{IsCarried};
 ghost use Rattle.px_run.specs.Outcomes.{source_ends, sink_ends, takes, UsageRight, RefusalRight, ExecutedRight, RunRight, StatusRight, Completes, CompletesSurely, Refuses};
 
@@ -51,6 +52,10 @@ pub fn planex_main<S: Source, K: Sink>(
         (sink_ends K.written K.faults K.sure sink.old sink.new)
         result }
     ensures refuses { takes (map (λ word. word.now) words.now) ≡ true → Refuses
+        (source_ends S.left S.taken S.faults S.never_fails source.old source.new)
+        (sink_ends K.written K.faults K.sure sink.old sink.new)
+        result }
+    ensures front { takes (map (λ word. word.now) words.now) ≡ true → HasFront
         (source_ends S.left S.taken S.faults S.never_fails source.old source.new)
         (sink_ends K.written K.faults K.sure sink.old sink.new)
         result }

@@ -1,29 +1,37 @@
 -- Each line without a fault keeps what was declared in range, and so a script is in range.
-use Rattle.std.proofs.Common.{◌≡◌, ℕ, ◌+◌, ◌≤◌, true, false, List, [], ◌∷◌, refl, sym, subst, arith}
-use Rattle.std.specs.Prelude.{Option, None, Some, IfSome, All, count_by, if◌then◌else◌}
-use Rattle.std.specs.List.{list_any}
+use Rattle.std.proofs.Common.{◌≡◌, ℕ, ◌+◌, true, List, [], ◌∷◌, map, length, refl, sym, ap, subst, arith}
+use Rattle.std.specs.Prelude.{Option, None, Some, All, ◌||◌, nat_lt}
 use Rattle.std.specs.List.Sorted.{IsStrictlySortedBy}
-use Rattle.std.proofs.lemmas.List.Sums.{sum_by-append}
+use Rattle.px_rooms.specs.Domain.{both_ways, building_problem, room_schemas}
+use Rattle.px_rooms.specs.States.{first_state, rendering}
+use Rattle.px_rooms.proofs.Valid.{buildings_are_valid}
+use Rattle.px_rooms.proofs.Worlds.{rendering-ascending}
 use Rattle.px_terms.specs.AtomSets.{IsAtomSet}
+use Rattle.px_terms.specs.Validity.{IsAtomOf}
+use Rattle.px_terms.specs.declared.problem.Problem.{Problem}
 use Rattle.px_world.specs.declared.thing.Thing.{Thing}
 use Rattle.px_script.specs.Lexemes.{Lexeme}
 use Rattle.px_script.specs.Lines.{lines_of}
-use Rattle.px_script.specs.Statements.{Statement, line_of, script, object, predicate, «axiom», operator, pre, delete, add, building, room, door, box, robot, end, fact, height, nodes, shapes, plan, learn, show, disturb_atoms, disturb_rooms, run, facts}
+use Rattle.px_script.specs.Statements.{Statement, building_block, line_of, script, object, predicate, «axiom», operator, pre, delete, add, building, room, door, box, robot, end, fact, height, nodes, shapes, plan, learn, show, disturb_atoms, disturb_rooms, run, facts}
 use Rattle.px_script.specs.Declarations.{Declared, OpenBlock, operator_here, nothing_declared, after_line, block_here}
-use Rattle.px_script.specs.Content.{ScriptValue, problem_of, content_of}
-use Rattle.px_script.specs.Causes.{is_robot}
+use Rattle.px_script.specs.Content.{ScriptValue, own_problem, content_of}
 use Rattle.px_script.specs.Stages.{Stage, whole_language}
 use Rattle.px_script.specs.Faults.{fault_at}
 use Rattle.px_script.specs.Forms.{is_formed}
-use Rattle.px_script.specs.Ranges.{AreNamesOf, BuildingInRange, IsInRange}
+use Rattle.px_script.specs.Ranges.{AreNamesOf, AreNumbered, HasShortLists, IsInRange}
 use Rattle.px_script.specs.Scripts.{PassesLexemes, PassAll, IsScript}
 use Rattle.px_script.proofs.States.{AreInRange, OperatorsInRange}
-use Rattle.px_script.proofs.Fronts.{by_test, true_not_false}
+use Rattle.px_script.proofs.Tests.{or-false, at-most, each-fails}
+use Rattle.px_script.proofs.Grown.{alike}
 use Rattle.px_script.proofs.Forms.{IsWellFormed, well-formed, not-true}
 use Rattle.px_script.proofs.Faultless.{IsFaultless, no-fault, stage-takes-away}
+use Rattle.px_script.proofs.KeptNames.{one-all}
+use Rattle.px_script.proofs.KeptCommands.{commands-moved}
+use Rattle.px_script.proofs.Standings.{robots-some}
+use Rattle.px_script.proofs.Rendering.{is-building, rendering-facts}
 use Rattle.px_script.proofs.KeptDomain.{script-kept, height-kept, nodes-kept, shapes-kept, object-kept, predicate-kept, axiom-kept, operator-kept, fact-kept}
 use Rattle.px_script.proofs.KeptBlocks.{pre-line, delete-line, add-line, end-line}
-use Rattle.px_script.proofs.KeptBuilding.{building-line, room-line, door-line, box-line, robot-line}
+use Rattle.px_script.proofs.KeptBuilding.{small-arities, building-line, room-line, door-line, box-line, robot-line}
 use Rattle.px_script.proofs.KeptRuns.{plan-line, learn-line, show-line, disturb-atoms-line, disturb-rooms-line, run-line, facts-line}
 
 module _ (n : ℕ) (d : Declared) (r : AreInRange d) where
@@ -135,13 +143,13 @@ start-in-range = record {
     axiom_variables = nothing-all _;
     short_lists = nothing-all _;
   };
-  operators = refl;
+  operators = λ none. refl;
   facts = record { fact_set = no-facts; atoms = nothing-all _; few = λ none. omega arith };
   building = tt;
   roles = record { rooms = nothing-all _; doors = nothing-all _; boxes = nothing-all _ };
   in_building = λ is. let no : ⊥ = cc in elim no [ ];
   robot = λ closed. tt;
-  own_domain = λ own none. record { objects = refl; predicates = refl; arities = refl };
+  own_domain = λ own none. record { objects = refl; predicates = refl; operators = refl; arities = refl };
   commands = record {
     each = nothing-all _;
     few = omega arith;
@@ -154,41 +162,72 @@ start-in-range = record {
 
 -- at the end
 
-counted-one : (things : List Thing) → list_any is_robot things ≡ true → 1 ≤ count_by is_robot things
-counted-one [] there = true_not_false false there refl
-counted-one (t ∷ ts) there =
-    let sum = sum_by-append (λ x. if is_robot x then 1 else 0) (t ∷ []) ts in
-    by_test (is_robot t)
-    (λ e. let first : count_by is_robot (t ∷ []) ≡ 1 = rw e refl in omega (arith, sum, first))
-    (λ e. let more : list_any is_robot ts ≡ true = rw e at there in let later = counted-one ts more in omega (arith, sum, later))
+few-atoms : (version : ℕ) → All (HasShortLists version) room_schemas
+few-atoms version = each-fails (λ s. nat_lt 16 (length s.pre) || (nat_lt 16 (length s.del) || nat_lt 16 (length s.add))) (HasShortLists version)
+    (λ s e.
+    let one = or-false (nat_lt 16 (length s.pre)) _ e in
+    let two = or-false (nat_lt 16 (length s.del)) (nat_lt 16 (length s.add)) one.1 in
+    (at-most 16 (length s.pre) one.0, at-most 16 (length s.del) two.0, at-most 16 (length s.add) two.1)) room_schemas refl
 
--- a building has exactly one robot
-one-robot : (o : Option (List Thing)) → IfSome o (λ things. list_any is_robot things ≡ true)
-    → IfSome o (λ things. count_by is_robot things ≤ 1) → IfSome o (λ things. count_by is_robot things ≡ 1)
-one-robot None there few = tt
-one-robot (Some things) there few = let some = counted-one things there in omega (arith, some, few)
+module _ (d : Declared) (closed : d.block ≡ None) where
+  not-inside : block_here d ≡ Some building_block → ⊥
+  not-inside is =
+      let Q : Option OpenBlock → Type 0 = λ b. block_here (record d { block = b }) ≡ None in
+      let none : block_here d ≡ None = subst Q (sym closed) refl in
+      let no : ⊥ = cc in no
 
-few-robots : (d : Declared) (o : Option (List Thing)) → BuildingInRange d.names (problem_of d) o
-    → IfSome o (λ things. count_by is_robot things ≤ 1)
-few-robots d None is = tt
-few-robots d (Some things) is = is.one_robot
+  -- without a building, and with one
+  closed-in-range : (o : Option (List Thing)) → AreInRange (record d { things = o }) → IsInRange (content_of (record d { things = o }))
+  closed-in-range None r = record {
+    version = r.version;
+    names = r.names;
+    problem = r.problem;
+    operators = (let P : Option OpenBlock → Type 0 = λ b. OperatorsInRange d.version d.names (own_problem d) None (operator_here b) in
+        subst P closed r.operators refl);
+    facts = r.facts;
+    building = tt;
+    commands = r.commands;
+  }
+  closed-in-range (Some things) r =
+      let is = r.building in
+      let of_things = is-building things is.standing (robots-some things (r.robot not-inside)) in
+      let p : Problem = own_problem d in
+      let limits = r.problem.valid in
+      let q : Problem = building_problem p.objects p.height p.nodes p.shapes in
+      let F : ℕ → Type 0 = λ k. All (IsAtomOf (building_problem k p.height p.nodes p.shapes) 0) (rendering (first_state things)) in
+      record {
+        version = r.version;
+        names = r.names;
+        problem = record {
+          valid = buildings_are_valid p.objects p.height p.nodes p.shapes (omega (arith, is.objects_are)) limits.height limits.nodes limits.shapes;
+          objects = refl;
+          predicates = sym (ap length is.predicates_are);
+          arities = small-arities d.version;
+          axiom_variables = one-all (λ clause. AreNumbered clause.vars (map (λ lit. lit.atom) clause.lits)) both_ways refl;
+          short_lists = few-atoms d.version;
+        };
+        operators = ap length is.operators_are;
+        facts = record {
+          fact_set = rendering-ascending (first_state things);
+          atoms = subst F (sym is.objects_are) (rendering-facts (first_state things) of_things.1 p.height p.nodes p.shapes);
+          few = λ none. let no : ⊥ = cc in elim no [ ];
+        };
+        building = record {
+          is_building = of_things;
+          earlier = is.standing.earlier;
+          objects = is.objects_are;
+          robot_first = is.robot_first;
+          predicates = is.predicates_are;
+          operators = is.operators_are;
+          of_building = refl;
+          rendered = refl;
+        };
+        commands = commands-moved d.version p q things (length d.names.results) refl (alike p q refl is.arities_are) d.commands r.commands;
+      }
 
 -- what lines have declared that leave no block open is in range
 pub declared-in-range : (d : Declared) → AreInRange d → d.block ≡ None → IsInRange (content_of d)
-declared-in-range d r closed =
-    let P : Option OpenBlock → Type 0 = λ b. OperatorsInRange d.version d.names (problem_of d) (operator_here b) in
-    let none : block_here d ≡ None = let Q : Option OpenBlock
-    → Type 0 = λ b. block_here (record d { block = b }) ≡ None in subst Q (sym closed) refl in
-    record {
-      version = r.version;
-      names = r.names;
-      problem = r.problem;
-      operators = subst P closed r.operators;
-      facts = r.facts;
-      building = r.building;
-      robot = one-robot d.things (r.robot (λ is. let no : ⊥ = cc in no)) (few-robots d d.things r.building);
-      commands = r.commands;
-    }
+declared-in-range d r closed = closed-in-range d closed d.things r
 
 pub in-range : (stage : Stage) (bytes : List ℕ) (content : ScriptValue) → IsScript stage bytes content → IsInRange content
 in-range stage bytes content is =

@@ -11,7 +11,7 @@ use Rattle.px_world.specs.declared.thing.Thing.{Thing}
 use Rattle.px_script.specs.Items.{SignedAtom}
 use Rattle.px_script.specs.Statements.{Statement, plain, inside, operator_block, building_block, table_steps, table_rows, line_of, pre, delete, add, end}
 use Rattle.px_script.specs.Declarations.{Declared, OpenBlock, BlockKind, OpenOperator, of_operator, of_building, of_table_steps, of_table_rows, atom_of, after_line}
-use Rattle.px_script.specs.Content.{problem_of}
+use Rattle.px_script.specs.Content.{own_problem}
 use Rattle.px_script.specs.Causes.{is_robot, may_stand}
 use Rattle.px_script.proofs.States.{AreInRange, IsOperatorInRange}
 use Rattle.px_script.proofs.Fronts.{true_not_false}
@@ -19,7 +19,7 @@ use Rattle.px_script.proofs.Tests.{or-false, not-false, at-most, passes-test}
 use Rattle.px_script.proofs.Grown.{alike, facts-kept}
 use Rattle.px_script.proofs.LineAtoms.{atoms-right, names-plain, atoms-with, patterns-with}
 use Rattle.px_script.proofs.Faultless.{IsFaultless, stands-right}
-use Rattle.px_script.proofs.KeptProblem.{problem-schema, building-kept}
+use Rattle.px_script.proofs.KeptProblem.{problem-schema}
 use Rattle.px_script.proofs.KeptCommands.{commands-none}
 use Rattle.px_script.proofs.KeptDomain.{no-commands}
 
@@ -32,7 +32,7 @@ module _ (n : ℕ) (d : Declared) (line : ℕ) (o : OpenOperator) where
   c = opened d line (of_operator o)
 
   -- a list of the operator has grown
-  schema-changed : AreInRange c → (schema : Schema) → IsOperatorInRange d.version d.names (problem_of d) (record o { schema = schema })
+  schema-changed : AreInRange c → (schema : Schema) → IsOperatorInRange d.version d.names (own_problem d) (record o { schema = schema })
       → AreInRange (record d { block = Some (record { line = line; kind = of_operator (record o { schema = schema }) }); own_domain = d.own_domain || false; begun = true })
   schema-changed r schema is = record {
     version = r.version;
@@ -65,7 +65,7 @@ module _ (n : ℕ) (d : Declared) (line : ℕ) (o : OpenOperator) where
         schema = record {
           number = is.schema.number;
           params = is.schema.params;
-          pre = All-append (IsAtomOf (problem_of c) o.schema.params) o.schema.pre (map (atom_of c []) xs) is.schema.pre new;
+          pre = All-append (IsAtomOf (own_problem c) o.schema.params) o.schema.pre (map (atom_of c []) xs) is.schema.pre new;
           del = is.schema.del;
           add = is.schema.add;
           short = (omega (arith, longer), is.schema.short.1, is.schema.short.2);
@@ -88,7 +88,7 @@ module _ (n : ℕ) (d : Declared) (line : ℕ) (o : OpenOperator) where
           number = is.schema.number;
           params = is.schema.params;
           pre = is.schema.pre;
-          del = All-append (IsPatternOf (problem_of c) o.schema.params) o.schema.del (map (atom_of c []) xs) is.schema.del new;
+          del = All-append (IsPatternOf (own_problem c) o.schema.params) o.schema.del (map (atom_of c []) xs) is.schema.del new;
           add = is.schema.add;
           short = (is.schema.short.0, omega (arith, longer), is.schema.short.2);
         };
@@ -111,7 +111,7 @@ module _ (n : ℕ) (d : Declared) (line : ℕ) (o : OpenOperator) where
           params = is.schema.params;
           pre = is.schema.pre;
           del = is.schema.del;
-          add = All-append (IsAtomOf (problem_of c) o.schema.params) o.schema.add (map (atom_of c []) xs) is.schema.add new;
+          add = All-append (IsAtomOf (own_problem c) o.schema.params) o.schema.add (map (atom_of c []) xs) is.schema.add new;
           short = (is.schema.short.0, is.schema.short.1, omega (arith, longer));
         };
         no_objects = is.no_objects;
@@ -123,15 +123,15 @@ module _ (n : ℕ) (d : Declared) (line : ℕ) (o : OpenOperator) where
       let right = stands-right c (line_of end) f.right.order in
       let none = no-commands c right.after in
       let is = r.operators in
-      let p : Problem = problem_of d in
+      let p : Problem = own_problem d in
       let q : Problem = record p { schemas = d.schemas ++ o.schema ∷ [] } in
       record {
         version = r.version;
         names = r.names;
         problem = problem-schema d.version d.names p r.problem o is r.names.few_operators;
-        operators = omega (arith, length-append d.schemas (o.schema ∷ []), is.named);
+        operators = λ none. omega (arith, length-append d.schemas (o.schema ∷ []), is.named);
         facts = facts-kept p q (alike p q refl refl) d.version d.things d.facts r.facts;
-        building = building-kept d.names d.names p q d.things refl refl refl r.building;
+        building = r.building;
         roles = r.roles;
         in_building = λ is. let no : ⊥ = cc in elim no [ ];
         robot = λ closed. r.robot (λ is. let no : ⊥ = cc in no);
@@ -147,7 +147,7 @@ robot-there (Some things) e = e
 
 -- another block than an operator's is closed
 end-other : (d : Declared) (line : ℕ) (kind : BlockKind) → AreInRange (opened d line kind)
-    → length d.names.operators ≡ length d.schemas → IfSome d.things (λ things. list_any is_robot things ≡ true)
+    → (d.things ≡ None → length d.names.operators ≡ length d.schemas) → IfSome d.things (λ things. list_any is_robot things ≡ true)
     → AreInRange (record d { schemas = d.schemas ++ []; block = None; own_domain = d.own_domain || false; begun = true })
 end-other d line kind r operators robot =
     let P : List Schema → Type 0 = λ schemas. AreInRange (record d { schemas = schemas; block = None; own_domain = d.own_domain || false; begun = true }) in

@@ -1,86 +1,98 @@
 -- Each line of a building keeps what was declared in range.
-use Rattle.std.proofs.Common.{◌≡◌, ◌<◌, ℕ, ◌+◌, ◌≤◌, Bool, true, false, List, [], ◌∷◌, ◌++◌, map, length, refl, sym, ap, ◌∙◌, subst, arith, length-append}
-use Rattle.std.specs.Prelude.{◌≢◌, Option, None, Some, All, nat_lt, ◌||◌, if◌then◌else◌, slice_index_or, unwrap_or, count_by}
+use Rattle.std.proofs.Common.{◌≡◌, ◌<◌, ℕ, ◌+◌, ◌≤◌, Bool, true, false, List, [], ◌∷◌, ◌++◌, length, refl, sym, ap, ◌∙◌, subst, arith, length-append}
+use Rattle.std.specs.Prelude.{◌≢◌, Option, None, Some, All, nat_lt, ◌||◌, slice_index_or, unwrap_or}
 use Rattle.std.specs.List.{list_any}
 use Rattle.std.specs.Str.{bytes_eq}
-use Rattle.std.proofs.lemmas.List.Sums.{sum_by-append}
-use Rattle.std.proofs.lemmas.List.Folds.{list_any-append}
+use Rattle.std.proofs.lemmas.List.Elements.{All-nil}
 use Rattle.px_names.specs.Lists.{has_name}
 use Rattle.px_names.specs.NameLaws.{bytes_eq-itself}
+use Rattle.px_rooms.specs.declared.standing.Standing.{Standing}
+use Rattle.px_rooms.specs.declared.standing.Standing.TheVariants.{Room as a_room, Door as a_door, Box as a_box}
+use Rattle.px_rooms.specs.Domain.{robot_name}
+use Rattle.px_rooms.specs.States.{IsBoxAt, IsDoorAt, IsRoomAt, StandsRight, robot_rooms, standings}
+use Rattle.px_rooms.proofs.Starting.{standings-more}
 use Rattle.px_terms.specs.declared.problem.Problem.{Problem}
 use Rattle.px_world.specs.declared.thing.Thing.{Thing}
 use Rattle.px_world.specs.declared.thing.Thing.TheVariants as thing
 use Rattle.px_script.specs.Statements.{Statement, inside, building_block, line_of, building, room, door, box, robot}
 use Rattle.px_script.specs.Limits as limit
 use Rattle.px_script.specs.Limits.{greatest}
-use Rattle.px_script.specs.Domain.{the_robot, building_predicates}
-use Rattle.px_script.specs.Declarations.{Declared, Roles, block_here, number_in, after_line}
-use Rattle.px_script.specs.Content.{problem_of}
-use Rattle.px_script.specs.Causes.{is_robot, repeats, may_stand}
-use Rattle.px_script.specs.Things.{numbered_things, is_a_room, is_a_door, is_a_box, IsRoomOf, IsThingAfter}
+use Rattle.px_script.specs.Declarations.{Declared, Roles, block_here, number_in, after_line, predicate_names, predicate_arities, operator_names}
+use Rattle.px_script.specs.Content.{own_problem}
+use Rattle.px_script.specs.Causes.{repeats, may_stand}
+use Rattle.px_script.specs.Ranges.{IsThingAfter}
 use Rattle.px_script.proofs.States.{AreInRange, AreRolesOf}
 use Rattle.px_script.proofs.Fronts.{true_not_false}
 use Rattle.px_script.proofs.Tests.{or-false, at-most, passes-test, each-fails}
 use Rattle.px_script.proofs.Numbered.{same-number}
 use Rattle.px_script.proofs.Grown.{Grows, facts-kept}
-use Rattle.px_script.proofs.Faultless.{IsFaultless, stands-right, at-top, in-building, wanted-known}
-use Rattle.px_script.proofs.KeptNames.{objects-more, predicates-more, is-new, is_long, at-name, kind-known, numbered-more, numbered-robot, roles-objects, roles-things, kind-more}
+use Rattle.px_script.proofs.Faultless.{IsFaultless, stands-right, in-building, wanted-known}
+use Rattle.px_script.proofs.KeptNames.{objects-more, predicates-more, operators-more, is-new, is_long, at-name}
 use Rattle.px_script.proofs.KeptProblem.{problem-grown, operators-kept}
-use Rattle.px_script.proofs.KeptCommands.{each-more, commands-none}
-use Rattle.px_script.proofs.KeptDomain.{no-commands, no-building, operators-count}
+use Rattle.px_script.proofs.KeptCommands.{commands-none}
+use Rattle.px_script.proofs.Standings.{rooms-kind, doors-kind, boxes-kind, kind-known, kind-more, roles-objects, roles-things, standing-more, robots-none, still-robot}
+use Rattle.px_script.proofs.KeptDomain.{no-commands, no-building}
 
 -- an empty list is in front of everything
 in-empty : {A : Type 0} (xs ys : List A) → xs ≡ [] → xs ++ ys ≡ ys
 in-empty xs ys none = ap (λ t. t ++ ys) none
 
-small-arities : (version : ℕ) → All (λ n. n ≤ greatest version limit.arity) (map (λ p. p.1) building_predicates)
-small-arities version = each-fails (λ n. nat_lt 6 n) (λ n. n ≤ 6) (λ n e. at-most 6 n e) (map (λ p. p.1) building_predicates) refl
+pub small-arities : (version : ℕ) → All (λ n. n ≤ greatest version limit.arity) predicate_arities
+small-arities version = each-fails (λ n. nat_lt 6 n) (λ n. n ≤ 6) (λ n e. at-most 6 n e) predicate_arities refl
+
+-- no name of the second list repeats one of the first, which is empty
+no-repeats : (old ns : List (List ℕ)) → old ≡ [] → repeats [] ns ≡ false → repeats old ns ≡ false
+no-repeats old ns none single = let R : List (List ℕ) → Type 0 = λ t. repeats t ns ≡ false in subst R (sym none) single
 
 pub building-line : (n : ℕ) (d : Declared) → AreInRange d → IsFaultless d building → AreInRange (after_line n d building)
 building-line n d r f =
     let right = stands-right d (line_of building) f.right.order in
-    let top = at-top d (line_of building) right (λ b. refl) in
     let no_things = no-building d f.right.single in
     let none = no-commands d right.after in
     let empty = r.own_domain right.domains no_things in
-    let p : Problem = problem_of d in
-    let objects = d.names.objects ++ the_robot ∷ [] in
-    let predicates = d.names.predicates ++ map (λ q. q.0) building_predicates in
-    let arities = d.arities ++ map (λ q. q.1) building_predicates in
+    let p : Problem = own_problem d in
+    let objects = d.names.objects ++ robot_name ∷ [] in
+    let predicates = d.names.predicates ++ predicate_names in
+    let operators = d.names.operators ++ operator_names in
+    let arities = d.arities ++ predicate_arities in
     let q : Problem = record p { objects = length objects; arities = arities } in
-    let objects_are : objects ≡ the_robot ∷ [] = in-empty d.names.objects (the_robot ∷ []) empty.objects in
-    let predicates_are : predicates ≡ map (λ q. q.0) building_predicates = in-empty d.names.predicates _ empty.predicates in
-    let arities_are : arities ≡ map (λ q. q.1) building_predicates = in-empty d.arities _ empty.arities in
-    let more : Grows p q = record { objects = omega (arith, length-append d.names.objects (the_robot ∷ [])); arities = λ k below. absurd (omega (arith, below, ap length empty.arities)) } in
+    let objects_are : objects ≡ robot_name ∷ [] = in-empty d.names.objects (robot_name ∷ []) empty.objects in
+    let predicates_are : predicates ≡ predicate_names = in-empty d.names.predicates _ empty.predicates in
+    let arities_are : arities ≡ predicate_arities = in-empty d.arities _ empty.arities in
+    let more : Grows p q = record { objects = omega (arith, length-append d.names.objects (robot_name ∷ [])); arities = λ k below. absurd (omega (arith, below, ap length empty.arities)) } in
     let with_robot = record d.names { objects = objects } in
-    let new = record with_robot { predicates = predicates } in
-    let R : List (List ℕ) → Type 0 = λ t. repeats t (the_robot ∷ []) ≡ false in
-    let S : List (List ℕ) → Type 0 = λ t. repeats t (map (λ q. q.0) building_predicates) ≡ false in
+    let with_predicates = record with_robot { predicates = predicates } in
     let room_for : length d.names.objects + 1 ≤ greatest d.version limit.objects =
     let V : ℕ → Type 0 = λ v. length d.names.objects + 1 ≤ greatest v limit.objects in subst V (sym r.version) (omega (arith, ap length empty.objects)) in
     let few : length d.names.predicates + 8 ≤ 64 = omega (arith, ap length empty.predicates) in
-    let names_robot = objects-more d.version d.names r.names (the_robot ∷ []) (subst R (sym empty.objects) refl) refl room_for in
+    let few_operators : length d.names.operators + 7 ≤ 32 = omega (arith, ap length empty.operators) in
+    let names_robot = objects-more d.version d.names r.names (robot_name ∷ []) (no-repeats d.names.objects (robot_name ∷ []) empty.objects refl) refl room_for in
+    let names_predicates = predicates-more d.version with_robot names_robot predicate_names (no-repeats d.names.predicates predicate_names empty.predicates refl) refl few in
     record {
       version = r.version;
-      names = predicates-more d.version with_robot names_robot
-          (map (λ q. q.0) building_predicates) (subst S (sym empty.predicates) refl) refl few;
-      problem = problem-grown d.version d.names p r.problem new (length objects) arities more refl
+      names = operators-more d.version with_predicates names_predicates operator_names (no-repeats d.names.operators operator_names empty.operators refl) refl few_operators;
+      problem = problem-grown d.version d.names p r.problem (record with_predicates { operators = operators }) (length objects) arities more refl
           (ap length arities_are ∙ sym (ap length predicates_are)) (omega (arith, ap length predicates_are))
           (let A : List ℕ → Type 0 = λ t. All (λ n. n ≤ greatest d.version limit.arity) t in
           subst A (sym arities_are) (small-arities d.version));
-      operators = operators-count d r top;
+      operators = λ is. let no : ⊥ = cc in elim no [ ];
       facts = (let g = facts-kept p q more d.version d.things d.facts r.facts in
           record { fact_set = g.fact_set; atoms = g.atoms; few = λ is. let no : ⊥ = cc in elim no [ ] });
       building = record {
-        things_right = λ k below. absurd (omega (arith, below));
-        one_robot = omega arith;
-        objects = ap length objects_are;
+        standing = record {
+          right = All-nil (StandsRight []);
+          robots = All-nil (IsRoomAt []);
+          one_robot = omega arith;
+          earlier = λ k below. absurd (omega (arith, below));
+        };
+        objects_are = ap length objects_are;
         robot_first = ap (λ t. slice_index_or t 0 []) objects_are;
-        predicates = predicates_are;
-        arities = arities_are;
+        predicates_are = predicates_are;
+        operators_are = in-empty d.names.operators _ empty.operators;
+        arities_are = arities_are;
       };
       roles = (let T : Option (List Thing) → Type 0 = λ t. AreRolesOf d.names.objects d.roles (unwrap_or t []) in
-          roles-objects d.names.objects (the_robot ∷ []) d.roles [] (subst T no_things r.roles));
+          roles-objects d.names.objects (robot_name ∷ []) d.roles [] (subst T no_things r.roles));
       in_building = λ is. refl;
       robot = λ closed. absurd (closed refl);
       own_domain = λ own is. let no : ⊥ = cc in elim no [ ];
@@ -90,20 +102,13 @@ building-line n d r f =
 
 -- lines inside a building
 
-one-count : (things : List Thing) (t : Thing) → is_robot t ≡ false → count_by is_robot things ≤ 1 → count_by is_robot (things ++ t ∷ []) ≤ 1
-one-count things t other one = let sum = sum_by-append (λ x. if is_robot x then 1 else 0) things (t ∷ []) in
-    let last : count_by is_robot (t ∷ []) ≡ 0 = rw other refl in omega (arith, sum, last, one)
-
-still-robot : (things : List Thing) (t : Thing) → list_any is_robot things ≡ true → list_any is_robot (things ++ t ∷ []) ≡ true
-still-robot things t there = list_any-append is_robot things (t ∷ []) ∙ ap (λ b. b || list_any is_robot (t ∷ [])) there
-
 module _ (n : ℕ) (d : Declared) (things : List Thing) where
   abbrev c : Declared
   c = record d { things = Some things }
 
   -- A building with one more thing that has a name.
-  module _ (r : AreInRange c) (inside : block_here d ≡ Some building_block) (none : length d.commands ≡ 0) (name : List ℕ) (t : Thing)
-      (other : is_robot t ≡ false)
+  module _ (r : AreInRange c) (none : length d.commands ≡ 0) (name : List ℕ) (t : Thing) (one : Standing)
+      (stands : standings (t ∷ []) ≡ one ∷ []) (no_robot : robot_rooms (t ∷ []) ≡ [])
       (single : repeats d.names.objects (name ∷ []) ≡ false) (short : list_any (is_long d.version) (name ∷ []) ≡ false)
       (few : length d.names.objects + 1 ≤ greatest d.version limit.objects) (right : IsThingAfter things t) where
     named-kept : (roles : Roles) → AreRolesOf (d.names.objects ++ name ∷ []) roles (things ++ t ∷ []) → roles.plans ≡ d.roles.plans
@@ -116,7 +121,7 @@ module _ (n : ℕ) (d : Declared) (things : List Thing) where
           begun = true;
         })
     named-kept roles of_things plans tables =
-        let p : Problem = problem_of d in
+        let p : Problem = own_problem d in
         let objects = d.names.objects ++ name ∷ [] in
         let q : Problem = record p { objects = length objects; arities = d.arities } in
         let new = record d.names { objects = objects } in
@@ -129,16 +134,23 @@ module _ (n : ℕ) (d : Declared) (things : List Thing) where
           names = objects-more d.version d.names r.names (name ∷ []) single short few;
           problem = problem-grown d.version d.names p r.problem new
               (length objects) d.arities more refl r.problem.predicates r.names.few_predicates r.problem.arities;
-          operators = operators-kept d.version d.names new p q _ more refl refl r.operators;
+          operators = operators-kept d.version d.names new p q (Some things) (Some (things ++ t ∷ [])) _ more refl refl
+              (λ is. let no : ⊥ = cc in elim no [ ]) r.operators;
           facts = record { fact_set = facts.fact_set; atoms = facts.atoms; few = λ is. let no : ⊥ = cc in elim no [ ] };
           building = record {
-            things_right = each-more IsThingAfter things t thing.Room is.things_right right;
-            one_robot = one-count things t other is.one_robot;
-            objects = (let last = ap length (numbered-more things t other) in
-                omega (arith, count, is.objects, last, length-append (numbered_things things) (t ∷ [])));
-            robot_first = first-kept d.names.objects name is.robot_first (omega (arith, is.objects));
-            predicates = is.predicates;
-            arities = is.arities;
+            standing = standing-more things t is.standing right (omega (arith, ap length no_robot, is.standing.one_robot));
+            objects_are = omega (
+              arith,
+              count,
+              is.objects_are,
+              ap length (standings-more things t),
+              length-append (standings things) (standings (t ∷ [])),
+              ap length stands,
+            );
+            robot_first = first-kept d.names.objects name is.robot_first (omega (arith, is.objects_are));
+            predicates_are = is.predicates_are;
+            operators_are = is.operators_are;
+            arities_are = is.arities_are;
           };
           roles = of_things;
           in_building = λ e. refl;
@@ -149,8 +161,8 @@ module _ (n : ℕ) (d : Declared) (things : List Thing) where
           results = record { plan_names = rw plans r.results.plan_names; plans = rw plans r.results.plans; tables = tables ∙ r.results.tables; few = r.results.few; disturbs = r.results.disturbs };
         }
       where
-        first-kept : (objects : List (List ℕ)) (name : List ℕ) → slice_index_or objects 0 [] ≡ the_robot → 0 < length objects
-            → slice_index_or (objects ++ name ∷ []) 0 [] ≡ the_robot
+        first-kept : (objects : List (List ℕ)) (name : List ℕ) → slice_index_or objects 0 [] ≡ robot_name → 0 < length objects
+            → slice_index_or (objects ++ name ∷ []) 0 [] ≡ robot_name
         first-kept [] name first some = absurd (omega (arith, some))
         first-kept (x ∷ xs) name first some = first
 
@@ -160,8 +172,9 @@ module _ (n : ℕ) (d : Declared) (things : List Thing) where
       roles-objects d.names.objects (name ∷ []) d.roles (things ++ t ∷ []) (roles-things d.names.objects d.roles things t r.roles)
 
   -- a name of a room
-  room-at : AreInRange c → (name : List ℕ) → has_name name d.roles.rooms ≡ true → IsRoomOf things (number_in name d.names.objects)
-  room-at r name known = at-name (λ m. IsRoomOf things (number_in m d.names.objects)) d.roles.rooms name r.roles.rooms known
+  room-at : AreInRange c → (name : List ℕ) → has_name name d.roles.rooms ≡ true
+      → IsRoomAt (standings things) (number_in name d.names.objects)
+  room-at r name known = at-name (λ m. IsRoomAt (standings things) (number_in m d.names.objects)) d.roles.rooms name r.roles.rooms known
 
   twice : (b e : Bool) → ((b || false) || e) ≡ false → b ≡ false
   twice b e h = (or-false b false (or-false (b || false) e h).0).0
@@ -171,11 +184,11 @@ module _ (n : ℕ) (d : Declared) (things : List Thing) where
       let right = stands-right c (line_of (room name)) f.right.order in
       let single = twice _ _ f.right.single in
       let base = roles-more r name thing.Room in
-      named-kept r (in-building (block_here c) right.stands) (no-commands c right.after) name thing.Room refl single
+      named-kept r (no-commands c right.after) name thing.Room a_room refl refl single
       (or-false _ false f.short).0
       (at-most (greatest d.version limit.objects) (length d.names.objects + 1) (passes-test _ _ _ f.limits).0) tt
       (record d.roles { rooms = d.roles.rooms ++ name ∷ [] })
-      (record { rooms = kind-more is_a_room d.names.objects name things thing.Room d.roles.rooms refl refl (is-new d.names.objects name single) r.building.objects base.rooms; doors = base.doors; boxes = base.boxes }) refl refl
+      (record { rooms = kind-more IsRoomAt rooms-kind d.names.objects name things thing.Room a_room d.roles.rooms refl (λ xs k is. is) (is-new d.names.objects name single) r.building.objects_are base.rooms; doors = base.doors; boxes = base.boxes }) refl refl
 
   door-kept : (name one other : List ℕ) (is_open : Bool) → AreInRange c → IsFaultless c (door name one other is_open)
       → AreInRange (after_line n c (door name one other is_open))
@@ -184,37 +197,34 @@ module _ (n : ℕ) (d : Declared) (things : List Thing) where
       let both = or-false _ (bytes_eq one other) f.right.single in
       let single = (or-false _ false both.0).0 in
       let wanted = wanted-known c (line_of (door name one other is_open)) f.right.known in
+      let a = number_in one d.names.objects in
+      let b = number_in other d.names.objects in
       let one_room = room-at r one wanted.0 in
       let other_room = room-at r other wanted.1.0 in
-      let differ : number_in one d.names.objects ≢ number_in other d.names.objects = λ same.
-      let equal = same-number one other d.names.objects (kind-known is_a_room refl d.names.objects things one one_room)
-      (kind-known is_a_room refl d.names.objects things other other_room) same in
+      let differ : a ≢ b = λ same.
+      let equal = same-number one other d.names.objects (kind-known IsRoomAt rooms-kind d.names.objects (standings things) one one_room)
+      (kind-known IsRoomAt rooms-kind d.names.objects (standings things) other other_room) same in
       true_not_false (bytes_eq one other) (ap (bytes_eq one) (sym equal) ∙ bytes_eq-itself one) both.1 in
-      let t = thing.Door (number_in one d.names.objects) (number_in other d.names.objects) is_open in
+      let t = thing.Door a b is_open in
       let base = roles-more r name t in
-      named-kept r (in-building (block_here c) right.stands) (no-commands c right.after) name t refl single (or-false _ false f.short).0
+      named-kept r (no-commands c right.after) name t (a_door a b is_open) refl refl single (or-false _ false f.short).0
       (at-most (greatest d.version limit.objects) (length d.names.objects + 1) (passes-test _ _ _ f.limits).0)
       (one_room, other_room, differ)
       (record d.roles { doors = d.roles.doors ++ name ∷ [] })
-      (record { rooms = base.rooms; doors = kind-more is_a_door d.names.objects name things t d.roles.doors refl refl (is-new d.names.objects name single) r.building.objects base.doors; boxes = base.boxes }) refl refl
+      (record { rooms = base.rooms; doors = kind-more IsDoorAt doors-kind d.names.objects name things t (a_door a b is_open) d.roles.doors refl (λ xs k is. (a, b, is_open, is)) (is-new d.names.objects name single) r.building.objects_are base.doors; boxes = base.boxes }) refl refl
 
   box-kept : (name in_room : List ℕ) → AreInRange c → IsFaultless c (box name in_room) → AreInRange (after_line n c (box name in_room))
   box-kept name in_room r f =
       let right = stands-right c (line_of (box name in_room)) f.right.order in
       let single = twice _ _ f.right.single in
       let wanted = wanted-known c (line_of (box name in_room)) f.right.known in
-      let t = thing.Box (number_in in_room d.names.objects) in
+      let a = number_in in_room d.names.objects in
+      let t = thing.Box a in
       let base = roles-more r name t in
-      named-kept r (in-building (block_here c) right.stands) (no-commands c right.after) name t refl single (or-false _ false f.short).0
+      named-kept r (no-commands c right.after) name t (a_box a None) refl refl single (or-false _ false f.short).0
       (at-most (greatest d.version limit.objects) (length d.names.objects + 1) (passes-test _ _ _ f.limits).0) (room-at r in_room wanted.0)
       (record d.roles { boxes = d.roles.boxes ++ name ∷ [] })
-      (record { rooms = base.rooms; doors = base.doors; boxes = kind-more is_a_box d.names.objects name things t d.roles.boxes refl refl (is-new d.names.objects name single) r.building.objects base.boxes }) refl refl
-
-  -- no robot, and then one
-  none-counted : (things : List Thing) → list_any is_robot things ≡ false → count_by is_robot things ≡ 0
-  none-counted [] none = refl
-  none-counted (t ∷ ts) none =
-      let both = or-false (is_robot t) (list_any is_robot ts) none in let rest = none-counted ts both.1 in rw both.0 (omega (arith, rest))
+      (record { rooms = base.rooms; doors = base.doors; boxes = kind-more IsBoxAt boxes-kind d.names.objects name things t (a_box a None) d.roles.boxes refl (λ xs k is. (a, None, is)) (is-new d.names.objects name single) r.building.objects_are base.boxes }) refl refl
 
   robot-kept : (in_room : List ℕ) → AreInRange c → IsFaultless c (robot in_room) → AreInRange (after_line n c (robot in_room))
   robot-kept in_room r f =
@@ -222,27 +232,27 @@ module _ (n : ℕ) (d : Declared) (things : List Thing) where
       let none = no-commands c right.after in
       let wanted = wanted-known c (line_of (robot in_room)) f.right.known in
       let t = thing.Robot (number_in in_room d.names.objects) in
-      let p : Problem = problem_of d in
+      let p : Problem = own_problem d in
       let is = r.building in
-      let no_robot : list_any is_robot things ≡ false = f.right.single in
       record {
         version = r.version;
         names = r.names;
         problem = r.problem;
-        operators = r.operators;
+        operators = operators-kept d.version d.names d.names p p (Some things) (Some (things ++ t ∷ [])) _
+            (record { objects = omega arith; arities = λ k below. (below, refl) }) refl refl (λ is. let no : ⊥ = cc in elim no [ ]) r.operators;
         facts = record { fact_set = r.facts.fact_set; atoms = r.facts.atoms; few = λ is. let no : ⊥ = cc in elim no [ ] };
         building = record {
-          things_right = each-more IsThingAfter things t thing.Room is.things_right (room-at r in_room wanted.0);
-          one_robot = (let sum = sum_by-append (λ x. if is_robot x then 1 else 0) things (t ∷ []) in
-              omega (arith, sum, none-counted things no_robot));
-          objects = is.objects ∙ sym (ap length (numbered-robot things t refl));
+          standing = standing-more things t is.standing (room-at r in_room wanted.0) (omega (arith, robots-none things f.right.single));
+          objects_are =
+              omega (arith, is.objects_are, ap length (standings-more things t), length-append (standings things) (standings (t ∷ [])));
           robot_first = is.robot_first;
-          predicates = is.predicates;
-          arities = is.arities;
+          predicates_are = is.predicates_are;
+          operators_are = is.operators_are;
+          arities_are = is.arities_are;
         };
         roles = roles-things d.names.objects d.roles things t r.roles;
         in_building = λ e. refl;
-        robot = λ closed. absurd (closed (in-building (block_here c) right.stands));
+        robot = λ closed. absurd (closed (in-building (block_here d) right.stands));
         own_domain = λ own e. let no : ⊥ = cc in elim no [ ];
         commands = commands-none d.version p p (Some things) (Some (things ++ t ∷ [])) (length d.names.results) d.commands none r.commands;
         results = r.results;

@@ -1,6 +1,6 @@
 -- One more command keeps commands in range.
 use Rattle.std.proofs.Common.{◌≡◌, ℕ, ◌+◌, ◌<◌, ◌≤◌, Bool, true, false, List, [], ◌∷◌, ◌++◌, length, refl, sym, ap, ◌∙◌, subst, arith, length-append, inl, inr}
-use Rattle.std.specs.Prelude.{All, Option, take, slice_index_or, EachIndex, fold, ◌||◌, ◌==◌}
+use Rattle.std.specs.Prelude.{All, Option, Some, take, slice_index_or, EachIndex, fold, ◌||◌, ◌==◌}
 use Rattle.std.specs.List.{flat_map, list_any, range_with_len, scan}
 use Rattle.std.proofs.Math.ListN.{get_or-append}
 use Rattle.std.proofs.Math.Seq.{get_or-append_seam, take-append_seam}
@@ -18,6 +18,8 @@ use Rattle.px_script.specs.Limits as limit
 use Rattle.px_script.specs.Limits.{greatest}
 use Rattle.px_script.specs.Commands.{Command, Plan, Learn, Show, DisturbAtoms, DisturbRooms, Run, Facts}
 use Rattle.px_script.specs.Ranges.{CommandsInRange, IsCommandOf, NamesEarlier, IsAmong, result_given, plan_given, disturbs_after, all_disturbs}
+use Rattle.px_script.proofs.Fronts.{true_not_false}
+use Rattle.px_script.proofs.Grown.{Grows, atoms-kept}
 use Rattle.px_script.proofs.KeptNames.{one-all}
 
 -- what each item has after those before it, one more item too
@@ -137,3 +139,36 @@ among-last commands k c gives =
     or-true : (b : Bool) → (b || true) ≡ true
     or-true true = refl
     or-true false = refl
+
+-- commands of a script with a building, where another problem has the same objects and predicates
+
+module _ (version : ℕ) (p q : Problem) (things : List Thing) (results : ℕ) (objects : p.objects ≡ q.objects) (more : Grows p q) where
+  command-moved : (c : Command) → IsCommandOf version p (Some things) results c → IsCommandOf version q (Some things) results c
+  command-moved (Plan name goal vars) h = (
+    h.0,
+    record {
+      some = h.1.some;
+      few = h.1.few;
+      few_variables = h.1.few_variables;
+      no_objects = λ none. h.1.no_objects (objects ∙ none);
+      atoms = atoms-kept p q more vars goal h.1.atoms;
+      numbered = h.1.numbered;
+    },
+  )
+  command-moved (Learn name source) h = h
+  command-moved (Show name) h = h
+  command-moved (DisturbAtoms turn between edits) h = true_not_false true refl h.1
+  command-moved (DisturbRooms turn between edits) h = h
+  command-moved (Run name bindings) h =
+      (h.0, (λ k d below. let is = h.1 k d below in (is.0, is.1, omega (arith, is.2, objects))), h.2)
+  command-moved Facts h = h
+
+  pub commands-moved : (commands : List Command) → CommandsInRange version p (Some things) results commands
+      → CommandsInRange version q (Some things) results commands
+  commands-moved commands h = record {
+    each = λ k d below. command-moved _ (h.each k d below);
+    few = h.few;
+    few_disturbs = h.few_disturbs;
+    given = h.given;
+    earlier = h.earlier;
+  }

@@ -1,7 +1,6 @@
 -- Each line of a domain, and each setting, keeps what was declared in range.
 use Rattle.std.proofs.Common.{◌≡◌, ℕ, ◌+◌, ◌≤◌, Bool, true, false, List, [], ◌∷◌, ◌++◌, map, length, refl, sym, ap, subst, arith, length-append}
-use Rattle.std.specs.Prelude.{Option, None, Some, is_some, IfSome, All, not, nat_lt, ◌||◌, ◌&&◌, unwrap_or}
-use Rattle.std.specs.List.{list_any}
+use Rattle.std.specs.Prelude.{Option, None, Some, is_some, All, not, nat_lt, ◌||◌, ◌&&◌, unwrap_or}
 use Rattle.std.proofs.Math.ListN.{get_or-append}
 use Rattle.std.proofs.lemmas.List.{length-map, get_or-map}
 use Rattle.std.proofs.lemmas.List.Elements.{All-append, All-map}
@@ -14,14 +13,13 @@ use Rattle.px_terms.specs.OrderLaws.{atom_cmp-total, atom_cmp-same}
 use Rattle.px_terms.specs.Validity.{IsAtomOf}
 use Rattle.px_terms.specs.declared.atom.Atom.{Atom}
 use Rattle.px_terms.specs.declared.problem.Problem.{Problem}
-use Rattle.px_world.specs.declared.thing.Thing.{Thing}
 use Rattle.px_script.specs.Items.{SignedAtom, is_empty}
 use Rattle.px_script.specs.Statements.{plain, literals, line_of, script, object, predicate, «axiom», operator, fact, height, nodes, shapes}
 use Rattle.px_script.specs.Limits as limit
 use Rattle.px_script.specs.Limits.{greatest}
 use Rattle.px_script.specs.Declarations.{Declared, OpenBlock, operator_here, parameters_of, parameters_here, has_building, variables_of, atom_of, literal_of, clause_of, after_line}
-use Rattle.px_script.specs.Content.{problem_of}
-use Rattle.px_script.specs.Causes.{is_robot, repeats}
+use Rattle.px_script.specs.Content.{own_problem}
+use Rattle.px_script.specs.Causes.{repeats}
 use Rattle.px_script.specs.Ranges.{AreNumbered}
 use Rattle.px_script.proofs.States.{AreInRange, OperatorsInRange}
 use Rattle.px_script.proofs.Fronts.{true_not_false}
@@ -31,8 +29,9 @@ use Rattle.px_script.proofs.Arguments.{arguments_of}
 use Rattle.px_script.proofs.Grown.{Grows, alike, facts-kept}
 use Rattle.px_script.proofs.LineAtoms.{HasAtoms, atoms-right, names-plain, atoms-ground, atoms-open, axiom-terms, no-variables, empty-length}
 use Rattle.px_script.proofs.Faultless.{IsFaultless, stands-right, at-top}
-use Rattle.px_script.proofs.KeptNames.{objects-more, predicates-more, operators-more, roles-objects, one-all}
-use Rattle.px_script.proofs.KeptProblem.{IsNewAxiom, problem-grown, problem-renamed, problem-limits, problem-axiom, operators-kept, building-kept, building-none}
+use Rattle.px_script.proofs.KeptNames.{objects-more, predicates-more, operators-more, one-all}
+use Rattle.px_script.proofs.Standings.{roles-objects}
+use Rattle.px_script.proofs.KeptProblem.{IsNewAxiom, problem-grown, problem-renamed, problem-limits, problem-axiom, operators-kept, no-building-there}
 use Rattle.px_script.proofs.KeptCommands.{commands-none}
 
 length-empty : {A : Type 0} (xs : List A) → is_empty xs ≡ true → length xs ≡ 0
@@ -54,14 +53,15 @@ no-building d e = not-some d.things e
 pub owned : {A : Type 0} (b : Bool) → (b || true) ≡ false → A
 owned b e = true_not_false true refl (or-false b true e).1
 
+-- no block is open, and there is no building
 pub operators-none : (d : Declared) (names : NameLists) (p : Problem) → d.block ≡ None → length names.operators ≡ length p.schemas
-    → OperatorsInRange d.version names p (operator_here d.block)
+    → OperatorsInRange d.version names p d.things (operator_here d.block)
 operators-none d names p e counts = let P : Option OpenBlock
-    → Type 0 = λ b. OperatorsInRange d.version names p (operator_here b) in subst P (sym e) counts
+    → Type 0 = λ b. OperatorsInRange d.version names p d.things (operator_here b) in subst P (sym e) (λ none. counts)
 
-pub operators-count : (d : Declared) → AreInRange d → d.block ≡ None → length d.names.operators ≡ length d.schemas
-operators-count d r e = let P : Option OpenBlock
-    → Type 0 = λ b. OperatorsInRange d.version d.names (problem_of d) (operator_here b) in subst P e r.operators
+pub operators-count : (d : Declared) → AreInRange d → d.block ≡ None → d.things ≡ None → length d.names.operators ≡ length d.schemas
+operators-count d r e none = let P : Option OpenBlock
+    → Type 0 = λ b. OperatorsInRange d.version d.names (own_problem d) d.things (operator_here b) in subst P e r.operators none
 
 pub no-parameters : (d : Declared) → d.block ≡ None → parameters_here d ≡ []
 no-parameters d e = ap (λ b. parameters_of (operator_here b)) e
@@ -74,7 +74,7 @@ unmap f P xs all = λ k d below. subst P (get_or-map f xs k d (f d) below) (all 
 
 module _ (n : ℕ) (d : Declared) (r : AreInRange d) where
   abbrev p : Problem
-  p = problem_of d
+  p = own_problem d
 
   pub script-kept : (version : ℕ) → IsFaultless d (script version) → AreInRange (after_line n d (script version))
   script-kept version f =
@@ -110,9 +110,9 @@ module _ (n : ℕ) (d : Declared) (r : AreInRange d) where
         names = r.names;
         problem = problem-limits d.version d.names p r.problem (unwrap_or tall 4) (unwrap_or many 10000)
             (unwrap_or wide 10000) in_height in_nodes in_shapes;
-        operators = operators-kept d.version d.names d.names p q (operator_here d.block) more refl refl r.operators;
+        operators = operators-kept d.version d.names d.names p q d.things d.things (operator_here d.block) more refl refl (λ none. none) r.operators;
         facts = facts-kept p q more d.version d.things d.facts r.facts;
-        building = building-kept d.names d.names p q d.things refl refl refl r.building;
+        building = r.building;
         roles = r.roles;
         in_building = r.in_building;
         robot = r.robot;
@@ -158,9 +158,9 @@ module _ (n : ℕ) (d : Declared) (r : AreInRange d) where
             (at-most (greatest d.version limit.objects) (length d.names.objects + length ns) (passes-test _ _ _ f.limits).0);
         problem = problem-grown d.version d.names p r.problem new
             (length (d.names.objects ++ ns)) d.arities more refl r.problem.predicates r.names.few_predicates r.problem.arities;
-        operators = operators-none d new q top (operators-count d r top);
+        operators = operators-none d new q top (operators-count d r top no_things);
         facts = facts-kept p q more d.version d.things d.facts r.facts;
-        building = building-none new q d.things no_things;
+        building = no-building-there _ d.things no_things;
         roles = roles-objects d.names.objects ns d.roles (unwrap_or d.things []) r.roles;
         in_building = r.in_building;
         robot = r.robot;
@@ -194,9 +194,9 @@ module _ (n : ℕ) (d : Declared) (r : AreInRange d) where
             (omega (arith, length-append d.names.predicates (name ∷ []), few))
             (All-append (λ k. k ≤ greatest d.version limit.arity) d.arities (arity ∷ []) r.problem.arities
             (one-all (λ k. k ≤ greatest d.version limit.arity) arity (at-most (greatest d.version limit.arity) arity wide.0)));
-        operators = operators-none d new q top (operators-count d r top);
+        operators = operators-none d new q top (operators-count d r top no_things);
         facts = facts-kept p q more d.version d.things d.facts r.facts;
-        building = building-none new q d.things no_things;
+        building = no-building-there _ d.things no_things;
         roles = r.roles;
         in_building = r.in_building;
         robot = r.robot;
@@ -250,9 +250,9 @@ module _ (n : ℕ) (d : Declared) (r : AreInRange d) where
         version = r.version;
         names = r.names;
         problem = problem-axiom d.version d.names p r.problem c new (at-most 64 (length d.axioms + 1) many.0);
-        operators = operators-none d d.names q top (operators-count d r top);
+        operators = operators-none d d.names q top (operators-count d r top no_things);
         facts = facts-kept p q more d.version d.things d.facts r.facts;
-        building = building-none d.names q d.things no_things;
+        building = no-building-there _ d.things no_things;
         roles = r.roles;
         in_building = r.in_building;
         robot = r.robot;
@@ -283,7 +283,7 @@ module _ (n : ℕ) (d : Declared) (r : AreInRange d) where
         names = operators-more d.version d.names r.names (name ∷ []) twice.0 long.0 few;
         problem = problem-renamed d.version d.names p r.problem new refl refl;
         operators = record {
-          named = omega (arith, length-append d.names.operators (name ∷ []), operators-count d r top);
+          named = omega (arith, length-append d.names.operators (name ∷ []), operators-count d r top no_things);
           params = refl;
           schema = record {
             number = refl;
@@ -297,11 +297,10 @@ module _ (n : ℕ) (d : Declared) (r : AreInRange d) where
           short_lists = (omega arith, omega arith, omega arith);
         };
         facts = r.facts;
-        building = building-none new p d.things no_things;
+        building = no-building-there _ d.things no_things;
         roles = r.roles;
         in_building = λ is. let no : ⊥ = cc in elim no [ ];
-        robot = λ closed. (let P : Option (List Thing) → Type 0 = λ t. IfSome t (λ things. list_any is_robot things ≡ true) in
-            subst P (sym no_things) tt);
+        robot = λ closed. no-building-there _ d.things no_things;
         own_domain = λ own. owned d.own_domain own;
         commands = commands-none d.version p p d.things d.things (length d.names.results) d.commands none r.commands;
         results = r.results;

@@ -1,6 +1,6 @@
 -- More objects, predicates, axioms and operators keep a problem in range, and other limits.
 use Rattle.std.proofs.Common.{◌≡◌, ℕ, ◌+◌, ◌≤◌, List, [], ◌∷◌, ◌++◌, map, length, refl, sym, ap, ◌∙◌, subst, arith, length-append, inl, inr}
-use Rattle.std.specs.Prelude.{All, Option, None, Some, slice_index_or}
+use Rattle.std.specs.Prelude.{All, IfSome, Option, None, Some, slice_index_or}
 use Rattle.std.proofs.Math.ListN.{get_or-append}
 use Rattle.std.proofs.Math.Seq.{get_or-append_seam}
 use Rattle.std.proofs.lemmas.Bool.{cases_lt}
@@ -19,7 +19,7 @@ use Rattle.px_world.specs.declared.thing.Thing.{Thing}
 use Rattle.px_script.specs.Limits as limit
 use Rattle.px_script.specs.Limits.{greatest}
 use Rattle.px_script.specs.Declarations.{OpenOperator}
-use Rattle.px_script.specs.Ranges.{ProblemInRange, BuildingInRange, HasShortLists, AreNumbered}
+use Rattle.px_script.specs.Ranges.{ProblemInRange, HasShortLists, AreNumbered}
 use Rattle.px_script.proofs.States.{IsOperatorInRange, OperatorsInRange}
 use Rattle.px_script.proofs.Grown.{Grows, alike, schema-kept, schemas-kept, axioms-kept}
 use Rattle.px_script.proofs.KeptNames.{one-all}
@@ -183,25 +183,14 @@ operator-kept version names new p q o more schemas operators is = record {
   short_lists = is.short_lists;
 }
 
-pub operators-kept : (version : ℕ) (names new : NameLists) (p q : Problem) (o : Option OpenOperator) → Grows p q → p.schemas ≡ q.schemas
-    → length names.operators ≡ length new.operators
-    → OperatorsInRange version names p o → OperatorsInRange version new q o
-operators-kept version names new p q None more schemas operators h = sym operators ∙ h ∙ ap length schemas
-operators-kept version names new p q (Some o) more schemas operators h = operator-kept version names new p q o more schemas operators h
+pub operators-kept : (version : ℕ) (names new : NameLists) (p q : Problem) (old things : Option (List Thing)) (o : Option OpenOperator)
+    → Grows p q → p.schemas ≡ q.schemas → length names.operators ≡ length new.operators → (things ≡ None → old ≡ None)
+    → OperatorsInRange version names p old o → OperatorsInRange version new q things o
+operators-kept version names new p q old things None more schemas operators own h =
+    λ none. sym operators ∙ h (own none) ∙ ap length schemas
+operators-kept version names new p q old things (Some o) more schemas operators own h =
+    operator-kept version names new p q o more schemas operators h
 
--- a building of a problem and names with the same objects and predicates
-pub building-kept : (names new : NameLists) (p q : Problem) (building : Option (List Thing)) → names.objects ≡ new.objects
-    → names.predicates ≡ new.predicates → p.arities ≡ q.arities
-    → BuildingInRange names p building → BuildingInRange new q building
-building-kept names new p q None objects predicates arities h = tt
-building-kept names new p q (Some things) objects predicates arities h = record {
-  things_right = h.things_right;
-  one_robot = h.one_robot;
-  objects = ap length (sym objects) ∙ h.objects;
-  robot_first = ap (λ t. slice_index_or t 0 []) (sym objects) ∙ h.robot_first;
-  predicates = sym predicates ∙ h.predicates;
-  arities = sym arities ∙ h.arities;
-}
-
-pub building-none : (names : NameLists) (p : Problem) (building : Option (List Thing)) → building ≡ None → BuildingInRange names p building
-building-none names p building none = let P : Option (List Thing) → Type 0 = BuildingInRange names p in subst P (sym none) tt
+-- where there is no building
+pub no-building-there : {A : Type 0} (P : A → Type 0) (building : Option A) → building ≡ None → IfSome building P
+no-building-there P building none = subst (λ o. IfSome o P) (sym none) tt

@@ -7,6 +7,8 @@ use Rattle.std.proofs.lemmas.List.{length-map, get_or-map, append-nil}
 use Rattle.std.proofs.lemmas.List.Sums.{fold-append}
 use Rattle.std.proofs.lemmas.List.Elements.{All-append, All-cons, All-map}
 use Rattle.px_names.specs.Lists.{has_name}
+use Rattle.px_rooms.specs.Changes.{IsAdmitted}
+use Rattle.px_rooms.specs.States.{IsBoxAt, IsDoorAt, IsRoomAt, first_state, standings}
 use Rattle.px_terms.specs.Validity.{IsAtomOf}
 use Rattle.px_terms.specs.declared.problem.Problem.{Problem}
 use Rattle.px_world.specs.declared.thing.Thing.{Thing}
@@ -16,11 +18,10 @@ use Rattle.px_script.specs.Limits as limit
 use Rattle.px_script.specs.Limits.{greatest, of_turn}
 use Rattle.px_script.specs.Commands.{Command, Plan, Learn, Show, DisturbAtoms, DisturbRooms, Run, Facts}
 use Rattle.px_script.specs.Declarations.{Declared, Roles, names_here, number_in, variables_of, atom_of, atom_edit_of, edit_by, room_edit_of, binding_of, after_line}
-use Rattle.px_script.specs.Content.{problem_of}
+use Rattle.px_script.specs.Content.{own_problem}
 use Rattle.px_script.specs.Causes.{repeats}
 use Rattle.px_script.specs.Faults.{binds_twice, disturbance_limits, first_of, passed}
-use Rattle.px_script.specs.Things.{IsRoomOf, IsDoorOf, IsBoxOf}
-use Rattle.px_script.specs.Ranges.{IsCommandOf, IsEditOf, IsRoomEditOf, AreRoomEditsOf, HasTurn, NamesEarlier, result_given, plan_given, IsAmong, IsBindingOf, all_disturbs, disturbs_after}
+use Rattle.px_script.specs.Ranges.{IsCommandOf, IsEditOf, AreRoomEditsOf, HasTurn, NamesEarlier, result_given, plan_given, IsAmong, IsBindingOf, all_disturbs, disturbs_after}
 use Rattle.px_script.proofs.States.{AreInRange, AreRolesOf}
 use Rattle.px_script.proofs.Fronts.{by_test, true_not_false}
 use Rattle.px_script.proofs.Firsts.{and_both}
@@ -31,14 +32,14 @@ use Rattle.px_script.proofs.Arguments.{arguments_of}
 use Rattle.px_script.proofs.LineAtoms.{HasAtoms, atoms-right, atoms-open, atoms-ground, goal-terms, names-changes, no-variables}
 use Rattle.px_script.proofs.Faultless.{IsFaultless, stands-right, at-top, wanted-known}
 use Rattle.px_script.proofs.KeptNames.{results-more, is-new, is_long, at-name, one-all}
-use Rattle.px_script.proofs.KeptProblem.{problem-renamed, operators-kept, building-kept}
+use Rattle.px_script.proofs.KeptProblem.{problem-renamed, operators-kept}
 use Rattle.px_script.proofs.Grown.{alike}
 use Rattle.px_script.proofs.KeptCommands.{IsNewCommand, commands-more, one-more-result, no-more-result, among-given, among-still, among-last}
 use Rattle.px_script.proofs.KeptDomain.{no-parameters, unmap}
 
 module _ (n : ℕ) (d : Declared) (r : AreInRange d) where
   abbrev p : Problem
-  p = problem_of d
+  p = own_problem d
 
   abbrev results : ℕ
   results = length d.names.results
@@ -179,26 +180,26 @@ module _ (n : ℕ) (d : Declared) (r : AreInRange d) where
 
   room-edit-is : (things : List Thing) → AreRolesOf d.names.objects d.roles things
       → (edit : WrittenRoomEdit) (more : List (Named × List ℕ)) → AllByRecursion IsThere (wanted_by_edit edit ++ more)
-      → IsRoomEditOf things (room_edit_of d edit) × AllByRecursion IsThere more
+      → IsAdmitted (first_state things) (room_edit_of d edit) × AllByRecursion IsThere more
   room-edit-is things roles (robot_to room) more known =
-      (at-name (λ m. IsRoomOf things (number_in m d.names.objects)) d.roles.rooms room roles.rooms known.0, known.1)
+      (at-name (λ m. IsRoomAt (standings things) (number_in m d.names.objects)) d.roles.rooms room roles.rooms known.0, known.1)
   room-edit-is things roles (box_to box room) more known = (
     (
-      at-name (λ m. IsBoxOf things (number_in m d.names.objects)) d.roles.boxes box roles.boxes known.0,
-      at-name (λ m. IsRoomOf things (number_in m d.names.objects)) d.roles.rooms room roles.rooms known.1.0,
+      at-name (λ m. IsBoxAt (standings things) (number_in m d.names.objects)) d.roles.boxes box roles.boxes known.0,
+      at-name (λ m. IsRoomAt (standings things) (number_in m d.names.objects)) d.roles.rooms room roles.rooms known.1.0,
     ),
     known.1.1,
   )
   room-edit-is things roles (door_to door is_open) more known =
-      (at-name (λ m. IsDoorOf things (number_in m d.names.objects)) d.roles.doors door roles.doors known.0, known.1)
+      (at-name (λ m. IsDoorAt (standings things) (number_in m d.names.objects)) d.roles.doors door roles.doors known.0, known.1)
 
   room-edits-are : (things : List Thing) → AreRolesOf d.names.objects d.roles things → (edits : List WrittenRoomEdit)
       → AllByRecursion IsThere (flat_map wanted_by_edit edits)
-      → All (IsRoomEditOf things) (map (room_edit_of d) edits)
+      → All (IsAdmitted (first_state things)) (map (room_edit_of d) edits)
   room-edits-are things roles [] known = λ k x below. absurd (omega (arith, below))
   room-edits-are things roles (edit ∷ edits) known =
       let first = room-edit-is things roles edit (flat_map wanted_by_edit edits) known in
-      All-cons (IsRoomEditOf things) _ _ first.0 (room-edits-are things roles edits first.1)
+      All-cons (IsAdmitted (first_state things)) _ _ first.0 (room-edits-are things roles edits first.1)
 
   edits-of : (o : Option (List Thing)) → is_some o ≡ true → AreRolesOf d.names.objects d.roles (unwrap_or o [])
       → (edits : List WrittenRoomEdit)
@@ -315,14 +316,14 @@ module _ (n : ℕ) (d : Declared) (r : AreInRange d) where
         version = r.version;
         names = results-more d.version d.names r.names (name ∷ []) single short;
         problem = problem-renamed d.version d.names p r.problem new refl refl;
-        operators = operators-kept d.version d.names new p p _ (alike p p refl refl) refl refl r.operators;
+        operators = operators-kept d.version d.names new p p d.things d.things _ (alike p p refl refl) refl refl (λ none. none) r.operators;
         facts = r.facts;
-        building = building-kept d.names new p p d.things refl refl refl r.building;
+        building = r.building;
         roles = of_things;
         in_building = r.in_building;
         robot = r.robot;
         own_domain = λ own none. let empty = r.own_domain (or-false d.own_domain false own).0 none in
-            record { objects = empty.objects; predicates = empty.predicates; arities = empty.arities };
+            record { objects = empty.objects; predicates = empty.predicates; operators = empty.operators; arities = empty.arities };
         commands = commands-more d.version p d.things results (length (d.names.results ++ name ∷ [])) d.commands c r.commands (record {
           is_command = is_command;
           few = few;

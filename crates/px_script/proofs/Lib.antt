@@ -28,6 +28,8 @@ pub mod Faultless
 pub mod KeptNames
 pub mod KeptProblem
 pub mod KeptCommands
+pub mod Standings
+pub mod Rendering
 pub mod LineAtoms
 pub mod KeptDomain
 pub mod KeptBlocks

@@ -11,7 +11,7 @@ use Rattle.px_script.specs.Declarations.{Declared, parameters_here, variables_of
 use Rattle.px_script.specs.Forms as forms
 use Rattle.px_script.specs.Causes.{is_known_argument, takes, varies, varies_too_early}
 use Rattle.px_script.specs.Items.{is_empty}
-use Rattle.px_script.specs.Content.{problem_of}
+use Rattle.px_script.specs.Content.{own_problem}
 use Rattle.px_script.proofs.States.{AreInRange}
 use Rattle.px_script.proofs.Fronts.{true_not_false}
 use Rattle.px_script.proofs.Tests.{or-false, and-true}
@@ -53,7 +53,7 @@ pub record TakesNames (d : Declared) (manner : Manner) : Type 0 where
 
 module _ (d : Declared) where
   accepts-names : (manner : Manner) → TakesNames d manner → (vars : ℕ) → length (parameters_here d) ≤ vars
-      → Accepts d [] vars (takes d manner) (IsTermOf (problem_of d) vars)
+      → Accepts d [] vars (takes d manner) (IsTermOf (own_problem d) vars)
   accepts-names manner names vars parameters = record {
     object = λ k below. below;
     variable = λ k below. below;
@@ -64,7 +64,7 @@ module _ (d : Declared) where
   }
 
   accepts-patterns : (vars : ℕ) → length (parameters_here d) ≤ vars
-      → Accepts d [] vars (takes d patterns) (IsPatternTermOf (problem_of d) vars)
+      → Accepts d [] vars (takes d patterns) (IsPatternTermOf (own_problem d) vars)
   accepts-patterns vars parameters = record {
     object = λ k below. below;
     variable = λ k below. below;
@@ -75,7 +75,7 @@ module _ (d : Declared) where
   }
 
   accepts-listed : (variables : List (List ℕ)) → parameters_here d ≡ []
-      → Accepts d variables (length variables) (is_listed variables) (IsTermOf (problem_of d) (length variables))
+      → Accepts d variables (length variables) (is_listed variables) (IsTermOf (own_problem d) (length variables))
   accepts-listed variables none = record {
     object = λ k below. below;
     variable = λ k below. below;
@@ -93,29 +93,29 @@ module _ (d : Declared) where
 
   module _ (r : AreInRange d) (xs : List SignedAtom) where
     pub atoms-with : (manner : Manner) → TakesNames d manner → (vars : ℕ) → length (parameters_here d) ≤ vars → AreRight d manner xs
-        → All (IsAtomOf (problem_of d) vars) (map (atom_of d []) xs)
+        → All (IsAtomOf (own_problem d) vars) (map (atom_of d []) xs)
     atoms-with manner names vars parameters right =
-        atoms-are d [] vars (takes d manner) (IsTermOf (problem_of d) vars) (accepts-names manner names vars parameters)
-        (problem_of d) refl r.problem.predicates xs right.declared right.known right.arity right.bound
+        atoms-are d [] vars (takes d manner) (IsTermOf (own_problem d) vars) (accepts-names manner names vars parameters)
+        (own_problem d) refl r.problem.predicates xs right.declared right.known right.arity right.bound
 
     pub atoms-ground : (manner : Manner) → TakesNames d manner → parameters_here d ≡ [] → AreRight d manner xs
-        → All (IsAtomOf (problem_of d) 0) (map (atom_of d []) xs)
+        → All (IsAtomOf (own_problem d) 0) (map (atom_of d []) xs)
     atoms-ground manner names none right = atoms-with manner names 0 (omega (arith, ap length none)) right
 
     pub patterns-with : (vars : ℕ) → length (parameters_here d) ≤ vars → AreRight d patterns xs
-        → All (IsPatternOf (problem_of d) vars) (map (atom_of d []) xs)
+        → All (IsPatternOf (own_problem d) vars) (map (atom_of d []) xs)
     patterns-with vars parameters right =
-        atoms-are d [] vars (takes d patterns) (IsPatternTermOf (problem_of d) vars) (accepts-patterns vars parameters)
-        (problem_of d) refl r.problem.predicates xs right.declared right.known right.arity right.bound
+        atoms-are d [] vars (takes d patterns) (IsPatternTermOf (own_problem d) vars) (accepts-patterns vars parameters)
+        (own_problem d) refl r.problem.predicates xs right.declared right.known right.arity right.bound
 
     -- atoms with variables, numbered as they occur
     pub atoms-open : parameters_here d ≡ [] → (manner : Manner) → AreRight d manner xs
         → list_any (λ a. not (is_term a)) (arguments_of xs) ≡ false
-        → All (IsAtomOf (problem_of d) (length (variables_of xs))) (map (atom_of d (variables_of xs)) xs)
+        → All (IsAtomOf (own_problem d) (length (variables_of xs))) (map (atom_of d (variables_of xs)) xs)
     atoms-open none manner right terms =
         atoms-are d (variables_of xs) (length (variables_of xs)) (is_listed (variables_of xs))
-        (IsTermOf (problem_of d) (length (variables_of xs))) (accepts-listed (variables_of xs) none)
-        (problem_of d) refl r.problem.predicates xs right.declared right.known right.arity (all-listed xs terms)
+        (IsTermOf (own_problem d) (length (variables_of xs))) (accepts-listed (variables_of xs) none)
+        (own_problem d) refl r.problem.predicates xs right.declared right.known right.arity (all-listed xs terms)
 
   -- goals and axioms have no wild card
   pub goal-terms : (arguments : List Argument) → list_any (λ a. not (takes d goals a)) arguments ≡ false

@@ -20,8 +20,8 @@ use Rattle.px_script.specs.Statements.{Statement}
 use Rattle.px_script.specs.Forms.{Forms, begins_with_word}
 use Rattle.px_script.proofs.Parsing.{parse}
 use Rattle.px_script.specs.Declarations.{Declared, OpenBlock, nothing_declared, after_line}
-use Rattle.px_script.specs.Stages.{stage_now}
-use Rattle.px_script.specs.Faults.{Refusal, fault_of}
+use Rattle.px_script.specs.Stages.{Stage}
+use Rattle.px_script.specs.Faults.{Refusal, fault_at}
 use Rattle.px_script.specs.Scripts.{Passes, PassAll, Fails, FailsIn, Spells, FirstFault}
 use Rattle.px_script.proofs.Plain.{Reading, passes, fails, refused, statement_read, line_read, lines_read, is_plain, starts_plain, continues_plain, goes_on_plain, plain_name, plain_number, plain_variable, first_of_kind, plain_first_at, plain_first, after_first, scan_by, plain_scan, plain_lines, bytes_read, is_plain_text}
 use Rattle.px_script.proofs.Fronts.{front-after}
@@ -152,67 +152,6 @@ scan line = scan_by first (length line + 1) line
 pub written-so : (line : List ℕ) (xs : List Lexeme) → is_plain line ≡ true → plain_scan line ≡ Some xs → Lexes line xs
 written-so line xs plain e = scan-sound (length line + 1) line xs (sym (scan-same (length line + 1) line plain) ∙ e)
 
--- what a reading of one line says
-abbrev Says : ℕ → Declared → List ℕ → Reading → Type 0
-Says n d line (passes next) = Passes stage_now n d line next
-Says n d line (fails at refusal) = Fails stage_now d line refusal × (at ≡ n)
-
-module _ (n : ℕ) (d : Declared) (line : List ℕ) where
-  fault-says : (x : Lexeme) (xs : List Lexeme) (s : Statement) (f : Option Refusal) → Lexes line (x ∷ xs) → Forms d (x ∷ xs) s
-      → fault_of d s ≡ f
-      → Says n d line (elim f [ None ↦ passes (after_line n d s) | Some refusal ↦ fails n refusal ])
-  fault-says x xs s None lexes forms e = (x ∷ xs, lexes, (s, forms, e, refl))
-  fault-says x xs s (Some refusal) lexes forms e = (inr (x ∷ xs, lexes, inr (inr (s, forms, e))), refl)
-
-  statement-says : (x : Lexeme) (xs : List Lexeme) (o : Option Statement) → Lexes line (x ∷ xs) → begins_with_word d (x ∷ xs) ≡ true
-      → parse d (x ∷ xs) ≡ o
-      → Says n d line (statement_read stage_now n d o)
-  statement-says x xs None lexes word e =
-      let none : (s : Statement) → Forms d (x ∷ xs) s → ⊥ = λ s forms. let p = parse-complete d (x ∷ xs) s forms in cc in
-      (inr (x ∷ xs, lexes, inr (inl (word, none, refl))), refl)
-  statement-says x xs (Some s) lexes word e = fault-says x xs s (fault_of d s) lexes (parse-sound d (x ∷ xs) s e) refl
-
-  word-says : (x : Lexeme) (xs : List Lexeme) (b : Bool) → Lexes line (x ∷ xs) → begins_with_word d (x ∷ xs) ≡ b
-      → Says n d line (if b then statement_read stage_now n d (parse d (x ∷ xs)) else refused n 3 0)
-  word-says x xs true lexes e = statement-says x xs (parse d (x ∷ xs)) lexes e refl
-  word-says x xs false lexes e = (inr (x ∷ xs, lexes, inl (e, refl)), refl)
-
-  line-says : (o : Option (List Lexeme)) → scan line ≡ o → Says n d line (line_read stage_now n d o)
-  line-says None e =
-      let none : (xs : List Lexeme) → Lexes line xs
-      → ⊥ = λ xs lexes. let whole = scan-complete (length line + 1) xs line lexes (omega arith) in cc in
-      (inl (none, refl), refl)
-  line-says (Some []) e = ([], scan-sound (length line + 1) line [] e, refl)
-  line-says (Some (x ∷ xs)) e = word-says x xs (begins_with_word d (x ∷ xs)) (scan-sound (length line + 1) line (x ∷ xs) e) refl
-
--- what a reading of lines says
-abbrev LinesSay : ℕ → Declared → List (List ℕ) → Reading → Type 0
-LinesSay n d lines (passes after) = PassAll stage_now n d lines after × (after.block ≡ None)
-LinesSay n d lines (fails at refusal) = FailsIn stage_now n d lines at refusal
-
-end-says : (n : ℕ) (d : Declared) (o : Option OpenBlock) → d.block ≡ o
-    → LinesSay n d [] (elim o [ None ↦ passes d | Some block ↦ refused block.line 10 0 ])
-end-says n d None e = (refl, e)
-end-says n d (Some block) e = (block, e, refl, refl)
-
-more-say : (n : ℕ) (d next : Declared) (line : List ℕ) (lines : List (List ℕ)) (r : Reading) → Passes stage_now n d line next
-    → LinesSay (n + 1) next lines r → LinesSay n d (line ∷ lines) r
-more-say n d next line lines (passes after) pass say = ((next, pass, say.0), say.1)
-more-say n d next line lines (fails at refusal) pass say = inr (next, pass, say)
-
-first-says : (n : ℕ) (d : Declared) (line : List ℕ) (lines : List (List ℕ)) (r : Reading) (more : Declared → Reading) → Says n d line r
-    → ((next : Declared) → LinesSay (n + 1) next lines (more next))
-    → LinesSay n d (line ∷ lines) (elim r [ passes next ↦ more next | fails at refusal ↦ fails at refusal ])
-first-says n d line lines (passes next) more says recur = more-say n d next line lines (more next) says (recur next)
-first-says n d line lines (fails at refusal) more says recur = inl says
-
-lines-say : (n : ℕ) (d : Declared) (lines : List (List ℕ)) → LinesSay n d lines (lines_read stage_now n d (map scan lines))
-unfolding lines_read
-lines-say n d [] = end-says n d d.block refl
-lines-say n d (line ∷ lines) =
-    first-says n d line lines (line_read stage_now n d (scan line)) (λ next. lines_read stage_now (n + 1) next (map scan lines))
-    (line-says n d line (scan line) refl) (λ next. lines-say (n + 1) next lines)
-
 scans-same : (lines : List (List ℕ)) → list_all is_plain lines ≡ true → map scan lines ≡ map plain_scan lines
 scans-same [] plain = refl
 scans-same (line ∷ lines) plain = let both = and_both (is_plain line) (list_all is_plain lines) plain in
@@ -228,52 +167,114 @@ lines-same (part ∷ parts) plain =
     let both = and_both (is_plain (without_return part)) (list_all is_plain (map without_return parts)) plain in
     rw (chars-IsAscii (without_return part) (is-ascii (without_return part) both.0), lines-same parts both.1) refl
 
--- what a reading of bytes says
-abbrev pub TextSays : List ℕ → Reading → Type 0
-TextSays bytes (passes script) = Spells stage_now bytes script
-TextSays bytes (fails line refusal) = FirstFault stage_now bytes line refusal
+module _ (stage : Stage) where
+  -- what a reading of one line says
+  abbrev Says : ℕ → Declared → List ℕ → Reading → Type 0
+  Says n d line (passes next) = Passes stage n d line next
+  Says n d line (fails at refusal) = Fails stage d line refusal × (at ≡ n)
 
-lines-text : (bytes : List ℕ) (r : Reading) → IsUtf8 bytes → LinesSay 1 nothing_declared (lines_of bytes) r → TextSays bytes r
-lines-text bytes (passes script) u say = record { text = u; lines = say.0; closed = say.1 }
-lines-text bytes (fails line refusal) u say = inr (u, say)
+  module _ (n : ℕ) (d : Declared) (line : List ℕ) where
+    fault-says : (x : Lexeme) (xs : List Lexeme) (s : Statement) (f : Option Refusal) → Lexes line (x ∷ xs) → Forms d (x ∷ xs) s
+        → fault_at stage d s ≡ f
+        → Says n d line (elim f [ None ↦ passes (after_line n d s) | Some refusal ↦ fails n refusal ])
+    fault-says x xs s None lexes forms e = (x ∷ xs, lexes, (s, forms, e, refl))
+    fault-says x xs s (Some refusal) lexes forms e = (inr (x ∷ xs, lexes, inr (inr (s, forms, e))), refl)
 
--- a text whose lines are ASCII, though what stands before them may not be
-plain-lines-say : (bytes : List ℕ) → IsUtf8 bytes → list_all is_plain (plain_lines bytes) ≡ true
-    → TextSays bytes (bytes_read stage_now bytes)
-plain-lines-say bytes text plain =
-    let lines : lines_of bytes ≡ plain_lines bytes = lines-same (slice_split (λ b. b == 10) (without_mark bytes)) plain in
-    let P : List (List ℕ)
-    → Type 0 = λ t. LinesSay 1 nothing_declared t (lines_read stage_now 1 nothing_declared (map scan (plain_lines bytes))) in
-    let say = subst P (sym lines) (lines-say 1 nothing_declared (plain_lines bytes)) in
-    let Q : List (Option (List Lexeme))
-    → Type 0 = λ t. LinesSay 1 nothing_declared (lines_of bytes) (lines_read stage_now 1 nothing_declared t) in
-    lines-text bytes (bytes_read stage_now bytes) text (subst Q (scans-same (plain_lines bytes) plain) say)
+    statement-says : (x : Lexeme) (xs : List Lexeme) (o : Option Statement) → Lexes line (x ∷ xs) → begins_with_word d (x ∷ xs) ≡ true
+        → parse d (x ∷ xs) ≡ o
+        → Says n d line (statement_read stage n d o)
+    statement-says x xs None lexes word e =
+        let none : (s : Statement) → Forms d (x ∷ xs) s → ⊥ = λ s forms. let p = parse-complete d (x ∷ xs) s forms in cc in
+        (inr (x ∷ xs, lexes, inr (inl (word, none, refl))), refl)
+    statement-says x xs (Some s) lexes word e = fault-says x xs s (fault_at stage d s) lexes (parse-sound d (x ∷ xs) s e) refl
 
-pub text-says : (bytes : List ℕ) → is_plain_text bytes ≡ true → TextSays bytes (bytes_read stage_now bytes)
-text-says bytes plain =
-    let both = and_both (is_plain bytes) (list_all is_plain (plain_lines bytes)) plain in
-    plain-lines-say bytes (IsUtf8-from_ascii bytes (is-ascii bytes both.0)) both.1
+    word-says : (x : Lexeme) (xs : List Lexeme) (b : Bool) → Lexes line (x ∷ xs) → begins_with_word d (x ∷ xs) ≡ b
+        → Says n d line (if b then statement_read stage n d (parse d (x ∷ xs)) else refused n 3 0)
+    word-says x xs true lexes e = statement-says x xs (parse d (x ∷ xs)) lexes e refl
+    word-says x xs false lexes e = (inr (x ∷ xs, lexes, inl (e, refl)), refl)
 
--- the plain reader finds this fault, so it is the first
-pub refused-so : (bytes : List ℕ) (line : ℕ) (refusal : Refusal) → is_plain_text bytes ≡ true
-    → bytes_read stage_now bytes ≡ fails line refusal → FirstFault stage_now bytes line refusal
-refused-so bytes line refusal plain e = subst (TextSays bytes) e (text-says bytes plain)
+    line-says : (o : Option (List Lexeme)) → scan line ≡ o → Says n d line (line_read stage n d o)
+    line-says None e =
+        let none : (xs : List Lexeme) → Lexes line xs
+        → ⊥ = λ xs lexes. let whole = scan-complete (length line + 1) xs line lexes (omega arith) in cc in
+        (inl (none, refl), refl)
+    line-says (Some []) e = ([], scan-sound (length line + 1) line [] e, refl)
+    line-says (Some (x ∷ xs)) e = word-says x xs (begins_with_word d (x ∷ xs)) (scan-sound (length line + 1) line (x ∷ xs) e) refl
 
--- the plain reader reads this, so it is the script
-pub spelled-so : (bytes : List ℕ) (script : Declared) → is_plain_text bytes ≡ true → bytes_read stage_now bytes ≡ passes script
-    → Spells stage_now bytes script
-spelled-so bytes script plain e = subst (TextSays bytes) e (text-says bytes plain)
+  -- what a reading of lines says
+  abbrev LinesSay : ℕ → Declared → List (List ℕ) → Reading → Type 0
+  LinesSay n d lines (passes after) = PassAll stage n d lines after × (after.block ≡ None)
+  LinesSay n d lines (fails at refusal) = FailsIn stage n d lines at refusal
 
--- the same where the bytes are these characters
-pub spelled-after : (bytes cs : List ℕ) (script : Declared) → all_scalars cs ≡ true → encode_utf8_all cs ≡ bytes
-    → list_all is_plain (plain_lines bytes) ≡ true → bytes_read stage_now bytes ≡ passes script
-    → Spells stage_now bytes script
-spelled-after bytes cs script scalars are plain e = subst (TextSays bytes) e (plain-lines-say bytes (cs, (scalars, are)) plain)
+  end-says : (n : ℕ) (d : Declared) (o : Option OpenBlock) → d.block ≡ o
+      → LinesSay n d [] (elim o [ None ↦ passes d | Some block ↦ refused block.line 10 0 ])
+  end-says n d None e = (refl, e)
+  end-says n d (Some block) e = (block, e, refl, refl)
 
--- any text, read by the definitions of lexemes
-pub refused-by : (bytes cs : List ℕ) (line : ℕ) (refusal : Refusal) → all_scalars cs ≡ true → encode_utf8_all cs ≡ bytes
-    → lines_read stage_now 1 nothing_declared (map scan (lines_of bytes)) ≡ fails line refusal
-    → FirstFault stage_now bytes line refusal
-refused-by bytes cs line refusal scalars are e =
-    subst (TextSays bytes) e (lines-text bytes (lines_read stage_now 1 nothing_declared (map scan (lines_of bytes))) (cs, (scalars, are))
-    (lines-say 1 nothing_declared (lines_of bytes)))
+  more-say : (n : ℕ) (d next : Declared) (line : List ℕ) (lines : List (List ℕ)) (r : Reading) → Passes stage n d line next
+      → LinesSay (n + 1) next lines r → LinesSay n d (line ∷ lines) r
+  more-say n d next line lines (passes after) pass say = ((next, pass, say.0), say.1)
+  more-say n d next line lines (fails at refusal) pass say = inr (next, pass, say)
+
+  first-says : (n : ℕ) (d : Declared) (line : List ℕ) (lines : List (List ℕ)) (r : Reading) (more : Declared → Reading) → Says n d line r
+      → ((next : Declared) → LinesSay (n + 1) next lines (more next))
+      → LinesSay n d (line ∷ lines) (elim r [ passes next ↦ more next | fails at refusal ↦ fails at refusal ])
+  first-says n d line lines (passes next) more says recur = more-say n d next line lines (more next) says (recur next)
+  first-says n d line lines (fails at refusal) more says recur = inl says
+
+  lines-say : (n : ℕ) (d : Declared) (lines : List (List ℕ)) → LinesSay n d lines (lines_read stage n d (map scan lines))
+  unfolding lines_read
+  lines-say n d [] = end-says n d d.block refl
+  lines-say n d (line ∷ lines) =
+      first-says n d line lines (line_read stage n d (scan line)) (λ next. lines_read stage (n + 1) next (map scan lines))
+      (line-says n d line (scan line) refl) (λ next. lines-say (n + 1) next lines)
+
+  -- what a reading of bytes says
+  abbrev pub TextSays : List ℕ → Reading → Type 0
+  TextSays bytes (passes script) = Spells stage bytes script
+  TextSays bytes (fails line refusal) = FirstFault stage bytes line refusal
+
+  lines-text : (bytes : List ℕ) (r : Reading) → IsUtf8 bytes → LinesSay 1 nothing_declared (lines_of bytes) r → TextSays bytes r
+  lines-text bytes (passes script) u say = record { text = u; lines = say.0; closed = say.1 }
+  lines-text bytes (fails line refusal) u say = inr (u, say)
+
+  -- a text whose lines are ASCII, though what stands before them may not be
+  plain-lines-say : (bytes : List ℕ) → IsUtf8 bytes → list_all is_plain (plain_lines bytes) ≡ true
+      → TextSays bytes (bytes_read stage bytes)
+  plain-lines-say bytes text plain =
+      let lines : lines_of bytes ≡ plain_lines bytes = lines-same (slice_split (λ b. b == 10) (without_mark bytes)) plain in
+      let P : List (List ℕ)
+      → Type 0 = λ t. LinesSay 1 nothing_declared t (lines_read stage 1 nothing_declared (map scan (plain_lines bytes))) in
+      let say = subst P (sym lines) (lines-say 1 nothing_declared (plain_lines bytes)) in
+      let Q : List (Option (List Lexeme))
+      → Type 0 = λ t. LinesSay 1 nothing_declared (lines_of bytes) (lines_read stage 1 nothing_declared t) in
+      lines-text bytes (bytes_read stage bytes) text (subst Q (scans-same (plain_lines bytes) plain) say)
+
+  pub text-says : (bytes : List ℕ) → is_plain_text bytes ≡ true → TextSays bytes (bytes_read stage bytes)
+  text-says bytes plain =
+      let both = and_both (is_plain bytes) (list_all is_plain (plain_lines bytes)) plain in
+      plain-lines-say bytes (IsUtf8-from_ascii bytes (is-ascii bytes both.0)) both.1
+
+  -- the plain reader finds this fault, so it is the first
+  pub refused-so : (bytes : List ℕ) (line : ℕ) (refusal : Refusal) → is_plain_text bytes ≡ true
+      → bytes_read stage bytes ≡ fails line refusal → FirstFault stage bytes line refusal
+  refused-so bytes line refusal plain e = subst (TextSays bytes) e (text-says bytes plain)
+
+  -- the plain reader reads this, so it is the script
+  pub spelled-so : (bytes : List ℕ) (script : Declared) → is_plain_text bytes ≡ true → bytes_read stage bytes ≡ passes script
+      → Spells stage bytes script
+  spelled-so bytes script plain e = subst (TextSays bytes) e (text-says bytes plain)
+
+  -- the same where the bytes are these characters
+  pub spelled-after : (bytes cs : List ℕ) (script : Declared) → all_scalars cs ≡ true → encode_utf8_all cs ≡ bytes
+      → list_all is_plain (plain_lines bytes) ≡ true → bytes_read stage bytes ≡ passes script
+      → Spells stage bytes script
+  spelled-after bytes cs script scalars are plain e = subst (TextSays bytes) e (plain-lines-say bytes (cs, (scalars, are)) plain)
+
+  -- any text, read by the definitions of lexemes
+  pub refused-by : (bytes cs : List ℕ) (line : ℕ) (refusal : Refusal) → all_scalars cs ≡ true → encode_utf8_all cs ≡ bytes
+      → lines_read stage 1 nothing_declared (map scan (lines_of bytes)) ≡ fails line refusal
+      → FirstFault stage bytes line refusal
+  refused-by bytes cs line refusal scalars are e =
+      subst (TextSays bytes) e (lines-text bytes (lines_read stage 1 nothing_declared (map scan (lines_of bytes))) (cs, (scalars, are))
+      (lines-say 1 nothing_declared (lines_of bytes)))

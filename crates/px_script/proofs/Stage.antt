@@ -1,6 +1,6 @@
 -- What lines keep as far as the language is built.
-use Rattle.std.proofs.Common.{◌≡◌, ℕ, ◌+◌, true, List, [], ◌∷◌, ◌++◌, refl, sym, ap, ◌∙◌, subst, arith}
-use Rattle.std.specs.Prelude.{Option, None, Some, All, codes, is_some, not}
+use Rattle.std.proofs.Common.{◌≡◌, ℕ, ◌+◌, true, List, [], ◌∷◌, ◌++◌, refl, sym, ◌∙◌, subst, arith}
+use Rattle.std.specs.Prelude.{Option, None, Some, All, codes, is_some}
 use Rattle.std.specs.Option.{option_map}
 use Rattle.std.proofs.lemmas.List.Elements.{All-append}
 use Rattle.px_world.specs.declared.thing.Thing.{Thing}
@@ -9,8 +9,8 @@ use Rattle.px_script.specs.Lines.{lines_of}
 use Rattle.px_script.specs.Statements.{Statement, line_of, script, object, predicate, «axiom», operator, pre, delete, add, building, room, door, box, robot, end, fact, height, nodes, shapes, plan, learn, show, disturb_atoms, disturb_rooms, run, facts}
 use Rattle.px_script.specs.Commands.{Command}
 use Rattle.px_script.specs.Declarations.{Declared, nothing_declared, after_line}
-use Rattle.px_script.specs.Content.{ScriptValue, content_of}
-use Rattle.px_script.specs.Stages.{Stage, stage_now, is_built, is_unbuilt}
+use Rattle.px_script.specs.Content.{ScriptValue}
+use Rattle.px_script.specs.Stages.{Stage, is_built}
 use Rattle.px_script.specs.StageRanges.{IsBuiltCommand, IsOfStage}
 use Rattle.px_script.specs.Scripts.{PassesLexemes, PassAll, IsScript}
 use Rattle.px_script.proofs.Tests.{not-false}
@@ -80,11 +80,3 @@ module _ (stage : Stage) where
   of-stage bytes content is =
       let r = lines-of-stage 1 nothing_declared (lines_of bytes) is.last start-of-stage is.spells.lines in
       subst (IsOfStage stage) (sym is.is) (record { building = r.building; commands = r.commands })
-
--- no building is built now
-no-building : (building : Option (List Thing)) → (is_some building ≡ true → is_built stage_now (codes "building") ≡ true) → building ≡ None
-no-building None built = refl
-no-building (Some things) built = let now = built refl in let no : ⊥ = cc in elim no [ ]
-
-pub no-building-now : (content : ScriptValue) → IsOfStage stage_now content → content.building ≡ None
-no-building-now content is = no-building content.building is.building

@@ -1,17 +1,19 @@
 -- What the lines so far keep: that what they have declared is in range. No part of what a script is, but of how that is shown.
-use Rattle.std.specs.Prelude.{◌≡◌, ◌≤◌, ◌+◌, ℕ, true, false, List, [], length, Option, None, Some, All, IfSome, is_some, fold, unwrap_or}
+use Rattle.std.specs.Prelude.{◌≡◌, ◌≤◌, ◌+◌, ℕ, true, false, List, [], length, take, Option, None, Some, All, IfSome, EachIndex, is_some, fold, slice_index_or, unwrap_or}
 use Rattle.std.specs.List.{flat_map, list_any}
 use Rattle.px_names.specs.Lists.{NameLists, has_name}
+use Rattle.px_rooms.specs.Domain.{robot_name}
+use Rattle.px_rooms.specs.States.{IsBoxAt, IsDoorAt, IsRoomAt, StandsRight, robot_rooms, standings}
 use Rattle.px_terms.specs.Validity.{IsSchemaOf}
 use Rattle.px_terms.specs.declared.problem.Problem.{Problem}
 use Rattle.px_world.specs.declared.thing.Thing.{Thing}
+use Rattle.px_world.specs.declared.thing.Thing.TheVariants.{Room}
 use Rattle.px_script.specs.Commands.{Command}
-use Rattle.px_script.specs.Declarations.{Declared, OpenOperator, Roles, operator_here, number_in, block_here}
+use Rattle.px_script.specs.Declarations.{Declared, OpenOperator, Roles, operator_here, number_in, block_here, predicate_names, predicate_arities, operator_names}
 use Rattle.px_script.specs.Statements.{building_block}
 use Rattle.px_script.specs.Causes.{is_robot}
-use Rattle.px_script.specs.Content.{problem_of}
-use Rattle.px_script.specs.Things.{IsRoomOf, IsDoorOf, IsBoxOf}
-use Rattle.px_script.specs.Ranges.{NamesInRange, ProblemInRange, FactsInRange, BuildingInRange, CommandsInRange, HasShortLists, IsAmong, plan_given, disturbs_after}
+use Rattle.px_script.specs.Content.{own_problem}
+use Rattle.px_script.specs.Ranges.{NamesInRange, ProblemInRange, FactsInRange, CommandsInRange, HasShortLists, IsAmong, IsThingAfter, plan_given, disturbs_after}
 
 -- The operator is in range, and has the number that its schema will have.
 pub record IsOperatorInRange (version : ℕ) (names : NameLists) (problem : Problem) (o : OpenOperator) : Type 0 where
@@ -21,16 +23,32 @@ pub record IsOperatorInRange (version : ℕ) (names : NameLists) (problem : Prob
   pub no_objects : problem.objects ≡ 0 → o.schema.params ≡ 0
   pub short_lists : HasShortLists version o.schema
 
--- the operator whose block is open, or none
-abbrev pub OperatorsInRange : ℕ → NameLists → Problem → Option OpenOperator → Type 0
-OperatorsInRange version names problem None = length names.operators ≡ length problem.schemas
-OperatorsInRange version names problem (Some o) = IsOperatorInRange version names problem o
+-- The operator whose block is open, or none; then each operator has its schema. Those of a building have theirs in the end.
+abbrev pub OperatorsInRange : ℕ → NameLists → Problem → Option (List Thing) → Option OpenOperator → Type 0
+OperatorsInRange version names problem things None = things ≡ None → length names.operators ≡ length problem.schemas
+OperatorsInRange version names problem things (Some o) = IsOperatorInRange version names problem o
 
 -- The rooms, doors and boxes are those of the building.
 pub record AreRolesOf (objects : List (List ℕ)) (roles : Roles) (things : List Thing) : Type 0 where
-  pub rooms : All (λ n. IsRoomOf things (number_in n objects)) roles.rooms
-  pub doors : All (λ n. IsDoorOf things (number_in n objects)) roles.doors
-  pub boxes : All (λ n. IsBoxOf things (number_in n objects)) roles.boxes
+  pub rooms : All (λ n. IsRoomAt (standings things) (number_in n objects)) roles.rooms
+  pub doors : All (λ n. IsDoorAt (standings things) (number_in n objects)) roles.doors
+  pub boxes : All (λ n. IsBoxAt (standings things) (number_in n objects)) roles.boxes
+
+-- The things so far stand right, and there is at most one robot.
+pub record AreStanding (things : List Thing) : Type 0 where
+  pub right : All (StandsRight (standings things)) (standings things)
+  pub robots : All (IsRoomAt (standings things)) (robot_rooms things)
+  pub one_robot : length (robot_rooms things) ≤ 1
+  pub earlier : EachIndex things (λ k. IsThingAfter (take k things) (slice_index_or things k Room))
+
+-- The things so far are a building's, and the names that aren't results are those of the building.
+pub record IsBegun (objects predicates operators : List (List ℕ)) (arities : List ℕ) (things : List Thing) : Type 0 where
+  pub standing : AreStanding things
+  pub objects_are : length objects ≡ length (standings things) + 1
+  pub robot_first : slice_index_or objects 0 [] ≡ robot_name
+  pub predicates_are : predicates ≡ predicate_names
+  pub operators_are : operators ≡ operator_names
+  pub arities_are : arities ≡ predicate_arities
 
 -- Plans and tables are results of commands.
 pub record ResultsInRange (results : List (List ℕ)) (roles : Roles) (commands : List Command) (since_run : ℕ) : Type 0 where
@@ -44,19 +62,20 @@ pub record ResultsInRange (results : List (List ℕ)) (roles : Roles) (commands 
 pub record HasNoDomain (names : NameLists) (all_arities : List ℕ) : Type 0 where
   pub objects : names.objects ≡ []
   pub predicates : names.predicates ≡ []
+  pub operators : names.operators ≡ []
   pub arities : all_arities ≡ []
 
 pub record AreInRange (d : Declared) : Type 0 where
   pub version : d.version ≡ 1
   pub names : NamesInRange d.version d.names
-  pub problem : ProblemInRange d.version d.names (problem_of d)
-  pub operators : OperatorsInRange d.version d.names (problem_of d) (operator_here d.block)
-  pub facts : FactsInRange d.version (problem_of d) d.things d.facts
-  pub building : BuildingInRange d.names (problem_of d) d.things
+  pub problem : ProblemInRange d.version d.names (own_problem d)
+  pub operators : OperatorsInRange d.version d.names (own_problem d) d.things (operator_here d.block)
+  pub facts : FactsInRange d.version (own_problem d) d.things d.facts
+  pub building : IfSome d.things (IsBegun d.names.objects d.names.predicates d.names.operators d.arities)
   pub roles : AreRolesOf d.names.objects d.roles (unwrap_or d.things [])
   pub in_building : block_here d ≡ Some building_block → is_some d.things ≡ true
   -- a building whose block is closed has its robot
   pub robot : (block_here d ≡ Some building_block → ⊥) → IfSome d.things (λ things. list_any is_robot things ≡ true)
   pub own_domain : d.own_domain ≡ false → d.things ≡ None → HasNoDomain d.names d.arities
-  pub commands : CommandsInRange d.version (problem_of d) d.things (length d.names.results) d.commands
+  pub commands : CommandsInRange d.version (own_problem d) d.things (length d.names.results) d.commands
   pub results : ResultsInRange d.names.results d.roles d.commands d.disturbs

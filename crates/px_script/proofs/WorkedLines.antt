@@ -110,6 +110,7 @@ unfolding with_item set_of
 worked-buildings = record {
   names = (((refl, refl), refl), refl);
   predicates = ((refl, refl), refl);
+  operators = ((refl, refl), refl);
   beside_object = ((refl, refl), refl, refl);
   beside_predicate = ((refl, refl), refl, refl);
   beside_setting = ((refl, refl), refl);
@@ -145,11 +146,6 @@ worked-buildings = record {
   goal = ((refl, refl), refl);
   goal_arity = ((refl, refl), refl, refl);
   goal_unknown = ((refl, refl), refl, refl);
-  building_kept_back = ((refl, refl), refl);
-  room_kept_back = ((refl, refl), refl);
-  door_kept_back = ((refl, refl), refl);
-  box_kept_back = ((refl, refl), refl);
-  robot_kept_back = ((refl, refl), refl);
 }
 
 pub worked-commands : WorkedCommands
@@ -214,7 +210,6 @@ worked-commands = record {
   many_runs = refl;
   tells_facts = ((refl, refl), refl);
   many_told = refl;
-  learn_kept_back = ((refl, refl), refl);
 }
 
 pub worked-spellings : WorkedSpellings

@@ -1,6 +1,8 @@
 -- What a script is about: what its lines declared, with the limits that they leave at their defaults.
-use Rattle.std.specs.Prelude.{ℕ, List, length, Option, unwrap_or}
+use Rattle.std.specs.Prelude.{ℕ, List, length, Option, None, Some, unwrap_or}
 use Rattle.px_names.specs.Lists.{NameLists}
+use Rattle.px_rooms.specs.Domain.{building_problem}
+use Rattle.px_rooms.specs.States.{first_state, rendering}
 use Rattle.px_terms.specs.declared.atom.Atom.{Atom}
 use Rattle.px_terms.specs.declared.problem.Problem.{Problem}
 use Rattle.px_world.specs.declared.thing.Thing.{Thing}
@@ -15,8 +17,9 @@ pub record ScriptValue : Type 0 where
   pub building : Option (List Thing)
   pub commands : List Command
 
-abbrev pub problem_of : Declared → Problem
-problem_of d = record {
+-- the problem by the script's own axioms and operators
+abbrev pub own_problem : Declared → Problem
+own_problem d = record {
   objects = length d.names.objects;
   arities = d.arities;
   axioms = d.axioms;
@@ -26,14 +29,22 @@ problem_of d = record {
   shapes = unwrap_or d.shapes 10000;
 }
 
--- A building's problem (its operators and its axiom) and its first facts aren't given here: they come with buildings, and until then
--- the stage keeps back their block.
+-- A building has the axiom and the operators of every building, and the facts of its first state (`px_rooms`).
+
+abbrev pub problem_of : Problem → Option (List Thing) → Problem
+problem_of own None = own
+problem_of own (Some things) = building_problem own.objects own.height own.nodes own.shapes
+
+abbrev pub facts_of : List Atom → Option (List Thing) → List Atom
+facts_of own None = own
+facts_of own (Some things) = rendering (first_state things)
+
 abbrev pub content_of : Declared → ScriptValue
 content_of d = record {
   version = d.version;
   names = d.names;
-  problem = problem_of d;
-  facts = d.facts;
+  problem = problem_of (own_problem d) d.things;
+  facts = facts_of d.facts d.things;
   building = d.things;
   commands = d.commands;
 }

@@ -4,6 +4,7 @@ use Rattle.std.specs.List.{flat_map}
 use Rattle.std.specs.Option.{option_map}
 use Rattle.std.specs.Str.{bytes_eq}
 use Rattle.px_names.specs.Lists.{NameLists, no_names, has_name}
+use Rattle.px_rooms.specs.Domain.{RoomOperator, RoomPredicate, robot_name, room_operators, room_predicates}
 use Rattle.px_terms.specs.declared.atom.Atom.{Atom}
 use Rattle.px_terms.specs.declared.clause.Clause.{Clause}
 use Rattle.px_terms.specs.declared.clause.Lit.{Lit}
@@ -20,7 +21,6 @@ use Rattle.px_world.specs.declared.thing.Thing.TheVariants as thing
 use Rattle.px_script.specs.Items.{Named, Argument, SignedAtom, Sign, WrittenRoomEdit, Binding, named, open_variable, anything, bare, added, robot_to, box_to, door_to, declared_in, an_object, a_predicate, an_operator, a_result, a_parameter, a_sort, a_room, a_door, a_box, a_plan, a_table}
 use Rattle.px_script.specs.Statements.{Statement, Line, Place, Block, line_of, domain, opens, operator_block, building_block, table_steps, table_rows, script, object, predicate, «axiom», operator, pre, delete, add, building, room, door, box, robot, end, fact, height, nodes, shapes, plan, learn, show, disturb_atoms, disturb_rooms, run, facts}
 use Rattle.px_script.specs.Commands.{Command, Plan, Learn, Show, DisturbAtoms, DisturbRooms, Run, Facts}
-use Rattle.px_script.specs.Domain.{the_robot, building_predicates}
 
 -- the operator whose block is open: its parameters' names, and its schema so far
 pub record OpenOperator : Type 0 where
@@ -265,11 +265,22 @@ with_command command d = record d { commands = d.commands ++ command ∷ [] }
 abbrev pub with_disturbance : Command → Declared → Declared
 with_disturbance command d = record (with_command command d) { disturbs = d.disturbs + 1 }
 
--- what a building gives to its script
+-- the names of every building's predicates, and of its operators, by number
+abbrev pub predicate_names : List (List ℕ)
+predicate_names = map (λ (p : RoomPredicate). p.name) room_predicates
+
+abbrev pub predicate_arities : List ℕ
+predicate_arities = map (λ (p : RoomPredicate). p.arity) room_predicates
+
+abbrev pub operator_names : List (List ℕ)
+operator_names = map (λ (o : RoomOperator). o.name) room_operators
+
+-- the names that a building gives to its script: the robot's, and those of predicates and operators
 abbrev pub with_domain : Declared → Declared
-with_domain d = record (with_names a_predicate (map (λ p. p.0) building_predicates) (with_objects (the_robot ∷ []) d)) {
-  arities = d.arities ++ map (λ p. p.1) building_predicates;
-}
+with_domain d =
+    record (with_names an_operator operator_names (with_names a_predicate predicate_names (with_objects (robot_name ∷ []) d))) {
+      arities = d.arities ++ predicate_arities;
+    }
 
 -- an operator's schema before its lists
 abbrev pub empty_schema : ℕ → ℕ → Schema

@@ -5,7 +5,6 @@ pub mod Items
 pub mod Statements
 pub mod Limits
 pub mod Commands
-pub mod Domain
 pub mod Declarations
 pub mod Forms
 pub mod Stages
@@ -23,7 +22,6 @@ pub mod WorkedLimits
 pub mod WorkedLater
 pub mod Worked
 -- what a script keeps
-pub mod Things
 pub mod Ranges
 pub mod StageRanges
 pub mod RangeLaws

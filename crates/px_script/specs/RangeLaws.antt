@@ -1,7 +1,12 @@
 -- That what is read is in range is a fact with one proof at most, so that a type can keep it.
-use Rattle.std.specs.Prelude.{ℕ, List, Option, None, Some}
+use Rattle.std.proofs.Common.{ap, subst}
+use Rattle.std.specs.Prelude.{◌≡◌, ℕ, Bool, List, Option, None, Some}
 use Rattle.std.proofs.Props.{props}
 use mathlib.Core.Sum.{⊎_set}
+use Rattle.px_rooms.specs.declared.standing.Standing.{Standing}
+use Rattle.px_rooms.specs.declared.standing.Standing.TheVariants.{Room as a_room, Door as a_door, Box as a_box}
+use Rattle.px_rooms.specs.Changes.{IsAdmitted}
+use Rattle.px_rooms.specs.States.{IsBoxAt, IsBuilding, IsDoorAt, IsDoorOrNone, RoomState, StandsRight, thing_at}
 use Rattle.px_terms.specs.declared.atom.Atom.{Atom}
 use Rattle.px_terms.specs.declared.problem.Problem.{Problem}
 use Rattle.px_terms.specs.declared.term.Term.{Term}
@@ -16,8 +21,7 @@ use Rattle.px_world.specs.declared.thing.Thing.{Thing}
 use Rattle.px_world.specs.declared.thing.Thing.TheVariants as thing
 use Rattle.px_script.specs.Commands.{Command, Plan, Learn, Show, DisturbAtoms, DisturbRooms, Run, Facts}
 use Rattle.px_script.specs.Content.{ScriptValue}
-use Rattle.px_script.specs.Things.{IsThingAfter}
-use Rattle.px_script.specs.Ranges.{IsEditOf, IsRoomEditOf, AreRoomEditsOf, IsCommandOf, NamesEarlier, IsInRange}
+use Rattle.px_script.specs.Ranges.{IsEditOf, IsThingAfter, AreRoomEditsOf, IsCommandOf, NamesEarlier, IsInRange}
 use Rattle.px_script.specs.StageRanges.{IsOfStage}
 use Rattle.px_script.specs.Stages.{Stage}
 
@@ -53,18 +57,68 @@ IsEditOf-prop : (problem : Problem) (edit : AtomEdit) → IsProp (IsEditOf probl
 IsEditOf-prop problem (atom_edit.Add atom) = IsAtomOf-prop problem 0 atom
 IsEditOf-prop problem (atom_edit.Remove atom) = IsAtomOf-prop problem 0 atom
 
+-- rooms, doors and boxes of a building, each by one thing that stands there
+
+Standing-set : IsSet (Option Standing)
+Standing-set = Prim.hlevel sums
+
+one-door : (here : Option Standing) (x y a b : ℕ) (is_open other : Bool) → here ≡ Some (a_door x y is_open) → here ≡ Some (a_door a b other)
+    → (x ≡ a) × (y ≡ b) × (is_open ≡ other)
+one-door here x y a b is_open other one two = (cc, cc, cc)
+
+one-box : (here : Option Standing) (r a : ℕ) (beside other : Option ℕ) → here ≡ Some (a_box r beside) → here ≡ Some (a_box a other)
+    → (r ≡ a) × (beside ≡ other)
+one-box here r a beside other one two = (cc, cc)
+
+IsDoorAt-prop : (things : List Standing) (k : ℕ) → IsProp (IsDoorAt things k)
+IsDoorAt-prop things k (x, y, is_open, one) (a, b, other, two) =
+    let same = one-door (thing_at things k) x y a b is_open other one two in
+    let At : ℕ → ℕ → Bool → Type 0 = λ x y o. thing_at things k ≡ Some (a_door x y o) in
+    let is : (x y : ℕ) (o : Bool) → At x y o → IsDoorAt things k = λ x y o e. (x, y, o, e) in
+    let P : ℕ → Type 0 = λ a. (two : At a b other) → is x y is_open one ≡ is a b other two in
+    let Q : ℕ → Type 0 = λ b. (two : At x b other) → is x y is_open one ≡ is x b other two in
+    let R : Bool → Type 0 = λ other. (two : At x y other) → is x y is_open one ≡ is x y other two in
+    subst P same.0 (subst Q same.1 (subst R same.2 (λ two. ap (is x y is_open) (Standing-set _ _ one two)))) two
+
+IsBoxAt-prop : (things : List Standing) (k : ℕ) → IsProp (IsBoxAt things k)
+IsBoxAt-prop things k (r, beside, one) (a, other, two) =
+    let same = one-box (thing_at things k) r a beside other one two in
+    let At : ℕ → Option ℕ → Type 0 = λ r beside. thing_at things k ≡ Some (a_box r beside) in
+    let is : (r : ℕ) (beside : Option ℕ) → At r beside → IsBoxAt things k = λ r beside e. (r, beside, e) in
+    let P : ℕ → Type 0 = λ a. (two : At a other) → is r beside one ≡ is a other two in
+    let Q : Option ℕ → Type 0 = λ other. (two : At r other) → is r beside one ≡ is r other two in
+    subst P same.0 (subst Q same.1 (λ two. ap (is r beside) (Standing-set _ _ one two))) two
+
+ruleset rooms = (Standing-set, IsDoorAt-prop, IsBoxAt-prop, props)
+
+IsDoorOrNone-prop : (things : List Standing) (beside : Option ℕ) → IsProp (IsDoorOrNone things beside)
+IsDoorOrNone-prop things None = Prim.hlevel rooms
+IsDoorOrNone-prop things (Some k) = IsDoorAt-prop things k
+
+ruleset beside_too = (IsDoorOrNone-prop, rooms)
+
+StandsRight-prop : (things : List Standing) (one : Standing) → IsProp (StandsRight things one)
+StandsRight-prop things a_room = Prim.hlevel rooms
+StandsRight-prop things (a_door x y is_open) = Prim.hlevel rooms
+StandsRight-prop things (a_box r beside) = Prim.hlevel beside_too
+
+ruleset standing = (StandsRight-prop, rooms)
+
+IsBuilding-prop : (things : List Thing) → IsProp (IsBuilding things)
+IsBuilding-prop things = Prim.hlevel standing
+
 IsThingAfter-prop : (before : List Thing) (t : Thing) → IsProp (IsThingAfter before t)
-IsThingAfter-prop before thing.Room = Prim.hlevel props
-IsThingAfter-prop before (thing.Door one other is_open) = Prim.hlevel props
-IsThingAfter-prop before (thing.Box r) = Prim.hlevel props
-IsThingAfter-prop before (thing.Robot r) = Prim.hlevel props
+IsThingAfter-prop before thing.Room = Prim.hlevel rooms
+IsThingAfter-prop before (thing.Door one other is_open) = Prim.hlevel rooms
+IsThingAfter-prop before (thing.Box r) = Prim.hlevel rooms
+IsThingAfter-prop before (thing.Robot r) = Prim.hlevel rooms
 
-IsRoomEditOf-prop : (things : List Thing) (edit : RoomEdit) → IsProp (IsRoomEditOf things edit)
-IsRoomEditOf-prop things (room_edit.Robot r) = Prim.hlevel props
-IsRoomEditOf-prop things (room_edit.Box b r) = Prim.hlevel props
-IsRoomEditOf-prop things (room_edit.Door d is_open) = Prim.hlevel props
+IsAdmitted-prop : (state : RoomState) (edit : RoomEdit) → IsProp (IsAdmitted state edit)
+IsAdmitted-prop state (room_edit.Robot r) = Prim.hlevel rooms
+IsAdmitted-prop state (room_edit.Box b r) = Prim.hlevel rooms
+IsAdmitted-prop state (room_edit.Door d is_open) = Prim.hlevel rooms
 
-ruleset parts = (IsEditOf-prop, IsRoomEditOf-prop, IsAtomOf-prop, IsThingAfter-prop, terms)
+ruleset parts = (IsEditOf-prop, IsAdmitted-prop, IsAtomOf-prop, IsThingAfter-prop, IsBuilding-prop, terms)
 
 AreRoomEditsOf-prop : (building : Option (List Thing)) (edits : List RoomEdit) → IsProp (AreRoomEditsOf building edits)
 AreRoomEditsOf-prop None edits = Prim.hlevel parts

@@ -1,7 +1,10 @@
 -- The numbers of a script are in range, by subject.
-use Rattle.std.specs.Prelude.{◌≡◌, ◌≢◌, ◌<◌, ◌≤◌, ℕ, ◌+◌, true, false, List, [], ◌∷◌, map, length, take, Option, None, Some, is_some, All, AllPairs, IfSome, slice_index_or, EachIndex, count_by, ◌==◌, not}
+use Rattle.std.specs.Prelude.{◌≡◌, ◌≢◌, ◌<◌, ◌≤◌, ℕ, ◌+◌, true, false, List, [], ◌∷◌, map, length, take, Option, None, Some, is_some, All, AllPairs, IfSome, slice_index_or, EachIndex, ◌==◌, not}
 use Rattle.std.specs.List.{flat_map, filter, filter_map, list_any, range_with_len, scan}
 use Rattle.px_names.specs.Lists.{NameLists, AreDistinct}
+use Rattle.px_rooms.specs.Changes.{IsAdmitted}
+use Rattle.px_rooms.specs.Domain.{building_problem, robot_name}
+use Rattle.px_rooms.specs.States.{IsBuilding, IsRoomAt, first_state, rendering, standings}
 use Rattle.px_terms.specs.AtomSets.{IsAtomSet}
 use Rattle.px_terms.specs.Validity.{IsValid, IsAtomOf}
 use Rattle.px_terms.specs.declared.atom.Atom.{Atom}
@@ -12,17 +15,14 @@ use Rattle.px_terms.specs.declared.term.Term.TheVariants.{Var}
 use Rattle.px_world.specs.declared.edits.AtomEdit.{AtomEdit}
 use Rattle.px_world.specs.declared.edits.AtomEdit.TheVariants as atom_edit
 use Rattle.px_world.specs.declared.edits.RoomEdit.{RoomEdit}
-use Rattle.px_world.specs.declared.edits.RoomEdit.TheVariants as room_edit
 use Rattle.px_world.specs.declared.thing.Thing.{Thing}
-use Rattle.px_world.specs.declared.thing.Thing.TheVariants.{Room}
+use Rattle.px_world.specs.declared.thing.Thing.TheVariants.{Room, Door, Box, Robot}
 use Rattle.px_script.specs.Items.{last_parameter}
 use Rattle.px_script.specs.Limits as limit
 use Rattle.px_script.specs.Limits.{Bounds, greatest, of_turn}
 use Rattle.px_script.specs.Commands.{Command, Plan, Learn, Show, DisturbAtoms, DisturbRooms, Run, Facts}
-use Rattle.px_script.specs.Domain.{the_robot, building_predicates}
-use Rattle.px_script.specs.Causes.{is_robot}
+use Rattle.px_script.specs.Declarations.{operator_names, predicate_names}
 use Rattle.px_script.specs.Content.{ScriptValue}
-use Rattle.px_script.specs.Things.{numbered_things, IsRoomOf, IsDoorOf, IsBoxOf, IsThingAfter}
 
 -- names
 
@@ -80,18 +80,25 @@ pub record FactsInRange (version : ℕ) (problem : Problem) (building : Option (
 
 -- a building
 
--- Each thing names rooms of earlier lines alone, there is at most one robot, the objects are the robot and the things, and the predicates
--- are those of every building.
-pub record IsBuildingOf (names : NameLists) (problem : Problem) (things : List Thing) : Type 0 where
-  pub things_right : EachIndex things (λ k. IsThingAfter (take k things) (slice_index_or things k Room))
-  pub one_robot : count_by is_robot things ≤ 1
-  pub objects : length names.objects ≡ length (numbered_things things)
-  pub robot_first : slice_index_or names.objects 0 [] ≡ the_robot
-  pub predicates : names.predicates ≡ map (λ p. p.0) building_predicates
-  pub arities : problem.arities ≡ map (λ p. p.1) building_predicates
+-- A door stands between two rooms, and a box and the robot are in a room: rooms of the things before it.
+abbrev pub IsThingAfter : List Thing → Thing → Type 0
+IsThingAfter before Room = Unit {0}
+IsThingAfter before (Door one other is_open) =
+    IsRoomAt (standings before) one × IsRoomAt (standings before) other × (one ≢ other)
+IsThingAfter before (Box r) = IsRoomAt (standings before) r
+IsThingAfter before (Robot r) = IsRoomAt (standings before) r
 
-abbrev pub BuildingInRange : NameLists → Problem → Option (List Thing) → Type 0
-BuildingInRange names problem building = IfSome building (IsBuildingOf names problem)
+-- The things are a building, each by rooms of earlier lines alone; the objects are the robot and the things, and the other names
+-- are those of every building; the problem is the building's, with the script's limits, and the facts are those of its first state.
+pub record IsBuildingOf (names : NameLists) (problem : Problem) (facts : List Atom) (things : List Thing) : Type 0 where
+  pub is_building : IsBuilding things
+  pub earlier : EachIndex things (λ k. IsThingAfter (take k things) (slice_index_or things k Room))
+  pub objects : length names.objects ≡ length (standings things) + 1
+  pub robot_first : slice_index_or names.objects 0 [] ≡ robot_name
+  pub predicates : names.predicates ≡ predicate_names
+  pub operators : names.operators ≡ operator_names
+  pub of_building : problem ≡ building_problem (length names.objects) problem.height problem.nodes problem.shapes
+  pub rendered : facts ≡ rendering (first_state things)
 
 -- commands
 
@@ -99,15 +106,9 @@ abbrev pub IsEditOf : Problem → AtomEdit → Type 0
 IsEditOf problem (atom_edit.Add atom) = IsAtomOf problem 0 atom
 IsEditOf problem (atom_edit.Remove atom) = IsAtomOf problem 0 atom
 
--- A robot and a box come to a room.
-abbrev pub IsRoomEditOf : List Thing → RoomEdit → Type 0
-IsRoomEditOf things (room_edit.Robot r) = IsRoomOf things r
-IsRoomEditOf things (room_edit.Box b r) = IsBoxOf things b × IsRoomOf things r
-IsRoomEditOf things (room_edit.Door d is_open) = IsDoorOf things d
-
 abbrev pub AreRoomEditsOf : Option (List Thing) → List RoomEdit → Type 0
 AreRoomEditsOf None edits = ⊥
-AreRoomEditsOf (Some things) edits = All (IsRoomEditOf things) edits
+AreRoomEditsOf (Some things) edits = All (IsAdmitted (first_state things)) edits
 
 abbrev pub IsWithin : Bounds → ℕ → Type 0
 IsWithin bounds n = (bounds.least ≤ n) × (n ≤ bounds.most)
@@ -192,6 +193,5 @@ pub record IsInRange (script : ScriptValue) : Type 0 where
   pub problem : ProblemInRange script.version script.names script.problem
   pub operators : length script.names.operators ≡ length script.problem.schemas
   pub facts : FactsInRange script.version script.problem script.building script.facts
-  pub building : BuildingInRange script.names script.problem script.building
-  pub robot : IfSome script.building (λ things. count_by is_robot things ≡ 1)
+  pub building : IfSome script.building (IsBuildingOf script.names script.problem script.facts)
   pub commands : CommandsInRange script.version script.problem script.building (length script.names.results) script.commands

@@ -1,5 +1,5 @@
 -- How much of the language is built.
-use Rattle.std.specs.Prelude.{ℕ, Bool, List, [], ◌∷◌, codes, not}
+use Rattle.std.specs.Prelude.{ℕ, Bool, List, not}
 use Rattle.px_names.specs.Lists.{has_name}
 use Rattle.px_script.specs.Limits.{words_of_all}
 use Rattle.px_script.specs.Statements.{Statement, line_of}
@@ -12,12 +12,9 @@ Stage = List (List ℕ)
 abbrev pub whole_language : Stage
 whole_language = words_of_all
 
--- what is built now
+-- what is built now: the whole of it
 abbrev pub stage_now : Stage
-stage_now =
-    codes "script" ∷ codes "object" ∷ codes "predicate" ∷ codes "axiom" ∷ codes "operator" ∷ codes "pre" ∷ codes "delete" ∷ codes "add"
-    ∷ codes "end" ∷ codes "fact" ∷ codes "height" ∷ codes "nodes" ∷ codes "shapes" ∷ codes "plan" ∷ codes "show"
-    ∷ codes "disturb" ∷ codes "run" ∷ codes "facts" ∷ []
+stage_now = whole_language
 
 abbrev pub is_built : Stage → List ℕ → Bool
 is_built stage word = has_name word stage

@@ -1,11 +1,15 @@
 -- Small texts, and what the definitions say of them.
-use Rattle.std.specs.Prelude.{ℕ, List, [], ◌∷◌, ◌++◌, codes, None}
+use Rattle.std.specs.Prelude.{ℕ, false, List, [], ◌∷◌, ◌++◌, codes, None, Some}
+use Rattle.px_rooms.specs.Domain.{building_problem, closed, connects, in_room, is_box, is_door, is_room}
 use Rattle.px_terms.specs.declared.atom.Atom.{Atom}
 use Rattle.px_terms.specs.declared.term.Term.{Term}
 use Rattle.px_terms.specs.declared.term.Term.TheVariants.{Obj, Var}
-use Rattle.px_script.specs.Commands.{Plan, Show, Facts}
+use Rattle.px_world.specs.declared.edits.RoomEdit.TheVariants as room_edit
+use Rattle.px_world.specs.declared.thing.Thing.TheVariants as thing
+use Rattle.px_script.specs.Commands.{Plan, Show, DisturbRooms, Facts}
 use Rattle.px_script.specs.Content.{ScriptValue}
 use Rattle.px_script.specs.Lines.{mark}
+use Rattle.px_script.specs.Declarations.{predicate_names, operator_names}
 use Rattle.px_script.specs.Stages.{stage_now}
 use Rattle.px_script.specs.Scripts.{IsScript, FirstFault}
 use Rattle.px_script.specs.WorkedLines.{asserted, denied}
@@ -103,12 +107,43 @@ shown = record {
   commands = Plan 0 (of_two (Var 0) (Obj 0) ∷ []) 1 ∷ Show 0 ∷ [];
 }
 
+-- a building of two rooms with a closed door, a box in the second room and the robot in the first; and three commands
+abbrev pub door_text : List ℕ
+door_text = codes "nodes 500\nbuilding\nroom R1\nroom R2\ndoor D1 R1 R2 closed\nbox B1 R2\nrobot R1\nend\n"
+    ++ codes "plan Q INROOM(ROBOT,R2)\ndisturb 3 before door D1 closed\nfacts\n"
+
+abbrev pub door : ScriptValue
+door = record {
+  version = 1;
+  names = record {
+    objects = codes "ROBOT" ∷ codes "R1" ∷ codes "R2" ∷ codes "D1" ∷ codes "B1" ∷ [];
+    predicates = predicate_names;
+    operators = operator_names;
+    results = codes "Q" ∷ [];
+  };
+  problem = building_problem 5 4 500 10000;
+  facts =
+      in_room (Obj 0) (Obj 1)
+      ∷ in_room (Obj 4) (Obj 2)
+      ∷ connects (Obj 3) (Obj 1) (Obj 2)
+      ∷ connects (Obj 3) (Obj 2) (Obj 1)
+      ∷ closed (Obj 3)
+      ∷ is_room (Obj 1)
+      ∷ is_room (Obj 2)
+      ∷ is_door (Obj 3)
+      ∷ is_box (Obj 4)
+      ∷ [];
+  building = Some (thing.Room ∷ thing.Room ∷ thing.Door 1 2 false ∷ thing.Box 2 ∷ thing.Robot 1 ∷ []);
+  commands = Plan 0 (in_room (Obj 0) (Obj 2) ∷ []) 0 ∷ DisturbRooms 3 false (room_edit.Door 3 false ∷ []) ∷ Facts ∷ [];
+}
+
 -- texts that are scripts, with what they are about
 pub record WorkedScripts : Type 0 where
   pub danger : IsScript stage_now danger_text danger
   pub blanks : IsScript stage_now blanks_text blanks
   pub marked : IsScript stage_now marked_text marked
   pub shown : IsScript stage_now shown_text shown
+  pub door : IsScript stage_now door_text door
 
 -- texts that are no scripts, with the line, the code and the limit of their first fault
 pub record WorkedRefusals : Type 0 where
@@ -137,13 +172,16 @@ pub record WorkedRefusals : Type 0 where
   pub sign_of_an_edit : IsRefused (codes "axiom +P") 1 2 0
   pub token_before_word : IsRefused (codes "fly %") 1 2 0
   pub form_before_order : IsRefused (codes "operator A\nobject") 2 2 0
-  pub order_before_unbuilt : IsRefused (codes "operator A\nlearn M from N") 2 9 0
-  pub unbuilt_before_name : IsRefused (codes "learn M from N") 1 11 0
+  pub unknown_source : IsRefused (codes "learn M from N") 1 4 0
   pub name_before_duplicate : IsRefused (codes "object a\npredicate P 1\nplan N P(a)\nplan N P(b)") 4 4 0
   pub duplicate_before_arity : IsRefused (codes "object a\npredicate P 1\nplan N P(a)\nplan N P(a,a)") 4 5 0
   pub unbound_before_limit : IsRefused (codes "object a\npredicate P 1\n"
       ++ codes "plan aaaaaaaaaaaaaaaaaaaaaaaaaaaaaaaaaaaaaaaaaaaaaaaaaaaaaaaaaaaaaaaaa P($)") 3 7 0
   pub duplicate_before_limit : IsRefused (codes "nodes 5\nnodes 0") 2 5 0
   pub arity_before_unbound : IsRefused (codes "object a\npredicate P 1\nfact P(?x,a)") 3 6 0
-  pub not_built : IsRefused (codes "object a b\npredicate P 2\naxiom ~P(?x,?y) P(?y,?x)\nheight 3\nshapes 900\n"
-      ++ codes "plan N P(?x,a)\nshow N\nlearn M from N\n") 8 11 0
+  pub cut_building : IsRefused (codes "nodes 5\nbuilding\nroom R1\nrobot R1\n") 2 10 0
+  pub no_robot : IsRefused (codes "building\nroom R1\nend") 3 9 0
+  -- where only these words are built
+  pub not_built : FirstFault (codes "object" ∷ []) (codes "object a\n# not yet\nfacts") 3 (record { code = 11; limit = 0 })
+  pub order_before_unbuilt : FirstFault (codes "operator" ∷ []) (codes "operator A\nfacts") 2 (record { code = 9; limit = 0 })
+  pub unbuilt_before_name : FirstFault (codes "plan" ∷ []) (codes "learn M from N") 1 (record { code = 11; limit = 0 })

@@ -4,7 +4,7 @@ use Rattle.px_names.specs.Lists.{no_names}
 use Rattle.px_world.specs.declared.thing.Thing.TheVariants as thing
 use Rattle.px_script.specs.Statements.{Statement, object, predicate, building, room, door, box, robot, end, facts, plan, height}
 use Rattle.px_script.specs.Declarations.{Declared, nothing_declared, open_block, of_building}
-use Rattle.px_script.specs.WorkedLines.{Leave, LeaveBoth, FailsAfter, Fails, Exceeds, IsKeptBack, of_names, open_building, closed_building, long_name}
+use Rattle.px_script.specs.WorkedLines.{Leave, LeaveBoth, FailsAfter, Fails, Exceeds, of_names, open_building, closed_building, long_name}
 
 abbrev r : List ℕ
 r = codes "R"
@@ -26,6 +26,8 @@ pub record WorkedBuildings : Type 0 where
   pub names : LeaveBoth (building ∷ []) (λ d. d.names.objects) (codes "ROBOT" ∷ []) (λ d. d.arities) (2 ∷ 2 ∷ 3 ∷ 1 ∷ 1 ∷ 1 ∷ 1 ∷ 1 ∷ [])
   pub predicates : Leave (building ∷ []) (λ d. d.names.predicates) (codes "INROOM" ∷ codes "NEXTTO" ∷ codes "CONNECTS" ∷ codes "OPENED"
       ∷ codes "CLOSED" ∷ codes "ROOM" ∷ codes "DOOR" ∷ codes "BOX" ∷ [])
+  pub operators : Leave (building ∷ []) (λ d. d.names.operators) (codes "GOTOB" ∷ codes "GOTOD" ∷ codes "OPEN" ∷ codes "CLOSE"
+      ∷ codes "GOTHRU" ∷ codes "PUSHD" ∷ codes "PUSHTHRU" ∷ [])
   pub beside_object : Fails (object (r ∷ []) ∷ []) building 9
   pub beside_predicate : Fails (predicate r 0 ∷ []) building 9
   pub beside_setting : Leave (height 4 ∷ building ∷ []) (λ d. d.names.objects) (codes "ROBOT" ∷ [])
@@ -66,9 +68,3 @@ pub record WorkedBuildings : Type 0 where
       (λ d. d.names.results) (codes "N" ∷ [])
   pub goal_arity : Fails closed_building (plan (codes "N") (of_names (codes "INROOM") (codes "B1" ∷ []) ∷ [])) 6
   pub goal_unknown : Fails closed_building (plan (codes "N") (of_names (codes "AT") (codes "B1" ∷ []) ∷ [])) 4
-  -- what isn't built
-  pub building_kept_back : IsKeptBack [] building
-  pub room_kept_back : IsKeptBack (building ∷ []) (room r)
-  pub door_kept_back : IsKeptBack open_building (door (codes "D2") (codes "R1") (codes "R2") true)
-  pub box_kept_back : IsKeptBack one_room (box (codes "B") r)
-  pub robot_kept_back : IsKeptBack one_room (robot r)

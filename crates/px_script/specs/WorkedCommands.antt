@@ -7,7 +7,7 @@ use Rattle.px_script.specs.Items.{SignedAtom, Binding, bare, added, removed, neg
 use Rattle.px_script.specs.Statements.{Statement, object, predicate, plan, learn, show, disturb_atoms, disturb_rooms, run, facts}
 use Rattle.px_script.specs.Commands.{Plan, Learn, Show, DisturbAtoms, DisturbRooms, Run, Facts}
 use Rattle.px_script.specs.Declarations.{Declared}
-use Rattle.px_script.specs.WorkedLines.{Leave, LeaveBoth, FailsAfter, Fails, HasNoForm, Exceeds, IsKeptBack, left_by, with_sign, of_names, of_variables, numbered, small, closed_building, p_of, q, long_name}
+use Rattle.px_script.specs.WorkedLines.{Leave, LeaveBoth, FailsAfter, Fails, HasNoForm, Exceeds, left_by, with_sign, of_names, of_variables, numbered, small, closed_building, p_of, q, long_name}
 
 abbrev n : List ℕ
 n = codes "N"
@@ -114,5 +114,3 @@ pub record WorkedCommands : Type 0 where
   -- `facts`
   pub tells_facts : Leave (facts ∷ []) (λ d. d.commands) (Facts ∷ [])
   pub many_told : Exceeds (full []) facts 13
-  -- what isn't built
-  pub learn_kept_back : IsKeptBack learned (learn (codes "L") n)

@@ -2,7 +2,6 @@
 use Rattle.std.specs.Prelude.{ℕ, true, false, List, [], ◌∷◌, ◌++◌, map, replicate, codes, Some}
 use Rattle.std.specs.List.{range_with_len}
 use Rattle.px_names.specs.Lists.{no_names}
-use Rattle.px_terms.specs.declared.atom.Atom.{Atom}
 use Rattle.px_terms.specs.declared.clause.Clause.{Clause}
 use Rattle.px_terms.specs.declared.term.Term.TheVariants.{Obj}
 use Rattle.px_script.specs.Items.{SignedAtom, added, robot_to}

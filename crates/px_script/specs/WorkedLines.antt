@@ -1,5 +1,5 @@
 -- How small lines are worked: after lines that have no fault, what the next one leaves, or its fault, where all of version 1 is built.
-use Rattle.std.specs.Prelude.{◌≡◌, ℕ, ◌+◌, Bool, true, false, ◌&&◌, List, [], ◌∷◌, ◌++◌, map, replicate, codes, Option, None, Some}
+use Rattle.std.specs.Prelude.{◌≡◌, ℕ, ◌+◌, Bool, true, false, ◌&&◌, List, [], ◌∷◌, map, replicate, codes, Option, None, Some}
 use Rattle.px_terms.specs.declared.atom.Atom.{Atom}
 use Rattle.px_terms.specs.declared.clause.Lit.{Lit}
 use Rattle.px_terms.specs.declared.term.Term.{Term}
@@ -7,7 +7,7 @@ use Rattle.px_script.specs.Items.{Argument, SignedAtom, Sign, named, open_variab
 use Rattle.px_script.specs.Statements.{Statement, line_of, object, predicate, building, room, robot, door, box, end}
 use Rattle.px_script.specs.Declarations.{Declared, nothing_declared, after_line}
 use Rattle.px_script.specs.Forms.{is_formed}
-use Rattle.px_script.specs.Stages.{stage_now, whole_language}
+use Rattle.px_script.specs.Stages.{whole_language}
 use Rattle.px_script.specs.Faults.{Refusal, fault_at}
 
 -- what lines leave, numbered from n
@@ -60,10 +60,6 @@ Fits d s = fault_at whole_language d s ≡ None
 -- The next line would pass this limit, where so much is declared.
 abbrev pub Exceeds : Declared → Statement → ℕ → Type 0
 Exceeds d s limit = fault_at whole_language d s ≡ Some (record { code = 8; limit = limit })
-
--- These lines and the next one have no fault, but the next one is not built now.
-abbrev pub IsKeptBack : List Statement → Statement → Type 0
-IsKeptBack before s = ArePassed (before ++ s ∷ []) × (fault_at stage_now (left_by before) s ≡ Some (record { code = 11; limit = 0 }))
 
 -- an atom with a sign, over these arguments
 abbrev pub with_sign : Sign → List ℕ → List Argument → SignedAtom

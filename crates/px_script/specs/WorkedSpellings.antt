@@ -3,7 +3,7 @@ use Rattle.std.specs.Prelude.{ℕ, true, false, List, [], ◌∷◌, codes}
 use Rattle.px_script.specs.Lexemes.{Lexes}
 use Rattle.px_script.specs.Items.{Binding, named, open_variable, anything, bare, negated, added, removed, robot_to, box_to, door_to}
 use Rattle.px_script.specs.Statements.{Statement, spelling, «axiom», operator, delete, building, room, door, box, robot, height, shapes, plan, learn, show, disturb_atoms, disturb_rooms, run}
-use Rattle.px_script.specs.WorkedLines.{with_sign, of_names, q}
+use Rattle.px_script.specs.WorkedLines.{with_sign, q}
 
 -- The characters spell the statement.
 pub record Spell (characters : List ℕ) (s : Statement) : Type 0 where

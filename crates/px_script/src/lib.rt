@@ -8,15 +8,15 @@
 //! 2. `Items` and `Statements`: what may stand in a line after its word, and each line described once (`line_of`): its word, its
 //!    place, what its atoms may be, and its items.
 //! 3. `Limits`: the words and the limits of each version (`greatest`).
-//! 4. `Commands`, `Domain` and `Declarations`: what a line adds to what the lines before it declared (`declares`, `after_line`).
+//! 4. `Commands` and `Declarations`: what a line adds to what the lines before it declared (`declares`, `after_line`).
 //! 5. `Forms`: which statement the lexemes of a line are.
 //! 6. `Stages`, `Causes` and `Faults`: what is built; the causes to refuse a line that follow from its description alone; and all
 //!    causes in their order (`causes`), of which the first that is there is the fault (`fault_at`).
 //! 7. `Content` and `Scripts`: what a script is about, which bytes are a script (`IsScript`), and which fault is the first
-//!    (`FirstFault`). What a building gives to its script comes with buildings; until then the stage keeps back its block, with code 11.
+//!    (`FirstFault`). A building gives its script the names, the problem and the first facts that `px_rooms` defines.
 //!
 //! Beside it stand small lines and small texts with what the definition says of them (`Worked..`), and what each script keeps
-//! (`Things`, `Ranges`, `StageRanges`; `RangeLaws` has that these are facts with one proof at most, so that a type can keep them).
+//! (`Ranges`, `StageRanges`; `RangeLaws` has that these are facts with one proof at most, so that a type can keep them).
 //!
 //! # Calling it
 //!
@@ -28,7 +28,7 @@
 //! - [`only_takes_away`]: where only some of version 1 is built, a line is refused as in the whole of it, or as not built, and a
 //!   script is a script of the whole of it.
 //! - [`is_in_range`]: what a script is about is in range, and of the language as far as it is built (`IsOfStage`), so a caller may
-//!   hand its numbers on. What is built is one list of words: with one more word in `stage_now` all laws hold as they stand.
+//!   hand its numbers on. What is built is one list of words, `stage_now`, that is the whole of version 1; all laws hold of any list.
 //! - [`worked_lines`] and [`worked_texts`]: what the definition says of small lines, and of small texts from their bytes, to be
 //!   compared with what one expects.
 //!
@@ -79,8 +79,9 @@ pub fn only_takes_away()
 {}
 
 /// The problem of a script is valid, each of its numbers has a name and no name stands twice in its kind, the facts, the building and
-/// the commands are over its numbers, all is within the limits, and each result is given once and named by later commands alone. Whatever
-/// is built, its commands are of words that are built, and it has a building only where buildings are built.
+/// the commands are over its numbers, all is within the limits, and each result is given once and named by later commands alone. With a
+/// building the problem is the building's, and the facts are those of its first state. Whatever is built, its commands are of words that
+/// are built, and it has a building only where buildings are built.
 pub fn is_in_range()
     ensures range { (stage : Stage) (bytes : List ℕ) (script : ScriptValue) → IsScript stage bytes script → IsInRange script }
     ensures stage { (stage : Stage) (bytes : List ℕ) (script : ScriptValue) → IsScript stage bytes script → IsOfStage stage script }

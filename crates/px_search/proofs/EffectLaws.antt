@@ -1,8 +1,9 @@
 -- The steps of a learned table with objects for its parameters.
 use Rattle.std.proofs.Common.{◌≡◌, ◌++◌, ℕ, zero, suc, List, [], ◌∷◌, map, take, length, refl, sym, ◌∙◌, ap, subst, Some, slice_get}
-use Rattle.std.specs.Prelude.{All, Option, unwrap_or}
+use Rattle.std.specs.Prelude.{All, Option, slice_index_or, unwrap_or}
 use Rattle.std.proofs.lemmas.List.{length-map}
 use Rattle.std.proofs.lemmas.List.Elements.{All-map, All-take}
+use Rattle.std.proofs.lemmas.Option.{slice_get_read, slice_get_within}
 use Rattle.px_base.specs.ListLaws.{All-at, All-each, Contains-one}
 use Rattle.px_ops.specs.KeepLaws.{has_at}
 use Rattle.px_diff.specs.Entries.{IsEntry, effect_of, table_at}
@@ -18,7 +19,7 @@ use Rattle.px_terms.specs.Validity.{IsTermOf, IsGroundInstanceOf}
 use Rattle.px_table.specs.declared.entry.Entry.{Entry}
 use Rattle.px_table.specs.declared.entry.Entry.TheVariants.{Op, Macro}
 use Rattle.px_table.specs.declared.table.Table.{Table}
-use Rattle.px_table.specs.Kernels.{instance_under}
+use Rattle.px_table.specs.Kernels.{instance_under, steps_under}
 use Rattle.px_table.specs.Tables.{IsStepOf, IsTable}
 use Rattle.px_terms.specs.ValidityLaws.{instance-is_ground}
 use Rattle.px_table.specs.UnderLaws.{step_under-objects}
@@ -45,6 +46,15 @@ pub take-map : {A B : Type 0} (f : A → B) (n : ℕ) (xs : List A) → take n (
 take-map f zero xs = refl
 take-map f (suc n) [] = refl
 take-map f (suc n) (x ∷ xs) = ap (λ l. f x ∷ l) (take-map f n xs)
+
+-- a MACROP's effect: so many steps of its table, with the objects for the parameters
+pub effect-macro : (problem : Problem) (tables : List Table) (number prefix : ℕ) (sigma given : List ℕ) (entry : Entry) (table : Table) (steps : List OpInst) → IsEntry problem tables entry → entry ≡ Macro number prefix sigma
+    → table ≡ slice_index_or tables number table → steps ≡ table.steps → given ≡ sigma → map (instance_under given) (take prefix steps) ≡ effect_of tables entry
+effect-macro problem tables number prefix sigma given entry table steps is_entry entry_is table_is steps_are given_is =
+    let e : IsEntry problem tables (Macro number prefix sigma) = subst (IsEntry problem tables) entry_is is_entry in
+    let at : slice_get tables number ≡ Some table = slice_get_read tables (length tables) number table refl (slice_get_within tables number e.0 e.1) table_is in
+    let same : table_at tables number ≡ table = ap (λ (o : Option Table). unwrap_or o (record { params = 0; steps = []; goal = []; goal_vars = 0; marks = []; proofs = [] })) at in
+    (λ i. map (instance_under (given_is i)) (take prefix (steps_are i))) ∙ sym (take-map (instance_under sigma) prefix table.steps) ∙ ap (λ (t : Table). take prefix (steps_under t sigma)) (sym same) ∙ ap (effect_of tables) (sym entry_is)
 
 module _ (problem : Problem) (tables : List Table) (learned : AreLearned problem tables) where
   -- the table of a MACROP's number

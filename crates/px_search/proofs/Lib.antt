@@ -2,6 +2,7 @@ pub mod Answering
 pub mod CacheLaws
 pub mod EffectLaws
 pub mod Endings
+pub mod FewMoves
 pub mod FromLaws
 pub mod FrontierSteps
 pub mod GoingLaws
@@ -12,4 +13,3 @@ pub mod StepLaws
 pub mod Stepping
 pub mod StruckLaws
 pub mod Walking
-pub mod FewMoves

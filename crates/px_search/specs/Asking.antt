@@ -20,7 +20,6 @@ task_for asked = task_of asked.problem.now asked.tables.now asked.initial.now.at
 pub record IsAskable (asked : Asked) : Type 0 where
   pub valid : IsValid asked.problem.now
   pub tables : AreLearned asked.problem.now asked.tables.now
-  pub no_tables : asked.tables.now ≡ []
   pub goal : All (IsAtomOf asked.problem.now asked.vars) asked.goal.now
   pub few_variables : asked.vars ≤ 12
   pub some_object : 0 < asked.vars → 0 < asked.problem.now.objects

@@ -4,8 +4,7 @@
 //! # Calling it
 //!
 //! - [`search`] asks for a valid problem, a goal over at most 12 variables, an object where there is a variable, and learned tables
-//!   (`AreLearned` of `px_diff`), of which there must be none so far. What it answers is said over the task of these (`task_of` of
-//!   `px_ends`).
+//!   (`AreLearned` of `px_diff`). What it answers is said over the task of these (`task_of` of `px_ends`).
 //! - It answers a plan: the moves to the first solved node, by the fewest moves (`IsFound`), the steps that they take, and the rows
 //!   of the table of the moves (`MovesRows`). The rows are a support of the steps, which carry the initial model to the goal
 //!   (`Supports`, `Carries`): `build` of `px_table` makes the plan's table of them.

@@ -77,7 +77,6 @@ pub fn search(
     requires few_variables { vars ≤ 12 }
     requires some_object { 0 < vars → 0 < problem.now.objects }
     requires tables { AreLearned problem.now tables.now }
-    requires no_tables { tables.now ≡ [] }
     ensures found { IfOk result (λ plan. IsFound (task_of problem.now tables.now initial.now.atoms goal.now vars) plan.moves) }
     ensures few { IfOk result (λ plan. length plan.moves < problem.now.nodes) }
     ensures steps { IfOk result (λ plan. plan.steps ≡ steps_of tables.now [] plan.moves) }

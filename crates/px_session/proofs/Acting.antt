@@ -3,8 +3,6 @@ use Rattle.std.specs.Prelude.{◌≡◌, ◌⊎◌, ℕ, true, false, Option, No
 use Rattle.std.proofs.Common.{refl, sym, ap, ◌∙◌, subst, inl, inr}
 use Rattle.px_terms.specs.declared.atom.Atom.{Atom}
 use Rattle.px_terms.specs.declared.instance.OpInst.{OpInst}
-use Rattle.px_world.specs.declared.edits.AtomEdit.{AtomEdit}
-use Rattle.px_world.specs.Worlds.{edited}
 use Rattle.px_planex.specs.declared.event.Event.TheVariants.{Sense, Act}
 use Rattle.px_planex.specs.declared.event.Outcome.{Outcome}
 use Rattle.px_planex.specs.declared.event.Outcome.TheVariants as outcome
@@ -15,39 +13,40 @@ use Rattle.px_printer.specs.declared.turn.Turn.{Turn}
 use Rattle.px_printer.specs.declared.turn.TurnEnd.{TurnEnd}
 use Rattle.px_printer.specs.declared.turn.TurnEnd.TheVariants as told
 use Rattle.px_session.specs.Running.{EndsSensed, TakesNumbered, end_told, turn_told}
+use Rattle.px_session.specs.Sessions.{Edit, leaves_edit}
 
-module _ (planex : PlanexValue) (recorded : List (Recorded AtomEdit)) (number : ℕ) where
+module _ (planex : PlanexValue) (recorded : List (Recorded Edit)) (number : ℕ) where
   abbrev Happened : Running → Outcome → Running → Type 0
-  Happened old outcome new = Happens edited planex.problem planex.table planex.bound old Act outcome new
+  Happened old outcome new = Happens leaves_edit planex.problem planex.table planex.bound old Act outcome new
 
   turn-is : (kernel : ℕ) (op step : Option OpInst) (end other : TurnEnd) → op ≡ step → end ≡ other
       → turn_told (record { kernel = kernel; op = op; end = end }) ≡ record { kernel = kernel; op = step; end = end_told other }
   turn-is kernel op step end other same_op same_end = λ i. record { kernel = kernel; op = same_op i; end = end_told (same_end i) }
 
   pub act-ends : (kernel : ℕ) (atoms mid after : List Atom) (memory : Memory) (op : Option OpInst) (end : TurnEnd) (answer : Outcome)
-      → mid ≡ after_edits edited (edits_at recorded number true) atoms → op ≡ remembered_step planex.table planex.memory
+      → mid ≡ after_edits leaves_edit (edits_at recorded number true) atoms → op ≡ remembered_step planex.table planex.memory
       → Happened (running mid planex.memory) answer (running after memory)
       → ((answer ≡ outcome.Acted) × (end ≡ told.Acted)) ⊎ ((answer ≡ outcome.Slipped) × (end ≡ told.Slipped))
       → EndsSensed planex recorded number kernel atoms (record { kernel = kernel; op = op; end = end }) after memory
   act-ends kernel atoms mid after memory op end answer mid_is op_is happens (inl (is, told_as)) =
       inl (
         turn-is kernel op (remembered_step planex.table planex.memory) end told.Acted op_is told_as,
-        subst (λ (o : Outcome). Happened (running (after_edits edited (edits_at recorded number true) atoms) planex.memory) o (running after memory)) is
+        subst (λ (o : Outcome). Happened (running (after_edits leaves_edit (edits_at recorded number true) atoms) planex.memory) o (running after memory)) is
             (subst (λ (m : List Atom). Happened (running m planex.memory) answer (running after memory)) mid_is happens),
       )
   act-ends kernel atoms mid after memory op end answer mid_is op_is happens (inr (is, told_as)) =
       inr (
         turn-is kernel op (remembered_step planex.table planex.memory) end told.Slipped op_is told_as,
-        subst (λ (o : Outcome). Happened (running (after_edits edited (edits_at recorded number true) atoms) planex.memory) o (running after memory)) is
+        subst (λ (o : Outcome). Happened (running (after_edits leaves_edit (edits_at recorded number true) atoms) planex.memory) o (running after memory)) is
             (subst (λ (m : List Atom). Happened (running m planex.memory) answer (running after memory)) mid_is happens),
       )
 
   abbrev Senses : List Atom → Outcome → Running → Type 0
-  Senses atoms answer new = Happens edited planex.problem planex.table planex.bound (running atoms planex.memory) Sense answer new
+  Senses atoms answer new = Happens leaves_edit planex.problem planex.table planex.bound (running atoms planex.memory) Sense answer new
 
   -- a kernel is sensed, and the executor acts
   pub takes-sensed : (next : PlanexValue) (kernel : ℕ) (atoms mid sensed after : List Atom) (memory : Memory) (turn : Turn)
-      → mid ≡ after_edits edited (edits_at recorded number false) atoms → next ≡ record planex { memory = next.memory }
+      → mid ≡ after_edits leaves_edit (edits_at recorded number false) atoms → next ≡ record planex { memory = next.memory }
       → Senses mid (outcome.Sensed kernel) (running sensed next.memory) → EndsSensed next recorded number kernel sensed turn after memory
       → TakesNumbered planex recorded number atoms turn after memory
   takes-sensed next kernel atoms mid sensed after memory turn mid_is frame senses ends = (
@@ -55,13 +54,13 @@ module _ (planex : PlanexValue) (recorded : List (Recorded AtomEdit)) (number : 
     (
       running sensed next.memory,
       subst (λ (m : List Atom). Senses m (outcome.Sensed kernel) (running sensed next.memory)) mid_is senses,
-      subst (λ (p : PlanexValue). EndsTurn edited p.problem p.table p.bound (edits_at recorded number true) (running sensed next.memory) (outcome.Sensed kernel)
+      subst (λ (p : PlanexValue). EndsTurn leaves_edit p.problem p.table p.bound (edits_at recorded number true) (running sensed next.memory) (outcome.Sensed kernel)
           (turn_told turn) (running after memory)) frame ends,
     ),
   )
 
   -- no kernel is sensed
-  pub takes-none : (atoms mid after : List Atom) (memory : Memory) → mid ≡ after_edits edited (edits_at recorded number false) atoms
+  pub takes-none : (atoms mid after : List Atom) (memory : Memory) → mid ≡ after_edits leaves_edit (edits_at recorded number false) atoms
       → Senses mid outcome.NoKernel (running after memory)
       → TakesNumbered planex recorded number atoms (record { kernel = 0; op = None; end = told.NoKernel }) after memory
   takes-none atoms mid after memory mid_is senses = (

@@ -4,46 +4,48 @@ use Rattle.std.specs.List.{flat_map}
 use Rattle.std.proofs.Common.{zero, suc, refl, sym, ap, ◌∙◌, subst, get_or, arith, append_assoc}
 use Rattle.std.proofs.lemmas.List.{length-append}
 use Rattle.px_terms.specs.declared.atom.Atom.{Atom}
-use Rattle.px_world.specs.declared.edits.AtomEdit.{AtomEdit}
-use Rattle.px_world.specs.AtomWorldValue.{AtomWorldValue}
-use Rattle.px_world.specs.Worlds.{edited}
 use Rattle.px_planex.specs.Turns.{Recorded, after_edits, edits_at, is_at}
+use Rattle.px_session.specs.declared.place.Place.{Place}
+use Rattle.px_session.specs.Places.{building_of, place_atoms}
 use Rattle.px_session.specs.Running.{IsDisturbed}
+use Rattle.px_session.specs.Sessions.{Edit, leaves_edit}
+use Rattle.px_session.proofs.Placing.{same-both, same_taken}
 
-after-both : (xs ys : List AtomEdit) (atoms : List Atom) → after_edits edited (xs ++ ys) atoms ≡ after_edits edited ys (after_edits edited xs atoms)
+after-both : (xs ys : List Edit) (atoms : List Atom) → after_edits leaves_edit (xs ++ ys) atoms ≡ after_edits leaves_edit ys (after_edits leaves_edit xs atoms)
 after-both [] ys atoms = refl
-after-both (x ∷ xs) ys atoms = after-both xs ys (edited x atoms)
+after-both (x ∷ xs) ys atoms = after-both xs ys (leaves_edit x atoms)
 
-pub disturbed-none : (world : AtomWorldValue) → IsDisturbed [] world world
-disturbed-none world = record { atoms = refl; number = omega arith; spare = omega arith; rules = refl }
+pub disturbed-none : (world : Place) → IsDisturbed [] world world
+disturbed-none world = record { atoms = refl; number = omega arith; spare = omega arith; rules = refl; takes = same_taken (building_of world) }
 
-pub disturbed-both : (xs ys : List AtomEdit) (old mid new : AtomWorldValue) → IsDisturbed xs old mid → IsDisturbed ys mid new → IsDisturbed (xs ++ ys) old new
+pub disturbed-both : (xs ys : List Edit) (old mid new : Place) → IsDisturbed xs old mid → IsDisturbed ys mid new → IsDisturbed (xs ++ ys) old new
 disturbed-both xs ys old mid new first second = record {
-  atoms = second.atoms ∙ ap (after_edits edited ys) first.atoms ∙ sym (after-both xs ys old.atoms);
+  atoms = second.atoms ∙ ap (after_edits leaves_edit ys) first.atoms ∙ sym (after-both xs ys (place_atoms old));
   number = omega (arith, first.number, second.number, length-append xs ys);
   spare = omega (arith, first.spare, second.spare, length-append xs ys);
   rules = second.rules ∙ first.rules;
+  takes = same-both (building_of old) (building_of mid) (building_of new) first.takes second.takes;
 }
 
 -- an item that the edits of a turn and point are taken from, and those before it
 module _ (number : ℕ) (between : Bool) where
-  abbrev pub part_of : Recorded AtomEdit → List AtomEdit
+  abbrev pub part_of : Recorded Edit → List Edit
   part_of one = cond (is_at number between one) one.edits []
 
-  first-part : (one : Recorded AtomEdit) (recorded : List (Recorded AtomEdit)) → edits_at (one ∷ recorded) number between ≡ part_of one ++ edits_at recorded number between
+  first-part : (one : Recorded Edit) (recorded : List (Recorded Edit)) → edits_at (one ∷ recorded) number between ≡ part_of one ++ edits_at recorded number between
   first-part one recorded = by (is_at number between one)
     where
-      by : (b : Bool) → flat_map (λ (r : Recorded AtomEdit). r.edits) (cond b (one ∷ filter (is_at number between) recorded) (filter (is_at number between) recorded))
+      by : (b : Bool) → flat_map (λ (r : Recorded Edit). r.edits) (cond b (one ∷ filter (is_at number between) recorded) (filter (is_at number between) recorded))
           ≡ cond b one.edits [] ++ edits_at recorded number between
       by true = refl
       by false = refl
 
-  pub edits_at-more : (recorded : List (Recorded AtomEdit)) (i : ℕ) (d : Recorded AtomEdit) → i < length recorded
+  pub edits_at-more : (recorded : List (Recorded Edit)) (i : ℕ) (d : Recorded Edit) → i < length recorded
       → edits_at (take (suc i) recorded) number between ≡ edits_at (take i recorded) number between ++ part_of (get_or recorded i d)
   edits_at-more [] i d below = absurd (omega (arith, below))
   edits_at-more (one ∷ recorded) zero d below = first-part one [] ∙ append-nil (part_of one)
     where
-      append-nil : (xs : List AtomEdit) → xs ++ [] ≡ xs
+      append-nil : (xs : List Edit) → xs ++ [] ≡ xs
       append-nil [] = refl
       append-nil (x ∷ xs) = ap (λ l. x ∷ l) (append-nil xs)
   edits_at-more (one ∷ recorded) (suc i) d below =
@@ -53,7 +55,7 @@ module _ (number : ℕ) (between : Bool) where
       ∙ sym (ap (λ l. l ++ part_of (get_or recorded i d)) (first-part one (take i recorded)))
 
   -- the parts so far and the next are among all
-  pub edits_at-within : (recorded : List (Recorded AtomEdit)) (i : ℕ) (d : Recorded AtomEdit) → i < length recorded
+  pub edits_at-within : (recorded : List (Recorded Edit)) (i : ℕ) (d : Recorded Edit) → i < length recorded
       → length (edits_at (take i recorded) number between) + length (part_of (get_or recorded i d)) ≤ length (edits_at recorded number between)
   edits_at-within [] i d below = absurd (omega (arith, below))
   edits_at-within (one ∷ recorded) zero d below =
@@ -70,17 +72,17 @@ module _ (number : ℕ) (between : Bool) where
       )
 
   -- the next item: what comes of it, and the places that are left for it
-  pub disturbed-next : (recorded : List (Recorded AtomEdit)) (i : ℕ) (one : Recorded AtomEdit) → i < length recorded → one ≡ get_or recorded i one
-      → (b : Bool) → is_at number between one ≡ b → (old mid new : AtomWorldValue) → IsDisturbed (edits_at (take i recorded) number between) old mid
+  pub disturbed-next : (recorded : List (Recorded Edit)) (i : ℕ) (one : Recorded Edit) → i < length recorded → one ≡ get_or recorded i one
+      → (b : Bool) → is_at number between one ≡ b → (old mid new : Place) → IsDisturbed (edits_at (take i recorded) number between) old mid
       → IsDisturbed (cond b one.edits []) mid new → IsDisturbed (edits_at (take (i + 1) recorded) number between) old new
   disturbed-next recorded i one below is b test old mid new first second =
       let part : part_of (get_or recorded i one) ≡ cond b one.edits [] = ap part_of (sym is) ∙ ap (λ t. cond t one.edits []) test in
       let next : i + 1 ≡ suc i = omega arith in
-      subst (λ (edits : List AtomEdit). IsDisturbed edits old new)
+      subst (λ (edits : List Edit). IsDisturbed edits old new)
       (sym (ap (λ n. edits_at (take n recorded) number between) next ∙ edits_at-more recorded i one below ∙ ap (λ l. edits_at (take i recorded) number between ++ l) part))
       (disturbed-both (edits_at (take i recorded) number between) (cond b one.edits []) old mid new first second)
 
-  pub spare-next : (recorded : List (Recorded AtomEdit)) (i : ℕ) (one : Recorded AtomEdit) → i < length recorded → one ≡ get_or recorded i one
+  pub spare-next : (recorded : List (Recorded Edit)) (i : ℕ) (one : Recorded Edit) → i < length recorded → one ≡ get_or recorded i one
       → is_at number between one ≡ true → (places spare : ℕ) → length (edits_at recorded number between) ≤ places
       → places ≤ spare + length (edits_at (take i recorded) number between) → length one.edits ≤ spare
   spare-next recorded i one below is test places spare all left =

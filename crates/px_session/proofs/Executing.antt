@@ -1,8 +1,8 @@
 -- What a session keeps, from its opening on and by each lawful reply.
-use Rattle.std.specs.Prelude.{◌≡◌, ◌≢◌, ◌<◌, ◌≤◌, ◌+◌, ℕ, true, false, Option, Some, None, List, [], ◌∷◌, length, map, All, AllPairs, codes, is_some}
-use Rattle.std.proofs.Common.{refl, sym, ap, ◌∙◌, subst, arith, get_or, zero, suc}
+use Rattle.std.specs.Prelude.{◌≡◌, ◌≢◌, ◌⊎◌, ◌<◌, ◌≤◌, ◌+◌, ℕ, true, false, Option, Some, None, List, [], ◌∷◌, length, map, take, flat_map, All, AllPairs, Contains, codes, IfSome}
+use Rattle.std.proofs.Common.{refl, sym, ap, ◌∙◌, subst, arith, get_or, zero, suc, inl}
 use Rattle.std.proofs.lemmas.List.{get_or-map, length-append, length-map}
-use Rattle.std.proofs.lemmas.List.Elements.{All-nil, All-weaker}
+use Rattle.std.proofs.lemmas.List.Elements.{All-nil, All-weaker, Contains-append_cases}
 use Rattle.px_terms.specs.declared.problem.Problem.{Problem}
 use Rattle.px_table.specs.Kernels.{KernelsCarry}
 use Rattle.px_planex.specs.Turns.{Recorded}
@@ -16,19 +16,23 @@ use Rattle.px_script.specs.Commands as command
 use Rattle.px_script.specs.Content.{ScriptValue}
 use Rattle.px_script.specs.Limits as limit
 use Rattle.px_script.specs.Limits.{greatest}
-use Rattle.px_script.specs.Ranges.{AreRoomEditsOf, IsBindingOf, IsCommandOf, IsInRange}
+use Rattle.px_script.specs.Ranges.{IsBindingOf, IsBuildingOf, IsCommandOf, IsInRange, result_given}
 use Rattle.px_script.specs.StageRanges.{IsBuiltCommand, IsOfStage}
 use Rattle.px_script.specs.Stages.{is_built, stage_now}
-use Rattle.px_world.specs.declared.edits.RoomEdit.{RoomEdit}
 use Rattle.px_world.specs.declared.thing.Thing.{Thing}
+use Rattle.px_rooms.specs.States.{RoomState}
 use Rattle.px_session.specs.KeptSessions.{IsBindingToRun, IsKeptSession, IsRunnable}
-use Rattle.px_session.specs.Lawful.{Lawful, Notes, TellsFacts, TellsRun, TellsSearch, TellsShow, recorded_for}
+use Rattle.px_session.specs.Lawful.{Lawful, Notes, TellsFacts, TellsLearning, TellsRun, TellsSearch, TellsShow, recorded_for}
 use Rattle.px_session.specs.Named.{IsTellable}
 use Rattle.px_session.specs.Opened.{SessionValue, opened, tables_of}
 use Rattle.px_session.specs.OwnStates.{HasOwnEdits, IsOwnEdit}
-use Rattle.px_session.specs.Sessions.{Edit, SessionState, of_atoms}
+use Rattle.px_session.specs.Places.{IsPlaced, TakeSame, Takes}
+use Rattle.px_session.specs.Sessions.{Edit, SessionState, of_atoms, of_rooms}
+use Rattle.px_session.proofs.GivenNames.{apart-range, names-next}
 use Rattle.px_session.proofs.Kept.{sessions_are_kept}
-use Rattle.px_session.proofs.NamedReplies.{named-reply}
+use Rattle.px_session.proofs.NamedReplies.{named-each}
+use Rattle.px_session.proofs.Placing.{takes-later}
+use Rattle.px_session.proofs.RoomEdits.{OwnsRoomEdits, at_first, each-building, note-atoms, note-rooms, owns-room-edits, placed-first}
 
 -- ---- the opening
 
@@ -51,30 +55,27 @@ binding-ready problem bound each once = record {
   once = once;
 }
 
-abbrev IsReady : Problem → ℕ → command.Command → Type 0
-IsReady problem results given = IsRunnable problem given × IsTellable problem results given
+abbrev IsReady : Problem → Option (List Thing) → ℕ → command.Command → Type 0
+IsReady problem building results given = IsRunnable problem (at_first building) given × IsTellable problem results given
 
--- without a building no edit is of rooms
-no-room-edits : (building : Option (List Thing)) (edits : List RoomEdit) → (is_some building ≡ true → ⊥) → AreRoomEditsOf building edits → ⊥
-no-room-edits None edits out of = of
-no-room-edits (Some things) edits out of = out refl
-
-ready : (version : ℕ) (problem : Problem) (building : Option (List Thing)) (results : ℕ) (c : command.Command) → (is_some building ≡ true → ⊥)
-    → IsCommandOf version problem building results c → IsBuiltCommand stage_now c → IsReady problem results c
-ready version problem building results (command.Plan name goal vars) out of built =
+ready : (version : ℕ) (problem : Problem) (building : Option (List Thing)) (results : ℕ) (c : command.Command)
+    → IfSome building (OwnsRoomEdits problem) → IsCommandOf version problem building results c → IsBuiltCommand stage_now c
+    → IsReady problem building results c
+ready version problem building results (command.Plan name goal vars) owns of built =
     (record { atoms = of.1.atoms; few = of.1.few_variables; some_object = some-object problem.objects vars of.1.no_objects }, (of.0, of.1.atoms))
-ready version problem building results (command.Learn name source) out of built = absurd (unbuilt (codes "learn") refl built)
-ready version problem building results (command.Show name) out of built = (tt, of)
-ready version problem building results (command.DisturbAtoms turn between edits) out of built = (of.2, tt)
-ready version problem building results (command.DisturbRooms turn between edits) out of built = absurd (no-room-edits building edits out of.1)
-ready version problem building results (command.Run name bindings) out of built = (binding-ready problem bindings of.1 of.2, of.0)
-ready version problem building results command.Facts out of built = (tt, tt)
+ready version problem building results (command.Learn name source) owns of built = (tt, of)
+ready version problem building results (command.Show name) owns of built = (tt, of)
+ready version problem building results (command.DisturbAtoms turn between edits) owns of built = (note-atoms problem building edits of.1 of.2, tt)
+ready version problem building results (command.DisturbRooms turn between edits) owns of built = (note-rooms problem building edits owns of.1, tt)
+ready version problem building results (command.Run name bindings) owns of built = (binding-ready problem bindings of.1 of.2, of.0)
+ready version problem building results command.Facts owns of built = (tt, tt)
 
 ready-at : (script : ScriptValue) → IsInRange script → IsOfStage stage_now script → (k : ℕ) (c : command.Command) → k < length script.commands
-    → IsReady script.problem (length script.names.results) (get_or script.commands k c)
+    → IsReady script.problem script.building (length script.names.results) (get_or script.commands k c)
 ready-at script range stage k c below =
     ready script.version script.problem script.building (length script.names.results) (get_or script.commands k c)
-    (λ some. unbuilt (codes "building") refl (stage.building some)) (range.commands.each k c below) (stage.commands k c below)
+    (each-building (IsBuildingOf script.names script.problem script.facts) (OwnsRoomEdits script.problem) script.building
+    (owns-room-edits script.names script.problem script.facts) range.building) (range.commands.each k c below) (stage.commands k c below)
 
 few-commands : (version count : ℕ) → version ≡ 1 → count ≤ greatest version limit.commands → count < 4294967295
 few-commands version count is_one few =
@@ -82,113 +83,153 @@ few-commands version count is_one few =
     omega (arith, most)
 
 -- a session keeps what it is to keep before its first command
-pub kept-opened : (script : ScriptValue) → IsInRange script → IsOfStage stage_now script → IsKeptSession (opened script)
+pub kept-opened : (script : ScriptValue) → IsInRange script → IsOfStage stage_now script → IsKeptSession (at_first script.building) (opened script)
 kept-opened script range stage = record {
   problem = range.problem.valid;
   names = record { objects = sym range.problem.objects; predicates = sym range.problem.predicates; operators = range.operators };
   state = sessions_are_kept.opened script.problem script.facts range.facts.fact_set;
   own = record { atoms = range.facts.atoms; edits = All-nil (λ one. All (IsOwnEdit script.problem) one.edits) };
-  no_learned = refl;
+  placed = record {
+    place = placed-first script.names script.problem script.facts script.building range.building;
+    edits = All-nil (λ one. All (Takes (at_first script.building)) one.edits);
+  };
   commands = λ k c below. (ready-at script range stage k c below).0;
   tellable = λ k c below. (ready-at script range stage k c below).1;
+  once = subst (AllPairs (λ one other. one ≢ other)) (sym range.commands.given) (apart-range (length script.names.results));
+  learned = All-nil (Contains (flat_map result_given (take 0 script.commands)));
   few = few-commands script.version (length script.commands) range.version range.commands.few;
   recorded = omega arith;
 }
 
 -- ---- each command
 
--- at most one disturbance more is recorded, and the learned tables are the same
-record KeepsParts (old new : SessionState) : Type 0 where
+-- at most one disturbance more is recorded, and a learned table has a name that one had before, or one of these
+record KeepsParts (names : List ℕ) (old new : SessionState) : Type 0 where
   pub recorded : length new.recorded ≤ length old.recorded + 1
-  pub learned : new.learned ≡ old.learned
+  pub learned : (name : ℕ) → Contains new.learned.names name → Contains old.learned.names name ⊎ Contains names name
 
-same-parts : (old new : SessionState) → new ≡ old → KeepsParts old new
-same-parts old new same = subst (KeepsParts old) (sym same) (record { recorded = omega arith; learned = refl })
+same-parts : (names : List ℕ) (old new : SessionState) → new ≡ old → KeepsParts names old new
+same-parts names old new same = subst (KeepsParts names old) (sym same) (record { recorded = omega arith; learned = λ name has. inl has })
 
-search-parts : (task : Task) (name : ℕ) (old : SessionState) (answer : Reply) (new : SessionState) → TellsSearch task name old answer new → KeepsParts old new
-search-parts task name old (reply.Plan given count steps) new is = subst (KeepsParts old) (sym is.1.stored) (record { recorded = omega arith; learned = refl })
-search-parts task name old (reply.Exhausted given) new is = same-parts old new is.2
-search-parts task name old (reply.NodeLimit given nodes moves) new is = same-parts old new is.2
-search-parts task name old (reply.ShapeLimit given node formula shapes) new is = same-parts old new is.2
+-- the name of the table is the last one
+learning-parts : (problem : Problem) (name source : ℕ) (old : SessionState) (answer : Reply) (new : SessionState)
+    → TellsLearning problem old name source answer new → KeepsParts (name ∷ []) old new
+learning-parts problem name source old (reply.Unknown given) new is = same-parts (name ∷ []) old new is.2
+learning-parts problem name source old (reply.LearnRefused given why) new is = same-parts (name ∷ []) old new is.1.same
+learning-parts problem name source old (reply.Learned given params steps) new is =
+    subst (KeepsParts (name ∷ []) old) (sym is.1.learned)
+    (record { recorded = omega arith; learned = λ n has. Contains-append_cases old.learned.names (name ∷ []) n has })
+learning-parts problem name source old answer new is = absurd is
+
+search-parts : (task : Task) (name : ℕ) (old : SessionState) (answer : Reply) (new : SessionState) → TellsSearch task name old answer new → KeepsParts (name ∷ []) old new
+search-parts task name old (reply.Plan given count steps) new is = subst (KeepsParts (name ∷ []) old) (sym is.1.stored) (record { recorded = omega arith; learned = λ n has. inl has })
+search-parts task name old (reply.Exhausted given) new is = same-parts (name ∷ []) old new is.2
+search-parts task name old (reply.NodeLimit given nodes moves) new is = same-parts (name ∷ []) old new is.2
+search-parts task name old (reply.ShapeLimit given node formula shapes) new is = same-parts (name ∷ []) old new is.2
 search-parts task name old answer new is = absurd is
 
-show-parts : (old : SessionState) (name : ℕ) (answer : Reply) (new : SessionState) → TellsShow old name answer new → KeepsParts old new
-show-parts old name (reply.Unknown given) new is = same-parts old new is.2
-show-parts old name (reply.Shown given table) new is = same-parts old new is.2
+show-parts : (old : SessionState) (name : ℕ) (answer : Reply) (new : SessionState) → TellsShow old name answer new → KeepsParts [] old new
+show-parts old name (reply.Unknown given) new is = same-parts [] old new is.2
+show-parts old name (reply.Shown given table) new is = same-parts [] old new is.2
 show-parts old name answer new is = absurd is
 
-notes-parts : (old : SessionState) (one : Recorded Edit) (answer : Reply) (new : SessionState) → Notes old one answer new → KeepsParts old new
+notes-parts : (old : SessionState) (one : Recorded Edit) (answer : Reply) (new : SessionState) → Notes old one answer new → KeepsParts [] old new
 notes-parts old one (reply.Noted count) new is =
-    subst (KeepsParts old) (sym is.1) (record { recorded = omega (arith, length-append old.recorded (one ∷ [])); learned = refl })
+    subst (KeepsParts [] old) (sym is.1) (record { recorded = omega (arith, length-append old.recorded (one ∷ [])); learned = λ name has. inl has })
 notes-parts old one answer new is = absurd is
 
 run-parts : (problem : Problem) (old : SessionState) (name : ℕ) (bound : List (ℕ × ℕ)) (answer : Reply) (new : SessionState)
-    → TellsRun problem old name bound answer new → KeepsParts old new
-run-parts problem old name bound (reply.Unknown given) new is = same-parts old new is.2
-run-parts problem old name bound (reply.UnknownParam param) new is = same-parts old new is.same
-run-parts problem old name bound (reply.Ran given told) new is = subst (KeepsParts old) (sym is.1.changed) (record { recorded = omega arith; learned = refl })
+    → TellsRun problem old name bound answer new → KeepsParts [] old new
+run-parts problem old name bound (reply.Unknown given) new is = same-parts [] old new is.2
+run-parts problem old name bound (reply.UnknownParam param) new is = same-parts [] old new is.same
+run-parts problem old name bound (reply.Ran given told) new is = subst (KeepsParts [] old) (sym is.1.changed) (record { recorded = omega arith; learned = λ name has. inl has })
 run-parts problem old name bound answer new is = absurd is
 
-facts-parts : (old : SessionState) (answer : Reply) (new : SessionState) → TellsFacts old answer new → KeepsParts old new
-facts-parts old (reply.FactsAre atoms) new is = same-parts old new is.2
+facts-parts : (old : SessionState) (answer : Reply) (new : SessionState) → TellsFacts old answer new → KeepsParts [] old new
+facts-parts old (reply.FactsAre atoms) new is = same-parts [] old new is.2
 facts-parts old answer new is = absurd is
 
-keeps-parts : (problem : Problem) (old : SessionState) (given : command.Command) (answer : Reply) (new : SessionState) → IsRunnable problem given
-    → Lawful problem old given answer new → KeepsParts old new
-keeps-parts problem old (command.Plan name goal vars) answer new runs is = search-parts (task_of problem old.learned.tables old.atoms goal vars) name old answer new is
-keeps-parts problem old (command.Learn name source) answer new runs is = absurd runs
-keeps-parts problem old (command.Show name) answer new runs is = show-parts old name answer new is
-keeps-parts problem old (command.DisturbAtoms turn between edits) answer new runs is = notes-parts old (recorded_for turn between (map of_atoms edits)) answer new is
-keeps-parts problem old (command.DisturbRooms turn between edits) answer new runs is = absurd runs
-keeps-parts problem old (command.Run name bound) answer new runs is = run-parts problem old name bound answer new is
-keeps-parts problem old command.Facts answer new runs is = facts-parts old answer new is
+keeps-parts : (problem : Problem) (building : Option RoomState) (old : SessionState) (given : command.Command) (answer : Reply) (new : SessionState)
+    → IsRunnable problem building given → Lawful problem old given answer new → KeepsParts (result_given given) old new
+keeps-parts problem building old (command.Plan name goal vars) answer new runs is = search-parts (task_of problem old.learned.tables old.atoms goal vars) name old answer new is
+keeps-parts problem building old (command.Learn name source) answer new runs is = learning-parts problem name source old answer new is
+keeps-parts problem building old (command.Show name) answer new runs is = show-parts old name answer new is
+keeps-parts problem building old (command.DisturbAtoms turn between edits) answer new runs is = notes-parts old (recorded_for turn between (map of_atoms edits)) answer new is
+keeps-parts problem building old (command.DisturbRooms turn between edits) answer new runs is = notes-parts old (recorded_for turn between (map of_rooms edits)) answer new is
+keeps-parts problem building old (command.Run name bound) answer new runs is = run-parts problem old name bound answer new is
+keeps-parts problem building old command.Facts answer new runs is = facts-parts old answer new is
 
 -- a command that can be run has edits of the problem alone
-own-edits : (problem : Problem) (given : command.Command) → IsRunnable problem given → HasOwnEdits problem given
-own-edits problem (command.Plan name goal vars) runs = tt
-own-edits problem (command.Learn name source) runs = tt
-own-edits problem (command.Show name) runs = tt
-own-edits problem (command.DisturbAtoms turn between edits) runs = runs
-own-edits problem (command.DisturbRooms turn between edits) runs = runs
-own-edits problem (command.Run name bound) runs = tt
-own-edits problem command.Facts runs = tt
+own-edits : (problem : Problem) (building : Option RoomState) (given : command.Command) → IsRunnable problem building given → HasOwnEdits problem given
+own-edits problem building (command.Plan name goal vars) runs = tt
+own-edits problem building (command.Learn name source) runs = tt
+own-edits problem building (command.Show name) runs = tt
+own-edits problem building (command.DisturbAtoms turn between edits) runs = runs.own
+own-edits problem building (command.DisturbRooms turn between edits) runs = runs.own
+own-edits problem building (command.Run name bound) runs = tt
+own-edits problem building command.Facts runs = tt
 
 -- the session after one command more
 abbrev pub after_command : SessionValue → SessionState → ℕ → SessionValue
 after_command session state done = record session { done = done; state = state }
 
-pub kept-after : (session : SessionValue) (given : command.Command) (answer : Reply) (new : SessionState) (done : ℕ) → IsKeptSession session
-    → done ≡ session.done + 1 → IsRunnable session.problem given → Lawful session.problem session.state given answer new
-    → IsKeptSession (after_command session new done)
-kept-after session given answer new done kept more runs lawful =
-    let parts = keeps-parts session.problem session.state given answer new runs lawful in
+-- a command can be run as long as the same edits are taken
+runnable-later : (problem : Problem) (old new : Option RoomState) → TakeSame old new → (given : command.Command) → IsRunnable problem old given
+    → IsRunnable problem new given
+runnable-later problem old new same (command.Plan name goal vars) runs = runs
+runnable-later problem old new same (command.Learn name source) runs = runs
+runnable-later problem old new same (command.Show name) runs = runs
+runnable-later problem old new same (command.DisturbAtoms turn between edits) runs =
+    record { own = runs.own; taken = takes-later old new (map of_atoms edits) same runs.taken }
+runnable-later problem old new same (command.DisturbRooms turn between edits) runs =
+    record { own = runs.own; taken = takes-later old new (map of_rooms edits) same runs.taken }
+runnable-later problem old new same (command.Run name bound) runs = runs
+runnable-later problem old new same command.Facts runs = runs
+
+pub kept-after : (building left : Option RoomState) (session : SessionValue) (given : command.Command) (answer : Reply) (new : SessionState) (done : ℕ)
+    → IsKeptSession building session → done ≡ session.done + 1 → session.done < length session.commands
+    → given ≡ get_or session.commands session.done given → IsRunnable session.problem building given
+    → Lawful session.problem session.state given answer new → IsPlaced session.problem left new → TakeSame building left
+    → IsKeptSession left (after_command session new done)
+kept-after building left session given answer new done kept more below is runs lawful placed same =
+    let parts = keeps-parts session.problem building session.state given answer new runs lawful in
+    let names = names-next session.commands session.done given session.state.learned.names new.learned.names below is kept.learned parts.learned in
     record {
       problem = kept.problem;
       names = kept.names;
       state = sessions_are_kept.kept session.problem session.state given answer new kept.state lawful;
-      own = sessions_are_kept.own session.problem session.state given answer new kept.problem kept.state kept.own (own-edits session.problem given runs) lawful;
-      no_learned = parts.learned ∙ kept.no_learned;
-      commands = kept.commands;
+      own = sessions_are_kept.own session.problem session.state given answer new kept.problem kept.state kept.own (own-edits session.problem building given runs) lawful;
+      placed = placed;
+      commands = All-weaker (IsRunnable session.problem building) (IsRunnable session.problem left) (runnable-later session.problem building left same)
+          session.commands kept.commands;
       tellable = kept.tellable;
+      once = kept.once;
+      learned = subst (λ n. All (Contains (flat_map result_given (take n session.commands))) new.learned.names) (sym more) names;
       few = kept.few;
       recorded = omega (arith, more, parts.recorded, kept.recorded);
     }
 
-pub named-after : (session : SessionValue) (given : command.Command) (answer : Reply) (new : SessionState) → IsKeptSession session
+pub named-after : (building : Option RoomState) (session : SessionValue) (given : command.Command) (answer : Reply) (new : SessionState) → IsKeptSession building session
     → IsTellable session.problem (length session.names.results) given → Lawful session.problem session.state given answer new → IsNamed session.names answer
-named-after session given answer new kept tellable lawful =
-    named-reply session.problem session.names session.state given answer new kept.problem kept.names kept.own.atoms kept.state.plans kept.no_learned tellable lawful
+named-after building session given answer new kept tellable lawful =
+    named-each session.problem session.names session.state given answer new kept.names kept.own.atoms kept.state.plans kept.state.learned tellable lawful
 
 -- the kernels of its tables carry
-pub kernels-after : (session : SessionValue) (given : command.Command) (answer : Reply) (new : SessionState) → IsKeptSession session
+pub kernels-after : (building : Option RoomState) (session : SessionValue) (given : command.Command) (answer : Reply) (new : SessionState) → IsKeptSession building session
     → Lawful session.problem session.state given answer new → All (KernelsCarry session.problem) (tables_of new)
-kernels-after session given answer new kept lawful =
+kernels-after building session given answer new kept lawful =
     sessions_are_kept.kernels session.problem new (sessions_are_kept.kept session.problem session.state given answer new kept.state lawful)
+
+-- the command at the place
+pub command-at : (commands listed : List code.Command) (k : ℕ) (one : code.Command) → listed ≡ commands → k < length (map command_view commands)
+    → one ≡ get_or listed k one → command_view one ≡ get_or (map command_view commands) k (command_view one)
+command-at commands listed k one same below is =
+    let short : k < length commands = omega (arith, below, length-map commands command_view) in
+    let here : get_or commands k one ≡ one = sym (is ∙ ap (λ (l : List code.Command). get_or l k one) same) in
+    sym (get_or-map command_view commands k one (command_view one) short ∙ ap command_view here)
 
 -- what holds of all commands holds of the one at the place
 pub at-place : (P : command.Command → Type 0) (commands listed : List code.Command) (k : ℕ) (one : code.Command) → All P (map command_view commands)
     → listed ≡ commands → k < length (map command_view commands) → one ≡ get_or listed k one → P (command_view one)
 at-place P commands listed k one all same below is =
-    let short : k < length commands = omega (arith, below, length-map commands command_view) in
-    let here : get_or commands k one ≡ one = sym (is ∙ ap (λ (l : List code.Command). get_or l k one) same) in
-    subst P (get_or-map command_view commands k one (command_view one) short ∙ ap command_view here) (all k (command_view one) below)
+    subst P (sym (command-at commands listed k one same below is)) (all k (command_view one) below)

@@ -1,21 +1,17 @@
 -- The table of a plan that is found is as that of a stored plan.
-use Rattle.std.specs.Prelude.{◌≡◌, ℕ, List, [], ◌∷◌, Some, map, length, slice_get, All}
+use Rattle.std.specs.Prelude.{◌≡◌, ℕ, List, [], ◌∷◌, map, length, All}
 use Rattle.std.proofs.Common.{refl, sym, ap, subst, arith}
-use Rattle.std.proofs.lemmas.List.Elements.{All-nil, All-cons, All-head, All-tail, All-append, Contains-push}
+use Rattle.std.proofs.lemmas.List.Elements.{All-head, All-tail}
 use Rattle.px_base.specs.ListLaws.{All-at, All-each}
 use Rattle.px_terms.specs.declared.atom.Atom.{Atom}
 use Rattle.px_terms.specs.declared.instance.OpInst.{OpInst}
 use Rattle.px_terms.specs.declared.problem.Problem.{Problem}
 use Rattle.px_terms.specs.declared.term.Term.{Term}
 use Rattle.px_terms.specs.declared.term.Term.TheVariants.{Obj, Var, Any}
-use Rattle.px_terms.specs.Operators.{results_of}
 use Rattle.px_terms.specs.Language.{substitute}
 use Rattle.px_terms.specs.Validity.{IsInstanceOf, IsTermOf, IsAtomOf}
 use Rattle.px_proof.specs.declared.proof.Proof.{Proof}
-use Rattle.px_table.specs.declared.entry.Entry.{Entry}
-use Rattle.px_table.specs.declared.entry.Entry.TheVariants.{Op, Macro}
 use Rattle.px_table.specs.declared.entry.Move.{Move}
-use Rattle.px_table.specs.declared.entry.Move.TheVariants.{Apply, Push}
 use Rattle.px_table.specs.declared.mark.Mark.{Mark}
 use Rattle.px_table.specs.declared.table.Table.{Table}
 use Rattle.px_table.specs.Kernels.{IsProper, instance_under, mark_under}
@@ -23,40 +19,13 @@ use Rattle.px_table.specs.Marks.{IsKept, marks_from}
 use Rattle.px_table.specs.SupportLaws.{marks-are_of}
 use Rattle.px_table.specs.Supports.{Supports}
 use Rattle.px_table.specs.Tables.{AreOfProblem, IsTable, rows_of}
-use Rattle.px_diff.specs.Entries.{IsEntry, effect_of}
-use Rattle.px_ends.specs.Ends.{IsFound}
 use Rattle.px_ends.specs.Made.{IsTableOfMoves, MovesRows}
-use Rattle.px_ends.specs.Moves.{CanMake}
-use Rattle.px_ends.specs.Tasks.{IsAllowed, Task, after, initial_node, steps_of}
+use Rattle.px_ends.specs.Tasks.{Task, initial_node, steps_of}
 use Rattle.px_library.specs.Libraries.{with_table}
 use Rattle.px_search.specs.declared.ends.Found.{Found}
 use Rattle.px_session.specs.Lawful.{FindsPlan}
 use Rattle.px_session.specs.Planning.{IsFoundPlan}
 use Rattle.px_session.specs.Sessions.{IsPlanTable, SessionState}
-
--- ---- the steps of moves are instances of operators, where there are no learned tables
-
-module _ (task : Task) (no_tables : task.tables ≡ []) where
-  effect-instances : (entry : Entry) → IsEntry task.problem task.tables entry → All (IsInstanceOf task.problem) (effect_of task.tables entry)
-  effect-instances (Op inst) is = All-cons (IsInstanceOf task.problem) inst [] is (All-nil (IsInstanceOf task.problem))
-  effect-instances (Macro number prefix sigma) is =
-      let at : slice_get [] number ≡ Some is.0 = subst (λ (tables : List Table). slice_get tables number ≡ Some is.0) no_tables is.1 in
-      absurd (cc)
-
-  moves-instances : (moves : List Move) (model : List Atom) (stack : List Entry) → All (IsEntry task.problem task.tables) stack
-      → CanMake (IsAllowed task) (after task) (record { model = model; stack = stack }) moves → All (IsInstanceOf task.problem) (steps_of task.tables stack moves)
-  moves-instances [] model stack entries can = All-nil (IsInstanceOf task.problem)
-  moves-instances (Push entry ∷ moves) model stack entries can =
-      moves-instances moves model (entry ∷ stack) (All-cons (IsEntry task.problem task.tables) entry stack can.0.0.is_entry entries) can.1
-  moves-instances (Apply ∷ moves) model [] entries can = absurd (can.0.0 refl)
-  moves-instances (Apply ∷ moves) model (entry ∷ below) entries can =
-      All-append (IsInstanceOf task.problem) (effect_of task.tables entry) (steps_of task.tables below moves)
-      (effect-instances entry (All-head (IsEntry task.problem task.tables) entry below entries))
-      (moves-instances moves (results_of task.problem model (effect_of task.tables entry)) below (All-tail (IsEntry task.problem task.tables) entry below entries) can.1)
-
-  pub found-instances : (moves : List Move) → IsFound task moves → All (IsInstanceOf task.problem) (steps_of task.tables [] moves)
-  found-instances moves found =
-      moves-instances moves task.initial [] (All-nil (IsEntry task.problem task.tables)) (found.stop.beginning.least moves (Contains-push found.earlier moves)).made
 
 -- ---- what has no variables stays as it is
 
@@ -119,11 +88,10 @@ pub built-moves : (task : Task) (moves : List Move) (steps : List OpInst) (suppo
 built-moves task moves steps support taken rows = record { params = refl; steps = taken; goal = refl; goal_vars = refl; rows = rows; marks = refl }
 
 -- what is told of a plan that is found, where its table is stored
-pub finds-plan : (task : Task) → task.tables ≡ [] → (name count : ℕ) (old new : SessionState) (plan : Found) (made : Table) → IsFoundPlan task plan
+pub finds-plan : (task : Task) (name count : ℕ) (old new : SessionState) (plan : Found) (made : Table) → IsFoundPlan task plan
     → made ≡ built plan.steps task.goal task.vars plan.support.items → IsTable task.problem made → count ≡ length plan.moves
     → new ≡ record old { plans = with_table old.plans name made } → FindsPlan task name old count plan.steps new
-finds-plan task none name count old new plan made is made_is table counted stored =
-    let instances = subst (All (IsInstanceOf task.problem)) (sym is.steps) (found-instances task none plan.moves is.found) in
+finds-plan task name count old new plan made is made_is table counted stored =
     record {
       moves = plan.moves;
       found = is.found;
@@ -133,6 +101,6 @@ finds-plan task none name count old new plan made is made_is table counted store
       made = made;
       table = subst (IsTableOfMoves task plan.moves) (sym made_is) (built-moves task plan.moves plan.steps plan.support.items is.steps is.rows);
       plan = subst (IsPlanTable task.problem) (sym made_is)
-          (built-plan task.problem task.initial plan.steps task.goal task.vars plan.support.items instances is.supports is.of_problem (subst (IsTable task.problem) made_is table));
+          (built-plan task.problem task.initial plan.steps task.goal task.vars plan.support.items is.instances is.supports is.of_problem (subst (IsTable task.problem) made_is table));
       stored = stored;
     }

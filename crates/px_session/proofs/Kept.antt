@@ -18,7 +18,7 @@ use Rattle.px_printer.specs.declared.reply.Reply.TheVariants as reply
 use Rattle.px_printer.specs.declared.reply.Why.TheVariants.{TooLong, TooDeep, TooWide, Full}
 use Rattle.px_script.specs.Commands as command
 use Rattle.px_session.specs.Determined.{SessionsAreKept}
-use Rattle.px_session.specs.Lawful.{IsLearned, Lawful, Notes, TellsFacts, TellsLearning, TellsRun, TellsSearch, TellsShow, recorded_for}
+use Rattle.px_session.specs.Lawful.{IsLearned, Lawful, Notes, TellsFacts, TellsLearning, TellsRun, TellsSearch, TellsShow, recorded_for, turn_told}
 use Rattle.px_session.specs.Sessions.{Edit, IsLearnedTable, IsPlanTable, IsSession, SessionState, of_atoms, of_rooms, opening}
 use Rattle.px_session.proofs.Ascending.{run-set}
 use Rattle.px_session.proofs.OneLearning.{plan-right}
@@ -85,7 +85,7 @@ module _ (problem : Problem) (old : SessionState) (session : IsSession problem o
   run-kept name bound (reply.Unknown given) new is = same-state problem old new session is.2
   run-kept name bound (reply.UnknownParam param) new is = same-state problem old new session is.same
   run-kept name bound (reply.Ran given told) new is = subst (IsSession problem) (sym is.1.changed)
-      (record { atoms = run-set problem is.1.table bound old.recorded old.atoms is.1.turns is.1.after is.1.runs session.atoms; plans = session.plans; learned = session.learned; few = session.few })
+      (record { atoms = run-set problem is.1.table bound old.recorded old.atoms (map turn_told told) is.1.after is.1.runs session.atoms; plans = session.plans; learned = session.learned; few = session.few })
   run-kept name bound answer new is = absurd is
 
   facts-kept : (answer : Reply) (new : SessionState) → TellsFacts old answer new → IsSession problem new

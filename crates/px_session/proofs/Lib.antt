@@ -1,7 +1,10 @@
 pub mod OneSearch
 pub mod OneLearning
 pub mod OneRunning
+pub mod ToldRuns
 pub mod OneReply
+pub mod GivenNames
+pub mod Learned
 pub mod Shapes
 pub mod Ascending
 pub mod Kept
@@ -19,3 +22,6 @@ pub mod Acting
 pub mod OwnRuns
 pub mod OwnKept
 pub mod RunReplies
+pub mod Placing
+pub mod RoomEdits
+pub mod Noting

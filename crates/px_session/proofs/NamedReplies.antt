@@ -1,7 +1,7 @@
 -- Each lawful reply to a command that is built has its names.
-use Rattle.std.specs.Prelude.{◌≡◌, ◌<◌, ◌+◌, ℕ, Option, Some, None, List, length, map, All}
+use Rattle.std.specs.Prelude.{◌≡◌, ◌<◌, ◌+◌, ℕ, Option, Some, None, List, [], ◌∷◌, length, map, All}
 use Rattle.std.proofs.Common.{refl, sym, ap, ◌∙◌, subst, arith}
-use Rattle.std.proofs.lemmas.List.Elements.{All-map, All-nil}
+use Rattle.std.proofs.lemmas.List.Elements.{All-cons, All-head, All-map, All-nil, All-tail}
 use Rattle.px_base.specs.ListLaws.{All-at, All-each}
 use Rattle.px_names.specs.Lists.{NameLists}
 use Rattle.px_terms.specs.declared.atom.Atom.{Atom}
@@ -9,11 +9,10 @@ use Rattle.px_terms.specs.declared.instance.OpInst.{OpInst}
 use Rattle.px_terms.specs.declared.problem.Problem.{Problem}
 use Rattle.px_terms.specs.declared.term.Term.{Term}
 use Rattle.px_terms.specs.declared.term.Term.TheVariants.{Obj, Var, Any}
-use Rattle.px_terms.specs.Validity.{IsAtomOf, IsTermOf, IsValid}
+use Rattle.px_terms.specs.Validity.{IsAtomOf, IsTermOf}
 use Rattle.px_table.specs.declared.mark.Mark.{Mark}
 use Rattle.px_table.specs.declared.table.Table.{Table}
 use Rattle.px_table.specs.Tables.{IsStepOf, IsTable}
-use Rattle.px_library.specs.Libraries.{LibraryValue, no_tables}
 use Rattle.px_planex.specs.Turns.{Recorded, TurnValue}
 use Rattle.px_ends.specs.Tasks.{Task, task_of}
 use Rattle.px_printer.specs.declared.reply.Reply.{Reply}
@@ -22,10 +21,11 @@ use Rattle.px_printer.specs.Replies.{IsNamed}
 use Rattle.px_printer.specs.Rows.{IsNamedTable}
 use Rattle.px_printer.specs.Texts.{IsNamedAtom, IsNamedInstance, IsNamedTerm}
 use Rattle.px_printer.specs.Turns.{IsNamedStep, IsNamedTurn}
+use Rattle.px_printer.specs.declared.turn.Turn.{Turn}
 use Rattle.px_script.specs.Commands as command
-use Rattle.px_session.specs.Lawful.{FindsPlan, Lawful, Notes, TellsFacts, TellsRun, TellsSearch, TellsShow, recorded_for, told_turn}
+use Rattle.px_session.specs.Lawful.{FindsPlan, Lawful, Notes, TellsFacts, TellsLearning, TellsRun, TellsSearch, TellsShow, recorded_for, turn_told}
 use Rattle.px_session.specs.Named.{AreNamesOf, IsTellable, RepliesAreNamed}
-use Rattle.px_session.specs.Sessions.{Edit, IsLearnedTable, IsPlanTable, SessionState, any_table, of_atoms}
+use Rattle.px_session.specs.Sessions.{Edit, IsLearnedTable, IsPlanTable, SessionState, any_table, of_atoms, of_rooms}
 use Rattle.px_session.proofs.OneLearning.{any-right}
 use Rattle.px_session.proofs.OwnRuns.{IsOwnStep, run-steps}
 
@@ -66,16 +66,17 @@ module _ (problem : Problem) (names : NameLists) (all : AreNamesOf problem names
       All-each (IsNamedInstance names) steps (λ inst has. named-step params inst (All-at (IsStepOf problem params) steps inst of has))
 
   -- an instance of an operator of the problem is a step without parameters
-  named-turn : (turn : TurnValue) (step : Option OpInst) → turn.op ≡ step → IsOwnStep problem step → IsNamedTurn names (told_turn turn)
+  named-turn : (turn : Turn) (step : Option OpInst) → turn.op ≡ step → IsOwnStep problem step → IsNamedTurn names turn
   named-turn turn None same own = subst (IsNamedStep names) (sym same) tt
   named-turn turn (Some inst) same own =
       subst (IsNamedStep names) (sym same) (named-step 0 inst (record { op = own.op; count = own.count; terms = own.objects }))
 
-  named-turns : (turns : List TurnValue) → All (λ turn. IsOwnStep problem turn.op) turns → All (IsNamedTurn names) (map told_turn turns)
-  named-turns turns own =
-      All-map (IsNamedTurn names) told_turn turns
-      (All-each (λ (turn : TurnValue). IsNamedTurn names (told_turn turn)) turns
-      (λ turn has. named-turn turn turn.op refl (All-at (λ (t : TurnValue). IsOwnStep problem t.op) turns turn own has)))
+  named-turns : (told : List Turn) → All (λ turn. IsOwnStep problem turn.op) (map turn_told told) → All (IsNamedTurn names) told
+  named-turns [] own = All-nil (IsNamedTurn names)
+  named-turns (turn ∷ told) own =
+      let first = All-head (λ (t : TurnValue). IsOwnStep problem t.op) (turn_told turn) (map turn_told told) own in
+      let rest = All-tail (λ (t : TurnValue). IsOwnStep problem t.op) (turn_told turn) (map turn_told told) own in
+      All-cons (IsNamedTurn names) turn told (named-turn turn turn.op refl first) (named-turns told rest)
 
   -- ---- a table of the problem
 
@@ -128,10 +129,8 @@ module _ (problem : Problem) (names : NameLists) (all : AreNamesOf problem names
     named-run name bound (reply.UnknownParam param) new below is = tt
     named-run name bound (reply.Ran given told) new below is =
         let right = any-right problem old plans learned name is.1.table is.1.named in
-        let steps = run-steps problem is.1.table right bound old.recorded old.atoms is.1.turns is.1.after is.1.runs in (
-          same-result given name (length names.results) is.0 below,
-          subst (All (IsNamedTurn names)) (sym is.1.told_are) (named-turns is.1.turns steps),
-        )
+        let steps = run-steps problem is.1.table right bound old.recorded old.atoms (map turn_told told) is.1.after is.1.runs in
+        (same-result given name (length names.results) is.0 below, named-turns told steps)
     named-run name bound answer new below is = absurd is
 
     named-facts : (answer : Reply) (new : SessionState) → All (IsAtomOf problem 0) old.atoms
@@ -145,8 +144,16 @@ named-noted : (names : NameLists) (old : SessionState) (one : Recorded Edit) (an
 named-noted names old one (reply.Noted count) new is = tt
 named-noted names old one answer new is = absurd is
 
+-- learning tells a name of the two that are given
+named-learning : (problem : Problem) (names : NameLists) (old : SessionState) (name source : ℕ) (answer : Reply) (new : SessionState)
+    → name < length names.results → source < length names.results → TellsLearning problem old name source answer new → IsNamed names answer
+named-learning problem names old name source (reply.Unknown given) new below also is = same-result given source (length names.results) is.0 also
+named-learning problem names old name source (reply.LearnRefused given why) new below also is = same-result given name (length names.results) is.0 below
+named-learning problem names old name source (reply.Learned given params steps) new below also is = same-result given name (length names.results) is.0 below
+named-learning problem names old name source answer new below also is = absurd is
+
 -- for each command that is built
-named-each : (problem : Problem) (names : NameLists) (old : SessionState) (given : command.Command) (answer : Reply) (new : SessionState)
+pub named-each : (problem : Problem) (names : NameLists) (old : SessionState) (given : command.Command) (answer : Reply) (new : SessionState)
     → AreNamesOf problem names → All (IsAtomOf problem 0) old.atoms
     → All (IsPlanTable problem) old.plans.tables → All (IsLearnedTable problem) old.learned.tables
     → IsTellable problem (length names.results) given → Lawful problem old given answer new → IsNamed names answer
@@ -156,22 +163,14 @@ named-each problem names old (command.Show name) answer new all atoms plans lear
     named-show problem names all old plans learned name answer new tellable is
 named-each problem names old command.Facts answer new all atoms plans learned tellable is =
     named-facts problem names all old plans learned answer new atoms is
-named-each problem names old (command.Learn name source) answer new all atoms plans learned tellable is = absurd tellable
+named-each problem names old (command.Learn name source) answer new all atoms plans learned tellable is =
+    named-learning problem names old name source answer new tellable.0 tellable.1 is
 named-each problem names old (command.DisturbAtoms turn between edits) answer new all atoms plans learned tellable is =
     named-noted names old (recorded_for turn between (map of_atoms edits)) answer new is
-named-each problem names old (command.DisturbRooms turn between edits) answer new all atoms plans learned tellable is = absurd tellable
+named-each problem names old (command.DisturbRooms turn between edits) answer new all atoms plans learned tellable is =
+    named-noted names old (recorded_for turn between (map of_rooms edits)) answer new is
 named-each problem names old (command.Run name bound) answer new all atoms plans learned tellable is =
     named-run problem names all old plans learned name bound answer new tellable is
 
 pub replies_are_named : RepliesAreNamed
 replies_are_named = record { replies = named-each }
-
--- where nothing is learned
-pub named-reply : (problem : Problem) (names : NameLists) (old : SessionState) (given : command.Command) (answer : Reply)
-    (new : SessionState) → IsValid problem → AreNamesOf problem names → All (IsAtomOf problem 0) old.atoms
-    → All (IsPlanTable problem) old.plans.tables → old.learned ≡ no_tables
-    → IsTellable problem (length names.results) given → Lawful problem old given answer new → IsNamed names answer
-named-reply problem names old given answer new valid all atoms plans none tellable is =
-    let learned : All (IsLearnedTable problem) old.learned.tables =
-    subst (λ (library : LibraryValue). All (IsLearnedTable problem) library.tables) (sym none) (All-nil (IsLearnedTable problem)) in
-    named-each problem names old given answer new all atoms plans learned tellable is

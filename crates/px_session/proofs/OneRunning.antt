@@ -1,27 +1,61 @@
 -- A command to run has one lawful reply.
-use Rattle.std.specs.Prelude.{◌≡◌, ℕ, List, [], map}
-use Rattle.std.proofs.Common.{sym, ap, ◌∙◌, subst, inl}
+use Rattle.std.specs.Prelude.{◌≡◌, ℕ, List, [], ◌∷◌, map}
+use Rattle.std.proofs.Common.{refl, sym, ap, ◌∙◌, subst, inl}
 use Rattle.px_terms.specs.declared.atom.Atom.{Atom}
 use Rattle.px_terms.specs.declared.problem.Problem.{Problem}
 use Rattle.px_table.specs.declared.table.Table.{Table}
-use Rattle.px_planex.specs.Turns.{RunsTable}
+use Rattle.px_planex.specs.Turns.{AtGoal, AtNoKernel, ByActing, BySlipping, RunsTable, TurnValue}
+use Rattle.px_planex.specs.Turns as executed
 use Rattle.px_planex.proofs.OneRun.{runs_are_one}
 use Rattle.px_printer.specs.declared.reply.Reply.{Reply}
 use Rattle.px_printer.specs.declared.reply.Reply.TheVariants as reply
 use Rattle.px_printer.specs.declared.turn.Turn.{Turn}
+use Rattle.px_printer.specs.declared.turn.TurnEnd.{TurnEnd}
+use Rattle.px_printer.specs.declared.turn.TurnEnd.TheVariants.{Acted, Slipped, Goal, NoKernel}
 use Rattle.px_session.specs.Determined.{SameReply}
-use Rattle.px_session.specs.Lawful.{HasNoParameter, IsRunOf, TellsRun, first_unknown, told_turn}
+use Rattle.px_session.specs.Lawful.{HasNoParameter, IsRunOf, TellsRun, first_unknown, end_told, turn_told}
 use Rattle.px_session.specs.Sessions.{SessionState, any_table, leaves_edit}
 use Rattle.px_session.proofs.OneLearning.{none_or_some, one_some}
+
+-- ---- turns that are told are those that were taken
+
+abbrev told_end : executed.TurnEnd → TurnEnd
+told_end AtGoal = Goal
+told_end AtNoKernel = NoKernel
+told_end ByActing = Acted
+told_end BySlipping = Slipped
+
+abbrev told_turn : TurnValue → Turn
+told_turn turn = record { kernel = turn.kernel; op = turn.op; end = told_end turn.end }
+
+told_back : (end : TurnEnd) → told_end (end_told end) ≡ end
+told_back Acted = refl
+told_back Slipped = refl
+told_back Goal = refl
+told_back NoKernel = refl
+
+turns_told : (turns : List Turn) → turns ≡ map told_turn (map turn_told turns)
+turns_told [] = refl
+turns_told (turn ∷ turns) =
+    let one : turn ≡ told_turn (turn_told turn) = ap (λ (end : TurnEnd). record turn { end = end }) (sym (told_back turn.end)) in
+    let rest = turns_told turns in
+    λ i. one i ∷ rest i
+
+same-told : (turns others : List Turn) → map turn_told turns ≡ map turn_told others → turns ≡ others
+same-told turns others same = turns_told turns ∙ ap (map told_turn) same ∙ sym (turns_told others)
+
+-- ---- replies
 
 module _ (problem : Problem) (old : SessionState) (name : ℕ) (bound : List (ℕ × ℕ)) where
   ran-one : (told others : List Turn) (new later : SessionState) → IsRunOf problem name bound old told new
       → IsRunOf problem name bound old others later → (told ≡ others) × (new ≡ later)
   ran-one told others new later p q =
       let table : p.table ≡ q.table = one_some (any_table old name) p.table q.table p.named q.named in
-      let runs = runs_are_one leaves_edit problem q.table bound old.recorded old.atoms p.turns q.turns p.after q.after
-      (subst (λ (x : Table). RunsTable leaves_edit problem x bound old.recorded old.atoms p.turns p.after) table p.runs) q.runs in (
-        p.told_are ∙ ap (map told_turn) runs.0 ∙ sym q.told_are,
+      let runs = runs_are_one leaves_edit problem q.table bound old.recorded old.atoms (map turn_told told)
+      (map turn_told others) p.after q.after
+      (subst (λ (x : Table). RunsTable leaves_edit problem x bound old.recorded old.atoms
+      (map turn_told told) p.after) table p.runs) q.runs in (
+        same-told told others runs.0,
         p.changed ∙ ap (λ (atoms : List Atom). record old { atoms = atoms; recorded = [] }) runs.1 ∙ sym q.changed,
       )
 

@@ -1,19 +1,17 @@
 -- What of a state is of the problem stays so by each lawful reply.
 use Rattle.std.specs.Prelude.{◌≡◌, ℕ, Bool, List, [], ◌∷◌, ◌++◌, map, All}
 use Rattle.std.proofs.Common.{sym, subst}
-use Rattle.std.proofs.lemmas.List.Elements.{All-map, All-nil, All-push}
+use Rattle.std.proofs.lemmas.List.Elements.{All-nil, All-push}
 use Rattle.px_terms.specs.declared.problem.Problem.{Problem}
 use Rattle.px_terms.specs.Validity.{IsAtomOf, IsValid}
-use Rattle.px_world.specs.declared.edits.AtomEdit.{AtomEdit}
 use Rattle.px_planex.specs.Turns.{Recorded}
 use Rattle.px_ends.specs.Tasks.{Task, task_of}
 use Rattle.px_printer.specs.declared.reply.Reply.{Reply}
 use Rattle.px_printer.specs.declared.reply.Reply.TheVariants as reply
 use Rattle.px_script.specs.Commands as command
-use Rattle.px_script.specs.Ranges.{IsEditOf}
-use Rattle.px_session.specs.Lawful.{Lawful, Notes, TellsFacts, TellsLearning, TellsRun, TellsSearch, TellsShow, recorded_for}
+use Rattle.px_session.specs.Lawful.{Lawful, Notes, TellsFacts, TellsLearning, TellsRun, TellsSearch, TellsShow, recorded_for, turn_told}
 use Rattle.px_session.specs.OwnStates.{AreOwnEdits, HasOwnEdits, IsOwnEdit, IsOwnState}
-use Rattle.px_session.specs.Sessions.{Edit, IsSession, SessionState, of_atoms}
+use Rattle.px_session.specs.Sessions.{Edit, IsSession, SessionState, of_atoms, of_rooms}
 use Rattle.px_session.proofs.OneLearning.{any-right}
 use Rattle.px_session.proofs.OwnRuns.{run-own}
 
@@ -52,9 +50,6 @@ module _ (problem : Problem) (old : SessionState) (own : IsOwnState problem old)
       subst (IsOwnState problem) (sym is.1) (record { atoms = own.atoms; edits = All-push HasOwn old.recorded one own.edits edits })
   notes-own one answer new edits is = absurd is
 
-  atoms-own : (edits : List AtomEdit) → All (IsEditOf problem) edits → All (IsOwnEdit problem) (map of_atoms edits)
-  atoms-own edits of = All-map (IsOwnEdit problem) of_atoms edits of
-
   run-own-state : IsValid problem → IsSession problem old → (name : ℕ) (bound : List (ℕ × ℕ)) (answer : Reply) (new : SessionState)
       → TellsRun problem old name bound answer new → IsOwnState problem new
   run-own-state valid session name bound (reply.Unknown given) new is = same-own new is.2
@@ -63,7 +58,7 @@ module _ (problem : Problem) (old : SessionState) (own : IsOwnState problem old)
       let right = any-right problem old session.plans session.learned name is.1.table is.1.named in
       subst (IsOwnState problem) (sym is.1.changed)
       (record {
-        atoms = run-own problem valid is.1.table right bound old.recorded old.atoms is.1.turns is.1.after own.edits is.1.runs own.atoms;
+        atoms = run-own problem valid is.1.table right bound old.recorded old.atoms (map turn_told told) is.1.after own.edits is.1.runs own.atoms;
         edits = All-nil HasOwn;
       })
   run-own-state valid session name bound answer new is = absurd is
@@ -75,7 +70,8 @@ own-kept problem old (command.Plan name goal vars) answer new valid session own 
 own-kept problem old (command.Learn name source) answer new valid session own edits is = learning-own problem old own name source answer new is
 own-kept problem old (command.Show name) answer new valid session own edits is = show-own problem old own name answer new is
 own-kept problem old (command.DisturbAtoms turn between given) answer new valid session own edits is =
-    notes-own problem old own (recorded_for turn between (map of_atoms given)) answer new (atoms-own problem old own given edits) is
-own-kept problem old (command.DisturbRooms turn between given) answer new valid session own edits is = absurd edits
+    notes-own problem old own (recorded_for turn between (map of_atoms given)) answer new edits is
+own-kept problem old (command.DisturbRooms turn between given) answer new valid session own edits is =
+    notes-own problem old own (recorded_for turn between (map of_rooms given)) answer new edits is
 own-kept problem old (command.Run name bound) answer new valid session own edits is = run-own-state problem old own valid session name bound answer new is
 own-kept problem old command.Facts answer new valid session own edits is = facts-own problem old own answer new is

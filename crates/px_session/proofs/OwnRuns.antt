@@ -10,7 +10,7 @@ use Rattle.px_terms.specs.declared.instance.OpInst.{OpInst}
 use Rattle.px_terms.specs.declared.problem.Problem.{Problem}
 use Rattle.px_terms.specs.AtomSets.{with_atom}
 use Rattle.px_terms.specs.OperatorLaws.{result_by-members}
-use Rattle.px_terms.specs.Operators.{adds, result_of, schema_of}
+use Rattle.px_terms.specs.Operators.{adds, atoms_of, result_of, schema_of}
 use Rattle.px_terms.specs.Order.{atom_cmp}
 use Rattle.px_terms.specs.OrderLaws.{atom_cmp-same, atom_cmp-total}
 use Rattle.px_terms.specs.Validity.{IsAtomOf, IsInstanceOf, IsValid}
@@ -23,6 +23,9 @@ use Rattle.px_table.specs.Marks.{step_at}
 use Rattle.px_table.specs.Tables.{IsStepOf, IsTable}
 use Rattle.px_table.specs.UnderLaws.{step_under-is_of}
 use Rattle.px_world.specs.declared.edits.AtomEdit.TheVariants.{Add, Remove}
+use Rattle.px_world.specs.declared.edits.RoomEdit.{RoomEdit}
+use Rattle.px_world.specs.declared.edits.RoomEdit.TheVariants as room_edit
+use Rattle.px_rooms.specs.Changes.{edit_schema, facts_edited}
 use Rattle.px_match.specs.Matching.{KernelInstance}
 use Rattle.px_planex.specs.declared.event.Event.TheVariants.{Sense, Act}
 use Rattle.px_planex.specs.declared.event.Outcome.{Outcome}
@@ -122,6 +125,13 @@ module _ (problem : Problem) where
   abbrev AreOwn : List Atom → Type 0
   AreOwn atoms = All (IsAtomOf problem 0) atoms
 
+  -- what an edit of rooms adds has no variable
+  adds-plain : (one : RoomEdit) → atoms_of (edit_schema one).add (record { op = 0; args = [] }) ≡ (edit_schema one).add
+  adds-plain (room_edit.Robot r) = refl
+  adds-plain (room_edit.Box b r) = refl
+  adds-plain (room_edit.Door d true) = refl
+  adds-plain (room_edit.Door d false) = refl
+
   edit-own : (edit : Edit) (atoms : List Atom) → IsOwnEdit problem edit → AreOwn atoms → AreOwn (leaves_edit edit atoms)
   edit-own (of_atoms (Add atom)) atoms of own =
       All-each (IsAtomOf problem 0) (with_atom atom atoms) (λ q has.
@@ -132,7 +142,12 @@ module _ (problem : Problem) where
   edit-own (of_atoms (Remove atom)) atoms of own =
       All-each (IsAtomOf problem 0) (leaves_edit (of_atoms (Remove atom)) atoms)
       (λ q has. All-at (IsAtomOf problem 0) atoms q own ((without_atom-members atom atoms q).0 has).0)
-  edit-own (of_rooms one) atoms of own = absurd of
+  edit-own (of_rooms one) atoms of own =
+      All-each (IsAtomOf problem 0) (facts_edited one atoms) (λ q has.
+      elim ((result_by-members (edit_schema one) atoms (record { op = 0; args = [] }) q).0 has) [
+        | inl stays ↦ All-at (IsAtomOf problem 0) atoms q own stays.0
+        | inr added ↦ All-at (IsAtomOf problem 0) (edit_schema one).add q of (subst (λ (l : List Atom). Contains l q) (adds-plain one) added)
+      ])
 
   edits-own : (edits : List Edit) (atoms : List Atom) → All (IsOwnEdit problem) edits → AreOwn atoms → AreOwn (after_edits leaves_edit edits atoms)
   edits-own [] atoms of own = own

@@ -1,7 +1,9 @@
 -- How many places the edits and the steps of a run may take.
-use Rattle.std.specs.Prelude.{◌≡◌, ◌==◌, ◌&&◌, ◌<◌, ◌≤◌, ◌+◌, ℕ, Bool, true, false, not, cond, nat_le, Option, Some, None, List, [], ◌∷◌, ◌++◌, length, All, slice_index_or, take, filter, map}
+use Rattle.std.specs.Prelude.{◌≡◌, ◌==◌, ◌&&◌, ◌<◌, ◌≤◌, ◌+◌, ℕ, Bool, true, false, cond, nat_le, Option, Some, None, List, [], ◌∷◌, length, All, slice_index_or, take, filter}
+use mathlib.Core.Bool.{beq}
 use Rattle.std.specs.List.{flat_map}
-use Rattle.std.proofs.Common.{zero, suc, refl, sym, ap, ◌∙◌, subst, get_or, arith}
+use Rattle.std.proofs.Common.{zero, suc, sym, ap, ◌∙◌, subst, get_or, arith}
+use Rattle.std.proofs.Math.Nat.{le-max_left, le-max_right, max-le}
 use Rattle.std.proofs.lemmas.Bool.Decides.{nat_tests}
 use Rattle.std.proofs.lemmas.List.{length-append, length-map, take_all}
 use Rattle.std.proofs.lemmas.List.Elements.{All-head, All-push, All-tail, All-weaker}
@@ -11,28 +13,22 @@ use Rattle.px_terms.specs.declared.problem.Problem.{Problem}
 use Rattle.px_terms.specs.declared.problem.Schema.{Schema}
 use Rattle.px_terms.specs.Operators.{adds, no_schema, schema_of}
 use Rattle.px_terms.specs.Substitution.{substitute_atom}
-use Rattle.px_world.specs.declared.edits.AtomEdit.{AtomEdit}
 use Rattle.px_planex.specs.Executors.{places_for}
 use Rattle.px_planex.specs.Turns.{Recorded, edits_at, is_at}
 use Rattle.px_session.specs.Running.{adds_most, edits_for, edits_from, edits_in}
+use Rattle.px_session.specs.Sessions.{Edit}
 
 -- ---- steps
-
-most-step : (m n : ℕ) → (m ≤ cond (nat_le m n) n m) × (n ≤ cond (nat_le m n) n m)
-most-step m n = (grind (arith, nat_tests), grind (arith, nat_tests))
-
-most-of : (m n k : ℕ) → m ≤ k → n ≤ k → cond (nat_le m n) n m ≤ k
-most-of m n k p q = grind (arith, nat_tests)
 
 pub adds_most-least : (schemas : List Schema) (n : ℕ) → All (λ schema. length schema.add ≤ n) schemas → adds_most schemas ≤ n
 adds_most-least [] n all = omega arith
 adds_most-least (schema ∷ schemas) n all =
-    most-of (adds_most schemas) (length schema.add) n (adds_most-least schemas n (All-tail (λ s. length s.add ≤ n) schema schemas all)) (All-head (λ s. length s.add ≤ n) schema schemas all)
+    max-le (All-head (λ s. length s.add ≤ n) schema schemas all) (adds_most-least schemas n (All-tail (λ s. length s.add ≤ n) schema schemas all))
 
 adds_most-at : (schemas : List Schema) (i : ℕ) → length (slice_index_or schemas i no_schema).add ≤ adds_most schemas
 adds_most-at [] i = omega arith
-adds_most-at (schema ∷ schemas) zero = (most-step (adds_most schemas) (length schema.add)).1
-adds_most-at (schema ∷ schemas) (suc i) = let rest = adds_most-at schemas i in let step = (most-step (adds_most schemas) (length schema.add)).0 in omega (arith, rest, step)
+adds_most-at (schema ∷ schemas) zero = le-max_left (length schema.add) (adds_most schemas)
+adds_most-at (schema ∷ schemas) (suc i) = let rest = adds_most-at schemas i in let step = le-max_right (length schema.add) (adds_most schemas) in omega (arith, rest, step)
 
 pub adds-few : (problem : Problem) (inst : OpInst) → length (adds problem inst) ≤ adds_most problem.schemas
 adds-few problem inst =
@@ -59,21 +55,21 @@ most-end schemas i most past all =
 
 -- one entry, by its turn and point
 used : (number turn edits : ℕ) (b : Bool)
-    → cond ((turn == number) && not b) edits 0 + cond ((turn == number) && b) edits 0 + cond (nat_le (suc number) turn) edits 0 ≤ cond (nat_le number turn) edits 0
+    → cond ((turn == number) && beq b false) edits 0 + cond ((turn == number) && beq b true) edits 0 + cond (nat_le (suc number) turn) edits 0 ≤ cond (nat_le number turn) edits 0
 used number turn edits true = grind (arith, nat_tests)
 used number turn edits false = grind (arith, nat_tests)
 
-edits-first : (number : ℕ) (one : Recorded AtomEdit) (recorded : List (Recorded AtomEdit)) (between : Bool)
+edits-first : (number : ℕ) (one : Recorded Edit) (recorded : List (Recorded Edit)) (between : Bool)
     → length (edits_at (one ∷ recorded) number between) ≡ cond (is_at number between one) (length one.edits) 0 + length (edits_at recorded number between)
 edits-first number one recorded between = by (is_at number between one)
   where
-    by : (b : Bool) → length (flat_map (λ (r : Recorded AtomEdit). r.edits) (cond b (one ∷ filter (is_at number between) recorded) (filter (is_at number between) recorded)))
+    by : (b : Bool) → length (flat_map (λ (r : Recorded Edit). r.edits) (cond b (one ∷ filter (is_at number between) recorded) (filter (is_at number between) recorded)))
         ≡ cond b (length one.edits) 0 + length (edits_at recorded number between)
     by true = length-append one.edits (edits_at recorded number between)
     by false = omega arith
 
 -- the edits of a turn, and those of later ones
-pub edits-used : (number : ℕ) (recorded : List (Recorded AtomEdit)) → edits_for recorded number + edits_from (suc number) recorded ≤ edits_from number recorded
+pub edits-used : (number : ℕ) (recorded : List (Recorded Edit)) → edits_for recorded number + edits_from (suc number) recorded ≤ edits_from number recorded
 edits-used number [] = omega arith
 edits-used number (one ∷ recorded) =
     let rest = edits-used number recorded in
@@ -86,18 +82,18 @@ from-step : (b : Bool) (n : ℕ) → cond b n 0 ≤ n
 from-step true n = omega arith
 from-step false n = omega arith
 
-pub edits-all : (number : ℕ) (recorded : List (Recorded AtomEdit)) → edits_from number recorded ≤ edits_in recorded
+pub edits-all : (number : ℕ) (recorded : List (Recorded Edit)) → edits_from number recorded ≤ edits_in recorded
 edits-all number [] = omega arith
 edits-all number (one ∷ recorded) = let rest = edits-all number recorded in let here = from-step (nat_le number one.turn) (length one.edits) in omega (arith, rest, here)
 
-pub edits_in-more : (recorded : List (Recorded AtomEdit)) (i : ℕ) (d : Recorded AtomEdit) → i < length recorded
+pub edits_in-more : (recorded : List (Recorded Edit)) (i : ℕ) (d : Recorded Edit) → i < length recorded
     → edits_in (take (suc i) recorded) ≡ edits_in (take i recorded) + length (get_or recorded i d).edits
 edits_in-more [] i d below = absurd (omega (arith, below))
 edits_in-more (one ∷ recorded) zero d below = omega arith
 edits_in-more (one ∷ recorded) (suc i) d below = let rest = edits_in-more recorded i d (omega (arith, below)) in omega (arith, rest)
 
-pub edits_in-next : (recorded : List (Recorded AtomEdit)) (i : ℕ) (one : Recorded AtomEdit) → i < length recorded → one ≡ get_or recorded i one
+pub edits_in-next : (recorded : List (Recorded Edit)) (i : ℕ) (one : Recorded Edit) → i < length recorded → one ≡ get_or recorded i one
     → edits_in (take (i + 1) recorded) ≡ edits_in (take i recorded) + length one.edits
 edits_in-next recorded i one below is =
     let next : i + 1 ≡ suc i = omega arith in
-    ap (λ n. edits_in (take n recorded)) next ∙ edits_in-more recorded i one below ∙ ap (λ (r : Recorded AtomEdit). edits_in (take i recorded) + length r.edits) (sym is)
+    ap (λ n. edits_in (take n recorded)) next ∙ edits_in-more recorded i one below ∙ ap (λ (r : Recorded Edit). edits_in (take i recorded) + length r.edits) (sym is)

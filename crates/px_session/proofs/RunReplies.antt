@@ -1,45 +1,19 @@
 -- What is told of a run, and of what it isn't run for.
-use Rattle.std.specs.Prelude.{◌≡◌, ◌<◌, ◌≤◌, ◌+◌, ◌&&◌, ℕ, Bool, true, false, not, cond, nat_le, nat_lt, Option, Some, None, List, [], ◌∷◌, ◌++◌, length, map, take, find, option_map, All}
+use Rattle.std.specs.Prelude.{◌≡◌, ◌<◌, ◌≤◌, ◌+◌, ◌&&◌, ℕ, Bool, true, false, not, cond, nat_le, nat_lt, Some, None, List, [], ◌∷◌, ◌++◌, length, map, take, find, option_map, All}
 use Rattle.std.proofs.Common.{zero, suc, get_or, refl, sym, ap, ◌∙◌, subst, arith}
 use Rattle.std.proofs.lemmas.Bool.Decides.{nat_tests}
-use Rattle.std.proofs.lemmas.List.Elements.{All-cons, All-head, All-nil, All-tail}
-use Rattle.px_proof.specs.PlaceLaws.{some_same}
+use Rattle.std.proofs.lemmas.List.Elements.{All-head, All-tail}
 use Rattle.px_terms.specs.declared.atom.Atom.{Atom}
 use Rattle.px_terms.specs.declared.problem.Problem.{Problem}
-use Rattle.px_terms.specs.ValidityLaws.{atom_of-is_ground}
 use Rattle.px_table.specs.declared.table.Table.{Table}
-use Rattle.px_world.specs.declared.edits.AtomEdit.{AtomEdit}
-use Rattle.px_world.specs.declared.edits.AtomEdit.TheVariants.{Add, Remove}
-use Rattle.px_world.specs.Worlds.{IsGroundEdit, edited}
 use Rattle.px_match.specs.Matching.{first_bad}
-use Rattle.px_planex.specs.Turns.{Recorded, RunsTable, TurnValue}
+use Rattle.px_planex.specs.Turns.{RunsTable}
 use Rattle.px_printer.specs.declared.turn.Turn.{Turn}
-use Rattle.px_printer.specs.declared.turn.TurnEnd.{TurnEnd}
-use Rattle.px_printer.specs.declared.turn.TurnEnd.TheVariants.{Acted, Slipped, Goal, NoKernel}
 use Rattle.px_reader.specs.CommandViews.{binding_pair}
 use Rattle.px_reader.specs.declared.command.Binding.{Binding}
-use Rattle.px_script.specs.Ranges.{IsEditOf}
-use Rattle.px_session.specs.Lawful.{IsRunOf, first_unknown, told_end, told_turn}
-use Rattle.px_session.specs.Running.{AreGroundEdits, end_told, turn_told}
-use Rattle.px_session.specs.OwnStates.{AreOwnEdits, IsOwnEdit}
-use Rattle.px_session.specs.Runs.{as_edits}
-use Rattle.px_session.specs.Sessions.{Edit, SessionState, any_table, leaves_edit, of_atoms}
-use Rattle.px_session.proofs.Lifted.{one_kind_runs}
-
--- ---- turns are told as they were
-
-told_back : (end : TurnEnd) → told_end (end_told end) ≡ end
-told_back Acted = refl
-told_back Slipped = refl
-told_back Goal = refl
-told_back NoKernel = refl
-
-pub turns_told : (turns : List Turn) → turns ≡ map told_turn (map turn_told turns)
-turns_told [] = refl
-turns_told (turn ∷ turns) =
-    let one : turn ≡ told_turn (turn_told turn) = ap (λ (end : TurnEnd). record turn { end = end }) (sym (told_back turn.end)) in
-    let rest = turns_told turns in
-    λ i. one i ∷ rest i
+use Rattle.px_session.specs.Lawful.{IsRunOf, first_unknown}
+use Rattle.px_session.specs.Running.{turn_told}
+use Rattle.px_session.specs.Sessions.{SessionState, any_table, leaves_edit}
 
 -- ---- parameters from 1 on are bad where they are above the table's
 
@@ -77,43 +51,15 @@ pairs-next bindings made new i d below made_is new_is =
 
 -- ---- a run
 
-pub run-told : (problem : Problem) (name : ℕ) (bound : List (ℕ × ℕ)) (old new : SessionState) (table : Table) (recorded : List (Recorded AtomEdit)) (turns : List Turn) (after : List Atom)
-    → All (λ pair. 1 ≤ pair.0) bound → any_table old name ≡ Some table → old.recorded ≡ map (as_edits of_atoms) recorded → first_bad table bound ≡ None
-    → RunsTable edited problem table bound recorded old.atoms (map turn_told turns) after → new ≡ record old { atoms = after; recorded = [] }
+pub run-told : (problem : Problem) (name : ℕ) (bound : List (ℕ × ℕ)) (old new : SessionState) (table : Table) (turns : List Turn) (after : List Atom)
+    → All (λ pair. 1 ≤ pair.0) bound → any_table old name ≡ Some table → first_bad table bound ≡ None
+    → RunsTable leaves_edit problem table bound old.recorded old.atoms (map turn_told turns) after → new ≡ record old { atoms = after; recorded = [] }
     → IsRunOf problem name bound old turns new
-run-told problem name bound old new table recorded turns after from named recorded_is known runs changed = record {
+run-told problem name bound old new table turns after from named known runs changed = record {
   table = table;
   named = named;
   known = sym (bad-unknown table bound from) ∙ known;
-  turns = map turn_told turns;
   after = after;
-  runs = subst (λ (r : List (Recorded Edit)). RunsTable leaves_edit problem table bound r old.atoms (map turn_told turns) after) (sym recorded_is)
-      (one_kind_runs.of_atoms_alone problem table bound recorded old.atoms (map turn_told turns) after runs);
-  told_are = turns_told turns;
+  runs = runs;
   changed = changed;
 }
-
--- ---- what is recorded is of ground atoms
-
-edit-ground : (problem : Problem) (edit : AtomEdit) → IsEditOf problem edit → IsGroundEdit edit
-edit-ground problem (Add atom) of = atom_of-is_ground problem atom of
-edit-ground problem (Remove atom) of = atom_of-is_ground problem atom of
-
-module _ (problem : Problem) where
-  edits-ground : (edits : List AtomEdit) → All (IsOwnEdit problem) (map of_atoms edits) → All IsGroundEdit edits
-  edits-ground [] all = All-nil IsGroundEdit
-  edits-ground (one ∷ edits) all =
-      All-cons IsGroundEdit one edits (edit-ground problem one (All-head (IsOwnEdit problem) (of_atoms one) (map of_atoms edits) all))
-      (edits-ground edits (All-tail (IsOwnEdit problem) (of_atoms one) (map of_atoms edits) all))
-
-  abbrev HasOwn : Recorded Edit → Type 0
-  HasOwn one = All (IsOwnEdit problem) one.edits
-
-  abbrev HasGround : Recorded AtomEdit → Type 0
-  HasGround one = All IsGroundEdit one.edits
-
-  pub recorded-ground : (recorded : List (Recorded AtomEdit)) → AreOwnEdits problem (map (as_edits of_atoms) recorded) → AreGroundEdits recorded
-  recorded-ground [] all = All-nil HasGround
-  recorded-ground (one ∷ recorded) all =
-      All-cons HasGround one recorded (edits-ground one.edits (All-head HasOwn (as_edits of_atoms one) (map (as_edits of_atoms) recorded) all))
-      (recorded-ground recorded (All-tail HasOwn (as_edits of_atoms one) (map (as_edits of_atoms) recorded) all))

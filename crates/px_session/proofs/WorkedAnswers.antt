@@ -1,5 +1,5 @@
 -- The worked script has these lawful replies, with this text; and the demo is as worked out.
-use Rattle.std.specs.Prelude.{◌≡◌, ◌≢◌, ◌<◌, ◌&&◌, ℕ, length, slice_get, true, false, Some, None, List, [], ◌∷◌, All, Contains}
+use Rattle.std.specs.Prelude.{◌≡◌, ◌≢◌, ◌<◌, ◌&&◌, ℕ, length, slice_get, true, false, Some, List, [], ◌∷◌, All, Contains}
 use Rattle.std.proofs.Common.{zero, suc, refl, sym, subst, inl, arith}
 use Rattle.std.proofs.lemmas.List.Elements.{All-nil}
 use Rattle.std.specs.Fmt.{digits}
@@ -28,7 +28,7 @@ use Rattle.px_table.proofs.DecidingLaws.{tables_are_decided}
 use Rattle.px_match.specs.Matching.{IsHighest, KernelInstance, NoKernelFits}
 use Rattle.px_planex.specs.declared.event.Outcome.TheVariants.{Goal, NoKernel}
 use Rattle.px_planex.specs.Execution.{nothing_sensed}
-use Rattle.px_planex.specs.Turns.{Recorded, AtGoal, AtNoKernel}
+use Rattle.px_planex.specs.Turns.{Recorded}
 use Rattle.px_ends.specs.WorkedEnds.{idle, p, p_at_once}
 use Rattle.px_ends.specs.Tasks.{task_of}
 use Rattle.px_ends.proofs.Smallest.{end_facts}
@@ -141,7 +141,6 @@ lost-run = record {
   table = p_at_once;
   named = refl;
   known = refl;
-  turns = record { kernel = 0; op = None; end = AtNoKernel } ∷ [];
   after = [];
   runs = (
     nothing_sensed,
@@ -151,7 +150,6 @@ lost-run = record {
       inl (tt, refl, refl),
     ),
   );
-  told_are = refl;
   changed = refl;
 }
 
@@ -161,7 +159,6 @@ goal-run = record {
   table = p_at_once;
   named = refl;
   known = refl;
-  turns = record { kernel = 1; op = None; end = AtGoal } ∷ [];
   after = p ∷ [];
   runs = (
     nothing_sensed,
@@ -171,7 +168,6 @@ goal-run = record {
       inl (tt, refl, refl),
     ),
   );
-  told_are = refl;
   changed = refl;
 }
 

@@ -1,15 +1,16 @@
 -- What a session keeps.
-use Rattle.std.specs.Prelude.{◌≡◌, ◌≢◌, ◌<◌, ◌≤◌, ℕ, List, length, All, AllPairs}
+use Rattle.std.specs.Prelude.{◌≢◌, ◌<◌, ◌≤◌, ℕ, Option, List, map, length, take, flat_map, All, AllPairs, Contains}
 use Rattle.px_terms.specs.declared.atom.Atom.{Atom}
 use Rattle.px_terms.specs.declared.problem.Problem.{Problem}
 use Rattle.px_terms.specs.Validity.{IsAtomOf, IsValid}
-use Rattle.px_library.specs.Libraries.{no_tables}
 use Rattle.px_script.specs.Commands.{Command, Plan, Learn, Show, DisturbAtoms, DisturbRooms, Run, Facts}
-use Rattle.px_script.specs.Ranges.{IsEditOf}
+use Rattle.px_rooms.specs.States.{RoomState}
+use Rattle.px_script.specs.Ranges.{result_given}
 use Rattle.px_session.specs.Named.{AreNamesOf, IsTellable}
 use Rattle.px_session.specs.Opened.{SessionValue}
-use Rattle.px_session.specs.OwnStates.{IsOwnState}
-use Rattle.px_session.specs.Sessions.{IsSession}
+use Rattle.px_session.specs.OwnStates.{IsOwnEdit, IsOwnState}
+use Rattle.px_session.specs.Places.{IsPlaced, Takes}
+use Rattle.px_session.specs.Sessions.{Edit, IsSession, of_atoms, of_rooms}
 
 -- the goal is one of the problem over at most twelve variables, and there is an object where there is a variable
 pub record IsGoalToPlan (problem : Problem) (goal : List Atom) (vars : ℕ) : Type 0 where
@@ -23,25 +24,33 @@ pub record IsBindingToRun (problem : Problem) (bound : List (ℕ × ℕ)) : Type
   pub objects : All (λ pair. pair.1 < problem.objects) bound
   pub once : AllPairs (λ one other. one.0 ≢ other.0) bound
 
--- what running a command asks for; other commands than these aren't built
-abbrev pub IsRunnable : Problem → Command → Type 0
-IsRunnable problem (Plan name goal vars) = IsGoalToPlan problem goal vars
-IsRunnable problem (Learn name source) = ⊥
-IsRunnable problem (Show name) = Unit {0}
-IsRunnable problem (DisturbAtoms turn between edits) = All (IsEditOf problem) edits
-IsRunnable problem (DisturbRooms turn between edits) = ⊥
-IsRunnable problem (Run name bound) = IsBindingToRun problem bound
-IsRunnable problem Facts = Unit {0}
+-- edits of the problem that the session's world takes
+pub record AreEditsToNote (problem : Problem) (building : Option RoomState) (edits : List Edit) : Type 0 where
+  pub own : All (IsOwnEdit problem) edits
+  pub taken : All (Takes building) edits
 
--- The problem is valid, its numbers have names, and what the state has is its own. The state is one of a session in which nothing is
--- learned. Each command can be run, and its reply told. No more disturbances are recorded than commands are done.
-pub record IsKeptSession (session : SessionValue) : Type 0 where
+-- what running a command asks for, where that is the session's building
+abbrev pub IsRunnable : Problem → Option RoomState → Command → Type 0
+IsRunnable problem building (Plan name goal vars) = IsGoalToPlan problem goal vars
+IsRunnable problem building (Learn name source) = Unit {0}
+IsRunnable problem building (Show name) = Unit {0}
+IsRunnable problem building (DisturbAtoms turn between edits) = AreEditsToNote problem building (map of_atoms edits)
+IsRunnable problem building (DisturbRooms turn between edits) = AreEditsToNote problem building (map of_rooms edits)
+IsRunnable problem building (Run name bound) = IsBindingToRun problem bound
+IsRunnable problem building Facts = Unit {0}
+
+-- The problem is valid, its numbers have names, and what the state has is its own; with a building its atoms are the building's facts. Each
+-- command can be run, and its reply told. The commands give each result once, and what is learned has names that commands gave which are
+-- done. No more disturbances are recorded than commands are done.
+pub record IsKeptSession (building : Option RoomState) (session : SessionValue) : Type 0 where
   pub problem : IsValid session.problem
   pub names : AreNamesOf session.problem session.names
   pub state : IsSession session.problem session.state
   pub own : IsOwnState session.problem session.state
-  pub no_learned : session.state.learned ≡ no_tables
-  pub commands : All (IsRunnable session.problem) session.commands
+  pub placed : IsPlaced session.problem building session.state
+  pub commands : All (IsRunnable session.problem building) session.commands
   pub tellable : All (IsTellable session.problem (length session.names.results)) session.commands
+  pub once : AllPairs (λ one other. one ≢ other) (flat_map result_given session.commands)
+  pub learned : All (Contains (flat_map result_given (take session.done session.commands))) session.state.learned.names
   pub few : length session.commands < 4294967295
   pub recorded : length session.state.recorded ≤ session.done

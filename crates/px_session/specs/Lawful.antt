@@ -105,15 +105,16 @@ Notes old one answer new = ⊥
 abbrev pub first_unknown : Table → List (ℕ × ℕ) → Option ℕ
 first_unknown table bound = option_map (λ (pair : ℕ × ℕ). pair.0) (find (λ (pair : ℕ × ℕ). nat_lt table.params pair.0) bound)
 
--- how a turn is told
-abbrev pub told_end : executed.TurnEnd → TurnEnd
-told_end AtGoal = Goal
-told_end AtNoKernel = NoKernel
-told_end ByActing = Acted
-told_end BySlipping = Slipped
+-- how a turn that is told ended
+abbrev pub end_told : TurnEnd → executed.TurnEnd
+end_told Goal = AtGoal
+end_told NoKernel = AtNoKernel
+end_told Acted = ByActing
+end_told Slipped = BySlipping
 
-abbrev pub told_turn : TurnValue → Turn
-told_turn turn = record { kernel = turn.kernel; op = turn.op; end = told_end turn.end }
+-- the turn that is told so
+abbrev pub turn_told : Turn → TurnValue
+turn_told turn = record { kernel = turn.kernel; op = turn.op; end = end_told turn.end }
 
 -- the name's table hasn't this parameter, the first of those that are bound; nothing changes, so what is recorded stays so
 pub record HasNoParameter (name : ℕ) (bound : List (ℕ × ℕ)) (old : SessionState) (param : ℕ) (new : SessionState) : Type 0 where
@@ -122,17 +123,15 @@ pub record HasNoParameter (name : ℕ) (bound : List (ℕ × ℕ)) (old : Sessio
   pub unknown : first_unknown table bound ≡ Some param
   pub same : new ≡ old
 
--- The name's table has each bound parameter, and is run with all that is recorded, in these turns. The world is then the one after the
--- run, and nothing is recorded.
+-- The name's table has each bound parameter, and is run with all that is recorded, in the turns that are told. The world is then the one
+-- after the run, and nothing is recorded.
 pub record IsRunOf (problem : Problem) (name : ℕ) (bound : List (ℕ × ℕ))
     (old : SessionState) (told : List Turn) (new : SessionState) : Type 0 where
   pub table : Table
   pub named : any_table old name ≡ Some table
   pub known : first_unknown table bound ≡ None
-  pub turns : List TurnValue
   pub after : List Atom
-  pub runs : RunsTable leaves_edit problem table bound old.recorded old.atoms turns after
-  pub told_are : told ≡ map told_turn turns
+  pub runs : RunsTable leaves_edit problem table bound old.recorded old.atoms (map turn_told told) after
   pub changed : new ≡ record old { atoms = after; recorded = [] }
 
 -- the name has no table, and nothing changes; or its table hasn't a bound parameter; or it is run

@@ -3,7 +3,10 @@ pub mod Lawful
 pub mod Transcripts
 pub mod Demo
 pub mod Runs
+pub mod ToldRuns
 pub mod Planning
+pub mod Learning
+pub mod Places
 pub mod Running
 pub mod Opened
 pub mod OwnStates

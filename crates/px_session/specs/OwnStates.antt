@@ -1,25 +1,26 @@
 -- Where a session's atoms, and the edits that it has recorded, are of the problem.
-use Rattle.std.specs.Prelude.{List, All}
+use Rattle.std.specs.Prelude.{List, map, All}
 use Rattle.px_terms.specs.declared.problem.Problem.{Problem}
 use Rattle.px_terms.specs.Validity.{IsAtomOf}
+use Rattle.px_rooms.specs.Changes.{edit_schema}
 use Rattle.px_planex.specs.Turns.{Recorded}
 use Rattle.px_script.specs.Commands.{Command, DisturbAtoms, DisturbRooms}
 use Rattle.px_script.specs.Ranges.{IsEditOf}
 use Rattle.px_session.specs.Sessions.{Edit, SessionState, of_atoms, of_rooms}
 
--- an edit of an atom of the problem; edits of a building aren't built
+-- an edit of an atom of the problem, or one of rooms whose new fact is an atom of the problem
 abbrev pub IsOwnEdit : Problem → Edit → Type 0
 IsOwnEdit problem (of_atoms one) = IsEditOf problem one
-IsOwnEdit problem (of_rooms one) = ⊥
+IsOwnEdit problem (of_rooms one) = All (IsAtomOf problem 0) (edit_schema one).add
 
 -- all edits that are recorded are so
 abbrev pub AreOwnEdits : Problem → List (Recorded Edit) → Type 0
 AreOwnEdits problem recorded = All (λ one. All (IsOwnEdit problem) one.edits) recorded
 
--- the edits of the command, if it has some, are of atoms of the problem
+-- the edits of the command, if it has some, are so
 abbrev pub HasOwnEdits : Problem → Command → Type 0
-HasOwnEdits problem (DisturbAtoms turn between edits) = All (IsEditOf problem) edits
-HasOwnEdits problem (DisturbRooms turn between edits) = ⊥
+HasOwnEdits problem (DisturbAtoms turn between edits) = All (IsOwnEdit problem) (map of_atoms edits)
+HasOwnEdits problem (DisturbRooms turn between edits) = All (IsOwnEdit problem) (map of_rooms edits)
 HasOwnEdits problem _ = Unit {0}
 
 -- the world's atoms, and the edits that are recorded for the next run, are of the problem

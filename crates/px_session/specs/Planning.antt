@@ -1,6 +1,7 @@
 -- What a search hands to a session.
-use Rattle.std.specs.Prelude.{◌≡◌, ◌<◌, [], length}
+use Rattle.std.specs.Prelude.{◌≡◌, ◌<◌, [], length, All}
 use Rattle.px_terms.specs.Plans.{Carries}
+use Rattle.px_terms.specs.Validity.{IsInstanceOf}
 use Rattle.px_table.specs.Supports.{Supports}
 use Rattle.px_table.specs.Tables.{AreOfProblem, rows_of}
 use Rattle.px_ends.specs.Ends.{IsFound}
@@ -11,9 +12,11 @@ use Rattle.px_search.specs.declared.ends.Found.{Found}
 -- the moves of a plan, the steps that they take, and the rows of their table
 pub record IsFoundPlan (task : Task) (plan : Found) : Type 0 where
   pub found : IsFound task plan.moves
+  pub few : length plan.moves < task.problem.nodes
   pub steps : plan.steps ≡ steps_of task.tables [] plan.moves
   pub rows : MovesRows task (initial_node task) [] plan.moves (rows_of plan.support.items)
   pub supports : Supports task.problem task.initial plan.steps task.goal task.vars (rows_of plan.support.items)
+  pub instances : All (IsInstanceOf task.problem) plan.steps
   pub of_problem : AreOfProblem task.problem (rows_of plan.support.items)
   pub carries : Carries task.problem task.initial plan.steps task.vars task.goal
   pub short : length plan.steps < 4294967295

@@ -6,22 +6,17 @@ use Rattle.px_terms.specs.AtomSets.{IsAtomSet}
 use Rattle.px_table.specs.declared.table.Table.{Table}
 use Rattle.px_table.specs.Kernels.{IsProper}
 use Rattle.px_table.specs.Tables.{IsTable}
-use Rattle.px_world.specs.declared.edits.AtomEdit.{AtomEdit}
-use Rattle.px_world.specs.declared.edits.RoomEdit.{RoomEdit}
 use Rattle.px_world.specs.Worlds.{edited}
 use Rattle.px_rooms.specs.Changes.{facts_edited}
 use Rattle.px_general.specs.Limits.{IsTooDeep, IsTooLong}
 use Rattle.px_library.specs.Libraries.{LibraryValue, no_tables, table_named}
 use Rattle.px_planex.specs.Turns.{Recorded}
+pub use Rattle.px_session.specs.declared.edit.Edit.{Edit}
+pub use Rattle.px_session.specs.declared.edit.Edit.TheVariants.{OfAtoms as of_atoms, OfRooms as of_rooms}
 
 -- ---- the state
 
--- an edit in a script without a building, or in one with a building
-pub data Edit : Type 0 where
-  of_atoms : AtomEdit → Edit
-  of_rooms : RoomEdit → Edit
-
--- the atoms that an edit leaves
+-- the atoms that an edit leaves, in a script without a building or in one with a building
 abbrev pub leaves_edit : Edit → List Atom → List Atom
 leaves_edit (of_atoms one) atoms = edited one atoms
 leaves_edit (of_rooms one) atoms = facts_edited one atoms

@@ -1,55 +1,74 @@
 //! Runs one command.
-ghost use Rattle.std.specs.Prelude.{◌≡◌, ◌<◌, IfOk, OnErr, length, map};
+ghost use Rattle.std.specs.Prelude.{◌≡◌, ◌<◌, ◌++◌, All, Contains, IfOk, OnErr, OnOk, length, map};
 ghost use Rattle.px_terms.specs.Validity.{IsValid};
-ghost use Rattle.px_library.specs.Libraries.{no_tables};
 ghost use Rattle.px_reader.specs.CommandViews.{binding_pair, command_view};
+ghost use Rattle.px_script.specs.Ranges.{result_given};
 ghost use Rattle.px_session.specs.KeptSessions.{IsRunnable};
 ghost use Rattle.px_session.specs.Lawful.{Lawful};
-ghost use Rattle.px_session.specs.OwnStates.{AreOwnEdits};
-ghost use Rattle.px_session.specs.Sessions.{IsSession};
+ghost use Rattle.px_session.specs.Places.{IsPlaced, TakeSame};
+ghost use Rattle.px_session.specs.Sessions.{IsSession, of_atoms, of_rooms};
 
+use crate::edit::Edit;
 use crate::state::State;
-use px_base::{NoMemory, push};
+use px_base::{NoMemory, Sequence, push};
 use px_printer::Reply;
 use px_reader::{Binding, Command};
+use px_rooms::RoomWorld;
 use px_terms::Problem;
+use px_world::{AtomEdit, RoomEdit};
 use std::alloc::Global;
 
-/// Runs a command in the state.
+/// Runs a command in the state, of which that is the building, if there is one.
 ///
 /// # Errors
-/// `NoMemory` where there is none for the command or its reply. The state is then as it was.
+/// `NoMemory` where there is none for the command or its reply. The state and the building are then as they were.
+#[tactic(auto, using(crate::proofs::Placing::same_taken))]
 pub(crate) fn run_command(
     alloc: Global,
     problem: &Problem,
     command: &Command,
     state: &mut State,
+    building: &mut Option<RoomWorld>,
 ) -> Result<Reply, NoMemory>
     requires problem { IsValid problem.now }
     requires state { IsSession problem.now state.old }
-    requires runnable { IsRunnable problem.now (command_view command.now) }
-    requires edits { AreOwnEdits problem.now state.old.recorded }
+    requires placed { IsPlaced problem.now building.old state.old }
+    requires runnable { IsRunnable problem.now building.old (command_view command.now) }
     requires few { length state.old.recorded < 4294967295 }
-    requires no_learned { state.old.learned ≡ no_tables }
+    requires new_names { All (λ name. ¬ Contains state.old.learned.names name) (result_given (command_view command.now)) }
     ensures lawful { IfOk result (λ reply. Lawful problem.now state.old (command_view command.now) reply state.new) }
+    ensures placed { OnOk result (IsPlaced problem.now building.new state.new) }
+    ensures takes { TakeSame building.old building.new }
     ensures kept { OnErr result (state.new ≡ state.old) }
+    ensures kept_building { OnErr result (building.new ≡ building.old) }
 {
     match command {
         Command::Plan { name, goal, vars } => {
             state.plan(alloc, problem, *name, goal.as_slice(), *vars)
         }
+        Command::Learn { name, source } => state.learn(alloc, problem, *name, *source),
         Command::Show { name } => state.show(*name),
         Command::DisturbAtoms {
             turn,
             between,
             edits,
-        } => state.note(alloc, *turn, *between, edits.as_slice()),
+        } => {
+            let edits = edits_of(alloc, edits.as_slice(), &[])?;
+            state.note(*turn, *between, edits)
+        }
+        Command::DisturbRooms {
+            turn,
+            between,
+            edits,
+        } => {
+            let edits = edits_of(alloc, &[], edits.as_slice())?;
+            state.note(*turn, *between, edits)
+        }
         Command::Run { name, bindings } => {
             let bound = pairs(alloc, bindings.as_slice())?;
-            state.run(alloc, problem, *name, &bound)
+            state.run(alloc, problem, *name, &bound, building)
         }
         Command::Facts => state.tell_facts(alloc),
-        Command::Learn { .. } | Command::DisturbRooms { .. } => unreachable!(),
     }
 }
 
@@ -62,4 +81,22 @@ fn pairs(alloc: Global, bindings: &[Binding]) -> Result<Vec<(u32, u32)>, NoMemor
         push(&mut bound, (binding.parameter, binding.object))?;
     }
     Ok(bound)
+}
+
+/// Edits of atoms, and then edits of a building, as a session records them.
+fn edits_of(
+    alloc: Global,
+    atoms: &[AtomEdit],
+    rooms: &[RoomEdit],
+) -> Result<Sequence<Edit>, NoMemory>
+    ensures { IfOk result (λ made. made ≡ map of_atoms atoms.now ++ map of_rooms rooms.now) }
+{
+    let mut made = Vec::new(alloc);
+    for atom in atoms {
+        push(&mut made, Edit::OfAtoms(*atom))?;
+    }
+    for room in rooms {
+        push(&mut made, Edit::OfRooms(*room))?;
+    }
+    Ok(Sequence::from_vec(made))
 }

@@ -1,6 +1,6 @@
 //! Disturbances that are recorded for a run.
+use crate::edit::Edit;
 use px_base::Sequence;
-use px_world::AtomEdit;
 
 /// Edits for a turn of the next run: before its sensing, or between that and its action.
 #[derive(Drop)]
@@ -10,15 +10,15 @@ pub(crate) struct Disturbance {
     /// Do they come between the sensing and the action?
     pub(crate) between: bool,
     /// The edits, in the order in which they come.
-    pub(crate) edits: Sequence<AtomEdit>,
+    pub(crate) edits: Sequence<Edit>,
 }
 
 impl std::marker::Model for Disturbance {
     ghost use Rattle.std.specs.Coded.{codes};
-    ghost use Rattle.px_world.specs.declared.edits.AtomEdit.{AtomEdit};
     ghost use Rattle.px_planex.specs.Turns.{Recorded};
+    ghost use Rattle.px_session.specs.declared.edit.Edit.{Edit};
 
-    ghost Value = { Recorded AtomEdit };
+    ghost Value = { Recorded Edit };
 
     ghost coded = { Prim.hlevel codes };
 

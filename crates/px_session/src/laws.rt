@@ -3,6 +3,7 @@ ghost use Rattle.px_session.specs.Causes.{CausesInOrder, RefusedReplies};
 ghost use Rattle.px_session.specs.Determined.{AnswersAreOne, LawfulIsOne, SessionsAreKept, TranscriptsAreOne};
 ghost use Rattle.px_session.specs.Named.{RepliesAreNamed};
 ghost use Rattle.px_session.specs.Runs.{OneKindRuns};
+ghost use Rattle.px_session.specs.ToldRuns.{ToldRuns};
 ghost use Rattle.px_session.specs.WorkedDemo.{WorkedDemo};
 ghost use Rattle.px_session.specs.WorkedSession.{WorkedSession};
 
@@ -46,6 +47,12 @@ pub fn refused_replies()
 /// A run in a world of atoms, or in a building, is a session's run with the same disturbances.
 pub fn one_kind_runs()
     ensures { OneKindRuns }
+{}
+
+/// A run that is told of a table of `n` steps, with `D` recorded disturbances, has at most `(D + 1) * (n + 1)` turns, and is a trace: its
+/// events have the outcomes that its turns tell.
+pub fn told_runs()
+    ensures { ToldRuns }
 {}
 
 /// A small script with thirteen commands: its lawful replies, and their text.

@@ -1,16 +1,16 @@
 //! Which replies to the commands of a script are lawful, and what is to be written for a script.
 //!
-//! A [`Session`] answers the commands of a script, as far as they are built. The definitions that it meets are of all commands, and so are
-//! their laws.
+//! A [`Session`] answers the commands of a script. The definitions that it meets are of all commands, and so are their laws.
 //!
 //! # Calling it
 //!
-//! - [`Session::new`] takes a [`px_reader::Script`] of the words that are built. [`Session::execute`] answers command `k`, each once and in
-//!   order: `plan`, `show`, `disturb` with edits of atoms, `run` and `facts`. Its reply is lawful, each number that it prints as a name has
+//! - [`Session::new`] takes a [`px_reader::Script`] that was read. [`Session::execute`] answers command `k`, each once and in
+//!   order: `plan`, `learn`, `show`, `disturb`, `run` and `facts`. Its reply is lawful, each number that it prints as a name has
 //!   one, and after a refusal for memory the session is as it was. Contracts see a session as a `SessionValue` (`specs/Opened`); what it
 //!   keeps is in `specs/KeptSessions`.
 //! - A `run` takes all its memory before the first turn: room for each turn that there may be, and for each atom that edits and steps may
-//!   add. It goes on in a copy of the world's atoms (`running`, `turns`; `specs/Running` has the counts).
+//!   add. It goes on in a copy of the world's atoms (`running`, `turns`; `specs/Running` has the counts). With a building the world's
+//!   atoms are the facts of its state, edits are of rooms, and a run goes on in the building itself (`place`, `specs/Places`).
 //! - A `SessionState` in `specs/Sessions` has the world's atoms, the tables of the stored plans by name, the learned tables by
 //!   name in the order of learning, and the disturbances that are recorded for the next run. `opening` is the one before the
 //!   first command. An `Edit` is one of atoms or one of a building.
@@ -26,14 +26,14 @@
 //!   several questions may be told, and the text is one).
 //! - `Transcript` in `specs/Transcripts` is what is to be written for the bytes of a script: the texts of lawful replies to its
 //!   commands, one after the other. `Summary` in `specs/Demo` is the line of the demo, with the script that is made from its
-//!   two numbers. Both are determined ([`answers_are_one`], [`transcripts_are_one`]). They speak of scripts of the words that are built: of
-//!   other bytes, the demo's script among them, they say nothing yet, and what a building gives to its script isn't defined yet.
+//!   two numbers. Both are determined ([`answers_are_one`], [`transcripts_are_one`]).
 //! - Which of some causes of a refusal comes first, and that nothing has changed after a name or a parameter is unknown, is in `specs/Causes`
 //!   ([`causes_in_order`]), with some replies that aren't lawful ([`refused_replies`]).
-//! - Each lawful reply to a command that is built has a name for each number that it prints as one (`specs/Named`,
+//! - Each lawful reply has a name for each number that it prints as one (`specs/Named`,
 //!   [`replies_are_named`]).
 //! - What an executor does in a world of atoms, or in a building, is what a session's run does with the same disturbances
-//!   (`specs/Runs`, [`one_kind_runs`]).
+//!   (`specs/Runs`, [`one_kind_runs`]). A run that is told has few turns, and is a trace of its events (`specs/ToldRuns`,
+//!   [`told_runs`]).
 //! - A small script is worked out with its text ([`worked_session`]). Of the demo of three rooms the targets, the script and the form of its
 //!   line are ([`worked_demo`]).
 //! - The laws are calls that do nothing.
@@ -41,7 +41,10 @@
 
 mod commands;
 mod disturbance;
+mod edit;
 mod laws;
+mod learning;
+mod place;
 mod planning;
 mod plans;
 mod running;
@@ -57,6 +60,7 @@ mod within;
 
 pub use laws::{
     answers_are_one, causes_in_order, lawful_is_one, one_kind_runs, refused_replies,
-    replies_are_named, sessions_are_kept, transcripts_are_one, worked_demo, worked_session,
+    replies_are_named, sessions_are_kept, told_runs, transcripts_are_one, worked_demo,
+    worked_session,
 };
 pub use session::Session;

@@ -1,10 +1,10 @@
 //! Planning in a session.
 ghost use Rattle.std.specs.Prelude.{◌≡◌, ◌<◌, ◌≤◌, All, IfOk, OnErr};
 ghost use Rattle.px_terms.specs.Validity.{IsAtomOf, IsValid};
-ghost use Rattle.px_library.specs.Libraries.{no_tables};
 ghost use Rattle.px_ends.specs.Tasks.{task_of};
 ghost use Rattle.px_session.specs.Lawful.{TellsSearch};
 ghost use Rattle.px_session.specs.Planning.{IsFoundPlan};
+ghost use Rattle.px_session.specs.Sessions.{IsSession};
 
 use crate::state::State;
 use px_base::NoMemory;
@@ -31,7 +31,7 @@ impl State {
         requires goal { All (IsAtomOf problem.now vars) goal.now }
         requires few_variables { vars ≤ 12 }
         requires some_object { 0 < vars → 0 < problem.now.objects }
-        requires no_learned { self.old.learned ≡ no_tables }
+        requires session { IsSession problem.now self.old }
         ensures told { IfOk result (λ reply. TellsSearch (task_of problem.now self.old.learned.tables self.old.atoms goal.now vars) name self.old reply self.new) }
         ensures kept { OnErr result (self.new ≡ self.old) }
     {
@@ -76,7 +76,6 @@ impl State {
     ) -> Result<Reply, NoMemory>
         requires problem { IsValid problem.now }
         requires goal { All (IsAtomOf problem.now vars) goal.now }
-        requires no_learned { self.old.learned ≡ no_tables }
         requires found { IsFoundPlan (task_of problem.now self.old.learned.tables self.old.atoms goal.now vars) found }
         ensures told { IfOk result (λ reply. TellsSearch (task_of problem.now self.old.learned.tables self.old.atoms goal.now vars) name self.old reply self.new) }
         ensures kept { OnErr result (self.new ≡ self.old) }

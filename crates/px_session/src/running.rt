@@ -1,23 +1,26 @@
-//! Runs a table in a world of atoms.
-ghost use Rattle.std.specs.Prelude.{◌≡◌, ◌≢◌, ◌<◌, ◌≤◌, ◌+◌, ◌*◌, [], ℕ, All, AllPairs, IfOk, IfSome, IsErrOf, None, OnOk, Some, length, map, vec_capacity};
+//! Runs a table.
+ghost use Rattle.std.specs.Prelude.{◌≡◌, ◌≢◌, ◌<◌, ◌≤◌, ◌+◌, ◌*◌, [], ℕ, All, AllPairs, IfOk, IfSome, IsErrOf, None, OnErr, OnOk, Some, length, map, vec_capacity};
 ghost use Rattle.px_terms.specs.Validity.{IsValid};
 ghost use Rattle.px_table.specs.Tables.{IsTable};
-ghost use Rattle.px_world.specs.Worlds.{edited};
 ghost use Rattle.px_match.specs.Matching.{first_bad};
 ghost use Rattle.px_planex.specs.Turns.{RunsTable};
-ghost use Rattle.px_session.specs.Running.{AreGroundEdits, adds_most, edits_in, most_turns, places_from, turn_told};
+ghost use Rattle.px_session.specs.Places.{IsPlaceOf, TakeSame, TakesAll};
+ghost use Rattle.px_session.specs.Running.{adds_most, edits_in, most_turns, places_from, turn_told};
+ghost use Rattle.px_session.specs.Sessions.{leaves_edit};
 ghost use Rattle.px_session.specs.declared.running.RunErr.TheVariants.{NoMemory as OutOfMemory};
 
 use crate::disturbance::Disturbance;
+use crate::place::{enter, leave};
 use crate::turns::take_turns;
 use px_base::{NoMemory, Sequence};
 use px_match::MatchErr;
 use px_ops::Model;
 use px_planex::Planex;
 use px_printer::Turn;
+use px_rooms::RoomWorld;
 use px_table::Table;
 use px_terms::Problem;
-use px_world::{AtomWorld, World};
+use px_world::World;
 use std::alloc::Global;
 
 /// Why a table isn't run.
@@ -99,10 +102,12 @@ fn reserve_turns(alloc: Global, most: usize) -> Result<Vec<Turn>, NoMemory>
     Ok(turns)
 }
 
-/// Runs the table from these facts, in a world of atoms that is disturbed as recorded. Takes all memory before the first turn.
+/// Runs the table from these facts, which are those of the building, if there is one; the world is disturbed as recorded. Takes all
+/// memory before the first turn.
 ///
 /// # Errors
 /// `UnknownParam` with the first bound parameter that the table hasn't, and `NoMemory`.
+#[tactic(auto, using(crate::proofs::Placing::same_taken))]
 pub(crate) fn run_table(
     alloc: Global,
     problem: &Problem,
@@ -110,15 +115,20 @@ pub(crate) fn run_table(
     bound: &[(u32, u32)],
     recorded: &[Disturbance],
     facts: &Model,
+    building: &mut Option<RoomWorld>,
 ) -> Result<Run, RunErr>
     requires problem { IsValid problem.now }
     requires table { IsTable problem.now table.now }
     requires objects { All (λ pair. pair.1 < problem.now.objects) bound.now }
     requires once { AllPairs (λ one other. one.0 ≢ other.0) bound.now }
-    requires all_ground { AreGroundEdits recorded.now }
-    ensures runs { IfOk result (λ run. RunsTable edited problem.now table.now bound.now recorded.now facts.now.atoms (map turn_told run.turns) run.facts.atoms) }
+    requires place { IsPlaceOf problem.now facts.now.atoms building.old }
+    requires taken { TakesAll building.old recorded.now }
+    ensures runs { IfOk result (λ run. RunsTable leaves_edit problem.now table.now bound.now recorded.now facts.now.atoms (map turn_told run.turns) run.facts.atoms) }
     ensures known { OnOk result (first_bad table.now bound.now ≡ None) }
     ensures unknown { (n : ℕ) → IsErrOf result (RunErr.UnknownParam n) → first_bad table.now bound.now ≡ Some n }
+    ensures place { IfOk result (λ run. IsPlaceOf problem.now run.facts.atoms building.new) }
+    ensures takes { TakeSame building.old building.new }
+    ensures kept { OnErr result (building.new ≡ building.old) }
 {
     let Some(most) = count_turns(table, recorded) else {
         return Err(RunErr::NoMemory);
@@ -134,12 +144,13 @@ pub(crate) fn run_table(
         Err(MatchErr::BadParam(param)) => return Err(RunErr::UnknownParam(param)),
         Err(MatchErr::NoMemory) => return Err(RunErr::NoMemory),
     };
-    let mut world = AtomWorld::new(alloc, problem, facts, places)?;
     let mut after = Model::new(alloc);
     after.reserve(room)?;
     let list = reserve_turns(alloc, most)?;
+    let mut world = enter(alloc, problem, facts, places, building)?;
     let turns = take_turns(&mut planex, &mut world, table, recorded, list, most);
     world.sense(&mut after);
+    *building = leave(world);
     Ok(Run {
         turns: Sequence::from_vec(turns),
         facts: after,

@@ -1,10 +1,12 @@
 //! A session: the commands of a script, and the state that those which are done have left.
-ghost use Rattle.std.specs.Prelude.{◌≡◌, ◌+◌, ◌<◌, All, IfOk, OnOk, OnErr, length, slice_index_or};
+ghost use Rattle.std.specs.Prelude.{◌≡◌, ◌+◌, ◌<◌, All, IfOk, IfSome, OnOk, OnErr, length, slice_index_or};
+ghost use Rattle.std.specs.Option.{option_map};
 ghost use Rattle.px_printer.specs.Replies.{IsNamed};
 ghost use Rattle.px_reader.specs.LineReads.{content};
 ghost use Rattle.px_script.specs.Commands.{Facts};
 ghost use Rattle.px_script.specs.StageRanges.{IsOfStage};
 ghost use Rattle.px_script.specs.Stages.{stage_now};
+ghost use Rattle.px_rooms.specs.States.{IsBuilding, first_state};
 ghost use Rattle.px_table.specs.Kernels.{KernelsCarry};
 ghost use Rattle.px_session.specs.Lawful.{Lawful};
 ghost use Rattle.px_session.specs.Opened.{opened, tables_of};
@@ -16,6 +18,7 @@ use px_names::Names;
 use px_ops::Model;
 use px_printer::Reply;
 use px_reader::{Command, Script};
+use px_rooms::{Building, RoomErr, RoomWorld};
 use px_terms::Problem;
 use std::alloc::Global;
 
@@ -28,6 +31,7 @@ pub struct Session {
     commands: Sequence<Command>,
     done: usize,
     state: State,
+    building: Option<RoomWorld>,
 }
 
 impl std::marker::Model for Session {
@@ -50,7 +54,7 @@ impl std::marker::Model for Session {
       state = s.state;
     } };
 
-    ghost invariant = { λ s. IsKeptSession (record {
+    ghost invariant = { λ s. IsKeptSession s.building (record {
       problem = s.problem;
       names = s.names;
       commands = map command_view s.commands;
@@ -68,6 +72,7 @@ impl Session {
         requires stage { IsOfStage stage_now (content script) }
         ensures opened { IfOk result (λ session. session ≡ opened (content script)) }
     {
+        let building = world_of(alloc, &script.building)?;
         Ok(Session {
             alloc,
             problem: script.problem,
@@ -75,6 +80,7 @@ impl Session {
             commands: script.commands,
             done: 0,
             state: State::opening(alloc, script.facts),
+            building,
         })
     }
 
@@ -120,8 +126,30 @@ impl Session {
         ensures kernels { OnOk result (All (KernelsCarry self.new.problem) (tables_of self.new.state)) }
     {
         let command = &self.commands.as_slice()[k];
-        let reply = run_command(self.alloc, &self.problem, command, &mut self.state)?;
+        let reply = run_command(
+            self.alloc,
+            &self.problem,
+            command,
+            &mut self.state,
+            &mut self.building,
+        )?;
         self.done += 1;
         Ok(reply)
+    }
+}
+
+/// The world of a building as it stands at first, if there is one.
+fn world_of(alloc: Global, building: &Option<Building>) -> Result<Option<RoomWorld>, NoMemory>
+    requires buildings { IfSome building.now (λ building. IsBuilding building.things) }
+    requires short { IfSome building.now (λ building. length building.things < 4294967295) }
+    ensures { IfOk result (λ world. world ≡ option_map (λ building. first_state building.things) building.now) }
+{
+    let Some(building) = building else {
+        return Ok(None);
+    };
+    match RoomWorld::new(alloc, building) {
+        Ok(world) => Ok(Some(world)),
+        Err(RoomErr::NoMemory) => Err(NoMemory),
+        Err(RoomErr::NoSuchThing) => unreachable!(),
     }
 }

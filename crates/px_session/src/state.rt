@@ -1,16 +1,16 @@
 //! What a session holds, and the commands that tell of it or record something.
-ghost use Rattle.std.specs.Prelude.{◌≡◌, ◌<◌, IfOk, OnErr, length, map, option_map};
+ghost use Rattle.std.specs.Prelude.{◌≡◌, ◌<◌, IfOk, OnErr, length, option_map};
 ghost use Rattle.px_session.specs.Lawful.{Notes, TellsFacts, TellsShow, recorded_for};
-ghost use Rattle.px_session.specs.Sessions.{any_table, of_atoms, opening};
+ghost use Rattle.px_session.specs.Sessions.{any_table, opening};
 
 use crate::disturbance::Disturbance;
+use crate::edit::Edit;
 use crate::plans::Plans;
 use px_base::{NoMemory, Sequence, push};
 use px_library::Library;
 use px_ops::Model;
 use px_printer::Reply;
 use px_table::Table;
-use px_world::AtomEdit;
 use std::alloc::Global;
 
 /// The world's atoms, the tables of the stored plans, the learned tables, and the disturbances that are recorded for the next run.
@@ -23,11 +23,9 @@ pub(crate) struct State {
 }
 
 impl std::marker::Model for State {
-    ghost use Rattle.std.specs.Prelude.{map};
     ghost use Rattle.std.specs.Coded.{codes};
     ghost use Rattle.px_proof.specs.contracts.proof.Proof as term;
-    ghost use Rattle.px_session.specs.Runs.{as_edits};
-    ghost use Rattle.px_session.specs.Sessions.{SessionState, of_atoms};
+    ghost use Rattle.px_session.specs.Sessions.{SessionState};
 
     ghost Value = { SessionState };
 
@@ -37,7 +35,7 @@ impl std::marker::Model for State {
       atoms = s.facts.atoms;
       plans = s.plans;
       learned = s.learned;
-      recorded = map (as_edits of_atoms) s.recorded.items;
+      recorded = s.recorded.items;
     } };
 }
 
@@ -98,19 +96,18 @@ impl State {
     /// `NoMemory` where there is none for one disturbance more. Nothing is recorded then.
     pub(crate) fn note(
         &mut self,
-        alloc: Global,
         turn: u32,
         between: bool,
-        edits: &[AtomEdit],
+        edits: Sequence<Edit>,
     ) -> Result<Reply, NoMemory>
         requires few { length self.old.recorded < 4294967295 }
-        ensures told { IfOk result (λ reply. Notes self.old (recorded_for turn between (map of_atoms edits.now)) reply self.new) }
+        ensures told { IfOk result (λ reply. Notes self.old (recorded_for turn between edits) reply self.new) }
         ensures kept { OnErr result (self.new ≡ self.old) }
     {
         let disturbance = Disturbance {
             turn,
             between,
-            edits: Sequence::from_slice(alloc, edits)?,
+            edits,
         };
         push(&mut self.recorded, disturbance)?;
         Ok(Reply::Noted {

@@ -3,7 +3,8 @@ ghost use Rattle.std.specs.Prelude.{◌<◌, ◌^◌, ◌-◌, length};
 
 use crate::{
     Session, answers_are_one, causes_in_order, lawful_is_one, one_kind_runs, refused_replies,
-    replies_are_named, sessions_are_kept, transcripts_are_one, worked_demo, worked_session,
+    replies_are_named, sessions_are_kept, told_runs, transcripts_are_one, worked_demo,
+    worked_session,
 };
 use px_reader::read_script;
 use std::alloc::Global;
@@ -36,6 +37,19 @@ fn commands_are_answered_in_order(rt: HostRuntime) {
     assert!(&rt; answered(alloc, b"predicate P 0\nfact P\nplan N P\nshow N\nfacts\n") == Some(3));
     let run = b"predicate P 0\nfact P\nplan N P\ndisturb 1 before -P\nrun N\n";
     assert!(&rt; answered(alloc, run) == Some(3));
+    let learn = b"predicate P 0\nfact P\nplan N P\nlearn M from N\nshow M\n";
+    assert!(&rt; answered(alloc, learn) == Some(3));
+    let door = b"building
+room R1
+room R2
+door D R1 R2 open
+robot R1
+end
+plan N INROOM(ROBOT,R2)
+disturb 1 before door D closed
+run N
+";
+    assert!(&rt; answered(alloc, door) == Some(3));
 }
 
 #[test]
@@ -48,6 +62,7 @@ fn laws_are_calls(_rt: HostRuntime) {
     causes_in_order();
     refused_replies();
     one_kind_runs();
+    told_runs();
     worked_session();
     worked_demo();
 }

@@ -1,34 +1,33 @@
-//! The turns of a run in a world of atoms.
+//! The turns of a run.
 ghost use Rattle.std.specs.Prelude.{◌≡◌, ◌≢◌, ◌<◌, ◌≤◌, [], All, MatchBool, None, length, map, vec_capacity};
 ghost use Rattle.px_terms.specs.Validity.{IsValid};
 ghost use Rattle.px_table.specs.Tables.{IsTable};
-ghost use Rattle.px_world.specs.Worlds.{IsGroundEdit};
+ghost use Rattle.px_world.specs.Worlds.{HaveSameRules};
 ghost use Rattle.px_planex.specs.Turns.{IsLastTurn, edits_at, is_at};
-ghost use Rattle.px_session.specs.Running.{AreGroundEdits, EndsSensed, HasPlaces, HasTaken, IsDisturbed, TakesFrom, TakesNumbered, end_told, most_turns, places_from, places_of_action, places_of_turn, turn_told};
+ghost use Rattle.px_session.specs.Places.{TakeSame, Takes, TakesAll, building_of, place_atoms, place_rules, place_spare};
+ghost use Rattle.px_session.specs.Running.{EndsSensed, HasPlaces, HasTaken, IsDisturbed, TakesFrom, TakesNumbered, end_told, most_turns, places_from, places_of_action, places_of_turn, turn_told};
 
 use crate::disturbance::Disturbance;
+use crate::edit::Edit;
+use crate::place::Place;
 use crate::within::push_within;
 use px_planex::{Event, Outcome, Planex};
 use px_printer::{Turn, TurnEnd};
 use px_table::Table;
-use px_world::{AtomEdit, AtomWorld, World};
+use px_world::World;
 
 /// Is it for that turn and point?
 fn is_for(one: &Disturbance, number: usize, between: bool) -> bool
     ensures { result ≡ is_at number between one.now }
 {
     let is_of_turn = one.turn as usize == number;
-    if between {
-        is_of_turn && one.between
-    } else {
-        is_of_turn && !one.between
-    }
+    is_of_turn && one.between == between
 }
 
 /// Changes the world by these edits, one after the other.
-fn disturb_by(world: &mut AtomWorld<'_>, edits: &[AtomEdit])
-    requires all_ground { All IsGroundEdit edits.now }
-    requires spare { length edits.now ≤ world.old.spare }
+fn disturb_by(world: &mut Place<'_>, edits: &[Edit])
+    requires taken { All (Takes (building_of world.old)) edits.now }
+    requires spare { length edits.now ≤ place_spare world.old }
     ensures { IsDisturbed edits.now world.old world.new }
 {
     for edit in edits {
@@ -37,9 +36,9 @@ fn disturb_by(world: &mut AtomWorld<'_>, edits: &[AtomEdit])
 }
 
 /// Changes the world by the edits that are recorded for the turn and the point.
-fn disturb_at(world: &mut AtomWorld<'_>, recorded: &[Disturbance], number: usize, between: bool)
-    requires all_ground { AreGroundEdits recorded.now }
-    requires spare { length (edits_at recorded.now number between) ≤ world.old.spare }
+fn disturb_at(world: &mut Place<'_>, recorded: &[Disturbance], number: usize, between: bool)
+    requires taken { TakesAll (building_of world.old) recorded.now }
+    requires spare { length (edits_at recorded.now number between) ≤ place_spare world.old }
     ensures { IsDisturbed (edits_at recorded.now number between) world.old world.new }
 {
     for one in recorded {
@@ -52,15 +51,15 @@ fn disturb_at(world: &mut AtomWorld<'_>, recorded: &[Disturbance], number: usize
 /// Ends a turn in which this kernel was sensed: the edits come that are recorded for between, and the executor acts.
 fn act_in_turn(
     planex: &mut Planex<'_>,
-    world: &mut AtomWorld<'_>,
+    world: &mut Place<'_>,
     recorded: &[Disturbance],
     number: usize,
     kernel: u32,
 ) -> Turn
-    requires all_ground { AreGroundEdits recorded.now }
+    requires taken { TakesAll (building_of world.old) recorded.now }
     requires remembers { planex.old.memory.remembered ≢ None }
     requires places { HasPlaces planex.old (places_of_action planex.old.problem recorded.now number) world.old }
-    ensures ends { EndsSensed planex.old recorded.now number kernel world.old.atoms result world.new.atoms planex.new.memory }
+    ensures ends { EndsSensed planex.old recorded.now number kernel (place_atoms world.old) result (place_atoms world.new) planex.new.memory }
     ensures frame { planex.new ≡ record planex.old { memory = planex.new.memory } }
     ensures taken { HasTaken (places_of_action planex.old.problem recorded.now number) world.old world.new }
 {
@@ -78,16 +77,16 @@ fn act_in_turn(
 /// isn't the last.
 fn take_turn(
     planex: &mut Planex<'_>,
-    world: &mut AtomWorld<'_>,
+    world: &mut Place<'_>,
     table: &Table,
     recorded: &[Disturbance],
     number: usize,
 ) -> Turn
-    requires all_ground { AreGroundEdits recorded.now }
+    requires taken { TakesAll (building_of world.old) recorded.now }
     requires table { planex.old.table ≡ table.now }
     requires short { length table.now.steps < 4294967295 }
     requires places { HasPlaces planex.old (places_of_turn planex.old.problem recorded.now number) world.old }
-    ensures takes { TakesNumbered planex.old recorded.now number world.old.atoms result world.new.atoms planex.new.memory }
+    ensures takes { TakesNumbered planex.old recorded.now number (place_atoms world.old) result (place_atoms world.new) planex.new.memory }
     ensures frame { planex.new ≡ record planex.old { memory = planex.new.memory } }
     ensures taken { HasTaken (places_of_turn planex.old.problem recorded.now number) world.old world.new }
 {
@@ -122,7 +121,7 @@ fn ends_run(end: TurnEnd) -> bool
 /// all of them. Takes no memory.
 pub(crate) fn take_turns(
     planex: &mut Planex<'_>,
-    world: &mut AtomWorld<'_>,
+    world: &mut Place<'_>,
     table: &Table,
     recorded: &[Disturbance],
     turns: Vec<Turn>,
@@ -130,14 +129,16 @@ pub(crate) fn take_turns(
 ) -> Vec<Turn>
     requires problem { IsValid planex.old.problem }
     requires is_table { IsTable planex.old.problem table.now }
-    requires all_ground { AreGroundEdits recorded.now }
+    requires taken { TakesAll (building_of world.old) recorded.now }
     requires table { planex.old.table ≡ table.now }
     requires most { most_turns table.now recorded.now < most }
     requires none { turns.items ≡ [] }
     requires room { most ≤ vec_capacity turns }
     requires places { HasPlaces planex.old (places_from planex.old.problem recorded.now most 1) world.old }
-    ensures turns { TakesFrom planex.old recorded.now 1 world.old.atoms (map turn_told result.items) world.new.atoms planex.new.memory }
-    ensures room { length world.new.atoms ≤ planex.old.room }
+    ensures turns { TakesFrom planex.old recorded.now 1 (place_atoms world.old) (map turn_told result.items) (place_atoms world.new) planex.new.memory }
+    ensures room { length (place_atoms world.new) ≤ planex.old.room }
+    ensures rules { HaveSameRules (place_rules world.new) planex.old.problem }
+    ensures takes { TakeSame (building_of world.old) (building_of world.new) }
 {
     let mut taken = turns;
     'turns: loop {

@@ -1,5 +1,5 @@
 -- What a move adds to what is gone through.
-use Rattle.std.specs.Prelude.{◌≡◌, ◌≤◌, ◌<◌, ◌+◌, ℕ, List, [], ◌∷◌, ◌++◌, length, drop, reverse, slice_index_or, All, Result, Ok, Err, IfOk}
+use Rattle.std.specs.Prelude.{◌≡◌, ◌≤◌, ◌<◌, ◌+◌, ◌*◌, ℕ, List, [], ◌∷◌, ◌++◌, length, drop, reverse, slice_index_or, All, Result, Ok, Err, IfOk}
 use Rattle.std.proofs.Common.{refl, sym, ap, ◌∙◌, subst, arith, append_assoc, add-one, length-append}
 use Rattle.std.proofs.Math.Seq.{drop-cons}
 use Rattle.std.proofs.Math.ListN.{drop_of_length-le}
@@ -20,13 +20,15 @@ use Rattle.px_table.specs.declared.entry.Move.TheVariants.{Apply, Push}
 use Rattle.px_table.specs.declared.node.Node.{Node}
 use Rattle.px_table.specs.declared.table.Table.{Table}
 use Rattle.px_table.specs.Tables.{rows_of}
-use Rattle.px_diff.specs.Entries.{IsEntry, effect_of, obligations_of}
+use Rattle.px_diff.proofs.RowSteps.{steps-count}
+use Rattle.px_diff.specs.Entries.{IsEntry, effect_of, obligations_of, table_at}
+use Rattle.px_diff.specs.Learned.{AreLearned}
 use Rattle.px_ends.specs.Made.{EntryRows, IsFirstRow, MovesRows, TopRows, top_steps}
 use Rattle.px_ends.specs.Tasks.{Task, after, initial_node, needs_with, steps_of}
 use Rattle.px_support.specs.declared.walk.Walk.{Walk}
 use Rattle.px_support.specs.Asking.{AreTakeable, IsFindable, IsTakeable}
 use Rattle.px_support.specs.Going.{AreTaken, IsEntryApplied, IsTaken, RowsBy, node_in, steps_by}
-use Rattle.px_support.proofs.Supporting.{no_macro}
+use Rattle.px_support.proofs.MacroTables.{macro-instances, macro-table}
 
 -- ---- one move
 
@@ -102,9 +104,9 @@ module _ (task : Task) where
     pub steps : walk.steps.items ++ steps_of task.tables (node_in walk).stack (drop i moves) ≡ steps_of task.tables [] moves
     pub rows : (rest : List (List Derivation)) → MovesRows task (node_in walk) walk.steps.items (drop i moves) rest → MovesRows task (initial_node task) [] moves (rows_of walk.rows.items ++ rest)
     pub all_ground : All (IsGroundInstanceOf task.problem) walk.steps.items
-    pub short : length walk.steps.items + length (drop i moves) ≤ length moves
+    pub short : length walk.steps.items + 64 * length (drop i moves) ≤ 64 * length moves
 
-module _ (task : Task) (no_tables : task.tables ≡ []) where
+module _ (task : Task) (learned : AreLearned task.problem task.tables) where
   -- the steps that are left, with those of the first move
   steps-first : (node : Node) (m : Move) (moves : List Move) → steps_of task.tables node.stack (m ∷ moves) ≡ steps_by task node m ++ steps_of task.tables (after task node m).stack moves
   steps-first node (Push entry) moves = refl
@@ -121,20 +123,27 @@ module _ (task : Task) (no_tables : task.tables ≡ []) where
       (subst (λ (s : List OpInst). MovesRows task (after task node (Push entry)) s moves rest) (append-nil made) later)
   rows-first node made Apply moves first rest by later = (first, rest, by, later, refl)
 
-  -- an entry takes at most one step, an instance
+  -- an entry takes instances, at most 64
   entry-ground : (entry : Entry) → IsEntry task.problem task.tables entry → All (IsGroundInstanceOf task.problem) (effect_of task.tables entry)
   entry-ground (Op inst) is = All-cons (IsGroundInstanceOf task.problem) inst [] (instance-is_ground task.problem inst is) (All-nil (IsGroundInstanceOf task.problem))
-  entry-ground (Macro number prefix sigma) is = absurd (no_macro task.problem task.tables number prefix sigma no_tables is)
+  entry-ground (Macro number prefix sigma) is =
+      let found = macro-table task.problem task.tables learned number prefix sigma is in
+      let instances = macro-instances task.problem (table_at task.tables number) prefix sigma found.0 found.1 in
+      λ k d below. instance-is_ground task.problem _ (instances k d below)
 
-  entry-short : (entry : Entry) → IsEntry task.problem task.tables entry → length (effect_of task.tables entry) ≤ 1
+  entry-short : (entry : Entry) → IsEntry task.problem task.tables entry → length (effect_of task.tables entry) ≤ 64
   entry-short (Op inst) is = omega arith
-  entry-short (Macro number prefix sigma) is = absurd (no_macro task.problem task.tables number prefix sigma no_tables is)
+  entry-short (Macro number prefix sigma) is =
+      let table = table_at task.tables number in
+      let found = macro-table task.problem task.tables learned number prefix sigma is in
+      let taken = steps-count table sigma prefix found.1.within in
+      omega (arith, taken, found.1.within, found.2)
 
   top-ground : (stack : List Entry) → All (IsEntry task.problem task.tables) stack → All (IsGroundInstanceOf task.problem) (top_steps task.tables stack)
   top-ground [] all = All-nil (IsGroundInstanceOf task.problem)
   top-ground (entry ∷ below) all = entry-ground entry (All-head (IsEntry task.problem task.tables) entry below all)
 
-  top-short : (stack : List Entry) → All (IsEntry task.problem task.tables) stack → length (top_steps task.tables stack) ≤ 1
+  top-short : (stack : List Entry) → All (IsEntry task.problem task.tables) stack → length (top_steps task.tables stack) ≤ 64
   top-short [] all = omega arith
   top-short (entry ∷ below) all = entry-short entry (All-head (IsEntry task.problem task.tables) entry below all)
 
@@ -142,7 +151,7 @@ module _ (task : Task) (no_tables : task.tables ≡ []) where
   by-ground node (Push entry) all = All-nil (IsGroundInstanceOf task.problem)
   by-ground node Apply all = top-ground node.stack all
 
-  by-short : (node : Node) (m : Move) → All (IsEntry task.problem task.tables) node.stack → length (steps_by task node m) ≤ 1
+  by-short : (node : Node) (m : Move) → All (IsEntry task.problem task.tables) node.stack → length (steps_by task node m) ≤ 64
   by-short node (Push entry) all = omega arith
   by-short node Apply all = top-short node.stack all
 
@@ -171,7 +180,7 @@ module _ (task : Task) (no_tables : task.tables ≡ []) where
   pub next-takeable : (moves : List Move) (i : ℕ) (m : Move) (walk : Walk) → i < length moves → m ≡ slice_index_or moves i m → IsGoing task moves i walk → IsTakeable task (node_in walk) m
   next-takeable moves i m walk below is going = (subst (AreTakeable task (node_in walk)) (next-left moves i m below is) going.takeable).0
 
-  pub next-short : (moves : List Move) (i : ℕ) (walk : Walk) → i < length moves → IsGoing task moves i walk → length walk.steps.items < length moves
+  pub next-short : (moves : List Move) (i : ℕ) (walk : Walk) → i < length moves → IsGoing task moves i walk → length walk.steps.items + 64 ≤ 64 * length moves
   next-short moves i walk below going = let d = length-drop-some moves i below in omega (arith, d, going.short)
     where
       length-drop-some : (moves : List Move) (i : ℕ) → i < length moves → 0 < length (drop i moves)
@@ -184,7 +193,7 @@ module _ (task : Task) (no_tables : task.tables ≡ []) where
       let rest = drop (i + 1) moves in
       let by = steps_by task (node_in walk) m in
       let here = by-short (node_in walk) m going.entries in
-      let was : length walk.steps.items + length (m ∷ rest) ≤ length moves = subst (λ (l : List Move). length walk.steps.items + length l ≤ length moves) left going.short in
+      let was : length walk.steps.items + 64 * length (m ∷ rest) ≤ 64 * length moves = subst (λ (l : List Move). length walk.steps.items + 64 * length l ≤ 64 * length moves) left going.short in
       let long : length next.steps.items ≡ length walk.steps.items + length by = ap length taken.steps ∙ length-append walk.steps.items by in
       record {
         takeable = subst (λ (n : Node). AreTakeable task n rest) (sym taken.node) both.1;

@@ -1,8 +1,8 @@
 -- Rows whose leaves each name where their facts come from, and are kept since then: their marks are those of a support.
 use Rattle.std.specs.Prelude.{◌≡◌, ◌≤◌, ◌<◌, ℕ, Some, List, [], ◌∷◌, ◌++◌, length, map, slice_get, All, Contains}
-use Rattle.std.proofs.Common.{suc, refl, sym, ap, ◌∙◌, subst, inl, inr, arith, append_assoc}
+use Rattle.std.proofs.Common.{suc, refl, sym, ap, ◌∙◌, subst, arith, append_assoc}
 use Rattle.std.proofs.lemmas.List.Elements.{All-append, All-nil}
-use Rattle.px_base.specs.ListLaws.{All-each, Contains-cases, Contains-first, Contains-later, Contains-none}
+use Rattle.px_base.specs.ListLaws.{All-each}
 use Rattle.px_terms.specs.declared.atom.Atom.{Atom}
 use Rattle.px_terms.specs.declared.instance.OpInst.{OpInst}
 use Rattle.px_terms.specs.declared.problem.Problem.{Problem}
@@ -12,7 +12,7 @@ use Rattle.px_proof.specs.Derivation.{Derivation}
 use Rattle.px_table.specs.declared.mark.Mark.{Mark}
 use Rattle.px_table.specs.Marks.{IsKept, IsNamed, mark_eq, mark_of, marks_from, row_leaves, row_marks, step_at}
 use Rattle.px_table.specs.OnceLaws.{Contains-from_each_once}
-use Rattle.px_support.proofs.Lists.{step-front}
+use Rattle.px_support.proofs.Lists.{each-mapped, step-front}
 
 module _ (problem : Problem) (initial : List Atom) where
   -- after these steps the leaf names where its fact comes from, and no step since deletes it
@@ -51,17 +51,10 @@ module _ (problem : Problem) (initial : List Atom) where
 
   -- ---- from leaves to marks
 
-  in-row : (P : Mark → Type 0) (r : ℕ) (leaves : List Leaf) → ((leaf : Leaf) → Contains leaves leaf → P (mark_of r leaf)) → (mark : Mark) → Contains (map (mark_of r) leaves) mark → P mark
-  in-row P r [] each mark has = absurd (Contains-none mark has)
-  in-row P r (leaf ∷ leaves) each mark has = elim (Contains-cases (mark_of r leaf) (map (mark_of r) leaves) mark has) [
-    | inl is ↦ subst P is (each leaf (Contains-first leaf leaves))
-    | inr later ↦ in-row P r leaves (λ l inside. each l (Contains-later leaf leaves l inside)) mark later
-  ]
-
   row-marked : (made rest : List OpInst) (row : List Derivation) → IsSupportedRow made row → All (IsSupportMark (made ++ rest)) (row_marks (suc (length made)) row)
   row-marked made rest row is =
       All-each (IsSupportMark (made ++ rest)) (row_marks (suc (length made)) row) (λ mark has.
-      in-row (IsSupportMark (made ++ rest)) (suc (length made)) (row_leaves row) (λ leaf inside. supported-mark made rest leaf (is leaf inside)) mark
+      each-mapped (IsSupportMark (made ++ rest)) (mark_of (suc (length made))) (row_leaves row) (λ leaf inside. supported-mark made rest leaf (is leaf inside)) mark
       (Contains-from_each_once mark_eq (map (mark_of (suc (length made))) (row_leaves row)) mark has))
 
   length-push : (made : List OpInst) (step : OpInst) → length (made ++ step ∷ []) ≡ suc (length made)

@@ -7,6 +7,7 @@ use Rattle.px_base.specs.ListLaws.{All-at, Contains-cases, Contains-none}
 use Rattle.px_terms.specs.declared.atom.Atom.{Atom}
 use Rattle.px_terms.specs.declared.instance.OpInst.{OpInst}
 use Rattle.px_terms.specs.declared.problem.Problem.{Problem}
+use Rattle.px_terms.specs.Instances.{IsGround}
 use Rattle.px_terms.specs.Operators.{results_of}
 use Rattle.px_terms.specs.Substitution.{substitute_atom}
 use Rattle.px_terms.specs.Validity.{IsAtomOf, IsGroundInstanceOf, IsValid}
@@ -58,10 +59,10 @@ module _ (problem : Problem) (valid : IsValid problem) (initial : List Atom) (ma
       by zero inst at = omega arith
       by (suc k) inst at = step-within made (suc k) (inst (omega arith)) (at (omega arith))
 
-  -- of one proof
-  proof-supported : (facts : List Atom) (atom : Atom) (d new : Derivation) → facts ≡ results_of problem initial made → IsAnswerProof problem facts atom d → IsSourced problem made d new
+  -- of one proof, from facts that hold after the steps
+  pub proof-supported : (facts : List Atom) (atom : Atom) (d new : Derivation) → ((a : Atom) → IsGround a → Contains facts a → Contains (results_of problem initial made) a) → IsAnswerProof problem facts atom d → IsSourced problem made d new
       → (leaf : Leaf) → Contains (leaves_of new) leaf → IsSupported problem initial made leaf
-  proof-supported facts atom d new model is sourced leaf has =
+  proof-supported facts atom d new hold is sourced leaf has =
       let leaves = sourced.0 in
       let made_row = is.renamed leaves sourced.1 in
       let its : leaves_of new ≡ leaves = ap leaves_of sourced.3 ∙ made_row.leaves_are in
@@ -70,7 +71,7 @@ module _ (problem : Problem) (valid : IsValid problem) (initial : List Atom) (ma
       let named : Contains (leaf_atoms (leaves_of d)) leaf.atom = subst (λ (as_ : List Atom). Contains as_ leaf.atom) sourced.1 (Contains-mapped (λ (l : Leaf). l.atom) leaves leaf inside) in
       let of : IsAtomOf problem 0 leaf.atom = All-at (IsAtomOf problem 0) (leaf_atoms (leaves_of d)) leaf.atom is.here.of_problem.leaves named in
       let held : Contains facts leaf.atom = in-facts (leaves_of d) (λ k e below. contains_at facts _ _ (is.placed k e below).1) leaf.atom named in
-      source-supported leaf of (subst (λ (fs : List Atom). Contains fs leaf.atom) model held) source
+      source-supported leaf of (hold leaf.atom (atom_of-is_ground problem leaf.atom of) held) source
     where
       in-facts : (leaves : List Leaf) → All (λ (l : Leaf). Contains facts l.atom) leaves → (atom : Atom) → Contains (leaf_atoms leaves) atom → Contains facts atom
       in-facts [] all atom has = absurd (Contains-none atom has)
@@ -87,7 +88,7 @@ module _ (problem : Problem) (valid : IsValid problem) (initial : List Atom) (ma
   proofs-supported facts (atom ∷ atoms) [] row model all sourced leaf has = absurd all
   proofs-supported facts (atom ∷ atoms) (d ∷ ds) [] model all sourced leaf has = absurd sourced
   proofs-supported facts (atom ∷ atoms) (d ∷ ds) (new ∷ row) model all sourced leaf has = elim (Contains-append_cases (leaves_of new) (row_leaves row) leaf has) [
-    | inl here ↦ proof-supported facts atom d new model all.0 sourced.0 leaf here
+    | inl here ↦ proof-supported facts atom d new (λ a g there. subst (λ (fs : List Atom). Contains fs a) model there) all.0 sourced.0 leaf here
     | inr later ↦ proofs-supported facts atoms ds row model all.1 sourced.1 leaf later
   ]
 

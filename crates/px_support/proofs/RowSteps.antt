@@ -14,13 +14,12 @@ use Rattle.px_proof.specs.ProofTerm.{derivation_of}
 use Rattle.px_question.specs.Answers.{IsFirst}
 use Rattle.px_question.specs.Settings.{setting_of}
 use Rattle.px_table.specs.declared.entry.Entry.{Entry}
-use Rattle.px_table.specs.declared.entry.Entry.TheVariants.{Op, Macro}
+use Rattle.px_table.specs.declared.entry.Entry.TheVariants.{Op}
 use Rattle.px_table.specs.declared.table.Table.{Table}
 use Rattle.px_table.specs.Tables.{rows_of}
-use Rattle.px_diff.specs.Entries.{IsEntry, obligations_of}
+use Rattle.px_diff.specs.Entries.{obligations_of}
 use Rattle.px_ends.specs.Made.{IsFirstRow, IsSourced}
 use Rattle.px_support.specs.Asking.{IsFindable}
-use Rattle.px_support.proofs.Supporting.{no_macro}
 
 -- the answer's proofs, with their sources, are a row of first proofs
 pub if_first_row : (problem : Problem) (made : List OpInst) (facts formula : List Atom) (vars : ℕ) (objects : List ℕ) (proofs given : List Proof) (result : Result (List Proof) NoMemory) → given ≡ proofs
@@ -46,7 +45,3 @@ pub instance-findable : (problem : Problem) (tables : List Table) (model : List 
 instance-findable problem tables model entry inst is all =
     let here = subst (λ (e : Entry). All (IsFindable problem) (obligations_of problem tables model e)) is all in
     here 0 (record { formula = precondition problem inst; vars = 0; facts = model }) (omega arith)
-
--- and it is none of a table's
-pub never_macro : (problem : Problem) (tables : List Table) (entry : Entry) (number prefix : ℕ) (sigma : List ℕ) → tables ≡ [] → entry ≡ Macro number prefix sigma → ¬ IsEntry problem tables entry
-never_macro problem tables entry number prefix sigma none is has = no_macro problem tables number prefix sigma none (subst (IsEntry problem tables) is has)

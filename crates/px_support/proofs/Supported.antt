@@ -9,6 +9,7 @@ use Rattle.px_terms.specs.Validity.{IsAtomOf, IsInstanceOf, IsValid}
 use Rattle.px_table.specs.declared.entry.Move.{Move}
 use Rattle.px_table.specs.Supports.{Supports}
 use Rattle.px_table.specs.Tables.{AreOfProblem, rows_of}
+use Rattle.px_diff.specs.Learned.{AreLearned}
 use Rattle.px_ends.specs.Ends.{AreMoves, IsFound}
 use Rattle.px_ends.specs.Made.{MovesRows}
 use Rattle.px_ends.specs.Tasks.{Task, initial_node, steps_of}
@@ -37,13 +38,13 @@ by-steps task moves support steps is = record {
   instances = subst (All (IsInstanceOf task.problem)) (sym steps) is.instances;
 }
 
-module _ (law : MovesSupport) (task : Task) (moves : List Move) (result : Result Support NoMemory) (valid : IsValid task.problem) (goal_of : All (IsAtomOf task.problem task.vars) task.goal) (no_tables : task.tables ≡ []) (found : IsFound task moves)
+module _ (law : MovesSupport) (task : Task) (moves : List Move) (result : Result Support NoMemory) (valid : IsValid task.problem) (goal_of : All (IsAtomOf task.problem task.vars) task.goal) (learned : AreLearned task.problem task.tables) (found : IsFound task moves)
     (steps : IfOk result (λ support. support.steps ≡ steps_of task.tables [] moves)) (rows : IfOk result (λ support. MovesRows task (initial_node task) [] moves (rows_of support.rows.items))) where
   if_support : IfOk result (IsSupport task)
   if_support = by result steps rows where
     by : (result : Result Support NoMemory) → IfOk result (λ support. support.steps ≡ steps_of task.tables [] moves) → IfOk result (λ support. MovesRows task (initial_node task) [] moves (rows_of support.rows.items))
         → IfOk result (IsSupport task)
-    by (Ok support) steps rows = by-steps task moves support steps (law task moves (rows_of support.rows.items) valid goal_of no_tables (found-moves task moves found) rows)
+    by (Ok support) steps rows = by-steps task moves support steps (law task moves (rows_of support.rows.items) valid goal_of learned (found-moves task moves found) rows)
     by (Err e) steps rows = tt
 
   pub if_supports : IfOk result (λ support. Supports task.problem task.initial support.steps task.goal task.vars (rows_of support.rows.items))

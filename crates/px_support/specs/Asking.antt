@@ -1,5 +1,5 @@
 -- What is asked, as the code has it, and what has to be found by the prover on the way.
-use Rattle.std.specs.Prelude.{◌≡◌, ◌≢◌, ◌<◌, ◌≤◌, List, [], ◌∷◌, All}
+use Rattle.std.specs.Prelude.{◌≢◌, ◌<◌, ◌≤◌, List, [], ◌∷◌, All}
 use Rattle.px_terms.specs.declared.problem.Problem.{Problem}
 use Rattle.px_terms.specs.Validity.{IsValid, IsAtomOf}
 use Rattle.px_proof.specs.declared.shape.Tick.{Tick}
@@ -9,6 +9,7 @@ use Rattle.px_table.specs.declared.entry.Move.{Move}
 use Rattle.px_table.specs.declared.entry.Move.TheVariants.{Apply, Push}
 use Rattle.px_table.specs.declared.node.Node.{Node}
 use Rattle.px_diff.specs.Entries.{Obligation, HasAnswer, IsEntry}
+use Rattle.px_diff.specs.Learned.{AreLearned}
 use Rattle.px_ends.specs.Tasks.{Task, after, goal_from, needs_at, task_of}
 use Rattle.px_support.specs.declared.asked.Asked.{Asked}
 
@@ -18,7 +19,7 @@ task_for asked = task_of asked.problem.now asked.tables.now asked.initial.now.at
 -- what may be asked
 pub record IsAskable (asked : Asked) : Type 0 where
   pub valid : IsValid asked.problem.now
-  pub no_tables : asked.tables.now ≡ []
+  pub tables : AreLearned asked.problem.now asked.tables.now
   pub goal : All (IsAtomOf asked.problem.now asked.vars) asked.goal.now
   pub few_variables : asked.vars ≤ 12
   pub some_object : 0 < asked.vars → 0 < asked.problem.now.objects

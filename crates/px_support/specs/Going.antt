@@ -1,5 +1,5 @@
 -- How far the code has gone through the moves, and what a move adds to that.
-use Rattle.std.specs.Prelude.{◌≡◌, ◌≤◌, List, [], ◌∷◌, ◌++◌, All, length, reverse}
+use Rattle.std.specs.Prelude.{◌≡◌, ◌≤◌, ◌*◌, List, [], ◌∷◌, ◌++◌, All, length, reverse}
 use Rattle.px_terms.specs.declared.instance.OpInst.{OpInst}
 use Rattle.px_terms.specs.declared.problem.Problem.{Problem}
 use Rattle.px_terms.specs.Operators.{results_of}
@@ -54,4 +54,4 @@ pub record AreTaken (task : Task) (moves : List Move) (walk : Walk) : Type 0 whe
   pub rows : (row : List Derivation) → IsFirstRow task.problem walk.steps.items walk.model.atoms task.goal task.vars row
       → MovesRows task (initial_node task) [] moves (rows_of walk.rows.items ++ row ∷ [])
   pub all_ground : All (IsGroundInstanceOf task.problem) walk.steps.items
-  pub short : length walk.steps.items ≤ length moves
+  pub short : length walk.steps.items ≤ 64 * length moves

@@ -1,4 +1,6 @@
 pub mod Sources
 pub mod Asking
 pub mod Going
+pub mod Grafted
+pub mod MacroSteps
 pub mod MadeSupports

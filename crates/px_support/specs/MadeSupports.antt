@@ -1,11 +1,12 @@
 -- The rows of moves are a support of the steps that the moves take.
-use Rattle.std.specs.Prelude.{◌≡◌, List, [], All}
+use Rattle.std.specs.Prelude.{List, [], All}
 use Rattle.px_terms.specs.Plans.{Carries}
 use Rattle.px_terms.specs.Validity.{IsAtomOf, IsInstanceOf, IsValid}
 use Rattle.px_proof.specs.Derivation.{Derivation}
 use Rattle.px_table.specs.declared.entry.Move.{Move}
 use Rattle.px_table.specs.Supports.{Supports}
 use Rattle.px_table.specs.Tables.{AreOfProblem}
+use Rattle.px_diff.specs.Learned.{AreLearned}
 use Rattle.px_ends.specs.Ends.{AreMoves}
 use Rattle.px_ends.specs.Made.{MovesRows}
 use Rattle.px_ends.specs.Tasks.{Task, initial_node, steps_of}
@@ -17,8 +18,8 @@ pub record AreSupport (task : Task) (moves : List Move) (rows : List (List Deriv
   pub carries : Carries task.problem task.initial (steps_of task.tables [] moves) task.vars task.goal
   pub instances : All (IsInstanceOf task.problem) (steps_of task.tables [] moves)
 
--- Where moves can be made, without learned tables, their rows are a support of their steps and the goal, over the problem's numbers. So
--- the steps lead from the initial model to the goal in each run.
+-- Where moves can be made, their rows are a support of their steps and the goal, over the problem's numbers. So the steps lead from the
+-- initial model to the goal in each run.
 abbrev pub MovesSupport : Type 0
 MovesSupport = (task : Task) (moves : List Move) (rows : List (List Derivation)) → IsValid task.problem → All (IsAtomOf task.problem task.vars) task.goal
-    → task.tables ≡ [] → AreMoves task moves → MovesRows task (initial_node task) [] moves rows → AreSupport task moves rows
+    → AreLearned task.problem task.tables → AreMoves task moves → MovesRows task (initial_node task) [] moves rows → AreSupport task moves rows

@@ -3,7 +3,7 @@ ghost use Rattle.px_support.specs.MadeSupports.{MovesSupport};
 
 use px_diff::answers_support;
 
-/// The rows of moves that can be made, without learned tables, are a support of the steps that these take and of the goal.
+/// The rows of moves that can be made are a support of the steps that these take and of the goal.
 pub fn moves_have_supports()
     ensures { MovesSupport }
 {

@@ -1,5 +1,5 @@
 //! The support of the moves that a search found.
-ghost use Rattle.std.specs.Prelude.{◌≡◌, ◌≤◌, ◌<◌, [], length, All, IfOk};
+ghost use Rattle.std.specs.Prelude.{◌≡◌, ◌≤◌, ◌<◌, ◌*◌, [], length, All, IfOk};
 ghost use Rattle.px_terms.specs.Plans.{Carries};
 ghost use Rattle.px_terms.specs.Validity.{IsAtomOf, IsInstanceOf, IsValid};
 ghost use Rattle.px_table.specs.Supports.{Supports};
@@ -34,7 +34,7 @@ pub struct Support {
 fn with_goal(asked: &Asked, walk: Walk, moves: &[Move]) -> Result<Support, NoMemory>
     requires asked { IsAskable asked.now }
     requires taken { AreTaken (task_for asked.now) moves.now walk }
-    requires short { length moves.now < 4294967295 }
+    requires short { 64 * length moves.now < 4294967295 }
     ensures steps { IfOk result (λ support. support.steps ≡ steps_of asked.now.tables.now [] moves.now) }
     ensures rows { IfOk result (λ support. MovesRows (task_for asked.now) (initial_node (task_for asked.now)) [] moves.now (rows_of support.rows.items)) }
     ensures short { IfOk result (λ support. length support.steps < 4294967295) }
@@ -60,9 +60,10 @@ fn with_goal(asked: &Asked, walk: Walk, moves: &[Move]) -> Result<Support, NoMem
     })
 }
 
-/// The support of the moves that a search found, without learned tables: the steps that the moves take, and the first proofs
-/// of what each step needs and of the goal, where each fact names the last step before that adds it, or the initial model.
-/// Steps and rows are what `build` of `px_table` makes a table of.
+/// The support of the moves that a search found: the steps that the moves take, and the first proofs of what each step needs
+/// and of the goal, where each fact names the last step before that adds it, or the initial model. The steps of a MACROP have
+/// the rows of its table, with such proofs in the places of their initial facts. Steps and rows are what `build` of `px_table`
+/// makes a table of.
 ///
 /// # Errors
 /// `NoMemory` where there is none.
@@ -80,9 +81,7 @@ pub fn support_of(
     requires few_variables { vars ≤ 12 }
     requires some_object { 0 < vars → 0 < problem.now.objects }
     requires tables { AreLearned problem.now tables.now }
-    requires no_tables { tables.now ≡ [] }
     requires found { IsFound (task_of problem.now tables.now initial.now.atoms goal.now vars) moves.now }
-    requires short { length moves.now < 4294967295 }
     ensures steps { IfOk result (λ support. support.steps ≡ steps_of tables.now [] moves.now) }
     ensures rows { IfOk result (λ support. MovesRows (task_of problem.now tables.now initial.now.atoms goal.now vars) (initial_node (task_of problem.now tables.now initial.now.atoms goal.now vars)) [] moves.now (rows_of support.rows.items)) }
     ensures supports { IfOk result (λ support. Supports problem.now initial.now.atoms support.steps goal.now vars (rows_of support.rows.items)) }

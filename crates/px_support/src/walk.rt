@@ -1,5 +1,5 @@
 //! Going through the moves: the stack and the model as they change, the steps that are taken, and their rows.
-ghost use Rattle.std.specs.Prelude.{◌≡◌, ◌<◌, ◌++◌, ◌∷◌, [], length, map, reverse, All, IfOk};
+ghost use Rattle.std.specs.Prelude.{◌≡◌, ◌≤◌, ◌+◌, ◌*◌, ◌++◌, ◌∷◌, [], length, map, reverse, All, IfOk};
 ghost use Rattle.px_terms.specs.Operators.{precondition};
 ghost use Rattle.px_terms.specs.Validity.{IsGroundInstanceOf, IsInstanceOf, IsValid};
 ghost use Rattle.px_diff.specs.Entries.{IsEntry, obligations_of};
@@ -9,6 +9,7 @@ ghost use Rattle.px_support.specs.Asking.{AreTakeable, IsAskable, IsFindable, Is
 ghost use Rattle.px_support.specs.Going.{AreTaken, IsEntryApplied, IsTaken, node_in};
 
 use crate::asked::Asked;
+use crate::macros::apply_macro;
 use crate::rows::first_row;
 use px_base::{NoMemory, push};
 use px_ops::{Model, apply_op, precondition_of};
@@ -52,7 +53,7 @@ fn apply_instance(asked: &Asked, walk: Walk, inst: &OpInst) -> Result<Walk, NoMe
     requires inst { IsInstanceOf asked.now.problem.now inst.now }
     requires findable { IsFindable asked.now.problem.now (record { formula = precondition asked.now.problem.now inst.now; vars = 0; facts = walk.model.atoms }) }
     requires steps { All (IsGroundInstanceOf asked.now.problem.now) walk.steps.items }
-    requires short { length walk.steps.items < 4294967295 }
+    requires short { length walk.steps.items + 64 ≤ 4294967295 }
     ensures { IfOk result (IsEntryApplied asked.now.problem.now asked.now.tables.now (Entry.Op inst.now) walk) }
 {
     let Walk {
@@ -80,12 +81,16 @@ fn apply_entry(asked: &Asked, walk: Walk, entry: &Entry) -> Result<Walk, NoMemor
     requires entry { IsEntry asked.now.problem.now asked.now.tables.now entry.now }
     requires findable { All (IsFindable asked.now.problem.now) (obligations_of asked.now.problem.now asked.now.tables.now walk.model.atoms entry.now) }
     requires steps { All (IsGroundInstanceOf asked.now.problem.now) walk.steps.items }
-    requires short { length walk.steps.items < 4294967295 }
+    requires short { length walk.steps.items + 64 ≤ 4294967295 }
     ensures { IfOk result (IsEntryApplied asked.now.problem.now asked.now.tables.now entry.now walk) }
 {
     match entry {
         Entry::Op(inst) => apply_instance(asked, walk, inst),
-        Entry::Macro { .. } => unreachable!(),
+        Entry::Macro {
+            number,
+            prefix,
+            sigma,
+        } => apply_macro(asked, walk, *number, *prefix, sigma.as_slice()),
     }
 }
 
@@ -95,7 +100,7 @@ fn apply_top(asked: &Asked, walk: Walk) -> Result<Walk, NoMemory>
     requires takeable { IsTakeable (task_for asked.now) (node_in walk) Move.Apply }
     requires stack { All (IsEntry asked.now.problem.now asked.now.tables.now) (node_in walk).stack }
     requires steps { All (IsGroundInstanceOf asked.now.problem.now) walk.steps.items }
-    requires short { length walk.steps.items < 4294967295 }
+    requires short { length walk.steps.items + 64 ≤ 4294967295 }
     ensures { IfOk result (IsTaken (task_for asked.now) Move.Apply walk) }
 {
     let Walk {
@@ -144,7 +149,7 @@ fn take(asked: &Asked, walk: Walk, m: &Move) -> Result<Walk, NoMemory>
     requires takeable { IsTakeable (task_for asked.now) (node_in walk) m.now }
     requires stack { All (IsEntry asked.now.problem.now asked.now.tables.now) (node_in walk).stack }
     requires steps { All (IsGroundInstanceOf asked.now.problem.now) walk.steps.items }
-    requires short { length walk.steps.items < 4294967295 }
+    requires short { length walk.steps.items + 64 ≤ 4294967295 }
     ensures { IfOk result (IsTaken (task_for asked.now) m.now walk) }
 {
     match m {
@@ -157,7 +162,7 @@ fn take(asked: &Asked, walk: Walk, m: &Move) -> Result<Walk, NoMemory>
 pub fn take_all(asked: &Asked, moves: &[Move]) -> Result<Walk, NoMemory>
     requires asked { IsAskable asked.now }
     requires takeable { AreTakeable (task_for asked.now) (initial_node (task_for asked.now)) moves.now }
-    requires short { length moves.now < 4294967295 }
+    requires short { 64 * length moves.now ≤ 4294967295 }
     ensures { IfOk result (AreTaken (task_for asked.now) moves.now) }
 {
     let model = asked.initial.try_copy()?;

@@ -1,5 +1,5 @@
 use Rattle.std.proofs.Common.{◌≡◌, ◌∙◌, ℕ, List, ◌++◌, length, sym, ap, subst, arith}
-use Rattle.std.specs.Prelude.{All, Any, Contains}
+use Rattle.std.specs.Prelude.{All, Any}
 use Rattle.px_base.specs.ListLaws.{All-at}
 use Rattle.px_terms.specs.declared.atom.Atom.{Atom}
 use Rattle.px_diff.specs.Apart.{StandsIn}

@@ -1,8 +1,8 @@
-use Rattle.std.proofs.Common.{◌≡◌, ◌∙◌, List, ℕ, length, sym, ap, subst, arith}
+use Rattle.std.proofs.Common.{◌≡◌, List, ℕ, length, sym, ap, subst, arith}
 use Rattle.px_question.specs.Settings.{setting_of}
 use Rattle.px_terms.specs.Validity.{IsAtomOf}
 use Rattle.px_terms.specs.declared.term.Term.{Term}
-use Rattle.px_diff.specs.Bindings.{AreUnbound, IsBinding, IsInstanceUnder}
+use Rattle.px_diff.specs.Bindings.{AreUnbound, IsInstanceUnder}
 use Rattle.px_diff.specs.Forms.{IsInstanceIn}
 use Rattle.px_diff.specs.Provable.{LimitsOne}
 use Rattle.px_diff.proofs.Describing.{unbound-binding}

@@ -1,9 +1,7 @@
 use Rattle.px_question.specs.Settings.{setting_of}
 use Rattle.px_terms.specs.ValidityLaws.{atom_of-is_ground}
-use Rattle.std.proofs.lemmas.Result.{err_from_is_err_and}
 use Rattle.px_diff.proofs.Choosing.{said, said_not}
 use Rattle.px_diff.proofs.Grows.{inserted}
-use Rattle.px_diff.proofs.Limits.{limit_weaker}
 use Rattle.px_diff.proofs.Proving.{finds-here, finds-not}
 use Rattle.px_diff.proofs.asking.insert_provable.Goals as goal
 

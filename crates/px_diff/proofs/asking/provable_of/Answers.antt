@@ -1,4 +1,4 @@
-use Rattle.std.proofs.Common.{◌+◌, [], List, sym, subst, take, arith}
+use Rattle.std.proofs.Common.{◌+◌, [], List, subst, take}
 use Rattle.std.proofs.lemmas.List.{take_all}
 use Rattle.std.proofs.lemmas.Result.{err_from_is_err_and}
 use Rattle.px_base.specs.ListLaws.{All-at}

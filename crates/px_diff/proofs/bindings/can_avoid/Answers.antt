@@ -1,9 +1,8 @@
 use Rattle.std.proofs.Common.{List, length, sym, subst}
-use Rattle.px_question.specs.Answers.{object_terms}
 use Rattle.px_terms.specs.Substitution.{substitute_atom}
 use Rattle.px_terms.specs.declared.term.Term.{Term}
 use Rattle.std.specs.Prelude.{Any, Contains}
-use Rattle.px_diff.specs.Bindings.{ArePlain, first_values}
+use Rattle.px_diff.specs.Bindings.{ArePlain}
 use Rattle.std.proofs.Common.{◌∙◌, ℕ}
 use Rattle.px_diff.proofs.Choosing.{first-avoids, first-long, met-none}
 use Rattle.px_diff.proofs.Loops.{said_no, said_yes}

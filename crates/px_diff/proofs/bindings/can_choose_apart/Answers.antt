@@ -1,5 +1,5 @@
 use Rattle.std.proofs.Common.{◌≡◌, ◌∙◌, ℕ, List, ◌++◌, length, sym, ap, subst, inl, inr}
-use Rattle.std.specs.Prelude.{All, Any, Contains}
+use Rattle.std.specs.Prelude.{All, Contains}
 use Rattle.px_base.specs.ListLaws.{All-at, All-each}
 use Rattle.px_terms.specs.Instances.{IsGround}
 use Rattle.px_terms.specs.Substitution.{substitute_atom}

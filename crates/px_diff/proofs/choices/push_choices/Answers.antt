@@ -5,8 +5,7 @@ use Rattle.px_terms.specs.Language.{IsVariableBelow}
 use Rattle.px_terms.specs.declared.atom.Atom.{Atom}
 use Rattle.px_terms.specs.declared.term.Term.{Term}
 use Rattle.px_diff.specs.Bindings.{ArePlain, AreUnbound, IsBinding, IsOpenChoice}
-use Rattle.px_diff.specs.Described.{IsChosenBy}
-use Rattle.px_diff.proofs.Describing.{plain-terms, then-same, unbound-binding, unbound-open}
+use Rattle.px_diff.proofs.Describing.{then-same, unbound-binding, unbound-open}
 use Rattle.px_diff.proofs.Loops.{on_ok}
 use Rattle.px_diff.proofs.choices.push_choices.Goals as goal
 

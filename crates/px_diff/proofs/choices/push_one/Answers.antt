@@ -1,4 +1,4 @@
-use Rattle.std.proofs.Common.{◌⊎◌, ◌≡◌, List, map, subst, sym}
+use Rattle.std.proofs.Common.{◌⊎◌, ◌≡◌, map, subst, sym}
 use Rattle.std.specs.Prelude.{◌↔◌, Contains}
 use Rattle.px_prover.specs.Patterns.{object_under}
 use Rattle.px_question.specs.Answers.{object_of}

@@ -1,4 +1,4 @@
-use Rattle.std.proofs.Common.{◌≡◌, ◌∙◌, ◌<◌, ◌≤◌, ◌+◌, List, length, take, ap, sym, subst, arith, add-one}
+use Rattle.std.proofs.Common.{◌∙◌, ◌<◌, ◌≤◌, ◌+◌, List, take, ap, sym, subst, arith, add-one}
 use Rattle.std.specs.Prelude.{[], ◌∷◌, All}
 use Rattle.px_table.specs.Kernels.{steps_under}
 use Rattle.px_terms.specs.Validity.{IsAtomOf}

@@ -1,7 +1,3 @@
-use Rattle.std.proofs.Common.{length, sym, subst}
-use Rattle.std.specs.Prelude.{All}
-use Rattle.px_terms.specs.Language.{IsVariableBelow}
-use Rattle.px_terms.specs.declared.instance.OpInst.{OpInst}
 use Rattle.px_diff.proofs.RowSteps.{step-at}
 use Rattle.px_diff.proofs.entry_rows.step_under.Goals as goal
 

@@ -1,14 +1,13 @@
-use Rattle.std.proofs.Common.{◌≡◌, ◌∙◌, List, [], sym, subst}
-use Rattle.std.specs.Prelude.{◌↔◌, All, Contains, length}
+use Rattle.std.proofs.Common.{◌≡◌, List, sym, subst}
+use Rattle.std.specs.Prelude.{◌↔◌, Contains}
 use Rattle.std.proofs.lemmas.Result.{err_from_is_err_and}
 use Rattle.px_prover.specs.declared.pattern.GapPattern.{GapPattern}
 use Rattle.px_question.specs.Gaps.{MeetsGapLimit}
 use Rattle.px_question.specs.Settings.{setting_of}
-use Rattle.px_terms.specs.Validity.{IsAtomOf}
 use Rattle.px_terms.specs.declared.atom.Atom.{Atom}
 use Rattle.px_diff.specs.Closings.{OneOf}
 use Rattle.px_diff.specs.Forms.{IsStoodFor, form_by}
-use Rattle.px_diff.specs.Provable.{FindsProvable, LimitsOne}
+use Rattle.px_diff.specs.Provable.{LimitsOne}
 use Rattle.px_diff.proofs.Describing.{answer-of, forms-are, limit-of}
 use Rattle.px_diff.proofs.Limits.{limit_weaker}
 use Rattle.px_diff.proofs.gap_answer.ask_gaps.Goals as goal

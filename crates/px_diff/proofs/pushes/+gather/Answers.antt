@@ -1,13 +1,8 @@
 use Rattle.std.proofs.Common.{◌≡◌, ◌<◌, ◌+◌, ℕ, List, sym, ◌∙◌, subst, inl, inr, arith}
 use Rattle.std.specs.Prelude.{All, slice_index}
-use Rattle.px_question.specs.Gaps.{MeetsGapLimit}
-use Rattle.px_question.specs.Settings.{setting_of}
-use Rattle.px_terms.specs.declared.atom.Atom.{Atom}
 use Rattle.px_terms.specs.declared.instance.OpInst.{OpInst}
 use Rattle.px_terms.specs.Validity.{IsAtomOf}
-use Rattle.px_diff.specs.GapAnswers.{IsGapAnswer}
 use Rattle.px_diff.specs.Instances.{Fills, StandsFor}
-use Rattle.px_diff.specs.Outcomes.{AtLimit}
 use Rattle.px_diff.proofs.Gathered.{gathers_less, gathers_part}
 use Rattle.px_diff.proofs.Loops.{level_or_below, on_ok}
 use Rattle.px_diff.proofs.PartialLemmas.{needs-are, stands-closed}

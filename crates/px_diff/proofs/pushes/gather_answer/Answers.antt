@@ -1,4 +1,4 @@
-use Rattle.std.proofs.Common.{◌∙◌, ℕ, sym, subst}
+use Rattle.std.proofs.Common.{ℕ, sym, subst}
 use Rattle.std.specs.Prelude.{◌↔◌, List, All, Contains}
 use Rattle.px_prover.specs.PatternLists.{lists_of}
 use Rattle.px_prover.specs.declared.pattern.GapPattern.{GapPattern}

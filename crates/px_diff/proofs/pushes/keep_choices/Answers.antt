@@ -1,5 +1,5 @@
 use Rattle.std.proofs.Common.{◌≡◌, ◌⊎◌, ℕ, List, sym, subst, arith}
-use Rattle.std.specs.Prelude.{◌↔◌, All, Contains}
+use Rattle.std.specs.Prelude.{◌↔◌, Contains}
 use Rattle.std.proofs.lemmas.List.{take_all}
 use Rattle.px_base.specs.ListLaws.{All-at}
 use Rattle.px_diff.specs.Closings.{OneOf}

@@ -1,6 +1,5 @@
-use Rattle.std.proofs.Common.{◌≡◌, ◌∙◌, List, refl, sym, subst}
+use Rattle.std.proofs.Common.{◌∙◌, refl, sym, subst}
 use Rattle.px_terms.specs.Validity.{IsInstanceOf}
-use Rattle.px_terms.specs.declared.instance.OpInst.{OpInst}
 use Rattle.px_diff.specs.Gathering.{instance_by}
 use Rattle.px_diff.specs.Requests.{IsRelevantFor}
 use Rattle.px_diff.proofs.Grows.{kept_one, nothing_comes}

@@ -1,4 +1,4 @@
-use Rattle.std.proofs.Common.{◌≡◌, [], false, refl, drop, sym, ap, ◌∙◌, take}
+use Rattle.std.proofs.Common.{[], refl, sym, ap, ◌∙◌, take}
 use Rattle.std.specs.Ordering.{nat_cmp}
 use Rattle.std.proofs.lemmas.List.{drop_all}
 use Rattle.px_script.specs.Causes.{repeats}

@@ -1,4 +1,4 @@
-use Rattle.std.proofs.Common.{◌≡◌, ◌++◌, ℕ, List, [], take, drop, map}
+use Rattle.std.proofs.Common.{◌≡◌, ℕ, List, [], take, drop}
 use Rattle.std.specs.Ordering.{nat_cmp}
 use Rattle.px_names.specs.Lists.{has_name}
 use Rattle.px_script.specs.Causes.{repeats}

@@ -15,8 +15,8 @@ read_each-requires-clause-few c =
     omega (arith, few, same, c.requires)
 
 pub finish-requires : goal.finish-requires
-finish-requires c = λ closed. declared-in-range _
-    (lines-kept (stage_view c.args.stage.now) 1 nothing_declared _ _ start-in-range c.in_ok-read_each.ensures.passes) closed
+finish-requires c = declared-in-range _
+    (lines-kept (stage_view c.args.stage.now) 1 nothing_declared _ _ start-in-range c.in_ok-read_each.ensures.passes) c.in-None.ensures
 
 pub returns-in_err-read_each-clause-refused : goal.returns-in_err-read_each-clause-refused
 returns-in_err-read_each-clause-refused c =
@@ -35,17 +35,17 @@ returns-in-Ok-finish-clause-script c =
       spells = record {
         text = c.utf8.text;
         lines = subst (λ ls. PassAll (stage_view c.args.stage.now) 1 nothing_declared ls (declared_of c.read_each.new.reader)) lines c.in_ok-read_each.ensures.passes;
-        closed = c.in-Ok-finish.ensures.0;
+        closed = c.in-None.ensures;
       };
-      is = c.in-Ok-finish.ensures.1;
+      is = c.in-Ok-finish.ensures;
     }
 
-pub returns-clause-refused : goal.returns-clause-refused
-returns-clause-refused c =
+pub returns-in-Some-clause-refused : goal.returns-in-Some-clause-refused
+returns-in-Some-clause-refused c =
     let lines : characters_of c.deref.result.now ≡ lines_of c.args.text.now = ap characters_of c.deref.ensures.value
     ∙ parts-lines c.in-Ok.lines.items c.args.text.now (rw c.without_mark.ensures at c.in-Ok.ensures) in
     let passes = subst (λ ls. PassAll (stage_view c.args.stage.now) 1 nothing_declared ls (declared_of c.read_each.new.reader)) lines c.in_ok-read_each.ensures.passes in
-    let block = c.in-Err.ensures.0 in
+    let block = c.in-Some.ensures.0 in
     let fails = left-open (stage_view c.args.stage.now) 1 nothing_declared (lines_of c.args.text.now) (declared_of c.read_each.new.reader) block passes
-    c.in-Err.ensures.1 in
-    subst (HasFirstFault (stage_view c.args.stage.now) c.args.text.now) (sym c.refused.ensures) (inr (c.utf8.text, rw c.in-Err.ensures.2 fails))
+    c.in-Some.ensures.1 in
+    subst (HasFirstFault (stage_view c.args.stage.now) c.args.text.now) (sym c.refused.ensures) (inr (c.utf8.text, rw c.in-Some.ensures.2 fails))

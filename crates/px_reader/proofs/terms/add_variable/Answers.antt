@@ -1,8 +1,8 @@
-use Rattle.std.proofs.Common.{◌≡◌, ◌<◌, ◌≤◌, map, length, sym, ap, ◌∙◌, arith}
+use Rattle.std.proofs.Common.{◌≡◌, map, length, arith}
 use Rattle.std.proofs.lemmas.Grind.{common_steps}
 use Rattle.std.proofs.lemmas.List.{length-map}
 use Rattle.px_reader.specs.StatementViews.{text_of}
-use Rattle.px_reader.proofs.Variables.{early-full, early-known, early-new}
+use Rattle.px_reader.proofs.Variables.{early-full}
 use Rattle.px_reader.proofs.terms.add_variable.Goals as goal
 
 pub returns-then-len-gt12 : goal.returns-then-len-gt12

@@ -1,4 +1,4 @@
-use Rattle.std.proofs.Common.{List, [], subst, sym, take}
+use Rattle.std.proofs.Common.{List, subst, sym}
 use Rattle.px_ops.specs.Keeping.{Keeps}
 use Rattle.px_table.specs.declared.node.Node.{Node}
 use Rattle.px_numbers.specs.declared.nodes.NodeKey.{NodeKey}

@@ -1,6 +1,4 @@
-use Rattle.std.proofs.Common.{List, subst}
-use Rattle.px_terms.specs.declared.atom.Atom.{Atom}
-use Rattle.px_table.specs.declared.entry.Entry.{Entry}
+use Rattle.std.proofs.Common.{subst}
 use Rattle.px_diff.specs.Entries.{IsEntry}
 use Rattle.px_numbers.specs.Numbers.{IsModelAt}
 use Rattle.px_numbers.specs.NumberLaws.{model_at-grows, one_at}

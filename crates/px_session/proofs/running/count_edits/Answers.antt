@@ -1,7 +1,7 @@
 use Rattle.std.proofs.Common.{◌≡◌, ◌+◌, List, length, take, ap, arith}
-use Rattle.px_world.specs.declared.edits.AtomEdit.{AtomEdit}
 use Rattle.px_planex.specs.Turns.{Recorded}
 use Rattle.px_session.specs.Running.{edits_in}
+use Rattle.px_session.specs.Sessions.{Edit}
 use Rattle.px_session.proofs.RunPlaces.{edits_in-next}
 use Rattle.px_session.proofs.running.count_edits.Goals as goal
 
@@ -9,7 +9,7 @@ pub loop-one-preserved : goal.loop-one-preserved
 loop-one-preserved c =
     let recorded = c.args.recorded.now in
     let i = c.loop-one.one-index in
-    let edits = ap (λ (r : Recorded AtomEdit). length r.edits) c.one.view_is in
+    let edits = ap (λ (r : Recorded Edit). length r.edits) c.one.view_is in
     let next = edits_in-next recorded i c.one-item.result c.loop-one-test.true c.one-item.is in
     let so_far : c.loop-one.count ≡ edits_in (take i recorded) = c.loop-one.invariant in
     let counted : c.in_ok-count.count ≡ edits_in (take (i + 1) recorded) = grind (arith, next, edits, so_far, c.len.ensures, c.in_ok-count.ensures, c.in_ok-count.was, c.branch-count.ensures, c.checked_add.ensures) in

@@ -2,7 +2,7 @@ use Rattle.std.proofs.Common.{◌≡◌, ℕ, List, [], ◌∷◌, ◌++◌, map
 use Rattle.std.proofs.lemmas.Grind.{common_steps}
 use Rattle.px_terms.specs.Clauses.{ArePlainBelow}
 use Rattle.px_terms.specs.declared.clause.Clause.{Clause}
-use Rattle.px_script.specs.Declarations.{Declared, literal_of, clause_of, variables_of}
+use Rattle.px_script.specs.Declarations.{literal_of, clause_of, variables_of}
 use Rattle.px_reader.specs.Readers.{declared_of}
 use Rattle.px_reader.specs.StatementViews.{signed_view, text_of}
 use Rattle.px_reader.proofs.Facts.{map_map}

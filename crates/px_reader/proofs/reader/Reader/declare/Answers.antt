@@ -1,13 +1,13 @@
 use Rattle.std.proofs.Common.{◌≡◌, true, map, refl}
 use Rattle.std.proofs.lemmas.List.{length-map}
+use Rattle.std.proofs.lemmas.List.Elements.{recursion_from_All}
 use Rattle.px_names.specs.Name.{is_name_text}
 use Rattle.px_script.specs.Statements as spec
 use Rattle.px_script.specs.Statements.{line_of}
 use Rattle.px_reader.specs.Readers.{declared_of}
-use Rattle.px_reader.specs.StatementViews.{signed_view, room_edit_view, text_of, statement_view}
+use Rattle.px_reader.specs.StatementViews.{signed_view, room_edit_view, text_of}
 use Rattle.px_script.proofs.Faultless.{IsFaultless}
 use Rattle.px_script.proofs.KeptDomain.{unmap}
-use Rattle.px_reader.specs.Checks.{DeclaresNames}
 use Rattle.px_reader.proofs.Fresh.{objects-single, objects-few, predicate-fresh, operator-fresh, building-alone, room-fresh, door-fresh, box-fresh, plan-fresh, learn-fresh}
 use Rattle.px_reader.proofs.Right.{readable, facts-ground, axiom-few, axiom-plain, goal-few, room-left}
 use Rattle.px_reader.proofs.reader.Reader.declare.Goals as goal
@@ -115,19 +115,20 @@ disturb_rooms-requires c =
     let f : IsFaultless d s = rw c.in-DisturbRooms.is at c.requires.faultless in
     room-left d s c.in-DisturbRooms.turn _ f refl
 
-pub declare_objects-requires-clause-named : goal.declare_objects-requires-clause-named
-declare_objects-requires-clause-named c =
+pub declare_names-requires-clause-named : goal.declare_names-requires-clause-named
+declare_names-requires-clause-named c =
     let named = rw c.in-Object.is at c.requires.named in
-    rw c.deref.ensures.value (unmap text_of (λ n. is_name_text n ≡ true) c.in-Object.names.items named.0)
+    rw c.deref.ensures.value (recursion_from_All (λ n. is_name_text n.now ≡ true) c.in-Object.names.items
+    (unmap text_of (λ n. is_name_text n ≡ true) c.in-Object.names.items named.0))
 
-pub declare_objects-requires-clause-single : goal.declare_objects-requires-clause-single
-declare_objects-requires-clause-single c =
+pub declare_names-requires-clause-single : goal.declare_names-requires-clause-single
+declare_names-requires-clause-single c =
     let d = declared_of c.args.self.now in
     let f = rw c.in-Object.is at c.requires.faultless in
     rw c.deref.ensures.value (objects-single d c.requires.range (map text_of c.in-Object.names.items) f)
 
-pub declare_objects-requires-clause-few : goal.declare_objects-requires-clause-few
-declare_objects-requires-clause-few c =
+pub declare_names-requires-clause-few : goal.declare_names-requires-clause-few
+declare_names-requires-clause-few c =
     let d = declared_of c.args.self.now in
     let f = rw c.in-Object.is at c.requires.faultless in
     let few = objects-few d c.requires.range (map text_of c.in-Object.names.items) f in
@@ -147,13 +148,8 @@ open_operator_block-requires c =
     let named = rw c.in-Operator.is at c.requires.named in
     operator-fresh d c.requires.range c.in-Operator.name.now _ f named
 
-pub open_building-requires-clause-objects : goal.open_building-requires-clause-objects
-open_building-requires-clause-objects c =
-    (building-alone (declared_of c.args.self.now) c.requires.range (rw c.in-Building.is at c.requires.faultless)).objects
-
-pub open_building-requires-clause-predicates : goal.open_building-requires-clause-predicates
-open_building-requires-clause-predicates c =
-    (building-alone (declared_of c.args.self.now) c.requires.range (rw c.in-Building.is at c.requires.faultless)).predicates
+pub open_building-requires : goal.open_building-requires
+open_building-requires c = building-alone (declared_of c.args.self.now) c.requires.range (rw c.in-Building.is at c.requires.faultless)
 
 pub add_room-requires : goal.add_room-requires
 add_room-requires c =

@@ -1,9 +1,4 @@
-use Rattle.std.proofs.Common.{◌≡◌, true, false, refl, sym, ap, ◌∙◌}
-use Rattle.std.specs.Prelude.{◌||◌, not}
-use Rattle.std.specs.List.{list_any}
-use Rattle.px_names.specs.Lists.{has_name}
-use Rattle.px_script.specs.Causes.{is_known_argument}
-use Rattle.px_script.specs.Forms.{atoms_of, arguments_of}
+use Rattle.std.proofs.Common.{refl, sym, ◌∙◌}
 use Rattle.px_script.specs.Statements.{line_of}
 use Rattle.px_reader.specs.Readers.{declared_of}
 use Rattle.px_reader.specs.StatementViews.{statement_view}

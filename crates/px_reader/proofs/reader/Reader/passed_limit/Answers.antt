@@ -1,4 +1,4 @@
-use Rattle.std.proofs.Common.{◌≡◌, map, refl}
+use Rattle.std.proofs.Common.{map, refl}
 use Rattle.px_script.specs.Statements as spec
 use Rattle.px_script.specs.Statements.{line_of}
 use Rattle.px_script.proofs.Faultless.{IsRight}

@@ -1,4 +1,4 @@
-use Rattle.std.proofs.Common.{refl, sym}
+use Rattle.std.proofs.Common.{sym}
 use Rattle.std.proofs.lemmas.Str.{scalars-chars}
 use Rattle.px_reader.specs.LineReads.{stage_view}
 use Rattle.px_reader.specs.Readers.{declared_of}

@@ -1,8 +1,10 @@
-use Rattle.std.proofs.Common.{List, refl, subst}
+use Rattle.std.proofs.Common.{List, refl, sym, subst}
 use Rattle.px_table.specs.declared.table.Table.{Table}
+use Rattle.px_diff.specs.Learned.{AreLearned}
 use Rattle.px_ends.specs.Ends.{IsExhausted, IsNodeLimit}
 use Rattle.px_ends.specs.Tasks.{task_of}
 use Rattle.px_session.specs.Sessions.{SessionState}
+use Rattle.px_session.proofs.Learned.{are-learned}
 use Rattle.px_session.proofs.state.State.plan.Goals as goal
 
 pub returns-in-Err-Exhausted-clause-told : goal.returns-in-Err-Exhausted-clause-told
@@ -21,3 +23,9 @@ returns-in-Err-NodeLimit-clause-told c =
     let of_tables = subst (λ (tables : List Table). IsNodeLimit (task_of c.args.problem.now tables c.self.inside.facts.atoms c.args.goal.now c.args.vars) nodes moves) c.tables.ensures ends in
     let of_state = subst (λ (s : SessionState). IsNodeLimit (task_of c.args.problem.now s.learned.tables s.atoms c.args.goal.now c.args.vars) nodes moves) c.self.view_is of_tables in
     (refl, rw c.in-Err-NodeLimit.field-0-is of_state, refl)
+
+pub search-requires-clause-tables : goal.search-requires-clause-tables
+search-requires-clause-tables c =
+    let learned = are-learned c.args.problem.now c.args.self.now c.requires.session in
+    let here = subst (λ (s : SessionState). AreLearned c.args.problem.now s.learned.tables) (sym c.self.view_is) learned in
+    subst (AreLearned c.args.problem.now) (sym c.tables.ensures) here

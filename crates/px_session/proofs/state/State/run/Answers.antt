@@ -1,40 +1,46 @@
-use Rattle.std.proofs.Common.{◌≡◌, List, [], map, refl, sym, ap, ◌∙◌, subst}
-use Rattle.std.specs.Prelude.{Some}
+use Rattle.std.proofs.Common.{List, [], map, refl, sym, ap, ◌∙◌, subst}
 use Rattle.px_terms.specs.declared.atom.Atom.{Atom}
-use Rattle.px_world.specs.declared.edits.AtomEdit.{AtomEdit}
-use Rattle.px_world.specs.Worlds.{edited}
 use Rattle.px_planex.specs.Turns.{Recorded, RunsTable}
-use Rattle.px_session.specs.Running.{AreGroundEdits, turn_told}
-use Rattle.px_session.specs.Runs.{as_edits}
-use Rattle.px_session.specs.Sessions.{SessionState, any_table, of_atoms}
-use Rattle.px_session.specs.OwnStates.{AreOwnEdits}
+use Rattle.px_session.specs.Places.{IsPlaceOf, TakesAll}
+use Rattle.px_session.specs.Running.{turn_told}
+use Rattle.px_session.specs.Sessions.{Edit, SessionState, leaves_edit}
 use Rattle.px_session.specs.contracts.state.State as held
 use Rattle.px_session.proofs.OneLearning.{any-right}
-use Rattle.px_session.proofs.RunReplies.{bad-unknown, recorded-ground, run-told}
+use Rattle.px_session.proofs.Placing.{placed-run}
+use Rattle.px_session.proofs.RunReplies.{bad-unknown, run-told}
 use Rattle.px_session.proofs.state.State.run.Goals as goal
 
 pub run_table-requires-clause-table : goal.run_table-requires-clause-table
 run_table-requires-clause-table c =
     any-right c.args.problem.now c.args.self.now c.requires.session.plans c.requires.session.learned c.args.name c.in-Some.table.now (sym c.in-Some.ensures)
 
-pub run_table-requires-clause-all_ground : goal.run_table-requires-clause-all_ground
-run_table-requires-clause-all_ground c =
-    let edits = subst (AreOwnEdits c.args.problem.now) (sym (ap (λ (s : SessionState). s.recorded) c.self.view_is)) c.requires.edits in
-    subst AreGroundEdits (sym c.deref.ensures.value) (recorded-ground c.args.problem.now c.self.inside.recorded.items edits)
+pub run_table-requires-clause-place : goal.run_table-requires-clause-place
+run_table-requires-clause-place c =
+    subst (λ (s : SessionState). IsPlaceOf c.args.problem.now s.atoms c.args.building.now) (sym c.self.view_is) c.requires.placed.place
+
+pub run_table-requires-clause-taken : goal.run_table-requires-clause-taken
+run_table-requires-clause-taken c =
+    subst (TakesAll c.args.building.now) (sym (c.deref.ensures.value ∙ ap (λ (s : SessionState). s.recorded) c.self.view_is)) c.requires.placed.edits
 
 pub returns-in-Ok-clause-told : goal.returns-in-Ok-clause-told
 returns-in-Ok-clause-told c =
-    let recorded = c.deref.result.now in
+    let told = map turn_told c.in-Ok.field-0.turns in
     let after = c.in-Ok.field-0.facts.atoms in
-    let recorded_is = sym (ap (λ (s : SessionState). s.recorded) c.self.view_is) ∙ ap (map (as_edits of_atoms)) (sym c.deref.ensures.value) in
-    let runs = subst (λ (atoms : List Atom). RunsTable edited c.args.problem.now c.in-Some.table.now c.args.bound.now recorded atoms (map turn_told c.in-Ok.field-0.turns) after)
-    (ap (λ (s : SessionState). s.atoms) c.self.view_is) c.in-Ok.ensures.runs in
-    let cleared = ap (λ (r : List (Recorded AtomEdit)). record (held.the_view c.self.inside) { atoms = after; recorded = map (as_edits of_atoms) r }) c.clear.ensures.items in
+    let recorded_is = c.deref.ensures.value ∙ ap (λ (s : SessionState). s.recorded) c.self.view_is in
+    let from_facts = subst (λ (recorded : List (Recorded Edit)). RunsTable leaves_edit c.args.problem.now c.in-Some.table.now c.args.bound.now recorded c.self.inside.facts.atoms told after)
+    recorded_is c.in-Ok.ensures.runs in
+    let runs = subst (λ (atoms : List Atom). RunsTable leaves_edit c.args.problem.now c.in-Some.table.now c.args.bound.now c.args.self.now.recorded atoms told after)
+    (ap (λ (s : SessionState). s.atoms) c.self.view_is) from_facts in
+    let cleared = ap (λ (r : List (Recorded Edit)). record (held.the_view c.self.inside) { atoms = after; recorded = r }) c.clear.ensures.items in
     let whole = ap (λ (s : SessionState). record s { atoms = after; recorded = [] }) c.self.view_is in (
       refl,
-      run-told c.args.problem.now c.args.name c.args.bound.now c.args.self.now _ c.in-Some.table.now recorded c.in-Ok.field-0.turns after c.requires.binding.from_one
-          (sym c.in-Some.ensures) recorded_is c.in-Ok.ensures.known runs (cleared ∙ whole),
+      run-told c.args.problem.now c.args.name c.args.bound.now c.args.self.now _ c.in-Some.table.now c.in-Ok.field-0.turns after c.requires.binding.from_one
+          (sym c.in-Some.ensures) c.in-Ok.ensures.known runs (cleared ∙ whole),
     )
+
+pub returns-in-Ok-clause-placed : goal.returns-in-Ok-clause-placed
+returns-in-Ok-clause-placed c =
+    placed-run c.args.problem.now c.run_table.new.building _ c.in-Ok.field-0.facts.atoms refl c.clear.ensures.items c.in-Ok.ensures.place
 
 pub returns-in-Err-UnknownParam-clause-told : goal.returns-in-Err-UnknownParam-clause-told
 returns-in-Err-UnknownParam-clause-told c =

@@ -5,31 +5,25 @@ use Rattle.px_library.specs.Libraries.{LibraryValue, with_table}
 use Rattle.px_ends.specs.Tasks.{task_of}
 use Rattle.px_session.specs.Sessions.{SessionState}
 use Rattle.px_session.specs.contracts.state.State as held
-use Rattle.px_search.proofs.FewMoves.{few-moves}
-use Rattle.px_session.proofs.FoundPlans.{built, finds-plan, found-instances}
+use Rattle.px_session.proofs.FoundPlans.{built, finds-plan}
 use Rattle.px_session.proofs.state.State.store_plan.Goals as goal
 
 pub build-requires-clause-steps : goal.build-requires-clause-steps
 build-requires-clause-steps c =
-    let task = task_of c.args.problem.now c.args.self.now.learned.tables c.args.self.now.atoms c.args.goal.now c.args.vars in
-    let none = ap (λ (l : LibraryValue). l.tables) c.requires.no_learned in
-    subst (All (IsInstanceOf c.args.problem.now)) (sym (c.as_slice.ensures ∙ c.requires.found.steps)) (found-instances task none c.args.found.moves c.requires.found.found)
+    subst (All (IsInstanceOf c.args.problem.now)) (sym c.as_slice.ensures) c.requires.found.instances
 
 pub overflow_cast-result : goal.overflow_cast-result
 overflow_cast-result c =
-    let task = task_of c.args.problem.now c.args.self.now.learned.tables c.args.self.now.atoms c.args.goal.now c.args.vars in
-    let few = few-moves task c.args.found.moves c.requires.found.found in
     let most = c.requires.problem.nodes.1 in
-    omega (arith, few, most, c.len.ensures)
+    omega (arith, c.requires.found.few, most, c.len.ensures)
 
 pub returns-clause-told : goal.returns-clause-told
 returns-clause-told c =
     let task = task_of c.args.problem.now c.args.self.now.learned.tables c.args.self.now.atoms c.args.goal.now c.args.vars in
-    let none = ap (λ (l : LibraryValue). l.tables) c.requires.no_learned in
     let value = c.in_ok-table.ensures.value ∙ ap (λ (steps : List OpInst). built steps c.args.goal.now c.args.vars c.args.found.support.items) c.as_slice.ensures in
     let put = ap (λ (plans : LibraryValue). record (held.the_view c.self.inside) { plans = plans }) c.in_ok-store.ensures.stored in
     let whole = ap (λ (s : SessionState). record s { plans = with_table s.plans c.args.name c.in_ok-table.table }) c.self.view_is in (
       refl,
-      finds-plan task none c.args.name c.len.result c.args.self.now _ c.args.found c.in_ok-table.table c.requires.found value c.in_ok-table.ensures.table
+      finds-plan task c.args.name c.len.result c.args.self.now _ c.args.found c.in_ok-table.table c.requires.found value c.in_ok-table.ensures.table
           c.len.ensures (put ∙ whole),
     )

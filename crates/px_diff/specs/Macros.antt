@@ -1,0 +1,71 @@
+-- Gathering the entries that may be pushed, part by part.
+use Rattle.std.specs.Prelude.{◌≡◌, ◌⊎◌, ◌<◌, ◌≤◌, ℕ, Some, List, length, slice_get, slice_index, Contains}
+use Rattle.px_table.specs.declared.entry.Entry.{Entry}
+use Rattle.px_table.specs.declared.entry.Entry.TheVariants.{Macro, Op}
+use Rattle.px_table.specs.declared.table.Table.{Table}
+use Rattle.px_terms.specs.declared.atom.Atom.{Atom}
+use Rattle.px_terms.specs.declared.instance.OpInst.{OpInst}
+use Rattle.px_terms.specs.declared.problem.Problem.{Problem}
+use Rattle.px_terms.specs.declared.term.Term.{Term}
+use Rattle.px_diff.specs.Bindings.{Extends}
+use Rattle.px_diff.specs.Closings.{OneOf}
+use Rattle.px_diff.specs.Entries.{obligations_of}
+use Rattle.px_diff.specs.RowQuestions.{ExtendsEach, FitsEach}
+use Rattle.px_diff.specs.Pushes.{IsPushable, IsRelevant}
+use Rattle.px_diff.specs.Questions.{AreUnlimited}
+use Rattle.px_diff.specs.declared.front.Front.{Front}
+use Rattle.px_diff.specs.declared.request.Request.{Request}
+
+-- The new list has what the old one had, and beside that only what may be pushed, among it all of the part. No question about a
+-- relevant entry of the part meets the limit.
+pub record GathersEntries (problem : Problem) (tables : List Table) (wanted : List Atom) (stack : List Entry) (model : List Atom) (IsPart : Entry → Type 0) (old new : List Entry) : Type 0 where
+  pub kept : (entry : Entry) → Contains old entry → Contains new entry
+  pub only : (entry : Entry) → Contains new entry → Contains old entry ⊎ IsPushable problem tables wanted stack model entry
+  pub all : (entry : Entry) → IsPart entry → IsPushable problem tables wanted stack model entry → Contains new entry
+  pub unlimited : (entry : Entry) → IsPart entry → IsRelevant problem tables wanted stack entry → AreUnlimited problem (obligations_of problem tables model entry)
+
+abbrev pub GathersEntriesFor : Request → (Entry → Type 0) → List Entry → List Entry → Type 0
+GathersEntriesFor request = GathersEntries request.problem.now request.tables.now request.wanted.now request.stack.now request.model.now.atoms
+
+-- so many steps of the table of that number, with objects that extend the terms
+abbrev pub IsMacroBy : ℕ → ℕ → ℕ → List Term → Entry → Type 0
+IsMacroBy limit number prefix terms entry = (sigma : List ℕ) × Extends limit terms sigma × (Macro number prefix sigma ≡ entry)
+
+-- the same, where the object of the parameter is before this one
+abbrev pub IsMacroBefore : ℕ → ℕ → ℕ → List Term → ℕ → ℕ → Entry → Type 0
+IsMacroBefore limit number prefix terms v object entry = (sigma : List ℕ) × Extends limit terms sigma × (slice_index sigma v < object) × (Macro number prefix sigma ≡ entry)
+
+-- the same, where the objects fit one of the choices of each row
+abbrev pub IsMacroFitting : ℕ → ℕ → ℕ → List Term → List (List (List Term)) → Entry → Type 0
+IsMacroFitting limit number prefix terms rows entry = (sigma : List ℕ) × Extends limit terms sigma × FitsEach rows sigma × (Macro number prefix sigma ≡ entry)
+
+-- the same, where they extend one of the choices of each row
+abbrev pub IsMacroExtending : ℕ → ℕ → ℕ → List Term → List (List (List Term)) → Entry → Type 0
+IsMacroExtending limit number prefix terms rows entry = (sigma : List ℕ) × Extends limit terms sigma × ExtendsEach limit rows sigma × (Macro number prefix sigma ≡ entry)
+
+-- the same, where they extend one of these choices, too
+abbrev pub IsMacroAmong : ℕ → ℕ → ℕ → List (List Term) → List (List (List Term)) → Entry → Type 0
+IsMacroAmong limit number prefix choices rows entry =
+    (sigma : List ℕ) × OneOf choices (λ (choice : List Term). Extends limit choice sigma) × ExtendsEach limit rows sigma × (Macro number prefix sigma ≡ entry)
+
+-- two or more of the first steps of the table of that number
+pub record IsFrontOf (tables : List Table) (front : Front) : Type 0 where
+  pub table : slice_get tables front.number ≡ Some front.table.now
+  pub several : 2 ≤ front.count
+  pub within : front.count ≤ length front.table.now.steps
+
+-- the entry takes so many first steps of the table of that number, with whatever objects
+abbrev pub IsOfFront : ℕ → ℕ → Entry → Type 0
+IsOfFront number prefix entry = (sigma : List ℕ) × (Macro number prefix sigma ≡ entry)
+
+-- it takes first steps of the table
+abbrev pub IsOfTable : ℕ → Entry → Type 0
+IsOfTable number entry = (prefix : ℕ) × IsOfFront number prefix entry
+
+-- it is a MACROP
+abbrev pub IsMacroEntry : Entry → Type 0
+IsMacroEntry entry = (number : ℕ) × IsOfTable number entry
+
+-- it is an instance of an operator
+abbrev pub IsOperatorEntry : Entry → Type 0
+IsOperatorEntry entry = (inst : OpInst) × (Op inst ≡ entry)

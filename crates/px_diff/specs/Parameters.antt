@@ -1,0 +1,43 @@
+-- Objects for a table's parameters, chosen one after the other.
+use Rattle.std.specs.Prelude.{◌≡◌, ◌⊎◌, ◌==◌, ℕ, cond, nat_lt, Option, Some, None, List, length, slice_get, slice_index, All}
+use Rattle.px_table.specs.declared.table.Table.{Table}
+use Rattle.px_table.specs.Prefixes.{IsUsed}
+use Rattle.px_terms.specs.declared.term.Term.{Term}
+use Rattle.px_terms.specs.declared.term.Term.TheVariants.{Obj, Var, Any}
+use Rattle.px_diff.specs.Bindings.{Extends, IsBinding}
+use Rattle.px_diff.specs.Closings.{OneOf}
+
+-- a parameter that the first steps use is a variable, and each other one has object 0
+abbrev pub IsFirstTerm : Table → ℕ → ℕ → Term → Type 0
+IsFirstTerm table prefix v t = (IsUsed table prefix v × (t ≡ Var v)) ⊎ ((¬ IsUsed table prefix v) × (t ≡ Obj 0))
+
+-- such a term for each parameter
+pub record AreFirstTerms (table : Table) (prefix : ℕ) (terms : List Term) : Type 0 where
+  pub count : length terms ≡ table.params
+  pub each : (v : ℕ) (t : Term) → slice_get terms v ≡ Some t → IsFirstTerm table prefix v t
+
+-- wherever the terms have an object, the objects have it, too
+abbrev pub Fits : List Term → List ℕ → Type 0
+Fits terms sigma = (v n : ℕ) → slice_get terms v ≡ Some (Obj n) → slice_index sigma v ≡ n
+
+-- the object of both, or of the one that has one; none where they have two, or one that is no object of the problem
+abbrev pub merged_term : ℕ → Term → Term → Option Term
+merged_term limit (Obj a) (Obj b) = cond (a == b) (Some (Obj a)) None
+merged_term limit (Obj a) (Var w) = Some (Obj a)
+merged_term limit (Obj a) Any = Some (Obj a)
+merged_term limit (Var v) (Obj b) = cond (nat_lt b limit) (Some (Obj b)) None
+merged_term limit (Var v) (Var w) = Some (Var v)
+merged_term limit (Var v) Any = Some (Var v)
+merged_term limit Any other = Some Any
+
+-- terms for so many parameters, each an object or the parameter itself
+pub record IsMatch (limit count : ℕ) (terms : List Term) : Type 0 where
+  pub long : length terms ≡ count
+  pub binding : IsBinding limit terms
+
+-- The new list has only such terms, if the old one had. Objects that extend one of the old terms extend one of the new; and so do all
+-- that extend the first terms and are wanted.
+pub record Matches (limit count : ℕ) (start : List Term) (IsWanted : List ℕ → Type 0) (old new : List (List Term)) : Type 0 where
+  pub form : All (IsMatch limit count) old → All (IsMatch limit count) new
+  pub kept : (sigma : List ℕ) → OneOf old (λ terms. Extends limit terms sigma) → OneOf new (λ terms. Extends limit terms sigma)
+  pub all : (sigma : List ℕ) → Extends limit start sigma → IsWanted sigma → OneOf new (λ terms. Extends limit terms sigma)

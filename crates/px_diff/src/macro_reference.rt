@@ -1,0 +1,257 @@
+//! The plain slow program for the first steps of tables: it tries all lists of objects for the parameters, and asks about each
+//! row by itself, from what the steps before it leave.
+
+use crate::front::Front;
+use crate::reference::{Limit, is_open, list_at, lists_count, under};
+use crate::request::Request;
+use px_ops::Model;
+use px_table::{Entry, Table};
+use px_terms::{
+    Atom, NoMemory, OpInst, Problem, Schema, Sequence, Term, apply_inst, are_variables_below,
+    is_ground,
+};
+use std::alloc::Global;
+use std::process::Abort;
+
+fn schema_at<'a>(rt: &impl Abort, problem: &'a Problem, step: &OpInst) -> &'a Schema {
+    problem
+        .schemas
+        .as_slice()
+        .get(step.op() as usize)
+        .expect(rt, "an operator of the problem")
+}
+
+/// Is the atom the pattern with objects for its wild cards?
+fn fits(pattern: &Atom, atom: &Atom) -> bool {
+    let terms = pattern.args();
+    let objects = atom.args();
+    if pattern.pred() != atom.pred() || terms.len() != objects.len() {
+        return false;
+    }
+    for (k, term) in terms.iter().enumerate() {
+        if *term != Term::Any && *term != objects[k] {
+            return false;
+        }
+    }
+    true
+}
+
+/// Does one of the steps delete the atom?
+fn is_deleted(rt: &impl Abort, problem: &Problem, steps: &[OpInst], atom: &Atom) -> bool {
+    for step in steps {
+        for pattern in schema_at(rt, problem, step).del.as_slice() {
+            if fits(&under(rt, step.args(), pattern), atom) {
+                return true;
+            }
+        }
+    }
+    false
+}
+
+/// Do the steps add a wanted atom, and no later one deletes it?
+fn add_wanted(rt: &impl Abort, problem: &Problem, steps: &[OpInst], wanted: &[Atom]) -> bool {
+    for (k, step) in steps.iter().enumerate() {
+        for pattern in schema_at(rt, problem, step).add.as_slice() {
+            let atom = under(rt, step.args(), pattern);
+            if wanted.contains(&atom) && !is_deleted(rt, problem, &steps[k + 1..], &atom) {
+                return true;
+            }
+        }
+    }
+    false
+}
+
+/// The first steps of the table.
+fn first_steps(table: &Table, prefix: u32) -> &[OpInst] {
+    let steps = table.steps.as_slice();
+    let taken = (prefix as usize).min(steps.len());
+    &steps[..taken]
+}
+
+/// Does the parameter of that number stand in the first steps, or in the marks of their rows?
+fn occurs(table: &Table, prefix: u32, number: u32) -> bool {
+    let parameter = Term::Var(number);
+    for step in first_steps(table, prefix) {
+        if step.args().contains(&parameter) {
+            return true;
+        }
+    }
+    for mark in table.marks.as_slice() {
+        if mark.row <= prefix && mark.atom.args().contains(&parameter) {
+            return true;
+        }
+    }
+    false
+}
+
+/// Has each parameter that doesn't occur object 0?
+fn are_zero(table: &Table, prefix: u32, terms: &[Term]) -> bool {
+    let mut number = 0u32;
+    for term in terms {
+        if !occurs(table, prefix, number) && *term != Term::Obj(0) {
+            return false;
+        }
+        number = number.saturating_add(1);
+    }
+    true
+}
+
+/// The first steps with these terms for the parameters.
+fn steps_under(
+    alloc: Global,
+    rt: &impl Abort,
+    table: &Table,
+    prefix: u32,
+    terms: &[Term],
+) -> Result<Vec<OpInst>, NoMemory> {
+    let mut steps = Vec::new(alloc);
+    for step in first_steps(table, prefix) {
+        assert!(rt; are_variables_below(terms.len(), step.args()));
+        steps.push(apply_inst(terms, step))?;
+    }
+    Ok(steps)
+}
+
+/// Does no step delete a mark that it stands between?
+fn are_kept(
+    rt: &impl Abort,
+    problem: &Problem,
+    table: &Table,
+    steps: &[OpInst],
+    terms: &[Term],
+) -> bool {
+    for mark in table.marks.as_slice() {
+        let atom = under(rt, terms, &mark.atom);
+        for k in 0..steps.len() {
+            let between = mark.column as usize <= k && k + 1 < mark.row as usize;
+            let is_row = mark.row as usize <= steps.len();
+            if is_row && between && is_deleted(rt, problem, &steps[k..k + 1], &atom) {
+                return false;
+            }
+        }
+    }
+    true
+}
+
+/// What these steps leave of the model.
+fn left_by(
+    alloc: Global,
+    rt: &impl Abort,
+    request: &Request,
+    steps: &[OpInst],
+) -> Result<Model, NoMemory> {
+    let mut left = Model::new(alloc);
+    for atom in request.model.atoms() {
+        if is_ground(atom) && !is_deleted(rt, request.problem, steps, atom) {
+            left.insert(*atom)?;
+        }
+    }
+    Ok(left)
+}
+
+/// What the row takes from the initial model.
+fn row_of(
+    alloc: Global,
+    rt: &impl Abort,
+    table: &Table,
+    row: usize,
+    terms: &[Term],
+) -> Result<Vec<Atom>, NoMemory> {
+    let mut atoms = Vec::new(alloc);
+    for mark in table.marks.as_slice() {
+        if mark.row as usize == row && mark.column == 0 {
+            atoms.push(under(rt, terms, &mark.atom))?;
+        }
+    }
+    Ok(atoms)
+}
+
+/// Has each row an answer or a gap? Of no use where a limit is met.
+fn are_open(
+    alloc: Global,
+    rt: &impl Abort,
+    request: &Request,
+    table: &Table,
+    steps: &[OpInst],
+    terms: &[Term],
+    limits: &mut Vec<Limit>,
+) -> Result<bool, NoMemory> {
+    let mut all = true;
+    for k in 0..steps.len() {
+        let formula = row_of(alloc, rt, table, k + 1, terms)?;
+        let facts = left_by(alloc, rt, request, &steps[..k])?;
+        let row = is_open(alloc, rt, request.problem, &formula, &facts, limits)?;
+        all = all && row;
+    }
+    Ok(all)
+}
+
+/// The entry of the table's first steps with these objects for the parameters.
+fn entry_of(alloc: Global, number: u32, prefix: u32, terms: &[Term]) -> Result<Entry, NoMemory> {
+    let mut sigma = Vec::new(alloc);
+    for term in terms {
+        if let Term::Obj(object) = term {
+            sigma.push(*object)?;
+        }
+    }
+    Ok(Entry::Macro {
+        number,
+        prefix,
+        sigma: Sequence::from_vec(sigma),
+    })
+}
+
+/// Adds those of the entries of the table's first steps that may be pushed.
+fn push_prefix(
+    alloc: Global,
+    rt: &impl Abort,
+    request: &Request,
+    front: &Front,
+    entries: &mut Vec<Entry>,
+    limits: &mut Vec<Limit>,
+) -> Result<(), NoMemory> {
+    let table = front.table;
+    let prefix = front.count;
+    let objects = request.problem.objects;
+    let params = table.params.min(8);
+    for list in 0..lists_count(objects, params) {
+        let all = list_at(objects, params, list);
+        let terms = &all[..params as usize];
+        let entry = entry_of(alloc, front.number, prefix, terms)?;
+        let steps = steps_under(alloc, rt, table, prefix, terms)?;
+        let is_one = are_zero(table, prefix, terms)
+            && are_kept(rt, request.problem, table, &steps, terms);
+        let is_wanted = add_wanted(rt, request.problem, &steps, request.wanted);
+        if !is_one || !is_wanted || request.stack.contains(&entry) {
+            continue;
+        }
+        if are_open(alloc, rt, request, table, &steps, terms, limits)? {
+            entries.push(entry)?;
+        }
+    }
+    Ok(())
+}
+
+/// Adds those of the tables' entries that may be pushed, and the limits that questions about them meet.
+pub fn push_macros(
+    alloc: Global,
+    rt: &impl Abort,
+    request: &Request,
+    entries: &mut Vec<Entry>,
+    limits: &mut Vec<Limit>,
+) -> Result<(), NoMemory> {
+    let mut number = 0u32;
+    for table in request.tables {
+        let steps = table.steps.len().min(64) as u32;
+        for count in 2..steps + 1 {
+            let front = Front {
+                number,
+                table,
+                count,
+            };
+            push_prefix(alloc, rt, request, &front, entries, limits)?;
+        }
+        number = number.saturating_add(1);
+    }
+    Ok(())
+}

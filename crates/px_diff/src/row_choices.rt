@@ -1,0 +1,11 @@
+//! What the questions about the rows of a table's first steps tell.
+use px_terms::{Sequence, Term};
+
+/// What the questions about the rows of a table's first steps tell.
+#[derive(Drop)]
+pub enum RowChoices {
+    /// The choices of objects for the parameters, row by row.
+    Known(Sequence<Sequence<Sequence<Term>>>),
+    /// A question about the row of this number meets the limit, or would have too many variables.
+    Limited(u32),
+}

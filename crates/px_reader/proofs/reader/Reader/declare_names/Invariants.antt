@@ -1,0 +1,8 @@
+use Rattle.std.proofs.Common.{◌≡◌, map, take}
+use Rattle.px_reader.specs.Readers.{with_more}
+use Rattle.px_reader.specs.StatementViews.{text_of}
+use Rattle.px_reader.proofs.reader.Reader.declare_names.Given as goal
+
+abbrev pub invariant-loop-name : goal.invariant-loop-name
+invariant-loop-name l = l.self ≡ record l.initial.self
+    { names = with_more l.kind (map text_of (take l.name-index l.names)) l.initial.self.names }

@@ -1,0 +1,22 @@
+use Rattle.px_reader.specs.Readers.{declared_of}
+use Rattle.px_reader.proofs.Finishing.{is-building, is-short, has-objects, has-height, has-nodes, has-shapes}
+use Rattle.px_reader.proofs.reader.Reader.finish.Goals as goal
+
+pub subject-requires-clause-building : goal.subject-requires-clause-building
+subject-requires-clause-building c = is-building (declared_of c.args.self) c.requires c.building-building.result c.building-building.ensures
+
+pub subject-requires-clause-short : goal.subject-requires-clause-short
+subject-requires-clause-short c = is-short (declared_of c.args.self) c.requires c.building-building.result c.building-building.ensures
+
+pub subject-requires-clause-objects : goal.subject-requires-clause-objects
+subject-requires-clause-objects c =
+    has-objects (declared_of c.args.self) c.requires c.building-building.result c.building-building.ensures c.own_problem-own.result c.own_problem-own.ensures
+
+pub subject-requires-clause-height : goal.subject-requires-clause-height
+subject-requires-clause-height c = has-height (declared_of c.args.self) c.requires c.own_problem-own.result c.own_problem-own.ensures
+
+pub subject-requires-clause-nodes : goal.subject-requires-clause-nodes
+subject-requires-clause-nodes c = has-nodes (declared_of c.args.self) c.requires c.own_problem-own.result c.own_problem-own.ensures
+
+pub subject-requires-clause-shapes : goal.subject-requires-clause-shapes
+subject-requires-clause-shapes c = has-shapes (declared_of c.args.self) c.requires c.own_problem-own.result c.own_problem-own.ensures

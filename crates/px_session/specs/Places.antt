@@ -1,0 +1,61 @@
+-- The world of a session's run: the session's atoms, or its building.
+use Rattle.std.specs.Prelude.{◌≡◌, ◌↔◌, ℕ, Option, Some, None, List, All}
+use Rattle.px_terms.specs.declared.atom.Atom.{Atom}
+use Rattle.px_terms.specs.declared.problem.Problem.{Problem}
+use Rattle.px_world.specs.Worlds.{HaveSameRules, IsGroundEdit}
+use Rattle.px_rooms.specs.Changes.{IsAdmitted}
+use Rattle.px_rooms.specs.States.{RoomState, building_rules, rendering}
+use Rattle.px_planex.specs.Turns.{Recorded}
+use Rattle.px_session.specs.declared.place.Place.{Place}
+use Rattle.px_session.specs.declared.place.Place.TheVariants.{Atoms, Rooms}
+use Rattle.px_session.specs.Sessions.{Edit, SessionState, of_atoms, of_rooms}
+
+-- ---- edits
+
+-- the edits that a session's world takes: those of ground atoms, or those that its building admits
+abbrev pub Takes : Option RoomState → Edit → Type 0
+Takes None (of_atoms one) = IsGroundEdit one
+Takes None (of_rooms one) = ⊥
+Takes (Some building) (of_atoms one) = ⊥
+Takes (Some building) (of_rooms one) = IsAdmitted building one
+
+-- it takes all that are recorded
+abbrev pub TakesAll : Option RoomState → List (Recorded Edit) → Type 0
+TakesAll building recorded = All (λ one. All (Takes building) one.edits) recorded
+
+-- the same edits are taken
+pub record TakeSame (old new : Option RoomState) : Type 0 where
+  pub same : (edit : Edit) → Takes new edit ↔ Takes old edit
+
+-- ---- the world of a run
+
+abbrev pub place_atoms : Place → List Atom
+place_atoms (Atoms world) = world.atoms
+place_atoms (Rooms building) = rendering building
+
+abbrev pub place_rules : Place → Problem
+place_rules (Atoms world) = world.rules
+place_rules (Rooms building) = building_rules building
+
+abbrev pub place_spare : Place → ℕ
+place_spare (Atoms world) = world.spare
+place_spare (Rooms building) = 18446744073709551615
+
+abbrev pub building_of : Place → Option RoomState
+building_of (Atoms world) = None
+building_of (Rooms building) = Some building
+
+abbrev pub PlaceTakes : Place → Edit → Type 0
+PlaceTakes place edit = Takes (building_of place) edit
+
+-- ---- a session's building
+
+-- with a building the atoms are its facts, and the problem has its rules
+abbrev pub IsPlaceOf : Problem → List Atom → Option RoomState → Type 0
+IsPlaceOf problem atoms None = Unit {0}
+IsPlaceOf problem atoms (Some building) = (atoms ≡ rendering building) × HaveSameRules (building_rules building) problem
+
+-- that is so of the state's atoms, and all edits that are recorded are taken
+pub record IsPlaced (problem : Problem) (building : Option RoomState) (state : SessionState) : Type 0 where
+  pub place : IsPlaceOf problem state.atoms building
+  pub edits : TakesAll building state.recorded

@@ -1,0 +1,101 @@
+//! The world of a run.
+ghost use Rattle.std.specs.Prelude.{◌≡◌, ◌↔◌, ◌≤◌, Option, IfOk, OnErr};
+ghost use Rattle.px_terms.specs.Validity.{IsValid};
+ghost use Rattle.px_world.specs.Worlds.{HaveSameRules};
+ghost use Rattle.px_session.specs.Places.{IsPlaceOf, PlaceTakes, TakeSame, building_of, place_atoms, place_rules, place_spare};
+ghost use Rattle.px_session.specs.Sessions.{leaves_edit};
+
+use crate::edit::Edit;
+use px_base::NoMemory;
+use px_ops::Model;
+use px_rooms::RoomWorld;
+use px_terms::{Atom, OpInst, Problem};
+use px_world::{AtomWorld, Guard, World};
+use std::alloc::Global;
+
+/// The world of a run: a copy of the session's atoms, or its building.
+#[derive(Drop)]
+pub(crate) enum Place<'a> {
+    /// A world of atoms.
+    Atoms(AtomWorld<'a>),
+    /// A building.
+    Rooms(RoomWorld),
+}
+
+/// The world of a run: the building, which is handed over, or else a copy of the facts with room for so many more.
+///
+/// # Errors
+/// `NoMemory` where there is none for the copy. The building, if there is one, takes none.
+pub(crate) fn enter<'a>(
+    alloc: Global,
+    problem: &'a Problem,
+    facts: &Model,
+    spare: usize,
+    building: &mut Option<RoomWorld>,
+) -> Result<Place<'a>, NoMemory>
+    requires problem { IsValid problem.now }
+    requires place { IsPlaceOf problem.now facts.now.atoms building.old }
+    ensures building { IfOk result (λ place. building_of place ≡ building.old) }
+    ensures atoms { IfOk result (λ place. place_atoms place ≡ facts.now.atoms) }
+    ensures rules { IfOk result (λ place. HaveSameRules (place_rules place) problem.now) }
+    ensures spare { IfOk result (λ place. spare ≤ place_spare place) }
+    ensures kept { OnErr result (building.new ≡ building.old) }
+{
+    match building.take() {
+        Some(world) => Ok(Place::Rooms(world)),
+        None => Ok(Place::Atoms(AtomWorld::new(alloc, problem, facts, spare)?)),
+    }
+}
+
+/// The building, if the world is one.
+pub(crate) fn leave(place: Place<'_>) -> Option<RoomWorld>
+    ensures { result ≡ building_of place.entry }
+{
+    match place {
+        Place::Atoms(_) => None,
+        Place::Rooms(world) => Some(world),
+    }
+}
+
+impl<'a> World for Place<'a> {
+    type Edit = Edit;
+
+    ghost atoms = { place_atoms };
+
+    ghost rules = { place_rules };
+
+    ghost admits = { PlaceTakes };
+
+    ghost leaves = { leaves_edit };
+
+    ghost spare = { place_spare };
+
+    fn holds(&self, atom: &Atom) -> bool {
+        match self {
+            Place::Atoms(world) => world.holds(atom),
+            Place::Rooms(world) => world.holds(atom),
+        }
+    }
+
+    fn sense(&self, into: &mut Model) {
+        match self {
+            Place::Atoms(world) => world.sense(into),
+            Place::Rooms(world) => world.sense(into),
+        }
+    }
+
+    fn act(&mut self, inst: &OpInst) -> Result<(), Guard> {
+        match self {
+            Place::Atoms(world) => world.act(inst),
+            Place::Rooms(world) => world.act(inst),
+        }
+    }
+
+    fn disturb(&mut self, edit: &Edit) {
+        match (self, edit) {
+            (Place::Atoms(world), Edit::OfAtoms(edit)) => world.disturb(edit),
+            (Place::Rooms(world), Edit::OfRooms(edit)) => world.disturb(edit),
+            _ => unreachable!(),
+        }
+    }
+}
