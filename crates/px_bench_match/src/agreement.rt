@@ -3,8 +3,9 @@ ghost use Rattle.std.specs.Prelude.{◌≡◌, ◌≢◌, ◌<◌, ◌≤◌, Al
 ghost use Rattle.px_terms.specs.Validity.{IsValid};
 ghost use Rattle.px_table.specs.Tables.{IsTable};
 
+use crate::cases::Case;
 use crate::dice::Dice;
-use crate::drawing::{Letters, draw_atoms, draw_problem, draw_table};
+use crate::drawing::{Letters, draw_changes, draw_problem, draw_table};
 use crate::plain::slow_best;
 use crate::sensing::{ROOM, sense};
 use crate::walking::change;
@@ -25,6 +26,15 @@ pub struct Tally {
 }
 
 impl Tally {
+    fn new() -> Tally {
+        Tally {
+            tables: 0,
+            sensings: 0,
+            agreed: 0,
+            found: 0,
+        }
+    }
+
     fn count(&mut self, is_same: bool, is_found: bool) {
         self.sensings = self.sensings.saturating_add(1);
         if is_same {
@@ -44,8 +54,54 @@ fn change_all(model: &mut Model, atoms: &[Atom]) -> Result<(), NoMemory> {
     Ok(())
 }
 
-/// Asks both matchers about twelve models, each of which is the one before with some atoms changed, or changed back.
+/// All the atoms come, then they go one after the other, and come back in the same order.
+fn changes_of(alloc: Global, atoms: &[Atom]) -> Result<Vec<Vec<Atom>>, NoMemory> {
+    let mut changes = Vec::new(alloc);
+    changes.push(atoms.to_vec(alloc)?)?;
+    for _time in 0..2u32 {
+        for atom in atoms {
+            changes.push(Vec::from_array(alloc, [*atom])?)?;
+        }
+    }
+    Ok(changes)
+}
+
+/// Asks both matchers about the models that the changes make, one after the other.
 fn compare(
+    alloc: Global,
+    tally: &mut Tally,
+    problem: &Problem,
+    table: &Table,
+    bind: &[(u32, u32)],
+    changes: &[Vec<Atom>],
+) -> Result<(), NoMemory>
+    requires problem { IsValid problem.now }
+    requires table { IsTable problem.now table.now }
+    requires objects { All (λ pair. pair.1 < problem.now.objects) bind.now }
+    requires once { AllPairs (λ one other. one.0 ≢ other.0) bind.now }
+{
+    let Ok(mut matcher) = Matcher::reserve(alloc, problem, table, bind, ROOM) else {
+        return Ok(());
+    };
+    let mut model = Model::new(alloc);
+    let mut objects = vec![in alloc; 0u32; table.params as usize]?;
+    let mut wanted_instance = Vec::new(alloc);
+    for changed in changes {
+        change_all(&mut model, changed)?;
+        let wanted = slow_best(problem, table, bind, &model, &mut objects);
+        if wanted.is_some() {
+            wanted_instance.clear();
+            wanted_instance.extend_from_slice(&objects)?;
+        }
+        let is_same = sense(&mut matcher, &model) == wanted
+            && matcher.instance() == wanted_instance.as_slice();
+        tally.count(is_same, wanted.is_some());
+    }
+    Ok(())
+}
+
+/// Asks about twelve models, each of which is the one before with some atoms changed, or changed back.
+fn compare_drawn(
     alloc: Global,
     dice: &mut Dice,
     tally: &mut Tally,
@@ -58,34 +114,14 @@ fn compare(
     requires objects { All (λ pair. pair.1 < problem.now.objects) bind.now }
     requires once { AllPairs (λ one other. one.0 ≢ other.0) bind.now }
 {
-    let Ok(mut matcher) = Matcher::reserve(alloc, problem, table, bind, ROOM) else {
-        return Ok(());
-    };
     // one object more than the problem has, which no parameter can have
     let letters = Letters {
         vars: 0,
         objects: problem.objects.saturating_add(1),
         is_wild: false,
     };
-    let mut model = Model::new(alloc);
-    let mut changed = draw_atoms(alloc, dice, letters, 30)?;
-    let mut objects = vec![in alloc; 0u32; table.params as usize]?;
-    let mut wanted_instance = Vec::new(alloc);
-    for _sensing in 0..12u32 {
-        change_all(&mut model, &changed)?;
-        let wanted = slow_best(problem, table, bind, &model, &mut objects);
-        if wanted.is_some() {
-            wanted_instance.clear();
-            wanted_instance.extend_from_slice(&objects)?;
-        }
-        let is_same = sense(&mut matcher, &model) == wanted
-            && matcher.instance() == wanted_instance.as_slice();
-        tally.count(is_same, wanted.is_some());
-        if dice.roll(2) == 0 {
-            changed = draw_atoms(alloc, dice, letters, 3)?;
-        }
-    }
-    Ok(())
+    let changes = draw_changes(alloc, dice, letters)?;
+    compare(alloc, tally, problem, table, bind, &changes)
 }
 
 /// The same where no parameter, one or two are bound.
@@ -100,19 +136,19 @@ fn compare_bound(
     requires table { IsTable problem.now table.now }
 {
     if table.params == 0 || problem.objects == 0 {
-        return compare(alloc, dice, tally, problem, table, &[]);
+        return compare_drawn(alloc, dice, tally, problem, table, &[]);
     }
     let first = 1 + dice.roll(table.params);
     let second = 1 + dice.roll(table.params);
     let one = dice.roll(problem.objects);
     let other = dice.roll(problem.objects);
     match dice.roll(4) {
-        0 => compare(alloc, dice, tally, problem, table, &[(first, one)]),
+        0 => compare_drawn(alloc, dice, tally, problem, table, &[(first, one)]),
         1 if first != second => {
             let bind = [(first, one), (second, other)];
-            compare(alloc, dice, tally, problem, table, &bind)
+            compare_drawn(alloc, dice, tally, problem, table, &bind)
         }
-        _ => compare(alloc, dice, tally, problem, table, &[]),
+        _ => compare_drawn(alloc, dice, tally, problem, table, &[]),
     }
 }
 
@@ -131,14 +167,34 @@ fn agree_of(alloc: Global, seed: u64, tally: &mut Tally) -> Result<(), NoMemory>
 
 /// Asks about the tables of so many seeds.
 pub fn agree(alloc: Global, from: u64, count: u32) -> Result<Tally, NoMemory> {
-    let mut tally = Tally {
-        tables: 0,
-        sensings: 0,
-        agreed: 0,
-        found: 0,
-    };
+    let mut tally = Tally::new();
     for seed in 0..count {
         agree_of(alloc, from.wrapping_add(u64::from(seed)), &mut tally)?;
+    }
+    Ok(tally)
+}
+
+/// Asks about the case: with all its atoms, after each of them went, and after each came back.
+pub fn agree_on(alloc: Global, case: &Case) -> Result<Tally, NoMemory> {
+    let mut tally = Tally::new();
+    if !is_valid(&case.problem) || !check_table(&case.problem, &case.table) {
+        return Ok(tally);
+    }
+    tally.tables = 1;
+    let changes = changes_of(alloc, &case.atoms)?;
+    let (parameter, object) = case.bound;
+    if parameter > 0 && object < case.problem.objects {
+        let bind = [(parameter, object)];
+        compare(
+            alloc,
+            &mut tally,
+            &case.problem,
+            &case.table,
+            &bind,
+            &changes,
+        )?;
+    } else {
+        compare(alloc, &mut tally, &case.problem, &case.table, &[], &changes)?;
     }
     Ok(tally)
 }

@@ -47,7 +47,7 @@ fn draw_atom(dice: &mut Dice, letters: Letters) -> Atom
 }
 
 /// So many atoms at most.
-pub fn draw_atoms(
+fn draw_atoms(
     alloc: Global,
     dice: &mut Dice,
     letters: Letters,
@@ -62,6 +62,29 @@ pub fn draw_atoms(
         }
     }
     Ok(atoms)
+}
+
+/// Atoms that change, twelve times: other ones, or the same once more.
+pub fn draw_changes(
+    alloc: Global,
+    dice: &mut Dice,
+    letters: Letters,
+) -> Result<Vec<Vec<Atom>>, NoMemory>
+    requires { 1 ≤ letters.objects }
+{
+    let mut changes = Vec::new(alloc);
+    let mut changed = draw_atoms(alloc, dice, letters, 30)?;
+    for _change in 0..11u32 {
+        let next = if dice.roll(2) == 0 {
+            draw_atoms(alloc, dice, letters, 3)?
+        } else {
+            changed.to_vec(alloc)?
+        };
+        changes.push(changed)?;
+        changed = next;
+    }
+    changes.push(changed)?;
+    Ok(changes)
 }
 
 /// An operator of up to three parameters.

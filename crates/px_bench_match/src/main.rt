@@ -6,6 +6,7 @@
 //!
 //! - `pairs`: twelve pairs of 24 parameters over 256 objects and 255 facts. The answer is the kernel, here and below.
 //! - `far`: no object is the last one for the first two parameters, and each pair between is free.
+//! - `nested`: eight groups of three parameters, the one within the other, each of which is met by the last of its objects alone.
 //! - `chain` and `nochain`: a chain of 23 parameters to an end that is reached, and to one that isn't.
 //! - `improper`: the first proper choice, after all those that share one bad pair.
 //! - `steps`: a table of 64 steps over 500 facts.
@@ -13,9 +14,13 @@
 //!   a kernel.
 //! - `agree FROM COUNT`: the matcher beside a plain one that tries all lists of objects in order, over so many small random tables
 //!   from that seed on, each with twelve models. The answer is how often both said the same, and how often there was a kernel.
+//! - `agree NAME`: the same over one table of `cases`, with all its atoms, after each of them went, and after each came back:
+//!   `merged` (a parameter twice in a mark, and in several), `wild` (a step that deletes by the wild card), `objects` (objects in
+//!   marks), `free` (parameters in no mark, one of them bound), `bare` (a kernel without marks).
 #![tactic(auto)]
 
 mod agreement;
+mod cases;
 mod dice;
 mod drawing;
 mod plain;
@@ -23,7 +28,8 @@ mod sensing;
 mod tables;
 mod walking;
 
-use agreement::{Tally, agree};
+use agreement::{Tally, agree, agree_on};
+use cases::named;
 use px_match::Matcher;
 use px_ops::Model;
 use px_table::{Table, check_table};
@@ -31,8 +37,8 @@ use px_terms::{NoMemory, Problem, is_valid};
 use sensing::{ROOM, sense, sense_changes};
 use std::alloc::Global;
 use std::io;
-use tables::{STEPS, chain, far, improper, pairs, walk};
-use walking::{links, links_and_gifts, links_and_walker, links_apart, problem_of};
+use tables::{STEPS, chain, far, improper, nested, pairs, walk};
+use walking::{links, links_and_gifts, links_and_walker, links_apart, links_met, problem_of};
 
 /// A problem with its facts and a table.
 #[derive(Drop)]
@@ -87,6 +93,7 @@ fn answer(alloc: Global, question: &str) -> Result<Option<u32>, NoMemory> {
     let scene = match question {
         "pairs" => scene_of(alloc, links(alloc, 256)?, pairs(alloc)?)?,
         "far" => scene_of(alloc, links_apart(alloc)?, far(alloc)?)?,
+        "nested" => scene_of(alloc, links_met(alloc)?, nested(alloc)?)?,
         "chain" => scene_of(alloc, links(alloc, 256)?, chain(alloc, 200)?)?,
         "nochain" => scene_of(alloc, links(alloc, 256)?, chain(alloc, 20)?)?,
         "improper" => scene_of(alloc, links_and_gifts(alloc)?, improper(alloc)?)?,
@@ -97,23 +104,36 @@ fn answer(alloc: Global, question: &str) -> Result<Option<u32>, NoMemory> {
     Ok(found(alloc, &scene))
 }
 
-/// The numbers of `agree FROM COUNT`.
+/// The numbers of `FROM COUNT`.
 fn range_of(line: &str) -> Option<(u64, u32)> {
-    let rest = line.strip_prefix("agree ")?;
-    let (from, count) = rest.split_once(' ')?;
+    let (from, count) = line.split_once(' ')?;
     Some((from.parse().ok()?, count.parse().ok()?))
 }
 
+/// How often both matchers agree over the tables of these seeds, or over the case of that name.
+fn tally_of(alloc: Global, question: &str) -> Result<Option<Tally>, NoMemory> {
+    if let Some((from, count)) = range_of(question) {
+        return Ok(Some(agree(alloc, from, count)?));
+    }
+    match named(alloc, question)? {
+        None => Ok(None),
+        Some(case) => Ok(Some(agree_on(alloc, &case)?)),
+    }
+}
+
 /// Prints how often both matchers agreed.
-fn print_tally(rt: &HostRuntime, answered: Result<Tally, NoMemory>) -> io::Result<()> {
+fn print_tally(rt: &HostRuntime, answered: Result<Option<Tally>, NoMemory>) -> io::Result<()> {
     match answered {
+        Ok(None) => println!(rt; "nothing"),
         Ok(
-            Tally {
-                tables,
-                sensings,
-                agreed,
-                found,
-            },
+            Some(
+                Tally {
+                    tables,
+                    sensings,
+                    agreed,
+                    found,
+                },
+            ),
         ) => println!(rt; "{agreed} of {sensings} agree, {found} kernels, {tables} tables"),
         Err(NoMemory) => println!(rt; "out of memory"),
     }
@@ -131,8 +151,8 @@ fn print_kernel(rt: &HostRuntime, answered: Result<Option<u32>, NoMemory>) -> io
 /// Answers the line.
 fn print_answer(rt: &HostRuntime, line: &str) -> io::Result<()> {
     let alloc = rt.alloc();
-    match range_of(line) {
-        Some((from, count)) => print_tally(rt, agree(alloc, from, count)),
+    match line.strip_prefix("agree ") {
+        Some(question) => print_tally(rt, tally_of(alloc, question)),
         None => print_kernel(rt, answer(alloc, line)),
     }
 }

@@ -1,35 +1,120 @@
-//! A plain matcher that tries all lists of objects in order.
-ghost use Rattle.std.specs.Prelude.{◌≡◌, ◌≤◌, ◌+◌, ◌<◌, IsTrue, length};
-ghost use Rattle.px_terms.specs.Validity.{IsValid};
-ghost use Rattle.px_table.specs.Kernels.{IsInstantiation};
+//! A plain matcher, which tries all lists of objects in order. It is written from the definition of the highest kernel, with nothing
+//! of the matcher and of the tests of tables.
 ghost use Rattle.px_table.specs.Tables.{IsTable};
 
 use px_ops::Model;
-use px_table::{Table, atom_with, proper};
-use px_terms::{Problem, are_variables_below};
+use px_table::{Mark, Table};
+use px_terms::{Atom, OpInst, Problem, Term};
 
-/// Is there an object of the problem for each parameter?
-fn is_instantiation(problem: &Problem, table: &Table, objects: &[u32]) -> bool
-    ensures { IsTrue result → IsInstantiation problem.now table.now objects.now }
-{
-    objects.len() == table.params as usize && objects.iter().all(|object| *object < problem.objects)
+/// The object that the term is under the objects for the parameters.
+fn object_of(term: Term, objects: &[u32]) -> Option<u32> {
+    match term {
+        Term::Obj(object) => Some(object),
+        Term::Var(number) => objects.get(number as usize).copied(),
+        Term::Any => None,
+    }
 }
 
-/// Are all marks of the kernel true under the objects?
-fn holds(table: &Table, number: u32, objects: &[u32], model: &Model) -> bool {
-    for mark in table.marks.as_slice() {
-        if number <= mark.row && mark.column < number {
-            if !are_variables_below(objects.len(), mark.atom.args())
-                || !model.holds(&atom_with(objects, &mark.atom))
-            {
-                return false;
+/// Does the mark become the atom?
+fn becomes(mark: &Atom, atom: &Atom, objects: &[u32]) -> bool {
+    let found = atom.args();
+    if mark.pred() != atom.pred() || mark.args().len() != found.len() {
+        return false;
+    }
+    for (at, term) in mark.args().iter().enumerate() {
+        match object_of(*term, objects) {
+            None => return false,
+            Some(object) => {
+                if found[at] != Term::Obj(object) {
+                    return false;
+                }
             }
         }
     }
     true
 }
 
-/// Have the bound parameters their objects?
+/// Does the mark become one of the atoms?
+fn is_true(mark: &Atom, objects: &[u32], atoms: &[Atom]) -> bool {
+    for atom in atoms {
+        if becomes(mark, atom, objects) {
+            return true;
+        }
+    }
+    false
+}
+
+/// Are all marks of the kernel true?
+fn holds(table: &Table, number: u32, objects: &[u32], atoms: &[Atom]) -> bool {
+    for mark in table.marks.as_slice() {
+        if number <= mark.row && mark.column < number && !is_true(&mark.atom, objects, atoms) {
+            return false;
+        }
+    }
+    true
+}
+
+/// Does the term of a delete pattern stand for the object, with the step's arguments for the operator's parameters?
+fn stands_for(pattern: Term, args: &[Term], object: Option<u32>, objects: &[u32]) -> bool {
+    match pattern {
+        Term::Any => true,
+        Term::Obj(number) => object == Some(number),
+        Term::Var(number) => match args.get(number as usize) {
+            None => false,
+            Some(arg) => object.is_some() && object_of(*arg, objects) == object,
+        },
+    }
+}
+
+/// Does the pattern of the step stand for the mark?
+fn covers(pattern: &Atom, step: &OpInst, mark: &Atom, objects: &[u32]) -> bool {
+    let terms = mark.args();
+    if pattern.pred() != mark.pred() || pattern.args().len() != terms.len() {
+        return false;
+    }
+    for (at, term) in pattern.args().iter().enumerate() {
+        if !stands_for(*term, step.args(), object_of(terms[at], objects), objects) {
+            return false;
+        }
+    }
+    true
+}
+
+/// Does the step delete the mark?
+fn deletes(problem: &Problem, step: &OpInst, mark: &Atom, objects: &[u32]) -> bool {
+    if let Some(schema) = problem.schemas.as_slice().get(step.op() as usize) {
+        for pattern in schema.del.as_slice() {
+            if covers(pattern, step, mark, objects) {
+                return true;
+            }
+        }
+    }
+    false
+}
+
+/// Does no step from the one of that number on delete the mark between its column and its row?
+fn is_kept(problem: &Problem, table: &Table, number: u32, mark: &Mark, objects: &[u32]) -> bool {
+    for (before, step) in table.steps.as_slice().iter().enumerate() {
+        let is_left = number as usize <= before + 1;
+        let is_between = mark.column as usize <= before && before + 1 < mark.row as usize;
+        if is_left && is_between && deletes(problem, step, &mark.atom, objects) {
+            return false;
+        }
+    }
+    true
+}
+
+/// Is the instance of the kernel proper?
+fn is_proper(problem: &Problem, table: &Table, number: u32, objects: &[u32]) -> bool {
+    for mark in table.marks.as_slice() {
+        if !is_kept(problem, table, number, mark, objects) {
+            return false;
+        }
+    }
+    true
+}
+
+/// Have the bound parameters, counted from 1, their objects?
 fn extends(bind: &[(u32, u32)], objects: &[u32]) -> bool {
     for (at, object) in objects.iter().enumerate() {
         for pair in bind {
@@ -61,17 +146,12 @@ fn finds(
     model: &Model,
     number: u32,
     objects: &mut [u32],
-) -> bool
-    requires problem { IsValid problem.now }
-    requires table { IsTable problem.now table.now }
-    requires number { (1 ≤ number) × (number ≤ length table.now.steps + 1) }
-{
+) -> bool {
     objects.fill(0);
     for _turn in 0..1_000_000u32 {
         if extends(bind, objects)
-            && holds(table, number, objects, model)
-            && is_instantiation(problem, table, objects)
-            && proper(problem, table, objects, number)
+            && holds(table, number, objects, model.atoms())
+            && is_proper(problem, table, number, objects)
         {
             return true;
         }
@@ -82,7 +162,7 @@ fn finds(
     false
 }
 
-/// Writes the first objects of the highest kernel that fits to `objects`.
+/// Writes the first objects of the highest kernel that fits to `objects`, which has a place for each parameter.
 pub fn slow_best(
     problem: &Problem,
     table: &Table,
@@ -90,7 +170,6 @@ pub fn slow_best(
     model: &Model,
     objects: &mut [u32],
 ) -> Option<u32>
-    requires problem { IsValid problem.now }
     requires table { IsTable problem.now table.now }
 {
     for before in (0..table.steps.len() + 1).rev() {

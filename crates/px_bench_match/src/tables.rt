@@ -1,20 +1,18 @@
 //! The tables that are asked about.
-use crate::walking::{at, given, left, next, right, spoiled, wanted};
+use crate::walking::{SPOIL, WALK, at, given, left, next, right, spoiled, wanted};
 use px_base::Sequence;
 use px_proof::{Leaf, Proof};
 use px_table::{Row, Table, marks};
 use px_terms::{Atom, NoMemory, OpInst, Term};
 use std::alloc::Global;
 
-/// The operators of `walking`.
-const SPOIL: u32 = 0;
-
-const WALK: u32 = 1;
-
 /// How many steps the walk has.
 pub const STEPS: u32 = 64;
 
-fn fact(column: u32, atom: Atom) -> Proof {
+/// How many groups of parameters are nested.
+const GROUPS: u32 = 8;
+
+pub fn fact(column: u32, atom: Atom) -> Proof {
     Proof::Fact(Leaf {
         column,
         index: 0,
@@ -23,7 +21,7 @@ fn fact(column: u32, atom: Atom) -> Proof {
 }
 
 /// The step with these arguments, if they are few enough.
-fn put_step(steps: &mut Vec<OpInst>, op: u32, args: &[Term]) -> Result<(), NoMemory> {
+pub fn put_step(steps: &mut Vec<OpInst>, op: u32, args: &[Term]) -> Result<(), NoMemory> {
     if let Some(step) = OpInst::new(op, args) {
         steps.push(step)?;
     }
@@ -87,10 +85,23 @@ pub fn pairs(alloc: Global) -> Result<Table, NoMemory> {
 /// Eleven pairs, and two parameters before them that would have to meet in the last one.
 pub fn far(alloc: Global) -> Result<Table, NoMemory> {
     let mut row = Vec::new(alloc);
-    put_pairs(&mut row, 2, 11)?;
     row.push(fact(0, left(Term::Var(0), Term::Var(24))))?;
+    put_pairs(&mut row, 2, 11)?;
     row.push(fact(0, right(Term::Var(1), Term::Var(24))))?;
     table_of(alloc, 25, Vec::new(alloc), Vec::new(alloc), row)
+}
+
+/// Eight groups of three parameters, of which the first two have to meet in the third one. All the first ones stand in order, and
+/// after them the second ones in the other order, so that each group lies within the one before.
+pub fn nested(alloc: Global) -> Result<Table, NoMemory> {
+    let mut row = Vec::new(alloc);
+    for group in 0..GROUPS {
+        let second = 2 * GROUPS - 1 - group;
+        let third = Term::Var(2 * GROUPS + group);
+        row.push(fact(0, left(Term::Var(group), third)))?;
+        row.push(fact(0, right(Term::Var(second), third)))?;
+    }
+    table_of(alloc, 3 * GROUPS, Vec::new(alloc), Vec::new(alloc), row)
 }
 
 /// A chain of 23 parameters that ends at the object.

@@ -22,6 +22,13 @@ const SPOILED: u32 = 5;
 
 const AT: u32 = 6;
 
+/// The operators.
+pub const SPOIL: u32 = 0;
+
+pub const WALK: u32 = 1;
+
+pub const LOSE: u32 = 2;
+
 pub fn atom(pred: u32, args: &[Term]) -> Atom
     requires { length args.now ≤ 6 }
 {
@@ -66,7 +73,7 @@ const Y: Term = Term::Var(1);
 /// SPOIL(x) needs GIVEN(x), deletes WANTED(x) and adds SPOILED(x).
 fn spoil(alloc: Global) -> Result<Schema, NoMemory> {
     Ok(Schema {
-        op: 0,
+        op: SPOIL,
         params: 1,
         pre: Sequence::from_slice(alloc, &[given(X)])?,
         del: Sequence::from_slice(alloc, &[wanted(X)])?,
@@ -77,7 +84,7 @@ fn spoil(alloc: Global) -> Result<Schema, NoMemory> {
 /// WALK(x,y) needs AT(x) and NEXT(x,y), deletes AT(x) and adds AT(y).
 fn walk(alloc: Global) -> Result<Schema, NoMemory> {
     Ok(Schema {
-        op: 1,
+        op: WALK,
         params: 2,
         pre: Sequence::from_slice(alloc, &[at(X), next(X, Y)])?,
         del: Sequence::from_slice(alloc, &[at(X)])?,
@@ -85,11 +92,23 @@ fn walk(alloc: Global) -> Result<Schema, NoMemory> {
     })
 }
 
-/// So many objects, these relations and these two operators.
+/// LOSE(x) needs GIVEN(x), deletes NEXT(x,$) and adds SPOILED(x).
+fn lose(alloc: Global) -> Result<Schema, NoMemory> {
+    Ok(Schema {
+        op: LOSE,
+        params: 1,
+        pre: Sequence::from_slice(alloc, &[given(X)])?,
+        del: Sequence::from_slice(alloc, &[next(X, Term::Any)])?,
+        add: Sequence::from_slice(alloc, &[spoiled(X)])?,
+    })
+}
+
+/// So many objects, these relations and these operators.
 pub fn problem_of(alloc: Global, objects: u32) -> Result<Problem, NoMemory> {
     let mut schemas = Vec::new(alloc);
     schemas.push(spoil(alloc)?)?;
     schemas.push(walk(alloc)?)?;
+    schemas.push(lose(alloc)?)?;
     Ok(Problem {
         objects,
         arities: Sequence::from_slice(alloc, &[2u8, 2, 2, 1, 1, 1, 1])?,
@@ -125,6 +144,13 @@ pub fn links_apart(alloc: Global) -> Result<Model, NoMemory> {
         change(&mut model, left(Term::Obj(here), Term::Obj(2 * here)))?;
         change(&mut model, right(Term::Obj(here), Term::Obj(2 * here + 1)))?;
     }
+    Ok(model)
+}
+
+/// Beside these, one more object has the right one that the last of the 16 has for its left one.
+pub fn links_met(alloc: Global) -> Result<Model, NoMemory> {
+    let mut model = links_apart(alloc)?;
+    change(&mut model, right(Term::Obj(16), Term::Obj(30)))?;
     Ok(model)
 }
 

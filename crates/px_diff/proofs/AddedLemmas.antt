@@ -2,11 +2,10 @@
 use Rattle.std.proofs.Common.{◌≡◌, ◌∙◌, ◌+◌, ◌<◌, ℕ, zero, suc, false, List, [], ◌∷◌, length, drop, get_or, ap, sym, subst, inl, inr}
 use Rattle.std.specs.Prelude.{All, Contains}
 use Rattle.std.proofs.lemmas.List.{drop_more}
-use Rattle.px_terms.specs.Operators.{adds, deletes}
+use Rattle.px_terms.specs.Operators.{IsAdded, adds, deletes}
 use Rattle.px_terms.specs.declared.atom.Atom.{Atom}
 use Rattle.px_terms.specs.declared.instance.OpInst.{OpInst}
 use Rattle.px_terms.specs.declared.problem.Problem.{Problem}
-use Rattle.px_diff.specs.Entries.{IsAdded}
 
 module _ (problem : Problem) (atom : Atom) where
   abbrev pub AreKeeping : List OpInst → Type 0

@@ -4,7 +4,9 @@ use Rattle.std.specs.Prelude.{All, Contains, cond, slice_index}
 use Rattle.std.proofs.lemmas.List.{length-map, get_or-map}
 use Rattle.std.proofs.lemmas.Option.{get_or_from_slice_get, slice_get_within}
 use Rattle.px_base.specs.ListLaws.{Contains-cases, Contains-first, Contains-later, Contains-none}
+use Rattle.px_proof.specs.PlaceLaws.{slice_get-map}
 use Rattle.px_prover.specs.Patterns.{AreChosen, object_under}
+use Rattle.px_table.specs.KernelLaws.{Contains-from_map}
 use Rattle.px_question.specs.Answers.{object_of, object_terms}
 use Rattle.px_terms.specs.Language.{substitute}
 use Rattle.px_terms.specs.Order.{term_eq}
@@ -103,8 +105,16 @@ module _ (problem : Problem) (vars : ℕ) (atom : Atom) (of : IsAtomOf problem v
   form-is some = record {
     is_atom = ((of.0.0, long ∙ of.0.1), subst (λ (n : ℕ). All (IsTermOf problem n) (map (named_by atom.args) atom.args)) (sym long) (terms-of atom.args (λ t has. has)));
     some_object = λ filled. some-object some (omega (arith, filled, long));
+    places = λ v has. let made = Contains-from_map (named_by atom.args) atom.args (Var v) has in place-named v made.0 made.1 made.2;
   }
     where
+      place-named : (v : ℕ) (t : Term) → Contains atom.args t → named_by atom.args t ≡ Var v → slice_get (map (named_by atom.args) atom.args) v ≡ Some (Var v)
+      place-named v (Obj n) has is = absurd (cc)
+      place-named v (Var w) has is =
+          let same : place_in atom.args (Var w) ≡ v = cc in
+          ap (slice_get (map (named_by atom.args) atom.args)) (sym same) ∙ slice_get-map (named_by atom.args) atom.args (place_in atom.args (Var w)) (Var w) (place-there atom.args (Var w) has) ∙ ap (λ (t : Term). Some t) is
+      place-named v Wild has is = absurd (cc)
+
       long : length (map (named_by atom.args) atom.args) ≡ length atom.args
       long = length-map atom.args (named_by atom.args)
 

@@ -22,6 +22,7 @@ mod Parting
 mod PartLemmas
 mod ChoiceLemmas
 mod Proving
+mod FactLemmas
 mod Covering
 mod SameInstance
 mod Ordered

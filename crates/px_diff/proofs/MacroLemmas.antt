@@ -16,7 +16,7 @@ use Rattle.px_table.specs.Tables.{IsStepOf, IsTable}
 use Rattle.px_table.specs.UnderLaws.{adds-under}
 use Rattle.px_terms.specs.AtomSets.{IsAtomSet}
 use Rattle.px_terms.specs.Language.{substitute}
-use Rattle.px_terms.specs.Operators.{adds}
+use Rattle.px_terms.specs.Operators.{IsAdded, adds}
 use Rattle.px_terms.specs.Substitution.{substitute_atom}
 use Rattle.px_terms.specs.Validity.{IsAtomOf, IsInstanceOf, IsTermOf}
 use Rattle.px_terms.specs.declared.atom.Atom.{Atom}
@@ -26,7 +26,7 @@ use Rattle.px_terms.specs.declared.term.Term.{Term}
 use Rattle.px_terms.specs.declared.term.Term.TheVariants.{Obj, Var, Any as Wild}
 use Rattle.px_diff.specs.Bindings.{Extends, IsBinding, IsPlain, first_values}
 use Rattle.px_diff.specs.Closings.{OneOf}
-use Rattle.px_diff.specs.Entries.{IsAdded, IsOpen, obligations_of}
+use Rattle.px_diff.specs.Entries.{IsOpen, obligations_of}
 use Rattle.px_diff.specs.Macros.{GathersEntries, IsMacroBefore, IsMacroBy, IsMacroFitting, IsOfFront}
 use Rattle.px_diff.specs.Parameters.{AreFirstTerms, Matches}
 use Rattle.px_diff.specs.Pushes.{IsPushable, IsRelevant}

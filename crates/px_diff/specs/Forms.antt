@@ -1,5 +1,5 @@
 -- Atoms with their variables named anew: atoms that differ by the names of their variables alone have one form.
-use Rattle.std.specs.Prelude.{◌≡◌, ◌<◌, ℕ, suc, cond, List, [], ◌∷◌, map, length}
+use Rattle.std.specs.Prelude.{◌≡◌, ◌<◌, ℕ, suc, cond, Some, List, [], ◌∷◌, map, length, slice_get, Contains}
 use Rattle.px_terms.specs.declared.atom.Atom.{Atom}
 use Rattle.px_terms.specs.declared.term.Term.{Term}
 use Rattle.px_terms.specs.declared.term.Term.TheVariants.{Obj, Var, Any}
@@ -25,10 +25,12 @@ named_by args Any = Any
 abbrev pub form_by : Atom → Atom
 form_by atom = record { pred = atom.pred; args = map (named_by atom.args) atom.args }
 
--- the form is an atom of the problem over as many variables as it has arguments, and there is an object for them
+-- The form is an atom of the problem over as many variables as it has arguments, and there is an object for them. Each of its
+-- variables stands at the place that is its number.
 pub record IsForm (problem : Problem) (form : Atom) : Type 0 where
   pub is_atom : IsAtomOf problem (length form.args) form
   pub some_object : 0 < length form.args → 0 < problem.objects
+  pub places : (v : ℕ) → Contains form.args (Var v) → slice_get form.args v ≡ Some (Var v)
 
 -- the atom is the form under some objects for its variables, whose numbers are below that of its arguments
 abbrev pub IsInstanceIn : ℕ → Atom → Atom → Type 0

@@ -4,6 +4,7 @@ pub mod Apart
 pub mod Bindings
 pub mod Choices
 pub mod Closings
+pub mod Concluding
 pub mod Counting
 pub mod Described
 pub mod Entries

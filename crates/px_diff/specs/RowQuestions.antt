@@ -43,12 +43,12 @@ pub record AreRowsKnown (s : Setting) (table : Table) (terms : List Term) (prefi
   pub count : length rows ≡ prefix
   pub each : (k : ℕ) (choices : List (List Term)) → slice_get rows k ≡ Some choices → IsRowKnown s table terms (k + 1) choices
 
--- what the questions about the first rows tell: such choices
+-- what the questions about the first rows tell: such choices, or nothing
 abbrev pub AreChoicesOf : Setting → Table → List Term → ℕ → RowChoices → Type 0
 AreChoicesOf s table terms prefix (Known rows) = AreRowsKnown s table terms prefix rows
 AreChoicesOf s table terms prefix (Limited row) = Unit {0}
 
--- what they tell where the terms are variables: such choices of each row of the table
+-- what they tell where the terms are variables: such choices of each row of the table, or nothing
 abbrev pub AreTableChoices : Problem → List Atom → Table → RowChoices → Type 0
 AreTableChoices problem facts table (Known rows) =
     (terms : List Term) × AreUnbound table.params terms × (0 < problem.objects) × IsAtomSet facts × AreRowsKnown (setting_of problem facts) table terms (length table.steps) rows

@@ -1,5 +1,6 @@
-//! Which instances of atoms have a proof. An atom with variables is one question, and only where the answer isn't that none
-//! of its instances has a proof, one of its variables is bound to each object in turn.
+//! Which instances of atoms have a proof. Where no axiom concludes an atom's predicate, these are facts. Else an atom with
+//! variables is one question, and only where the answer isn't that none of its instances has a proof, one of its variables is
+//! bound to each object in turn.
 ghost use Rattle.std.specs.Prelude.{◌≡◌, ◌↔◌, ◌⊎◌, ◌≤◌, ◌<◌, [], ◌∷◌, length, List, All, Contains, MatchBool, IsTrue, IfOk, OnOk};
 ghost use Rattle.px_proof.specs.declared.shape.Tick.{Tick};
 ghost use Rattle.px_question.specs.Answers.{IsAnswer, IsProvable};
@@ -14,6 +15,7 @@ ghost use Rattle.px_diff.specs.Provable.{FindsProvable, LimitsOne};
 use crate::ask_err::AskErr;
 use crate::asker::Asker;
 use crate::bindings::{bound, open_variable, unbound};
+use crate::facts::{insert_facts, is_concluded};
 use px_ops::Model;
 use px_prover::ProveErr;
 use px_terms::{Atom, NoMemory, Problem, Sequence, Term, apply};
@@ -130,7 +132,7 @@ fn insert_instances(
 }
 
 /// The same with no object chosen.
-fn insert_form(
+fn insert_asked(
     asker: &mut Asker,
     found: &mut Model,
     problem: &Problem,
@@ -145,6 +147,27 @@ fn insert_form(
     let vars = form.args().len() as u32;
     let terms = unbound(asker.alloc, vars)?;
     insert_instances(asker, found, problem, model, &terms, form)
+}
+
+/// Puts the instances of the form that have a proof into the set. Where no axiom concludes its predicate, the prover isn't asked.
+fn insert_form(
+    asker: &mut Asker,
+    found: &mut Model,
+    problem: &Problem,
+    model: &Model,
+    form: &Atom,
+) -> Result<(), AskErr>
+    requires problem { IsValid problem.now }
+    requires form { IsForm problem.now form.now }
+    ensures found { OnOk result (FindsProvable (setting_of problem.now model.now.atoms) (IsInstanceIn problem.now.objects form.now) found.old.atoms found.new.atoms) }
+    ensures limited { IfLimit result (LimitsOne (setting_of problem.now model.now.atoms) (IsInstanceIn problem.now.objects form.now)) }
+{
+    let is_derived = is_concluded(problem, form.pred());
+    if is_derived {
+        return insert_asked(asker, found, problem, model, form);
+    }
+    insert_facts(found, problem, model, form)?;
+    Ok(())
 }
 
 /// The instances of the forms that have a proof.

@@ -52,17 +52,18 @@
 //! `relevant` matches what operators add with the wanted atoms. A match has objects for those parameters that the atom
 //! determines, and the others stay variables. One question of gaps is asked for each match. Where it meets the limit, the
 //! first variable is bound to each object in turn, and each of these narrower matches is asked in the same way. That ends
-//! where a question answers, or where no variable is left. All asking of operators goes through one struct (`asker`), which
-//! counts.
+//! where a question answers, or where no variable is left. What is asked of operators, and of rows as below, goes through one
+//! struct (`asker`), which counts.
 //!
 //! Then it matches what the steps of each table add with the wanted atoms (`macro_matching`), for each number of first steps. A
 //! match has an object for each parameter that the atom determines, and object 0 for each that these steps don't use
 //! (`parameters`). One question of gaps is asked for each row, from the whole model (`row_questions`). A MACROP's row is proved
 //! from what the steps before it leave of the model, so it has no more shapes than that question, and nothing that the question
 //! doesn't offer. What is provable from the whole model says nothing of it, so nothing is left out for that. The objects that
-//! the rows offer are joined, the row with the fewest choices first (`fitting`), so tuples of objects are never listed. Each
-//! MACROP that comes out is tried by itself (`macros`). Where a question meets the limit, a parameter of its row is bound to each
-//! object in turn, and each of these narrower matches is asked in the same way, in the end each MACROP by itself.
+//! the rows offer are joined, the row with the fewest choices first (`fitting`), so that tuples of objects aren't listed. Each
+//! MACROP that comes out is tried by itself, by the calls for one entry, whose questions aren't counted (`macros`). Where a question
+//! meets the limit, tuples are listed: a parameter of its row is bound to each object in turn, and each of these narrower matches
+//! is asked in the same way, in the end each MACROP by itself.
 #![tactic(auto)]
 
 mod apart;
@@ -73,6 +74,7 @@ mod bindings;
 mod choices;
 mod differences;
 mod entry_rows;
+mod facts;
 mod fitting;
 mod forms;
 mod front;

@@ -3,10 +3,9 @@ ghost use Rattle.std.specs.Prelude.{◌≡◌, ◌↔◌, ◌≤◌, false, leng
 ghost use Rattle.px_table.specs.Kernels.{steps_under};
 ghost use Rattle.px_terms.specs.Instances.{IsGround};
 ghost use Rattle.px_terms.specs.Language.{IsVariableBelow};
-ghost use Rattle.px_terms.specs.Operators.{adds as adds_of, deletes as deletes_of};
+ghost use Rattle.px_terms.specs.Operators.{IsAdded, adds as adds_of, deletes as deletes_of};
 ghost use Rattle.px_terms.specs.Validity.{IsInstanceOf, IsValid};
 ghost use Rattle.px_diff.specs.Closings.{OneOf};
-ghost use Rattle.px_diff.specs.Entries.{IsAdded};
 
 use px_base::push;
 use px_ops::{adds, deletes, schema_of};

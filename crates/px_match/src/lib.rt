@@ -29,8 +29,9 @@
 //! A kernel is matched parameter by parameter, each from the first object up. Objects are passed over that no atom of a
 //! mark's list has there, given the objects before, those with which a step deletes a mark whatever comes later, and those with
 //! which no object is left for a later parameter. Each time this has its reasons, the earlier parameters on whose objects it
-//! rests. Where no object is left, the search goes back to the last reason, over all parameters between. What is found first is
-//! the first in the order of objects. In a list the atom is found by halves, since it ascends, where the mark's terms are known from
+//! rests. Where no object is left, the search goes back to the last reason, over all parameters between. What was found for these is
+//! kept as long as the objects on which it rests stand, so that marks without a common parameter aren't searched anew for each
+//! other. What is found first is the first in the order of objects. In a list the atom is found by halves, since it ascends, where the mark's terms are known from
 //! the left up to the parameter. Which marks, deletions and later parameters are looked at, and when, is a hint: each passing over
 //! is proved by itself, and a full list of objects is tested.
 //!
@@ -46,6 +47,7 @@ mod hints;
 mod keeping;
 mod laws;
 mod lead;
+mod marks;
 mod match_err;
 mod matcher;
 mod meeting;

@@ -5,7 +5,7 @@ ghost use Rattle.px_table.specs.Kernels.{IsInstantiation};
 ghost use Rattle.px_match.specs.Asking.{IsAnswer, IsLeft, IsQuestion};
 ghost use Rattle.px_match.specs.Reasons.{Agree, Grown, IsBlamed, IsNear, object_at};
 
-use crate::filling::least;
+use crate::marks::{least_of, mark_of};
 use crate::question::Question;
 use crate::reasons::blame;
 use px_terms::Term;
@@ -57,25 +57,14 @@ fn least_left(
     ensures at_least { IfSome result (λ r. from ≤ r) }
     ensures left { IsTrue is_blamed → IsLeft question.now cells.new work.now place later from result }
 {
-    let marks = question.table.marks.as_slice();
-    if number >= marks.len() {
+    let Some(mark) = mark_of(question, number) else {
         return Some(from);
-    }
-    let mark = &marks[number];
-    if question.number > mark.row
-        || mark.column >= question.number
-        || !are_near(mark.atom.args(), place, later)
-    {
+    };
+    if !are_near(mark.atom.args(), place, later) {
         return Some(from);
     }
     blame_if(cells, work.len(), place, mark.atom.args(), is_blamed);
-    least(
-        question.lists[number].atoms(),
-        &mark.atom,
-        work,
-        later,
-        from,
-    )
+    least_of(question, work, later, from, number, mark)
 }
 
 /// The same for all marks that have the parameter of the later place, in turn.

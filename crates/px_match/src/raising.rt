@@ -4,13 +4,13 @@ ghost use Rattle.px_terms.specs.Language.{IsVariableBelow};
 ghost use Rattle.px_table.specs.Kernels.{IsInstantiation};
 ghost use Rattle.px_match.specs.Asking.{Excludes, IsAnswer, IsQuestion, IsRaised};
 ghost use Rattle.px_match.specs.Matching.{Extends};
-ghost use Rattle.px_match.specs.Reasons.{Agree, Grown, IsAtMost, object_at};
+ghost use Rattle.px_match.specs.Reasons.{Agree, Grown, IsAtMost, IsChanged, IsReason, IsStale, object_at};
 
-use crate::filling::least;
 use crate::hints::Clash;
+use crate::marks::{least_of, mark_of};
 use crate::meeting::has_meeting;
 use crate::question::Question;
-use crate::reasons::blame;
+use crate::reasons::{blame, make_stale_after};
 use px_ops::schema_of;
 use px_table::atom_with;
 use px_terms::{Atom, Term, apply, instance_of};
@@ -62,21 +62,10 @@ fn raise_by_mark(
     ensures raised { IsRaised question.now cells.new work.now place (object_at work.now place) result }
 {
     let from = work[place];
-    let marks = question.table.marks.as_slice();
-    if number >= marks.len() {
+    let Some(mark) = mark_of(question, number) else {
         return Some(from);
-    }
-    let mark = &marks[number];
-    if question.number > mark.row || mark.column >= question.number {
-        return Some(from);
-    }
-    let raised = least(
-        question.lists[number].atoms(),
-        &mark.atom,
-        work,
-        place,
-        from,
-    );
+    };
+    let raised = least_of(question, work, place, from, number, mark);
     if raised == Some(from) {
         return raised;
     }
@@ -194,7 +183,26 @@ fn raise(question: &Question, cells: &mut [bool], work: &[u32], place: usize) ->
     Some(from)
 }
 
+/// Puts the object at the place. Where another one stood, the later places that rest on it are stale.
+fn put_object(cells: &mut [bool], work: &mut [u32], place: usize, object: u32)
+    requires short { length work.old ≤ 4294967295 }
+    requires place { place < length work.old }
+    ensures grown { Grown cells.old cells.new }
+    ensures same_length { length work.new ≡ length work.old }
+    ensures objects { (limit : ℕ) → object < limit → All (λ n. n < limit) work.old → All (λ n. n < limit) work.new }
+    ensures put { object_at work.new place ≡ object }
+    ensures others { (k : ℕ) → k ≢ place → object_at work.new k ≡ object_at work.old k }
+    ensures stale { object_at work.old place ≢ object → (k : ℕ) → place < k → k < length work.old → IsReason cells.old (length work.old) k place → IsStale cells.new (length work.old) k }
+{
+    if work[place] == object {
+        return;
+    }
+    work[place] = object;
+    make_stale_after(cells, work.len(), place);
+}
+
 /// Puts the object at the place, and answers the first object from it on that isn't passed over at once.
+#[tactic(auto, using(crate::proofs::Floors::unchanged))]
 pub fn try_object(
     question: &Question,
     cells: &mut [bool],
@@ -206,16 +214,15 @@ pub fn try_object(
     requires short { length work.old ≤ 4294967295 }
     requires work { IsInstantiation question.now.problem.now question.now.table.now work.old }
     requires place { place < length work.old }
-    ensures grown { Grown cells.old cells.new }
     ensures same_length { length work.new ≡ length work.old }
     ensures work { IsInstantiation question.now.problem.now question.now.table.now work.new }
-    ensures before { (k : ℕ) → k < place → object_at work.new k ≡ object_at work.old k }
+    ensures changed { IsChanged cells.old cells.new (length work.old) work.old work.new place }
     ensures taken { result ≡ Some from → (object_at work.new place ≡ from) × (from < question.now.problem.now.objects) }
     ensures raised { IsRaised question.now cells.new work.new place from result }
 {
     if from >= question.objects {
         return None;
     }
-    work[place] = from;
+    put_object(cells, work, place, from);
     raise(question, cells, work, place)
 }

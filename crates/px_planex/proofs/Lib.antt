@@ -11,5 +11,5 @@ pub mod Progressing
 pub mod TracedRuns
 pub mod TurnBound
 pub mod DangerRunning
-mod Taking
+pub mod Taking
 mod Happening

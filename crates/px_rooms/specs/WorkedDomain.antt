@@ -17,9 +17,9 @@ joined separator [] = []
 joined separator (text ∷ []) = text
 joined separator (text ∷ next ∷ texts) = text ++ (separator ++ joined separator (next ∷ texts))
 
--- the robot is the only object of the domain
+-- the only object that the domain names is object 0, the robot; any other has no text
 abbrev pub term_text : List (List ℕ) → Term → List ℕ
-term_text variables (Obj n) = robot_name
+term_text variables (Obj n) = slice_index_or (robot_name ∷ []) n []
 term_text variables (Var v) = slice_index_or variables v []
 term_text variables Any = codes "$"
 

@@ -5,7 +5,7 @@ use thiserror::Error;
 #[derive(Clone, Copy, PartialEq, Eq, Debug, Error)]
 pub enum RoomErr {
     /// A number names no thing of the kind that is wanted, a door has one room on both sides, or there isn't one robot.
-    #[error("a number names no thing of the kind that is wanted")]
+    #[error("a number names no thing of the kind that is wanted, a door has one room on both sides, or there isn't one robot")]
     NoSuchThing,
     /// Out of memory.
     #[error("out of memory")]

@@ -25,12 +25,16 @@
 #![tactic(auto)]
 
 mod action;
+#[cfg(test)]
+mod all_states;
 mod building;
 #[cfg(test)]
 mod drawing;
 mod errors;
 mod facts;
 mod laws;
+#[cfg(test)]
+mod pair;
 #[cfg(test)]
 mod plain;
 mod problem;

@@ -13,6 +13,7 @@ use Rattle.px_session.specs.Opened.{tables_of}
 use Rattle.px_session.specs.Sessions.{IsSession, SessionState, opening}
 use Rattle.px_session.specs.Transcripts.{AreAnswers, Transcript}
 use Rattle.px_session.proofs.Kept.{sessions_are_kept}
+use Rattle.px_session.proofs.KeptRooms.{rooms_are_kept}
 use Rattle.px_run.specs.Laws.{CarriesAfter, IsCarried, PlanCarries, TranscriptsCarry}
 use Rattle.px_run.specs.Outcomes.{SourceEnds}
 use Rattle.px_run.specs.declared.status.Status.{Status}
@@ -49,7 +50,15 @@ carry bytes text transcript done below =
     let range = in-range stage_now bytes script transcript.spelt in
     let session = sessions_are_kept.opened script.problem script.facts range.facts.fact_set in
     let is = carried script.problem (opening script.facts) session script.commands transcript.answers transcript.lawful.last transcript.lawful.lawful done below in
-    record { state = is.state; left = is.left; plan = is.plan; kernels = is.kernels }
+    record {
+      state = is.state;
+      left = is.left;
+      plan = is.plan;
+      kernels = is.kernels;
+      rooms = λ things building.
+          let kept = rooms_are_kept.answers script things done (take done transcript.answers) is.state range building is.left in
+          record { building = kept.0; left = kept.1; inside = kept.2 };
+    }
 
 pub transcripts_carry : TranscriptsCarry
 transcripts_carry = record { carry = carry }

@@ -31,7 +31,7 @@ broke-front sink done next rest text broke is = (
 )
 
 -- the same where nothing was done, and nothing comes after
-broke-text : (sink : SinkEnds) (done next text : List ℕ) → Broke sink done next → done ≡ [] → text ≡ next → WroteProperFront sink text
+pub broke-text : (sink : SinkEnds) (done next text : List ℕ) → Broke sink done next → done ≡ [] → text ≡ next → WroteProperFront sink text
 broke-text sink done next text broke none is = (
   done ++ broke.front,
   broke.rest,

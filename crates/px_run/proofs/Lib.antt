@@ -1,5 +1,7 @@
 pub mod AnswerLemmas
 pub mod Carried
+pub mod CountLemmas
+pub mod DemoLemmas
 pub mod OneText
 pub mod OutcomeLemmas
 pub mod Fronts

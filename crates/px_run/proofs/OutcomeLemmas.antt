@@ -102,7 +102,7 @@ run-completes source sink (status.Refused refused) came right gone count bytes s
     absurd (not-both right.0 script refused (told-script source bytes right.0 script told right.1 is) right.2)
 
 -- a sink that isn't sure to take a text hasn't the room for it
-no-room : (sure : Option ℕ) (written : Option (List ℕ)) (text held : List ℕ) (room : ℕ) → sure ≡ Some room → written ≡ Some held → HasNoRoomFor sure written text → length held + length text ≤ room → ⊥
+pub no-room : (sure : Option ℕ) (written : Option (List ℕ)) (text held : List ℕ) (room : ℕ) → sure ≡ Some room → written ≡ Some held → HasNoRoomFor sure written text → length held + length text ≤ room → ⊥
 no-room None written text held room one other lacks fits = cc
 no-room (Some r) None text held room one other lacks fits = cc
 no-room (Some r) (Some h) text held room one other lacks fits =

@@ -6,6 +6,8 @@ use Rattle.px_script.specs.Commands.{Facts}
 use Rattle.px_session.specs.Lawful.{Lawful}
 use Rattle.px_session.specs.Opened.{SessionValue}
 use Rattle.px_run.specs.Outcomes.{SinkEnds, Wrote, Broke}
+use Rattle.px_run.specs.Sums.{HasMore}
+use Rattle.px_run.specs.declared.counts.Counts.{Counts}
 use Rattle.px_run.specs.declared.running.AnswerErr.{AnswerErr}
 use Rattle.px_run.specs.declared.running.AnswerErr.TheVariants as answer_err
 
@@ -17,6 +19,10 @@ pub record IsAnswered (old : SessionValue) (answer : Reply) (new : SessionValue)
 -- the text of a lawful reply to the next command
 abbrev pub IsAnswerText : SessionValue → SessionValue → List ℕ → Type 0
 IsAnswerText old new text = (answer : Reply) × IsAnswered old answer new × (text ≡ reply_text new.names answer)
+
+-- the counts with those of a lawful reply to the next command
+abbrev pub IsAnswerCount : SessionValue → SessionValue → Counts → Counts → Type 0
+IsAnswerCount old new counts more = (answer : Reply) × IsAnswered old answer new × HasMore counts answer more
 
 -- the outcomes of answering the next command
 abbrev pub AnswerRight : {T : Type 0} → SessionValue → SessionValue → SinkEnds → Result T AnswerErr → Type 0

@@ -1,13 +1,16 @@
 -- What follows of a transcript: that the bytes determine it, and what its plans and tables are worth.
-use Rattle.std.specs.Prelude.{◌≡◌, ◌≤◌, ◌++◌, ℕ, List, [], length, take, All, slice_index_or}
+use Rattle.std.specs.Prelude.{◌≡◌, ◌≤◌, ◌++◌, ℕ, List, [], Some, length, take, All, slice_index_or}
 use Rattle.px_terms.specs.Plans.{Carries}
 use Rattle.px_terms.specs.declared.problem.Problem.{Problem}
 use Rattle.px_table.specs.Kernels.{KernelsCarry}
+use Rattle.px_world.specs.declared.thing.Thing.{Thing}
+use Rattle.px_rooms.specs.States.{RoomState, first_state}
 use Rattle.px_printer.specs.declared.reply.Reply.{Reply}
 use Rattle.px_printer.specs.declared.reply.Reply.TheVariants as reply
 use Rattle.px_script.specs.Commands.{Command, Plan, Facts}
 use Rattle.px_script.specs.Content.{ScriptValue}
 use Rattle.px_session.specs.Opened.{tables_of}
+use Rattle.px_session.specs.RoomRuns.{AreAnswersIn, IsInBuilding}
 use Rattle.px_session.specs.Sessions.{SessionState, opening}
 use Rattle.px_session.specs.Transcripts.{AreAnswers, Transcript}
 use Rattle.px_run.specs.Outcomes.{Came, SourceEnds}
@@ -26,14 +29,22 @@ abbrev pub PlanCarries : Problem → SessionState → Command → Reply → Type
 PlanCarries problem state (Plan name goal vars) (reply.Plan given moves steps) = Carries problem state.atoms steps vars goal
 PlanCarries problem state _ _ = Unit {0}
 
+-- From the first state of a building the replies leave one state of it after the other, each run by the edits and steps of its turns. In
+-- the last one of these the session is: the world's atoms are its facts.
+pub record AreInBuilding (script : ScriptValue) (things : List Thing) (done : ℕ) (answers : List Reply) (state : SessionState) : Type 0 where
+  pub building : RoomState
+  pub left : AreAnswersIn script.problem (opening script.facts) (first_state things) (take done script.commands) (take done answers) state building
+  pub inside : IsInBuilding script.problem building state
+
 -- So many commands are done. In the state that their replies leave, the next command is answered by a plan only where the world's atoms
 -- carry its steps to the goal; and each proper instance of each kernel of each stored and each learned table carries the steps that are
--- left to that table's goal.
+-- left to that table's goal. With a building the replies leave a state of it.
 pub record CarriesAfter (script : ScriptValue) (answers : List Reply) (done : ℕ) : Type 0 where
   pub state : SessionState
   pub left : AreAnswers script.problem (opening script.facts) (take done script.commands) (take done answers) state
   pub plan : PlanCarries script.problem state (slice_index_or script.commands done Facts) (slice_index_or answers done (reply.FactsAre []))
   pub kernels : All (KernelsCarry script.problem) (tables_of state)
+  pub rooms : (things : List Thing) → script.building ≡ Some things → AreInBuilding script things done answers state
 
 -- it is so before each command of a transcript, and after the last
 pub record TranscriptsCarry : Type 0 where

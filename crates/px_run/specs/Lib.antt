@@ -1,4 +1,5 @@
 pub mod Transcripts
+pub mod Sums
 pub mod Outcomes
 pub mod Exits
 pub mod Answers

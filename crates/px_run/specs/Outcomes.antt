@@ -1,7 +1,7 @@
 -- The outcomes of the top call.
-use Rattle.std.specs.Prelude.{◌≡◌, ◌⊎◌, ◌<◌, ◌≤◌, ◌+◌, ℕ, Bool, true, false, List, [], ◌∷◌, ◌++◌, length, codes, Option, Some}
-use Rattle.std.specs.Str.{bytes_eq}
+use Rattle.std.specs.Prelude.{◌≡◌, ◌⊎◌, ◌<◌, ◌≤◌, ◌+◌, ℕ, Bool, true, false, List, [], ◌++◌, length, Option, None, Some}
 use Rattle.std.specs.Io.KnownBytes.{Appends}
+use Rattle.px_demo.specs.Script.{demo_script}
 use Rattle.px_io.specs.Causes.{Rose}
 use Rattle.px_io.specs.Reading.{ReadToEnd}
 use Rattle.px_io.specs.Writing.{HasNoRoomFor}
@@ -10,17 +10,15 @@ use Rattle.px_reader.specs.declared.script.Refused.{Refused}
 use Rattle.px_script.specs.Content.{ScriptValue}
 use Rattle.px_script.specs.Stages.{stage_now}
 use Rattle.px_script.specs.Scripts.{IsScript}
+use Rattle.px_session.specs.Demo.{Summary}
 use Rattle.px_session.specs.Opened.{SessionValue, opened}
 use Rattle.px_session.specs.Transcripts.{Transcript}
+use Rattle.px_words.specs.declared.orders.Order.{Order}
+use Rattle.px_words.specs.declared.orders.Order.TheVariants.{Run, Demo}
+use Rattle.px_run.specs.Sums.{IsSumOf}
 use Rattle.px_run.specs.Transcripts.{Begun, IsTextOf, IsBegunOf, IsNextOf, IsRefused, IsWritten, refusal_text}
 use Rattle.px_run.specs.declared.status.Status.{Status}
 use Rattle.px_run.specs.declared.status.Status.TheVariants as status
-
--- the words are the one word `run`
-abbrev pub takes : List (List ℕ) → Bool
-takes [] = false
-takes (word ∷ []) = bytes_eq word (codes "run")
-takes (word ∷ more ∷ words) = false
 
 -- what a source tells, before a call and after it
 pub record SourceEnds : Type 0 where
@@ -102,10 +100,23 @@ RunRight source sink status.NoMemory = (source.faults_after ≡ source.faults) �
     × (Wrote sink [] ⊎ ((bytes : List ℕ) × (text : List ℕ) × Came source bytes × Begun bytes text × Wrote sink text))
 RunRight source sink status.Usage = ⊥
 
--- the table of the statuses, by whether the words are taken
-abbrev pub StatusRight : Bool → SourceEnds → SinkEnds → Status → Type 0
-StatusRight false source sink result = UsageRight sink result
-StatusRight true source sink result = RunRight source sink result
+-- what is written in one piece for a demo: where and why its script is refused, or the line that sums it up
+abbrev pub IsDemoText : (rooms seed : ℕ) → List ℕ → Type 0
+IsDemoText rooms seed text = ((refused : Refused) × IsRefused (demo_script rooms seed) refused × (text ≡ refusal_text refused)) ⊎ Summary rooms seed text
+
+-- The outcomes of `demo`, which reads nothing.
+abbrev pub DemoRight : (rooms seed : ℕ) → SinkEnds → Status → Type 0
+DemoRight rooms seed sink status.Done = (text : List ℕ) × Summary rooms seed text × Wrote sink text
+DemoRight rooms seed sink (status.Refused refused) = IsRefused (demo_script rooms seed) refused × Wrote sink (refusal_text refused)
+DemoRight rooms seed sink status.WriteFault = (text : List ℕ) × IsDemoText rooms seed text × Broke sink [] text
+DemoRight rooms seed sink status.NoMemory = Wrote sink []
+DemoRight rooms seed sink _ = ⊥
+
+-- the table of the statuses, by what the words order
+abbrev pub StatusRight : Option Order → SourceEnds → SinkEnds → Status → Type 0
+StatusRight None source sink result = UsageRight sink result
+StatusRight (Some Run) source sink result = RunRight source sink result
+StatusRight (Some (Demo rooms seed)) source sink result = DemoRight rooms seed sink result
 
 -- A script of told bytes, and no count that rose, give the whole transcript, or memory ran out.
 abbrev pub Completes : SourceEnds → SinkEnds → Status → Type 0
@@ -122,6 +133,29 @@ CompletesSurely source sink result = (bytes : List ℕ) (script : ScriptValue) (
 abbrev pub Refuses : SourceEnds → SinkEnds → Status → Type 0
 Refuses source sink result = (bytes : List ℕ) (refused : Refused) → source.left ≡ Some bytes → length bytes ≤ limit → IsRefused bytes refused
     → (Rose source.faults source.faults_after → ⊥) → (result ≡ status.Refused refused) ⊎ (result ≡ status.NoMemory) ⊎ (result ≡ status.WriteFault)
+
+-- Where a demo's script is one, and no write failed, its line is written, or memory ran out.
+abbrev pub DemoCompletes : (rooms seed : ℕ) → SinkEnds → Status → Type 0
+DemoCompletes rooms seed sink result = (script : ScriptValue) → IsScript stage_now (demo_script rooms seed) script → (Rose sink.faults sink.faults_after → ⊥)
+    → (result ≡ status.Done) ⊎ (result ≡ status.NoMemory)
+
+-- So does a sink that is sure to take the line.
+abbrev pub DemoCompletesSurely : (rooms seed : ℕ) → SinkEnds → Status → Type 0
+DemoCompletesSurely rooms seed sink result = (script : ScriptValue) (held : List ℕ) (room : ℕ) → IsScript stage_now (demo_script rooms seed) script
+    → sink.written ≡ Some held → sink.sure ≡ Some room → ((text : List ℕ) → Summary rooms seed text → length held + length text ≤ room)
+    → (result ≡ status.Done) ⊎ (result ≡ status.NoMemory)
+
+-- Where it is none, it is refused, if no write failed and memory didn't run out.
+abbrev pub DemoRefuses : (rooms seed : ℕ) → SinkEnds → Status → Type 0
+DemoRefuses rooms seed sink result = (refused : Refused) → IsRefused (demo_script rooms seed) refused
+    → (result ≡ status.Refused refused) ⊎ (result ≡ status.NoMemory) ⊎ (result ≡ status.WriteFault)
+
+-- the outcomes of summing up a demo's script
+abbrev pub SumRight : (rooms seed : ℕ) → SessionValue → SinkEnds → Status → Type 0
+SumRight rooms seed session sink status.Done = (text : List ℕ) × IsSumOf rooms seed session text × Wrote sink text
+SumRight rooms seed session sink status.WriteFault = (text : List ℕ) × IsSumOf rooms seed session text × Broke sink [] text
+SumRight rooms seed session sink status.NoMemory = Wrote sink []
+SumRight rooms seed session sink _ = ⊥
 
 -- the outcomes of answering the commands of a session
 abbrev pub ExecutedRight : SessionValue → SinkEnds → Status → Type 0

@@ -2,7 +2,9 @@
 //!
 //! # Calling it
 //!
-//! - The one word `run` reads a script from standard input, and writes the replies to its commands to standard output.
+//! - With the single word `run` the program reads a script from standard input, and writes the replies to its commands to standard
+//!   output. With the words `demo ROOMS SEED` it makes the script of `px_demo`, answers its commands, and writes one line that sums up
+//!   the replies (the clauses `demo_completes`, `demo_completes_surely`, `demo_refuses` and `demo_front` of the top call, and `right`).
 //!   Every other list of words is answered by how the program is called. The exit status is that of `Status::exit`.
 //! - [`top::planex_main`] is the program without its streams: it takes the words, a source and a sink, which may be
 //!   in memory, and answers a `Status`. Its contract is one table over the statuses (`specs/Outcomes`): what each
@@ -20,6 +22,10 @@
 //! - A script has at most 1,048,576 bytes. Where more came, the answer is `TooLong`.
 #![tactic(auto)]
 
+mod counts;
+#[cfg(test)]
+mod cut_tests;
+mod demo;
 mod laws;
 #[cfg(test)]
 mod reading_tests;

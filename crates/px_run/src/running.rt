@@ -63,7 +63,7 @@ fn answer_text(alloc: Global, session: &mut Session, place: usize) -> Result<Vec
 }
 
 /// A lawful reply to the command at the place, the next one.
-fn lawful_reply(session: &mut Session, place: usize) -> Result<Reply, NoMemory>
+pub(crate) fn lawful_reply(session: &mut Session, place: usize) -> Result<Reply, NoMemory>
     requires place { place < length session.old.commands }
     requires next { place ≡ session.old.done }
     ensures answered { IfOk result (λ reply. IsAnswered session.old reply session.new) }

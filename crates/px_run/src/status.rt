@@ -19,9 +19,10 @@ pub enum Status {
     ReadFault,
     /// A write failed.
     WriteFault,
-    /// There was no memory for the script, a reply or its text. No read failed, and no more bytes came than a script has.
+    /// There was no memory for the words, the script, a reply or its text, or the demo's script or line. No read failed, and no more
+    /// bytes came than a script may have.
     NoMemory,
-    /// More bytes came than a script has.
+    /// More bytes came than a script may have.
     TooLong,
 }
 

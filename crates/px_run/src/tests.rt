@@ -226,6 +226,67 @@ fn a_mebibyte_is_read_and_no_more(rt: HostRuntime) -> Result<(), NoMemory> {
     Ok(())
 }
 
+// The words of demos, and the line of each.
+const DEMOS: &[(&[&str], &str)] = &[
+    (
+        &["demo", "3", "0"],
+        "demo 3 0 9 commands 3 plans 3 steps 3 goals\n",
+    ),
+    (
+        &["demo", "4", "0"],
+        "demo 4 0 12 commands 4 plans 5 steps 4 goals\n",
+    ),
+    (
+        &["demo", "5", "0"],
+        "demo 5 0 15 commands 5 plans 6 steps 5 goals\n",
+    ),
+    (
+        &["demo", "6", "0"],
+        "demo 6 0 18 commands 6 plans 8 steps 6 goals\n",
+    ),
+    (
+        &["demo", "7", "0"],
+        "demo 7 0 21 commands 7 plans 10 steps 7 goals\n",
+    ),
+    (
+        &["demo", "8", "0"],
+        "demo 8 0 24 commands 8 plans 12 steps 8 goals\n",
+    ),
+    (
+        &["demo", "9", "0"],
+        "demo 9 0 27 commands 9 plans 13 steps 9 goals\n",
+    ),
+    (
+        &["demo", "10", "0"],
+        "demo 10 0 30 commands 10 plans 14 steps 10 goals\n",
+    ),
+    (
+        &["demo", "11", "0"],
+        "demo 11 0 33 commands 11 plans 16 steps 11 goals\n",
+    ),
+    (
+        &["demo", "12", "0"],
+        "demo 12 0 36 commands 12 plans 17 steps 12 goals\n",
+    ),
+];
+
+/// Is this the line that sums up the demo of these words?
+fn sums_up(alloc: Global, words: &[&str], line: &str) -> Result<bool, NoMemory> {
+    let mut source = MemSource::new(THIN.to_vec(alloc)?, 1, failing(alloc, false)?);
+    let mut sink = MemSink::new(alloc, 100, failing(alloc, false)?)?;
+    let status = planex_main(alloc, words, &mut source, &mut sink);
+    Ok(status == Status::Done && sink.bytes() == line.as_bytes())
+}
+
+#[test]
+fn each_demo_is_summed_up_and_always_the_same(rt: HostRuntime) -> Result<(), NoMemory> {
+    let alloc = rt.alloc();
+    for (words, line) in DEMOS {
+        assert!(&rt; sums_up(alloc, words, line)? && sums_up(alloc, words, line)?);
+    }
+    Ok(())
+}
+
 /// Are the words answered by the usage?
 fn is_usage(alloc: Global, words: &[&str]) -> Result<bool, NoMemory> {
     let mut source = MemSource::new(THIN.to_vec(alloc)?, 1, failing(alloc, false)?);
@@ -240,6 +301,9 @@ fn other_words_are_answered_by_the_usage(rt: HostRuntime) -> Result<(), NoMemory
     let alloc = rt.alloc();
     assert!(&rt; is_usage(alloc, &["x"])?);
     assert!(&rt; is_usage(alloc, &["run", "x"])?);
+    assert!(&rt; is_usage(alloc, &["--", "run"])?);
+    assert!(&rt; is_usage(alloc, &["demo", "3"])?);
+    assert!(&rt; is_usage(alloc, &["demo", "2", "0"])?);
     assert!(&rt; is_usage(alloc, &[])?);
     Ok(())
 }

@@ -1,14 +1,17 @@
 //! The top call.
-ghost use Rattle.std.specs.Prelude.{◌≡◌, ◌+◌, Bool, List, ℕ, map, false, true, length};
+ghost use Rattle.std.specs.Prelude.{◌≡◌, ◌+◌, List, ℕ, Some, map, length};
 ghost use Rattle.std.specs.Io.KnownBytes.{Consumes};
 ghost use Rattle.px_reader.specs.LineReads.{content};
 ghost use Rattle.px_script.specs.StageRanges.{IsOfStage};
 ghost use Rattle.px_script.specs.Stages.{stage_now};
 ghost use Rattle.px_session.specs.Opened.{opened};
-ghost use Rattle.px_run.specs.Fronts.{HasFront};
+ghost use Rattle.px_words.specs.Orders.{order_of};
+ghost use Rattle.px_words.specs.declared.orders.Order.TheVariants.{Run, Demo};
+ghost use Rattle.px_run.specs.Fronts.{HasDemoFront, HasFront};
 ghost use Rattle.px_run.specs.Laws.{IsCarried};
-ghost use Rattle.px_run.specs.Outcomes.{source_ends, sink_ends, takes, UsageRight, RefusalRight, ExecutedRight, RunRight, StatusRight, Completes, CompletesSurely, Refuses};
+ghost use Rattle.px_run.specs.Outcomes.{source_ends, sink_ends, DemoCompletes, DemoCompletesSurely, DemoRefuses, UsageRight, RefusalRight, ExecutedRight, RunRight, StatusRight, Completes, CompletesSurely, Refuses};
 
+use crate::demo::demo;
 use crate::running::execute;
 use crate::status::Status;
 use px_io::{ReadErr, Sink, Source, put, read_all};
@@ -16,59 +19,86 @@ use px_printer::{refused_text, usage_text};
 use px_reader::{Refused, Script, ScriptErr, read_script};
 use px_session::Session;
 use px_terms::NoMemory;
+use px_words::{Order, order_of};
 use std::alloc::Global;
 
 /// How many bytes a script has at most.
 const LIMIT: usize = 1_048_576;
 
-/// Are the words taken?
-fn takes(words: &[&str]) -> bool
-    ensures { result ≡ takes (map (λ word. word.now) words.now) }
-{
-    match words {
-        [word] => *word == "run",
-        _ => false,
-    }
-}
-
-/// Does all that the program does: `words` are those of the command line, without the program's name.
+/// Does all that the program does: `words` are those of the command line, without the program's name. `run` reads a script from the
+/// source and answers it; `demo ROOMS SEED` makes a script, and sums up the replies to it; any other words are `Usage`.
+///
+/// For every script, with or without a building, the transcript holds one lawful reply for each command (`right`). So each plan
+/// that is told carries the world's atoms to its goal, each table that is kept carries the steps that are left from each proper
+/// instance of each of its kernels, PLANEX acts by the highest kernel that fits, and the replies that there is no plan, that a limit
+/// is met or that no kernel fits come exactly where their definitions hold (`carries`; laws of `px_session`).
 #[tactic(auto, using(crate::proofs::Carried::is_carried))]
-pub fn planex_main<S: Source, K: Sink>(
+pub fn planex_main<'a, S: Source, K: Sink>(
     alloc: Global,
-    words: &[&str],
+    words: &'a [&'a str],
     source: &mut S,
     sink: &mut K,
 ) -> Status
-    ensures right { StatusRight (takes (map (λ word. word.now) words.now))
+    ensures right { StatusRight (order_of (map (λ word. word.now) words.now))
         (source_ends S.left S.taken S.faults S.never_fails source.old source.new)
         (sink_ends K.written K.faults K.sure sink.old sink.new)
         result }
-    ensures completes { takes (map (λ word. word.now) words.now) ≡ true → Completes
+    ensures completes { order_of (map (λ word. word.now) words.now) ≡ Some Run → Completes
         (source_ends S.left S.taken S.faults S.never_fails source.old source.new)
         (sink_ends K.written K.faults K.sure sink.old sink.new)
         result }
-    ensures completes_surely { takes (map (λ word. word.now) words.now) ≡ true → CompletesSurely
+    ensures completes_surely { order_of (map (λ word. word.now) words.now) ≡ Some Run → CompletesSurely
         (source_ends S.left S.taken S.faults S.never_fails source.old source.new)
         (sink_ends K.written K.faults K.sure sink.old sink.new)
         result }
-    ensures refuses { takes (map (λ word. word.now) words.now) ≡ true → Refuses
+    ensures refuses { order_of (map (λ word. word.now) words.now) ≡ Some Run → Refuses
         (source_ends S.left S.taken S.faults S.never_fails source.old source.new)
         (sink_ends K.written K.faults K.sure sink.old sink.new)
         result }
-    ensures front { takes (map (λ word. word.now) words.now) ≡ true → HasFront
+    ensures front { order_of (map (λ word. word.now) words.now) ≡ Some Run → HasFront
         (source_ends S.left S.taken S.faults S.never_fails source.old source.new)
         (sink_ends K.written K.faults K.sure sink.old sink.new)
         result }
+    ensures demo_completes { (rooms seed : ℕ) → order_of (map (λ word. word.now) words.now) ≡ Some (Demo rooms seed)
+        → DemoCompletes rooms seed (sink_ends K.written K.faults K.sure sink.old sink.new) result }
+    ensures demo_completes_surely { (rooms seed : ℕ) → order_of (map (λ word. word.now) words.now) ≡ Some (Demo rooms seed)
+        → DemoCompletesSurely rooms seed (sink_ends K.written K.faults K.sure sink.old sink.new) result }
+    ensures demo_refuses { (rooms seed : ℕ) → order_of (map (λ word. word.now) words.now) ≡ Some (Demo rooms seed)
+        → DemoRefuses rooms seed (sink_ends K.written K.faults K.sure sink.old sink.new) result }
+    ensures demo_front { (rooms seed : ℕ) → order_of (map (λ word. word.now) words.now) ≡ Some (Demo rooms seed)
+        → HasDemoFront rooms seed (sink_ends K.written K.faults K.sure sink.old sink.new) result }
     ensures carries { IsCarried (source_ends S.left S.taken S.faults S.never_fails source.old source.new) result }
     ensures gone { (came : List ℕ) × Consumes (S.left source.old) (S.left source.new) came × (S.taken source.new ≡ S.taken source.old + length came) }
-    ensures untaken { takes (map (λ word. word.now) words.now) ≡ false → source.new ≡ source.old }
+    ensures unread { (order_of (map (λ word. word.now) words.now) ≡ Some Run → ⊥) → source.new ≡ source.old }
     ensures source_nature { S.never_fails source.new ≡ S.never_fails source.old }
     ensures sink_nature { K.sure sink.new ≡ K.sure sink.old }
 {
-    if !takes(words) {
-        return usage(sink);
+    obey(alloc, words, source, sink)
+}
+
+/// Does what the words order.
+#[tactic(auto, using(crate::proofs::DemoLemmas::no_memory, crate::proofs::DemoLemmas::ordered))]
+fn obey<'a, S: Source, K: Sink>(
+    alloc: Global,
+    words: &'a [&'a str],
+    source: &mut S,
+    sink: &mut K,
+) -> Status
+    ensures right { StatusRight (order_of (map (λ word. word.now) words.now))
+        (source_ends S.left S.taken S.faults S.never_fails source.old source.new)
+        (sink_ends K.written K.faults K.sure sink.old sink.new)
+        result }
+    ensures gone { (came : List ℕ) × Consumes (S.left source.old) (S.left source.new) came × (S.taken source.new ≡ S.taken source.old + length came) }
+    ensures unread { (order_of (map (λ word. word.now) words.now) ≡ Some Run → ⊥) → source.new ≡ source.old }
+    ensures source_nature { S.never_fails source.new ≡ S.never_fails source.old }
+    ensures sink_nature { K.sure sink.new ≡ K.sure sink.old }
+{
+    match order_of(alloc, words) {
+        Ok(Some(Order::Run)) => run(alloc, source, sink),
+        Ok(Some(Order::Demo { rooms, seed })) => demo(alloc, rooms, seed, sink),
+        Ok(None) => usage(sink),
+        Err(NoMemory) => Status::NoMemory,
     }
-    run(alloc, source, sink)
 }
 
 /// Writes how the program is called.
@@ -118,7 +148,7 @@ fn answer<K: Sink>(alloc: Global, script: Script, sink: &mut K) -> Status
 }
 
 /// Writes where and why a script is refused.
-fn refuse<K: Sink>(alloc: Global, refused: Refused, sink: &mut K) -> Status
+pub(crate) fn refuse<K: Sink>(alloc: Global, refused: Refused, sink: &mut K) -> Status
     ensures right { RefusalRight refused (sink_ends K.written K.faults K.sure sink.old sink.new) result }
     ensures nature { K.sure sink.new ≡ K.sure sink.old }
 {

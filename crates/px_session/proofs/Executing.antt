@@ -1,5 +1,5 @@
 -- What a session keeps, from its opening on and by each lawful reply.
-use Rattle.std.specs.Prelude.{◌≡◌, ◌≢◌, ◌⊎◌, ◌<◌, ◌≤◌, ◌+◌, ℕ, true, false, Option, Some, None, List, [], ◌∷◌, length, map, take, flat_map, All, AllPairs, Contains, codes, IfSome}
+use Rattle.std.specs.Prelude.{◌≡◌, ◌≢◌, ◌⊎◌, ◌<◌, ◌≤◌, ◌+◌, ℕ, Option, List, [], ◌∷◌, length, map, take, flat_map, All, AllPairs, Contains, IfSome}
 use Rattle.std.proofs.Common.{refl, sym, ap, ◌∙◌, subst, arith, get_or, zero, suc, inl}
 use Rattle.std.proofs.lemmas.List.{get_or-map, length-append, length-map}
 use Rattle.std.proofs.lemmas.List.Elements.{All-nil, All-weaker, Contains-append_cases}
@@ -17,8 +17,6 @@ use Rattle.px_script.specs.Content.{ScriptValue}
 use Rattle.px_script.specs.Limits as limit
 use Rattle.px_script.specs.Limits.{greatest}
 use Rattle.px_script.specs.Ranges.{IsBindingOf, IsBuildingOf, IsCommandOf, IsInRange, result_given}
-use Rattle.px_script.specs.StageRanges.{IsBuiltCommand, IsOfStage}
-use Rattle.px_script.specs.Stages.{is_built, stage_now}
 use Rattle.px_world.specs.declared.thing.Thing.{Thing}
 use Rattle.px_rooms.specs.States.{RoomState}
 use Rattle.px_session.specs.KeptSessions.{IsBindingToRun, IsKeptSession, IsRunnable}
@@ -36,13 +34,6 @@ use Rattle.px_session.proofs.RoomEdits.{OwnsRoomEdits, at_first, each-building, 
 
 -- ---- the opening
 
-true-not-false : true ≡ false → ⊥
-true-not-false same = cc
-
--- a word that isn't built is none of a command
-unbuilt : (word : List ℕ) → is_built stage_now word ≡ false → is_built stage_now word ≡ true → ⊥
-unbuilt word out is = true-not-false (sym is ∙ out)
-
 some-object : (objects vars : ℕ) → (objects ≡ 0 → vars ≡ 0) → 0 < vars → 0 < objects
 some-object zero vars none some = absurd (omega (arith, none refl, some))
 some-object (suc objects) vars none some = omega arith
@@ -59,23 +50,23 @@ abbrev IsReady : Problem → Option (List Thing) → ℕ → command.Command →
 IsReady problem building results given = IsRunnable problem (at_first building) given × IsTellable problem results given
 
 ready : (version : ℕ) (problem : Problem) (building : Option (List Thing)) (results : ℕ) (c : command.Command)
-    → IfSome building (OwnsRoomEdits problem) → IsCommandOf version problem building results c → IsBuiltCommand stage_now c
+    → IfSome building (OwnsRoomEdits problem) → IsCommandOf version problem building results c
     → IsReady problem building results c
-ready version problem building results (command.Plan name goal vars) owns of built =
+ready version problem building results (command.Plan name goal vars) owns of =
     (record { atoms = of.1.atoms; few = of.1.few_variables; some_object = some-object problem.objects vars of.1.no_objects }, (of.0, of.1.atoms))
-ready version problem building results (command.Learn name source) owns of built = (tt, of)
-ready version problem building results (command.Show name) owns of built = (tt, of)
-ready version problem building results (command.DisturbAtoms turn between edits) owns of built = (note-atoms problem building edits of.1 of.2, tt)
-ready version problem building results (command.DisturbRooms turn between edits) owns of built = (note-rooms problem building edits owns of.1, tt)
-ready version problem building results (command.Run name bindings) owns of built = (binding-ready problem bindings of.1 of.2, of.0)
-ready version problem building results command.Facts owns of built = (tt, tt)
+ready version problem building results (command.Learn name source) owns of = (tt, of)
+ready version problem building results (command.Show name) owns of = (tt, of)
+ready version problem building results (command.DisturbAtoms turn between edits) owns of = (note-atoms problem building edits of.1 of.2, tt)
+ready version problem building results (command.DisturbRooms turn between edits) owns of = (note-rooms problem building edits owns of.1, tt)
+ready version problem building results (command.Run name bindings) owns of = (binding-ready problem bindings of.1 of.2, of.0)
+ready version problem building results command.Facts owns of = (tt, tt)
 
-ready-at : (script : ScriptValue) → IsInRange script → IsOfStage stage_now script → (k : ℕ) (c : command.Command) → k < length script.commands
+pub ready-at : (script : ScriptValue) → IsInRange script → (k : ℕ) (c : command.Command) → k < length script.commands
     → IsReady script.problem script.building (length script.names.results) (get_or script.commands k c)
-ready-at script range stage k c below =
+ready-at script range k c below =
     ready script.version script.problem script.building (length script.names.results) (get_or script.commands k c)
     (each-building (IsBuildingOf script.names script.problem script.facts) (OwnsRoomEdits script.problem) script.building
-    (owns-room-edits script.names script.problem script.facts) range.building) (range.commands.each k c below) (stage.commands k c below)
+    (owns-room-edits script.names script.problem script.facts) range.building) (range.commands.each k c below)
 
 few-commands : (version count : ℕ) → version ≡ 1 → count ≤ greatest version limit.commands → count < 4294967295
 few-commands version count is_one few =
@@ -83,8 +74,8 @@ few-commands version count is_one few =
     omega (arith, most)
 
 -- a session keeps what it is to keep before its first command
-pub kept-opened : (script : ScriptValue) → IsInRange script → IsOfStage stage_now script → IsKeptSession (at_first script.building) (opened script)
-kept-opened script range stage = record {
+pub kept-opened : (script : ScriptValue) → IsInRange script → IsKeptSession (at_first script.building) (opened script)
+kept-opened script range = record {
   problem = range.problem.valid;
   names = record { objects = sym range.problem.objects; predicates = sym range.problem.predicates; operators = range.operators };
   state = sessions_are_kept.opened script.problem script.facts range.facts.fact_set;
@@ -93,8 +84,8 @@ kept-opened script range stage = record {
     place = placed-first script.names script.problem script.facts script.building range.building;
     edits = All-nil (λ one. All (Takes (at_first script.building)) one.edits);
   };
-  commands = λ k c below. (ready-at script range stage k c below).0;
-  tellable = λ k c below. (ready-at script range stage k c below).1;
+  commands = λ k c below. (ready-at script range k c below).0;
+  tellable = λ k c below. (ready-at script range k c below).1;
   once = subst (AllPairs (λ one other. one ≢ other)) (sym range.commands.given) (apart-range (length script.names.results));
   learned = All-nil (Contains (flat_map result_given (take 0 script.commands)));
   few = few-commands script.version (length script.commands) range.version range.commands.few;

@@ -25,3 +25,6 @@ pub mod RunReplies
 pub mod Placing
 pub mod RoomEdits
 pub mod Noting
+pub mod RoomRuns
+pub mod KeptRooms
+pub mod WorkedRoomRuns

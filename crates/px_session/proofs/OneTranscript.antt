@@ -11,6 +11,7 @@ use Rattle.px_terms.specs.AtomSets.{IsAtomSet}
 use Rattle.px_terms.specs.Validity.{IsValid}
 use Rattle.px_proof.specs.declared.shape.Tick.{Tick}
 use Rattle.px_table.specs.declared.node.Node.{Node}
+use Rattle.px_demo.specs.Script.{demo_script}
 use Rattle.px_printer.specs.Texts.{line}
 use Rattle.px_printer.specs.declared.reply.Reply.{Reply}
 use Rattle.px_printer.specs.declared.reply.Reply.TheVariants as reply
@@ -20,7 +21,7 @@ use Rattle.px_script.specs.Scripts.{IsScript}
 use Rattle.px_script.specs.Stages.{stage_now}
 use Rattle.px_script.proofs.Kept.{in-range}
 use Rattle.px_script.proofs.Law.{reads-one-way}
-use Rattle.px_session.specs.Demo.{Summary, demo_script, is_plan, reaches_goal, step_count, summary_line}
+use Rattle.px_session.specs.Demo.{Summary, is_plan, reaches_goal, step_count, summary_line}
 use Rattle.px_session.specs.Determined.{AnswersAreOne, SameReply, TranscriptsAreOne}
 use Rattle.px_session.specs.Sessions.{IsSession, SessionState, opening}
 use Rattle.px_session.specs.Transcripts.{AreAnswers, AreAnswersTo, Transcript, texts}

@@ -57,7 +57,7 @@ module _ (problem : Problem) (table : Table) (is_table : IsTable problem table) 
   step-own steps zero inst all at = absurd (cc)
   step-own steps (suc k) inst all at = All-got (IsInstanceOf problem) steps k inst all at
 
-  kernel-own : (kernel : KernelInstance) (inst : OpInst) → IsInstantiation problem table kernel.objects → step_of_kernel table kernel ≡ Some inst
+  pub kernel-own : (kernel : KernelInstance) (inst : OpInst) → IsInstantiation problem table kernel.objects → step_of_kernel table kernel ≡ Some inst
       → IsInstanceOf problem inst
   kernel-own kernel inst given at = step-own (steps_under table kernel.objects) kernel.number inst (steps-own kernel.objects given) at
 
@@ -72,7 +72,7 @@ module _ (problem : Problem) (table : Table) (is_table : IsTable problem table) 
   remembered-own (Some kernel) instance can = maybe-own kernel can.2 (step_of_kernel table kernel) refl
 
   -- what is sensed can be acted by
-  sense-can : (outcome : Outcome) (old new : Running) → Happens leaves_edit problem table bound old Sense outcome new → CanAct new
+  pub sense-can : (outcome : Outcome) (old new : Running) → Happens leaves_edit problem table bound old Sense outcome new → CanAct new
   sense-can NoKernel old new is = subst CanAct (sym is.1) tt
   sense-can Goal old new is = subst CanAct (sym is.3) tt
   sense-can (Sensed i) old new is = subst CanAct (sym is.4) (is.1.fits.from_one, omega (arith, is.2, is.3), is.1.fits.instantiation)

@@ -231,4 +231,4 @@ worked_session = record { lawful = lawful; text = refl }
 
 pub worked_demo : WorkedDemo
 unfolding digits
-worked_demo = record { first = refl; second = refl; third = refl; near = refl; sent = refl; script = refl; line = refl }
+worked_demo = record { line = refl }

@@ -12,7 +12,9 @@ pub mod Opened
 pub mod OwnStates
 pub mod Named
 pub mod KeptSessions
+pub mod RoomRuns
 pub mod Determined
 pub mod Causes
 pub mod WorkedSession
 pub mod WorkedDemo
+pub mod WorkedRooms

@@ -2,9 +2,11 @@
 ghost use Rattle.px_session.specs.Causes.{CausesInOrder, RefusedReplies};
 ghost use Rattle.px_session.specs.Determined.{AnswersAreOne, LawfulIsOne, SessionsAreKept, TranscriptsAreOne};
 ghost use Rattle.px_session.specs.Named.{RepliesAreNamed};
+ghost use Rattle.px_session.specs.RoomRuns.{RoomsAreKept};
 ghost use Rattle.px_session.specs.Runs.{OneKindRuns};
 ghost use Rattle.px_session.specs.ToldRuns.{ToldRuns};
 ghost use Rattle.px_session.specs.WorkedDemo.{WorkedDemo};
+ghost use Rattle.px_session.specs.WorkedRooms.{WorkedRooms};
 ghost use Rattle.px_session.specs.WorkedSession.{WorkedSession};
 
 /// A session's state and a command have one lawful reply and leave one state. Where a search met the limit of shapes, one of
@@ -44,7 +46,7 @@ pub fn refused_replies()
     ensures { RefusedReplies }
 {}
 
-/// A run in a world of atoms, or in a building, is a session's run with the same disturbances.
+/// A run in which all edits are of atoms, or all of rooms, is a session's run with the same disturbances.
 pub fn one_kind_runs()
     ensures { OneKindRuns }
 {}
@@ -55,12 +57,23 @@ pub fn told_runs()
     ensures { ToldRuns }
 {}
 
+/// A script with a building begins in the building's first state, and each lawful reply leaves a state of it, whose facts are the
+/// world's atoms: a run what its turns leave, edit by edit and step by step, and any other command the state as it was.
+pub fn rooms_are_kept()
+    ensures { RoomsAreKept }
+{}
+
 /// A small script with thirteen commands: its lawful replies, and their text.
 pub fn worked_session()
     ensures { WorkedSession }
 {}
 
-/// The demo of three rooms and the seed 0: its targets, its script and the form of its line.
+/// The line of the demo for five replies.
 pub fn worked_demo()
     ensures { WorkedDemo }
+{}
+
+/// The turns of a run in which someone closes the door that the robot has opened: the states of the building that they leave.
+pub fn worked_rooms()
+    ensures { WorkedRooms }
 {}

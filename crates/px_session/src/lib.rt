@@ -8,9 +8,9 @@
 //!   order: `plan`, `learn`, `show`, `disturb`, `run` and `facts`. Its reply is lawful, each number that it prints as a name has
 //!   one, and after a refusal for memory the session is as it was. Contracts see a session as a `SessionValue` (`specs/Opened`); what it
 //!   keeps is in `specs/KeptSessions`.
-//! - A `run` takes all its memory before the first turn: room for each turn that there may be, and for each atom that edits and steps may
-//!   add. It goes on in a copy of the world's atoms (`running`, `turns`; `specs/Running` has the counts). With a building the world's
-//!   atoms are the facts of its state, edits are of rooms, and a run goes on in the building itself (`place`, `specs/Places`).
+//! - With a building the world's atoms are the facts of a state of it, from the opening on and after each lawful reply, and each
+//!   recorded edit is one that it takes. A run leaves the state that the edits and steps of its turns leave, one after the other, and
+//!   any other command leaves the state as it was (`specs/RoomRuns`, [`rooms_are_kept`]).
 //! - A `SessionState` in `specs/Sessions` has the world's atoms, the tables of the stored plans by name, the learned tables by
 //!   name in the order of learning, and the disturbances that are recorded for the next run. `opening` is the one before the
 //!   first command. An `Edit` is one of atoms or one of a building.
@@ -25,18 +25,24 @@
 //! - A session's state and a command have one lawful reply ([`lawful_is_one`]; where a search met the limit of shapes, one of
 //!   several questions may be told, and the text is one).
 //! - `Transcript` in `specs/Transcripts` is what is to be written for the bytes of a script: the texts of lawful replies to its
-//!   commands, one after the other. `Summary` in `specs/Demo` is the line of the demo, with the script that is made from its
-//!   two numbers. Both are determined ([`answers_are_one`], [`transcripts_are_one`]).
+//!   commands, one after the other. `Summary` in `specs/Demo` is the line of the demo, whose script
+//!   `px_demo` makes. Both are determined ([`answers_are_one`], [`transcripts_are_one`]).
 //! - Which of some causes of a refusal comes first, and that nothing has changed after a name or a parameter is unknown, is in `specs/Causes`
 //!   ([`causes_in_order`]), with some replies that aren't lawful ([`refused_replies`]).
 //! - Each lawful reply has a name for each number that it prints as one (`specs/Named`,
 //!   [`replies_are_named`]).
-//! - What an executor does in a world of atoms, or in a building, is what a session's run does with the same disturbances
-//!   (`specs/Runs`, [`one_kind_runs`]). A run that is told has few turns, and is a trace of its events (`specs/ToldRuns`,
+//! - A run by edits of atoms alone, or of rooms alone, is a session's run with the same disturbances (`specs/Runs`,
+//!   [`one_kind_runs`]). A run that is told has few turns, and is a trace of its events (`specs/ToldRuns`,
 //!   [`told_runs`]).
-//! - A small script is worked out with its text ([`worked_session`]). Of the demo of three rooms the targets, the script and the form of its
-//!   line are ([`worked_demo`]).
+//! - A small script is worked out with its text ([`worked_session`]), and so are the demo's line for five replies ([`worked_demo`]),
+//!   and the states that the turns of a run in a building leave ([`worked_rooms`]).
 //! - The laws are calls that do nothing.
+//!
+//! # How a run takes memory
+//!
+//! A `run` asks for all its memory before the first turn: room for each turn that there may be, and for each atom that edits and steps
+//! may add. It goes on in a copy of the world's atoms, or in the building itself (`place`, `running`, `turns`; `specs/Running` has the
+//! counts).
 #![tactic(auto)]
 
 mod commands;
@@ -60,7 +66,7 @@ mod within;
 
 pub use laws::{
     answers_are_one, causes_in_order, lawful_is_one, one_kind_runs, refused_replies,
-    replies_are_named, sessions_are_kept, told_runs, transcripts_are_one, worked_demo,
-    worked_session,
+    replies_are_named, rooms_are_kept, sessions_are_kept, told_runs, transcripts_are_one,
+    worked_demo, worked_rooms, worked_session,
 };
 pub use session::Session;

@@ -4,8 +4,6 @@ ghost use Rattle.std.specs.Option.{option_map};
 ghost use Rattle.px_printer.specs.Replies.{IsNamed};
 ghost use Rattle.px_reader.specs.LineReads.{content};
 ghost use Rattle.px_script.specs.Commands.{Facts};
-ghost use Rattle.px_script.specs.StageRanges.{IsOfStage};
-ghost use Rattle.px_script.specs.Stages.{stage_now};
 ghost use Rattle.px_rooms.specs.States.{IsBuilding, first_state};
 ghost use Rattle.px_table.specs.Kernels.{KernelsCarry};
 ghost use Rattle.px_session.specs.Lawful.{Lawful};
@@ -69,7 +67,6 @@ impl Session {
     /// # Errors
     /// `NoMemory` where there is none for it.
     pub fn new(alloc: Global, script: Script) -> Result<Session, NoMemory>
-        requires stage { IsOfStage stage_now (content script) }
         ensures opened { IfOk result (λ session. session ≡ opened (content script)) }
     {
         let building = world_of(alloc, &script.building)?;

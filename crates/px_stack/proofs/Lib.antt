@@ -1,5 +1,7 @@
 pub mod AncestorRange
+pub mod ApartLemmas
 pub mod AxiomRange
+pub mod BeginningLemmas
 pub mod FactPlaces
 pub mod Hanging
 pub mod Literals

@@ -1,5 +1,5 @@
 -- Attempts one after the other, over a range of numbers.
-use Rattle.std.specs.Prelude.{◌≡◌, ◌≢◌, ℕ, ◌<◌, ◌≤◌, Bool, true, false, Some, List, length, slice_get, All}
+use Rattle.std.specs.Prelude.{◌≡◌, ℕ, ◌<◌, ◌≤◌, Bool, true, false, Some, List, slice_get, All}
 use Rattle.px_proof.specs.Literals.{positive_of}
 use Rattle.px_proof.specs.declared.shape.Tick.TheVariants.{Fact}
 use Rattle.px_terms.specs.declared.atom.Atom.{Atom}
@@ -32,9 +32,3 @@ NeverFact objects facts old goal number =
 abbrev pub ComesFact : ℕ → List Atom → StackValue → OpenGoal → ℕ → StackValue → Type 0
 ComesFact objects facts old goal number new =
     (fact : Atom) × (slice_get facts number ≡ Some fact) × All (IsObjectBelow objects) fact.args × ClosesBy old new (Fact number) goal.lit (positive_of fact) goal.next true
-
--- facts with the predicate stand from the first place on, before the last one
-pub record HasItsFacts (facts : List Atom) (pred first last : ℕ) : Type 0 where
-  pub within : last ≤ length facts
-  pub before : (k : ℕ) (fact : Atom) → slice_get facts k ≡ Some fact → k < first → fact.pred ≢ pred
-  pub after : (k : ℕ) (fact : Atom) → slice_get facts k ≡ Some fact → last ≤ k → fact.pred ≢ pred

@@ -1,12 +1,15 @@
 //! Closing a place by a fact.
-ghost use Rattle.std.specs.Prelude.{◌≡◌, ◌↔◌, ◌<◌, ◌≤◌, ℕ, IsTrue, IfOk, All, length, slice_get, Some};
+ghost use Rattle.std.specs.Prelude.{◌≡◌, ◌↔◌, ◌<◌, ◌≤◌, ℕ, IsTrue, IfOk, All, length};
 ghost use Rattle.px_terms.specs.AtomSets.{IsAtomSet};
 ghost use Rattle.px_terms.specs.Instances.{IsGround};
 ghost use Rattle.px_unify.specs.Changes.{variables_of};
 ghost use Rattle.px_question.specs.Settings.{IsObjectBelow};
 ghost use Rattle.px_stack.specs.Parts.{IsLitBelow};
-ghost use Rattle.px_stack.specs.Ranges.{TriesRange, TriesFact, NeverFact, ComesFact, HasItsFacts};
+ghost use Rattle.px_stack.specs.Apart.{AreOneAtomUnder};
+ghost use Rattle.px_stack.specs.Ranges.{TriesRange, TriesFact, NeverFact, ComesFact};
 
+use crate::apart::{are_apart, followed};
+use crate::beginnings::places_of;
 use crate::open::{OpenGoal, Stack};
 use px_proof::Tick;
 use px_terms::{Atom, Lit, NoMemory, Term};
@@ -34,17 +37,23 @@ fn all_below(objects: u32, terms: &[Term]) -> bool
     true
 }
 
-/// Closes the first goal by the fact, if it has objects of the problem alone.
+/// Closes the first goal, whose atom `ends` is where the bindings are followed, by the fact, if it has objects of the
+/// problem alone.
 fn try_fact(
     stack: &mut Stack,
     objects: u32,
     number: u32,
     fact: &Atom,
     goal: &OpenGoal,
+    ends: &Atom,
 ) -> Result<bool, NoMemory>
     requires goal_below { IsLitBelow (variables_of stack.old.changes) goal.now.lit }
+    requires ends_are { AreOneAtomUnder stack.old.changes goal.now.lit.atom ends.now }
     ensures { IfOk result (λ found. TriesFact stack.old stack.new objects number fact.now goal.now found) }
 {
+    if are_apart(ends, fact) {
+        return Ok(false);
+    }
     if !all_below(objects, fact.args()) {
         return Ok(false);
     }
@@ -53,16 +62,6 @@ fn try_fact(
         atom: *fact,
     };
     stack.close_by(Tick::Fact(number), &goal.lit, goal.next, &lit)
-}
-
-/// The first place of a fact with the predicate, and the first place after all of them.
-fn places_of(facts: &[Atom], pred: u32) -> (usize, usize)
-    requires { IsAtomSet facts.now }
-    ensures { HasItsFacts facts.now pred result.0 result.1 }
-{
-    let first = facts.partition_point(|fact| fact.pred() < pred);
-    let end = facts.partition_point(|fact| fact.pred() <= pred);
-    (first, end)
 }
 
 /// Closes the first goal by the first fact from the number on that does.
@@ -81,9 +80,13 @@ pub fn try_facts(
     requires goal_below { IsLitBelow (variables_of stack.old.changes) goal.now.lit }
     ensures { IfOk result (λ found. TriesRange (NeverFact objects facts.now stack.old goal.now) (ComesFact objects facts.now stack.old goal.now) from (length facts.now) stack.old stack.new found) }
 {
-    let (first, end) = places_of(facts, goal.lit.atom.pred());
+    if !goal.lit.positive {
+        return Ok(false);
+    }
+    let ends = followed(stack.bind(), &goal.lit.atom);
+    let (first, end) = places_of(facts, &ends);
     for number in from.max(first)..end {
-        match try_fact(stack, objects, number as u32, &facts[number], goal) {
+        match try_fact(stack, objects, number as u32, &facts[number], goal, &ends) {
             Ok(true) => return Ok(true),
             Ok(false) => {}
             Err(NoMemory) => return Err(NoMemory),

@@ -8,6 +8,8 @@
 //!   ancestor, or the first literal of an axiom, from a number on, that can be made equal to its literal. They answer
 //!   whether one can. Where none can, nothing has changed. `TriesRange` in `specs/Ranges.antt` is what they say: what
 //!   closes the place, and that nothing before it ever does, whatever objects the variables stand for.
+//!   Facts are found by halves: only those with the predicate and the leading objects of the literal are looked at, and
+//!   what two objects at one place, a sign or a predicate tells apart is passed over before anything is bound.
 //!   [`close_by_gap`] closes the place by nothing.
 //! - `retract_last` opens the place again that was closed last: bindings and places are cut at the marks of its choice.
 //! - After `NoMemory` a state is of no further use, and no clause says what it holds: an attempt that ran out of memory
@@ -16,7 +18,9 @@
 #![tactic(auto)]
 
 mod ancestors;
+mod apart;
 mod axioms;
+mod beginnings;
 mod facts;
 mod gaps;
 mod matching;

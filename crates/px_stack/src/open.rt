@@ -1,4 +1,5 @@
 //! The state: open goals, and the choices that closed others.
+use crate::apart::are_literals_apart;
 use crate::matching::matches;
 use crate::parts::{open_formula, push_parts, variables_after};
 use crate::stepping::matches_fresh;
@@ -166,6 +167,9 @@ impl Stack {
         requires first_older { self.old.first ≤ length self.old.goals }
         ensures { IfOk result (λ found. ClosesByStep self.old self.new tick goal.now (record { vars = vars; lits = lits.now }) place found) }
     {
+        if are_literals_apart(&goal.lit, &lits[place]) {
+            return Ok(false);
+        }
         let mark = self.bind.mark();
         let terms = variables_after(self.bind.variables(), vars);
         let theta = &terms[..vars as usize];

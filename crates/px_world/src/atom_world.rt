@@ -1,5 +1,5 @@
 //! The world that is a set of atoms.
-ghost use Rattle.std.specs.Prelude.{◌≡◌, ◌↔◌, ◌≤◌, ◌+◌, length, IfOk, IsOk, OnOk, OnErr};
+ghost use Rattle.std.specs.Prelude.{◌≡◌, ◌≤◌, ◌+◌, length, IfOk, IsOk, OnOk, OnErr};
 ghost use Rattle.px_terms.specs.Operators.{adds, result_of};
 ghost use Rattle.px_terms.specs.Validity.{IsInstanceOf, IsValid};
 ghost use Rattle.px_world.specs.declared.edits.AtomEdit.{AtomEdit};
@@ -87,7 +87,6 @@ impl<'a> World for AtomWorld<'a> {
         ensures kept { OnErr result (self.new ≡ self.old) }
         ensures spare { self.old.spare ≤ self.new.spare + length (adds self.old.rules inst.now) }
         ensures rules { self.new.rules ≡ self.old.rules }
-        ensures admitted { (edit : AtomEdit) → IsGroundEdit edit ↔ IsGroundEdit edit }
     {
         apply_in(self.problem, &mut self.atoms, inst);
         Ok(())

@@ -1,5 +1,5 @@
 use Rattle.std.specs.Prelude.{◌≤◌}
 use Rattle.px_bench_match.proofs.agreement.compare.Given as goal
 
-abbrev pub invariant-loop-sensing : goal.invariant-loop-sensing
-invariant-loop-sensing l = 1000 ≤ l.matcher.room
+abbrev pub invariant-loop-changed : goal.invariant-loop-changed
+invariant-loop-changed l = 1000 ≤ l.matcher.room

@@ -1,5 +1,5 @@
 use Rattle.px_terms.specs.declared.atom.Atom.{Atom}
-use Rattle.px_diff.specs.Entries.{IsAdded}
+use Rattle.px_terms.specs.Operators.{IsAdded}
 use Rattle.px_diff.proofs.Loops.{AllBefore}
 use Rattle.px_diff.proofs.macro_steps.add_wanted.Given as goal
 

@@ -1,5 +1,5 @@
 use Rattle.std.proofs.Common.{drop}
-use Rattle.px_diff.specs.Entries.{IsAdded}
+use Rattle.px_terms.specs.Operators.{IsAdded}
 use Rattle.px_diff.proofs.macro_steps.is_added.Given as goal
 
 abbrev pub invariant-loop-place : goal.invariant-loop-place

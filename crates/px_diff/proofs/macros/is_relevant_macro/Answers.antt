@@ -5,7 +5,7 @@ use Rattle.px_table.specs.declared.entry.Entry.{Entry}
 use Rattle.px_terms.specs.Validity.{IsInstanceOf}
 use Rattle.px_terms.specs.declared.instance.OpInst.{OpInst}
 use Rattle.px_diff.specs.Closings.{OneOf}
-use Rattle.px_diff.specs.Entries.{IsAdded}
+use Rattle.px_terms.specs.Operators.{IsAdded}
 use Rattle.px_diff.specs.Pushes.{IsRelevant}
 use Rattle.px_diff.proofs.GatherLemmas.{front-table}
 use Rattle.px_diff.proofs.Loops.{is_false, said_no, said_yes}

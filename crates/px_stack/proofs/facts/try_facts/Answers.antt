@@ -6,7 +6,7 @@ use Rattle.px_stack.proofs.facts.try_facts.Goals as goal
 pub loop-number-init : goal.loop-number-init
 loop-number-init c = record {
   same = refl;
-  never = never-before c.args.objects c.args.facts.now c.args.stack.now c.args.goal.now c.places_of-first.result.0 c.places_of-first.result.1 c.args.from (rw c.pred.ensures at c.places_of-first.ensures) _ c.max-number.ensures;
+  never = never-before c.args.objects c.args.facts.now c.args.stack.now c.args.goal.now c.followed-ends.result c.places_of-first.result.0 c.places_of-first.result.1 c.args.from (rw c.bind.ensures at c.followed-ends.ensures) c.places_of-first.ensures _ c.max-number.ensures;
 }
 
 pub returns-in-Ok-true : goal.returns-in-Ok-true
@@ -24,5 +24,8 @@ loop-number-preserved c =
 
 pub returns : goal.returns
 returns c =
-    never-after c.args.objects c.args.facts.now c.args.stack.now c.args.goal.now c.places_of-first.result.0 c.places_of-first.result.1 c.args.from (rw c.pred.ensures at c.places_of-first.ensures)
+    never-after c.args.objects c.args.facts.now c.args.stack.now c.args.goal.now c.followed-ends.result c.places_of-first.result.0 c.places_of-first.result.1 c.args.from (rw c.bind.ensures at c.followed-ends.ensures) c.places_of-first.ensures
     c.loop-number.stack c.loop-number.number c.loop-number.invariant.same (omega (arith, c.loop-number-test.false)) c.loop-number.invariant.never
+
+pub try_fact-requires-clause-ends_are : goal.try_fact-requires-clause-ends_are
+try_fact-requires-clause-ends_are c = rw c.loop-number.invariant.same (rw c.bind.ensures at c.followed-ends.ensures)

@@ -32,6 +32,6 @@ invariant_of-result c =
     let script = c.args.script in
     let Session : SessionState → SessionValue =
     λ state. record { problem = script.problem; names = script.names; commands = map command_view script.commands; done = 0; state = state } in
-    let opened = kept-opened (content script) script.in_range c.requires.stage in
+    let opened = kept-opened (content script) script.in_range in
     let built = subst (λ (building : Option RoomState). IsKeptSession building (Session (opening (content script).facts))) (sym (c.in_ok-building.ensures ∙ first-read script.building)) opened in
     subst (λ (state : SessionState). IsKeptSession c.in_ok-building.building (Session state)) (sym c.opening.ensures) built

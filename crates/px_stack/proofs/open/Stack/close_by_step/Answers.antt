@@ -9,6 +9,7 @@ use Rattle.px_walk.specs.Pending.{variables_from}
 use Rattle.std.proofs.lemmas.List.{get_or_default, reverse-append}
 use Rattle.px_stack.specs.declared.open.Choice.{Choice}
 use Rattle.px_stack.specs.Steps.{new_literal, no_literal, MatchesFresh}
+use Rattle.px_stack.proofs.ApartLemmas.{untried-step}
 use Rattle.px_stack.proofs.NewVariables.{shifted-lit, match-as}
 use Rattle.px_stack.proofs.open.Stack.close_by_step.Goals as goal
 
@@ -29,7 +30,7 @@ returns c =
     let clause : Clause = record { vars = c.args.vars; lits = c.args.lits.now } in
     let theta_is : take c.args.vars c.variables_after-terms.result ≡ variables_from (variables_of c.self.inside.bind) c.args.vars = c.variables_after-terms.ensures ∙ ap (λ n. variables_from n c.args.vars) c.variables.ensures.count in
     let is : c.apply_literal-lit.result ≡ new_literal (variables_of c.self.inside.bind) clause c.args.place =
-    literal c.args.lits.now c.args.place (variables_of c.self.inside.bind) c.args.vars (take c.args.vars c.variables_after-terms.result) c.apply_literal-lit.result c.index-lits-place.result theta_is c.index-lits-place.is c.requires.place c.apply_literal-lit.ensures in
+    literal c.args.lits.now c.args.place (variables_of c.self.inside.bind) c.args.vars (take c.args.vars c.variables_after-terms.result) c.apply_literal-lit.result c.index-lits-place-2.result theta_is c.index-lits-place-2.is c.requires.place c.apply_literal-lit.ensures in
     let lens : c.len.result ≡ length c.self.inside.goals.items = search (rules, c.len.ensures, c.self.inside.goals.ok) in
     rw (← c.self.view_is)
     (record {
@@ -47,7 +48,7 @@ matches_fresh-requires-clause-lit_below c =
     let clause : Clause = record { vars = c.args.vars; lits = c.args.lits.now } in
     let theta_is : take c.args.vars c.variables_after-terms.result ≡ variables_from (variables_of c.self.inside.bind) c.args.vars = c.variables_after-terms.ensures ∙ ap (λ n. variables_from n c.args.vars) c.variables.ensures.count in
     let is : c.apply_literal-lit.result ≡ new_literal (variables_of c.self.inside.bind) clause c.args.place =
-    literal c.args.lits.now c.args.place (variables_of c.self.inside.bind) c.args.vars (take c.args.vars c.variables_after-terms.result) c.apply_literal-lit.result c.index-lits-place.result theta_is c.index-lits-place.is c.requires.place c.apply_literal-lit.ensures in
+    literal c.args.lits.now c.args.place (variables_of c.self.inside.bind) c.args.vars (take c.args.vars c.variables_after-terms.result) c.apply_literal-lit.result c.index-lits-place-2.result theta_is c.index-lits-place-2.is c.requires.place c.apply_literal-lit.ensures in
     rw is (shifted-lit (variables_of c.self.inside.bind) c.args.vars (get_or c.args.lits.now c.args.place no_literal) (c.requires.lits_below c.args.place no_literal c.requires.place))
 
 pub returns-in-Ok-false : goal.returns-in-Ok-false
@@ -55,7 +56,7 @@ returns-in-Ok-false c =
     let clause : Clause = record { vars = c.args.vars; lits = c.args.lits.now } in
     let theta_is : take c.args.vars c.variables_after-terms.result ≡ variables_from (variables_of c.self.inside.bind) c.args.vars = c.variables_after-terms.ensures ∙ ap (λ n. variables_from n c.args.vars) c.variables.ensures.count in
     let is : c.apply_literal-lit.result ≡ new_literal (variables_of c.self.inside.bind) clause c.args.place =
-    literal c.args.lits.now c.args.place (variables_of c.self.inside.bind) c.args.vars (take c.args.vars c.variables_after-terms.result) c.apply_literal-lit.result c.index-lits-place.result theta_is c.index-lits-place.is c.requires.place c.apply_literal-lit.ensures in
+    literal c.args.lits.now c.args.place (variables_of c.self.inside.bind) c.args.vars (take c.args.vars c.variables_after-terms.result) c.apply_literal-lit.result c.index-lits-place-2.result theta_is c.index-lits-place-2.is c.requires.place c.apply_literal-lit.ensures in
     let matched : MatchesFresh c.self.inside.bind c.matches_fresh.new.bind c.args.vars c.args.goal.now.lit (new_literal (variables_of c.self.inside.bind) clause c.args.place) false =
     match-as c.self.inside.bind c.matches_fresh.new.bind c.args.vars c.args.goal.now.lit c.apply_literal-lit.result _ _ false is c.in-Ok-false.field-0-test c.in-Ok-false.ensures in
     rw (← c.self.view_is)
@@ -68,3 +69,8 @@ returns-in-Ok-false c =
       opened = λ is_found. absurd (cc);
       unchanged = λ is_not. λ i. record { changes = matched.same refl i; goals = c.self.inside.goals.items; first = c.self.inside.first; choices = reverse c.self.inside.choices.items };
     })
+
+pub returns-then-are_literals_apart : goal.returns-then-are_literals_apart
+returns-then-are_literals_apart c =
+    let clause : Clause = record { vars = c.args.vars; lits = c.args.lits.now } in
+    untried-step c.args.self.now c.args.tick c.args.goal.now clause c.args.place c.index-lits-place.result c.index-lits-place.is c.requires.place (c.are_literals_apart.ensures c.if-are_literals_apart.true)

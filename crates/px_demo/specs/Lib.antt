@@ -1,0 +1,3 @@
+pub mod Errands
+pub mod Script
+pub mod Worked

@@ -1,0 +1,104 @@
+//! The demo: its script is made, answered and summed up.
+ghost use Rattle.std.specs.Prelude.{◌≡◌, ◌≤◌, IfOk, ◌∷◌, [], codes};
+ghost use Rattle.std.specs.Fmt.{decimal};
+ghost use Rattle.px_printer.specs.Texts.{line};
+ghost use Rattle.px_reader.specs.LineReads.{content};
+ghost use Rattle.px_script.specs.StageRanges.{IsOfStage};
+ghost use Rattle.px_script.specs.Stages.{stage_now};
+ghost use Rattle.px_session.specs.Opened.{opened};
+ghost use Rattle.px_run.specs.Outcomes.{sink_ends, DemoRight, SumRight};
+ghost use Rattle.px_run.specs.Sums.{IsSumOf};
+
+use crate::counts::{Counts, counted};
+use crate::status::Status;
+use crate::top::refuse;
+use px_demo::demo_script;
+use px_io::{Sink, put};
+use px_reader::{Script, ScriptErr, read_script};
+use px_session::Session;
+use px_terms::NoMemory;
+use std::alloc::Global;
+use std::fmt::Write;
+
+/// Makes the demo's script, answers its commands and writes the line that sums up the replies.
+pub(crate) fn demo<K: Sink>(alloc: Global, rooms: u32, seed: u32, sink: &mut K) -> Status
+    requires rooms { (3 ≤ rooms) × (rooms ≤ 12) }
+    requires seed { seed ≤ 2147483647 }
+    ensures right { DemoRight rooms seed (sink_ends K.written K.faults K.sure sink.old sink.new) result }
+    ensures nature { K.sure sink.new ≡ K.sure sink.old }
+{
+    let Ok(bytes) = demo_script(alloc, rooms, seed) else {
+        return Status::NoMemory;
+    };
+    match read_script(alloc, &bytes) {
+        Ok(script) => sum_up(alloc, script, rooms, seed, sink),
+        Err(ScriptErr::Refused(refused)) => refuse(alloc, refused, sink),
+        Err(ScriptErr::NoMemory) => Status::NoMemory,
+    }
+}
+
+/// Answers the commands of the script, and writes the line that sums up the replies.
+fn sum_up<K: Sink>(alloc: Global, script: Script, rooms: u32, seed: u32, sink: &mut K) -> Status
+    requires stage { IsOfStage stage_now (content script) }
+    ensures right { SumRight rooms seed (opened (content script)) (sink_ends K.written K.faults K.sure sink.old sink.new) result }
+    ensures nature { K.sure sink.new ≡ K.sure sink.old }
+{
+    let Ok(text) = summary(alloc, script, rooms, seed) else {
+        return Status::NoMemory;
+    };
+    match put(sink, &text) {
+        Ok(()) => Status::Done,
+        Err(_) => Status::WriteFault,
+    }
+}
+
+/// The line that sums up the replies to the commands of the script.
+fn summary(alloc: Global, script: Script, rooms: u32, seed: u32) -> Result<Vec<u8>, NoMemory>
+    requires stage { IsOfStage stage_now (content script) }
+    ensures { IfOk result (λ text. IsSumOf rooms seed (opened (content script)) text.items) }
+{
+    match Session::new(alloc, script) {
+        Ok(mut session) => session_summary(alloc, &mut session, rooms, seed),
+        Err(NoMemory) => Err(NoMemory),
+    }
+}
+
+/// The line that sums up the replies to the commands of a session of which none is done.
+#[tactic(auto, using(crate::proofs::DemoLemmas::summed))]
+fn session_summary(
+    alloc: Global,
+    session: &mut Session,
+    rooms: u32,
+    seed: u32,
+) -> Result<Vec<u8>, NoMemory>
+    requires start { session.old.done ≡ 0 }
+    ensures { IfOk result (λ text. IsSumOf rooms seed session.old text.items) }
+{
+    let commands = session.count();
+    let counts = counted(session)?;
+    summary_line(alloc, rooms, seed, commands, &counts)
+}
+
+/// The line of a demo with so many commands and these counts.
+fn summary_line(
+    alloc: Global,
+    rooms: u32,
+    seed: u32,
+    commands: usize,
+    counts: &Counts,
+) -> Result<Vec<u8>, NoMemory>
+    ensures { IfOk result (λ text. text.items ≡ line (codes "demo" ∷ decimal rooms ∷ decimal seed ∷ decimal commands ∷ codes "commands"
+        ∷ decimal counts.now.plans ∷ codes "plans" ∷ decimal counts.now.steps ∷ codes "steps" ∷ decimal counts.now.goals ∷ codes "goals" ∷ [])) }
+{
+    let Counts {
+        plans,
+        steps,
+        goals,
+    } = *counts;
+    let mut text = String::new(alloc);
+    write!(
+        text,
+        "demo {rooms} {seed} {commands} commands {plans} plans {steps} steps {goals} goals\n"
+    )?;
+    Ok(text.into_bytes())
+}

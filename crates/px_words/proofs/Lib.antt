@@ -1,0 +1,4 @@
+pub mod NumberLemmas
+pub mod Ranges
+pub mod ReadingLemmas
+pub mod WorkedOut

@@ -1,0 +1,19 @@
+-- The words that are worked out.
+use Rattle.std.proofs.Common.{refl}
+use Rattle.px_words.specs.Worked.{WorkedWords}
+
+pub worked_words : WorkedWords
+worked_words = record {
+  run = refl;
+  demo = refl;
+  zeros = refl;
+  nothing = refl;
+  more = refl;
+  fewer = refl;
+  too_few_rooms = refl;
+  too_many_rooms = refl;
+  large = refl;
+  long = refl;
+  sign = refl;
+  hyphens = refl;
+}
