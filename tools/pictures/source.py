@@ -1,0 +1,82 @@
+"""Where transcripts come from: standard input, or the program, which is run on a script and asked for the tables of its runs."""
+import pathlib
+import subprocess
+import sys
+
+from pictures import Unread
+from pictures.script import read_script
+from pictures.story import with_script, without_script
+from pictures.transcript import read_transcript
+
+PROGRAM = pathlib.Path(__file__).resolve().parent.parent.parent / 'planex'
+MOST_COMMANDS, MOST_BYTES = 512, 1048576  # of a script
+
+
+def text_of(data):
+    """Bytes as text."""
+    try:
+        return data.decode()
+    except UnicodeDecodeError as error:
+        raise Unread(data[:error.start].count(b'\n') + 1, 'this is no text: a byte belongs to no character') from error
+
+
+def script_of(path, data):
+    """The script in a file."""
+    try:
+        return read_script(text_of(data))
+    except Unread as error:
+        error.file = path
+        raise
+
+
+def answer(path):
+    """What the program prints for a script. Where that isn't answered whole the program says why, and this is the end."""
+    with open(path, 'rb') as opened:
+        ran = subprocess.run([PROGRAM, 'run'], stdin=opened, stdout=subprocess.PIPE, check=False)
+    if ran.returncode:
+        sys.exit(f'view: {path}: planex ends with status {ran.returncode}')
+    return ran.stdout
+
+
+def asking(data, script):
+    """The script with a `show` line before the first run of each table that no line shows, and the places of these among the commands."""
+    lines, places = data.split(b'\n'), []
+    shown = {command.name for command in script.commands if command.word == 'show'}
+    for place, command in enumerate(script.commands):
+        if command.word == 'run' and command.name not in shown:
+            shown.add(command.name)
+            lines[command.line - 1] = f'show {command.name}\n'.encode() + lines[command.line - 1]
+            places.append(place + len(places))
+    return b'\n'.join(lines), places
+
+
+def answers(path, data, script):
+    """The replies to a script, and besides those to `show` lines that are asked where the script has room for them."""
+    asked, places = asking(data, script)
+    if places and len(script.commands) + len(places) <= MOST_COMMANDS and len(asked) <= MOST_BYTES:
+        ran = subprocess.run([PROGRAM, 'run'], input=asked, stdout=subprocess.PIPE, stderr=subprocess.PIPE, check=False)
+        if not ran.returncode:
+            sys.stderr.buffer.write(ran.stderr)
+            replies = read_transcript(text_of(ran.stdout))
+            return ([reply for place, reply in enumerate(replies) if place not in places],
+                    [reply for place, reply in enumerate(replies) if place in places])
+    return read_transcript(text_of(answer(path))), []
+
+
+def from_script(path):
+    """The story of a script, by the program."""
+    data = path.read_bytes()
+    try:
+        script = script_of(path, data)
+    except Unread:
+        answer(path)
+        raise
+    return with_script(path.stem, script, *answers(path, data, script))
+
+
+def from_input(data, path):
+    """The story of a transcript, with its script where a path of one is given."""
+    replies = read_transcript(text_of(data))
+    if path:
+        return with_script(path.stem, script_of(path, path.read_bytes()), replies)
+    return without_script('transcript', replies)

@@ -1,0 +1,141 @@
+"""Puts a script beside its transcript: which command each reply answers, and the facts at each step and turn.
+
+The facts are worked out from the script's facts, operators and disturbances, and compared with each list of facts that the program tells.
+"""
+from dataclasses import dataclass, field
+
+from pictures import Unread
+
+# The replies that a command may have.
+ANSWERS = {
+    'plan': ('plan', 'exhausted', 'nodelimit', 'shapelimit'),
+    'learn': ('learned', 'notlearned', 'unknown'),
+    'show': ('table', 'unknown'),
+    'disturb': ('noted',),
+    'run': ('run', 'unknown'),
+    'facts': ('facts',),
+}
+
+
+@dataclass
+class TurnTold:
+    """A turn of a run: the disturbances before the look and after it, and the facts at the look, before the step, and at the end."""
+    before: list
+    seen: frozenset
+    between: list
+    met: frozenset
+    left: frozenset
+
+
+@dataclass
+class Told:
+    """A reply with what its script tells of it: the command, the facts before and after each step of a plan, and the turns of a run."""
+    reply: object
+    command: object = None
+    states: list = field(default_factory=list)
+    turns: list = field(default_factory=list)
+
+
+@dataclass
+class Story:
+    """A transcript with its title, its script where that is known, and the tables that are told, by name."""
+    title: str
+    told: list
+    script: object = None
+    tables: dict = field(default_factory=dict)
+
+    def states(self):
+        """The lists of facts at all steps and turns."""
+        for item in self.told:
+            yield from item.states
+            for turn in item.turns:
+                yield from (turn.seen, turn.met, turn.left)
+
+
+def disturbed(facts, recorded, turn, point):
+    """The facts after the disturbances of a turn and point, and their texts."""
+    texts = []
+    for command in recorded:
+        if (command.turn, command.point) == (turn, point):
+            texts.append(command.text.split(point, 1)[1].strip())
+            for change in command.changes:
+                facts = change.of(facts)
+    return facts, texts
+
+
+def turns_of(script, facts, recorded, reply):
+    """What is told of the turns of a run from these facts."""
+    turns = []
+    for number, turn in enumerate(reply.turns, 1):
+        seen, before = disturbed(facts, recorded, number, 'before')
+        met, between = disturbed(seen, recorded, number, 'between') if turn.step else (seen, [])
+        facts = script.change_of(turn.step).of(met) if turn.end == 'acted' else met
+        turns.append(TurnTold(before, seen, between, met, facts))
+    return turns
+
+
+def fit(command, reply):
+    """May the reply answer the command?"""
+    named = reply.name in ('', command.name) or command.word == 'learn' or command.word == 'run' and reply.word == 'unknown'
+    return reply.word in ANSWERS[command.word] and named
+
+
+def without_script(title, replies):
+    """What a transcript tells by itself."""
+    return Story(title, [Told(reply) for reply in replies], None, tables_of(replies, replies))
+
+
+def with_script(title, script, replies, asked=()):
+    """What a transcript and its script tell, with tables that were asked for besides."""
+    return Story(title, tell(script, replies), script, tables_of([*asked, *replies], replies))
+
+
+def tables_of(told, replies):
+    """The tables that are told, by name. A run that goes through steps that its table hasn't is refused."""
+    tables = {reply.name: reply for reply in told if reply.word == 'table'}
+    for reply in replies:
+        if reply.word == 'run' and reply.name in tables:
+            check_run(reply, tables[reply.name])
+    return tables
+
+
+def check_run(reply, table):
+    """Are the turns of a run those of its table?"""
+    names = table.parameters()
+    for turn in reply.turns:
+        if turn.kernel > len(table.rows) or (turn.kernel == len(table.rows)) != (turn.end == 'goal'):
+            raise Unread(reply.line, 'a kernel here is none of the table')
+        if turn.step:
+            head = table.rows[turn.kernel - 1].heads[0]
+            values = {own: value for own, value in zip(head.arguments, turn.step.arguments) if own in names}
+            if head.under(values) != turn.step:
+                raise Unread(reply.line, 'a step here is none of the table')
+
+
+def tell(script, replies):
+    """The replies with what the script tells of them. A transcript that isn't the script's is refused."""
+    told, facts, recorded = [], frozenset(script.facts), []
+    for command, reply in zip(script.commands, replies):
+        if not fit(command, reply):
+            raise Unread(reply.line, f'line {command.line} of the script isn\'t answered so: {command.text}')
+        item = Told(reply, command)
+        steps = reply.atoms if reply.word == 'plan' else [turn.step for turn in reply.turns if turn.step]
+        if not all(map(script.has_step, steps)):
+            raise Unread(reply.line, 'a step here is of no operator of the script')
+        if reply.word == 'plan':
+            item.states = [facts]
+            for step in steps:
+                item.states.append(script.change_of(step).of(item.states[-1]))
+        elif reply.word == 'noted':
+            recorded.append(command)
+            if reply.numbers != [len(recorded)]:
+                raise Unread(reply.line, f'{len(recorded)} disturbances are recorded here')
+        elif reply.word == 'run':
+            item.turns = turns_of(script, facts, recorded, reply)
+            facts, recorded = item.turns[-1].left, []
+        elif reply.word == 'facts' and facts != frozenset(reply.atoms):
+            raise Unread(reply.line, 'these aren\'t the facts to which the script\'s operators and disturbances lead')
+        told.append(item)
+    if len(replies) != len(script.commands):
+        raise Unread(replies[-1].line, f'{len(replies)} replies are here, and the script has {len(script.commands)} commands')
+    return told
