@@ -10,7 +10,8 @@ use Rattle.px_table.specs.declared.entry.Entry.TheVariants.{Macro}
 use Rattle.px_table.specs.declared.table.Table.{Table}
 use Rattle.px_table.specs.Kernels.{steps_under}
 use Rattle.px_table.specs.Prefixes.{IsMacro}
-use Rattle.px_diff.specs.Entries.{HasAnswer, HasGap, IsApplicable, IsEntry, IsOpen, Obligation, effect_of, obligations_of, row_obligations, table_at}
+use Rattle.px_diff.specs.Entries.{HasAnswer, HasGap, IsApplicable, IsEntry, IsOpen, Obligation, effect_of, obligations_of, row_needs, table_at}
+use Rattle.px_diff.proofs.RowTurns.{in_turn, row_obligations}
 use Rattle.px_diff.specs.Known.{LimitsNeeds}
 use Rattle.px_diff.specs.Macros.{GathersEntries}
 use Rattle.px_diff.specs.Pushes.{IsPushable, IsRelevant}
@@ -92,7 +93,9 @@ module _ (problem : Problem) (tables : List Table) (number prefix : ℕ) (table 
   effect_is = ap (λ (t : Table). take prefix (steps_under t sigma)) (table_is tables number table at)
 
   pub needs_are : (model : List Atom) → obligations_of problem tables model (Macro number prefix sigma) ≡ row_obligations problem table sigma model 1 (take prefix (steps_under table sigma))
-  needs_are model = ap (λ (t : Table). row_obligations problem t sigma model 1 (take prefix (steps_under t sigma))) (table_is tables number table at)
+  needs_are model =
+      ap (λ (t : Table). row_needs problem t sigma model (take prefix (steps_under t sigma))) (table_is tables number table at)
+      ∙ in_turn problem table sigma model (take prefix (steps_under table sigma))
 
   pub entry_macro : IsEntry problem tables (Macro number prefix sigma) → IsMacro problem table prefix sigma
   entry_macro entry = subst (λ (t : Table). IsMacro problem t prefix sigma) (same entry.0 entry.1) entry.2

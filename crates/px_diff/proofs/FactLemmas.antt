@@ -1,8 +1,8 @@
 -- Where no axiom concludes the predicate of an atom without variables, the atom has a proof exactly where it is a fact, and proving it
 -- stays below the limit: the only unfinished list of proofs of it is the one that is all open. An atom with variables has then those
 -- instances proved that are facts.
-use Rattle.std.proofs.Common.{◌≡◌, ◌∙◌, ◌⊎◌, ◌↔◌, ℕ, zero, suc, ◌+◌, ◌<◌, ◌≤◌, true, Some, List, [], ◌∷◌, length, map, take, slice_get, get_or, refl, ap, sym, subst, inl, inr, arith}
-use Rattle.std.specs.Prelude.{All, Any, Contains, slice_index_or}
+use Rattle.std.proofs.Common.{◌≡◌, ◌∙◌, ◌⊎◌, ◌↔◌, ℕ, zero, suc, ◌+◌, ◌<◌, ◌≤◌, true, List, [], ◌∷◌, length, map, take, slice_get, get_or, refl, ap, sym, subst, inl, inr, arith}
+use Rattle.std.specs.Prelude.{All, Any, Contains}
 use Rattle.std.proofs.lemmas.List.{length-map}
 use Rattle.std.proofs.lemmas.Option.{get_or_from_slice_get}
 use Rattle.px_base.specs.ListLaws.{Contains-first, Contains-later}
@@ -14,10 +14,9 @@ use Rattle.px_proof.specs.Literals.{positive_of, substitute_literal}
 use Rattle.px_proof.specs.PlaceLaws.{slice_get-map, slice_get-within}
 use Rattle.px_proof.specs.Proves.{Proves, ProvesEach, UsesClause, instance_of, or_open}
 use Rattle.px_proof.specs.Shapes.{IsUnfinished, ticks_of}
-use Rattle.px_prover.specs.Patterns.{AreChosen}
 use Rattle.px_question.specs.Answers.{IsProvable, literals_of, object_of, object_terms}
 use Rattle.px_question.specs.FewerShapes.{Contains-at, Contains-place, few_firsts}
-use Rattle.px_question.specs.Limits.{AreFewShapes, IsLimited, IsPartialShape}
+use Rattle.px_question.specs.Limits.{AreFewShapes, IsPartialShape}
 use Rattle.px_question.specs.Settings.{IsObjectBelow, Setting, proofs_in, setting_of}
 use Rattle.px_table.specs.KernelLaws.{Contains-from_map}
 use Rattle.px_terms.specs.Instances.{IsGround}
@@ -55,7 +54,7 @@ ground-same terms q closed = let args = closed-args terms q.args (λ k d within.
 
 module _ (s : Setting) (q : Atom) (free : IsConcluded s.axioms q.pred → ⊥) where
   -- no axiom closes a place of the predicate
-  no-step : (IsChoice : Term → Type 0) (atom : Atom) → atom.pred ≡ q.pred → (number : ℕ) (theta : List Term) (place : ℕ) (clause : Clause) → UsesClause IsChoice s.axioms (positive_of atom) number theta place clause → ⊥
+  pub no-step : (IsChoice : Term → Type 0) (atom : Atom) → atom.pred ≡ q.pred → (number : ℕ) (theta : List Term) (place : ℕ) (clause : Clause) → UsesClause IsChoice s.axioms (positive_of atom) number theta place clause → ⊥
   no-step IsChoice atom same number theta place clause uses =
       let made = Contains-from_map (substitute_literal theta) clause.lits (positive_of atom) (Contains-at (instance_of clause.lits theta) place (positive_of atom) uses.literal_at) in
       let asserted : made.0.positive ≡ true = ap (λ (l : Lit). l.positive) made.2 in
@@ -63,7 +62,7 @@ module _ (s : Setting) (q : Atom) (free : IsConcluded s.axioms q.pred → ⊥) w
       free (any-of (λ (c : Clause). Asserts q.pred c.lits) s.axioms clause (Contains-at s.axioms number clause uses.axiom_at) (any-of (λ (l : Lit). (l.positive ≡ true) × (l.atom.pred ≡ q.pred)) clause.lits made.0 made.1 (asserted, named)))
 
   -- so a proof of such an atom is a fact
-  proof-fact : (atom : Atom) → atom.pred ≡ q.pred → (d : Derivation) → Proves (proofs_in s) s.axioms [] (positive_of atom) d → Contains s.facts atom
+  pub proof-fact : (atom : Atom) → atom.pred ≡ q.pred → (d : Derivation) → Proves (proofs_in s) s.axioms [] (positive_of atom) d → Contains s.facts atom
   proof-fact atom same (fact leaf) proves = subst (Contains s.facts) (sym (ap (λ (l : Lit). l.atom) proves.0)) (Contains-at s.facts leaf.index leaf.atom proves.1.1)
   proof-fact atom same (ancestor i) proves = absurd (omega (arith, slice_get-within {X = Lit} [] i _ proves))
   proof-fact atom same (step number theta place parts) proves = absurd (no-step (IsObjectBelow s.objects) atom same number theta place proves.0 proves.1)

@@ -1,16 +1,17 @@
 -- Gathering MACROPs, where the parts are what objects for parameters make.
-use Rattle.std.proofs.Common.{◌≡◌, ◌∙◌, ◌+◌, ◌<◌, ◌≤◌, ℕ, Some, List, [], length, take, set, slice_get, get_or, ap, sym, subst, inl, inr, arith}
+use Rattle.std.proofs.Common.{◌≡◌, ◌∙◌, ◌⊎◌, ◌+◌, ◌<◌, ◌≤◌, ℕ, Some, List, [], ◌∷◌, length, take, set, slice_get, get_or, ap, sym, subst, inl, inr, arith}
 use Rattle.std.specs.Prelude.{All, Contains}
 use Rattle.std.proofs.lemmas.List.{take_all}
+use Rattle.std.proofs.lemmas.List.Elements.{All-cons, All-nil}
 use Rattle.std.proofs.lemmas.Option.{slice_get_within}
-use Rattle.px_base.specs.ListLaws.{All-at, All-each}
+use Rattle.px_base.specs.ListLaws.{All-at}
 use Rattle.px_question.specs.FewerShapes.{Contains-at}
 use Rattle.px_table.specs.declared.entry.Entry.{Entry}
 use Rattle.px_table.specs.declared.entry.Entry.TheVariants.{Macro}
 use Rattle.px_table.specs.declared.table.Table.{Table}
 use Rattle.px_question.specs.Answers.{object_terms}
 use Rattle.px_question.specs.Settings.{setting_of}
-use Rattle.px_table.specs.declared.mark.Mark.{Mark}
+use Rattle.px_table.specs.Prefixes.{IsMacro}
 use Rattle.px_table.specs.Tables.{IsTable}
 use Rattle.px_terms.specs.AtomSets.{IsAtomSet}
 use Rattle.px_terms.specs.Operators.{adds}
@@ -21,24 +22,23 @@ use Rattle.px_terms.specs.declared.problem.Problem.{Problem}
 use Rattle.px_terms.specs.declared.term.Term.{Term}
 use Rattle.px_terms.specs.declared.term.Term.TheVariants.{Obj, Var}
 use Rattle.px_terms.specs.Language.{IsObject}
-use Rattle.px_diff.specs.Bindings.{AreUnbound, Extends, IsBinding, IsPlain, first_values}
+use Rattle.px_diff.specs.Bindings.{AreUnbound, Extends, first_values}
 use Rattle.px_diff.specs.Closings.{OneOf}
 use Rattle.px_diff.specs.Entries.{IsEntry, IsOpen, obligations_of}
 use Rattle.px_diff.specs.Learned.{AreLearned}
-use Rattle.px_diff.specs.Macros.{GathersEntries, IsFrontOf, IsMacroAmong, IsMacroBefore, IsMacroBy, IsMacroEntry, IsMacroExtending, IsMacroFitting, IsOfFront, IsOfTable}
-use Rattle.px_diff.specs.Parameters.{AreFirstTerms, IsMatch, Matches}
+use Rattle.px_diff.specs.Macros.{GathersEntries, IsFrontOf, IsMacroBefore, IsMacroBy, IsMacroEntry, IsMacroTold, IsOfFront, IsOfTable}
+use Rattle.px_diff.specs.Parameters.{AreFirstTerms, Matches}
 use Rattle.px_diff.specs.Pushes.{IsPushable, IsRelevant}
 use Rattle.px_diff.specs.Questions.{AreUnlimited}
-use Rattle.px_diff.specs.RowQuestions.{AreNarrowed, AreRowsKnown}
+use Rattle.px_diff.specs.RowQuestions.{AreRowsKnown, FitsEach, FitsOne, IsInstanceKnown}
 use Rattle.px_diff.specs.declared.front.Front.{Front}
-use Rattle.px_diff.proofs.Describing.{unbound-binding}
-use Rattle.px_diff.proofs.EntryLemmas.{entries_less, entries_none, entries_part, entries_pushable, entries_relevant, needs_are, relevant_macro}
-use Rattle.px_diff.proofs.FittingLemmas.{among-next, among-none, extending-among}
+use Rattle.px_diff.proofs.EntryLemmas.{entries_less, entries_none, entries_part, entries_relevant, needs_are, relevant_macro}
 use Rattle.px_diff.proofs.Grows.{one_next, one_none}
-use Rattle.px_diff.proofs.Loops.{contains_here, level_or_below}
-use Rattle.px_diff.proofs.MacroLemmas.{front-range, macro_before-all, macro_before-next, macro_before-none, marks-plain, of_matches}
+use Rattle.px_diff.proofs.Loops.{level_or_below}
+use Rattle.px_diff.proofs.MacroLemmas.{front-range, macro_before-all, macro_before-next, macro_before-none, of_matches}
 use Rattle.px_diff.proofs.ParameterLemmas.{closed-values, first-extends}
 use Rattle.px_diff.proofs.PrefixLemmas.{rows-fit, rows-unlimited}
+use Rattle.px_diff.proofs.RowSplitting.{limited_or_known}
 
 -- ---- tables and choices
 
@@ -47,19 +47,6 @@ learned-table problem tables number table learned at = All-at (IsTable problem) 
 
 pub front-table : (problem : Problem) (tables : List Table) (front : Front) → AreLearned problem tables → IsFrontOf tables front → IsTable problem front.table.now
 front-table problem tables front learned is = learned-table problem tables front.number front.table.now learned is.table
-
--- terms of the same length as others
-pub match-long : (limit count n : ℕ) → n ≡ count → (choices : List (List Term)) → All (IsMatch limit count) choices → All (λ (choice : List Term). length choice ≡ n) choices
-match-long limit count n same choices all = All-each (λ (choice : List Term). length choice ≡ n) choices (λ choice has. (All-at (IsMatch limit count) choices choice all has).long ∙ sym same)
-
-pub rows-long : (limit count n : ℕ) → n ≡ count → (rows : List (List (List Term))) → All (All (IsMatch limit count)) rows → All (All (λ (choice : List Term). length choice ≡ n)) rows
-rows-long limit count n same rows all = All-each (All (λ (choice : List Term). length choice ≡ n)) rows (λ choices has. match-long limit count n same choices (All-at (All (IsMatch limit count)) rows choices all has))
-
--- the choice at a place of the row at a place
-pub choice-at : (limit count : ℕ) (rows : List (List (List Term))) (place : ℕ) (row choices : List (List Term)) (i : ℕ) (choice : List Term) → All (All (IsMatch limit count)) rows → place < length rows → row ≡ get_or rows place row → choices ≡ row
-    → i < length choices → choice ≡ get_or choices i choice → IsMatch limit count choice
-choice-at limit count rows place row choices i choice all within is same below here =
-    All-at (IsMatch limit count) choices choice (subst (All (IsMatch limit count)) (sym same) (All-at (All (IsMatch limit count)) rows row all (contains_here rows place row within is))) (contains_here choices i choice below here)
 
 -- ---- parts
 
@@ -87,37 +74,22 @@ module _ (problem : Problem) (tables : List Table) (wanted : List Atom) (stack :
       entries_less problem tables wanted stack model (λ other. Macro number prefix sigma ≡ other) (IsMacroBy problem.objects number prefix terms) old new
       (λ entry (values, extends, same). ap (λ (l : List ℕ). Macro number prefix l) (is ∙ sym (closed-values problem.objects terms values closed extends)) ∙ same) gathered
 
-  module _ (rows : List (List (List Term))) (choices : List (List Term)) where
-    pub choices-none : (found : List Entry) → Gathered (IsMacroAmong problem.objects number prefix [] rows) found found
-    choices-none found = entries_none problem tables wanted stack model (IsMacroAmong problem.objects number prefix [] rows) found (λ entry relevant w. among-none problem.objects number prefix [] rows entry w)
-
-    pub choices-next : (i : ℕ) (choice : List Term) (others : List (List (List Term))) (old made new : List Entry) → i < length choices → choice ≡ get_or choices i choice → AreNarrowed problem.objects choice rows others
-        → Gathered (IsMacroAmong problem.objects number prefix (take i choices) rows) old made → Gathered (IsMacroExtending problem.objects number prefix choice others) made new → Gathered (IsMacroAmong problem.objects number prefix (take (i + 1) choices) rows) old new
-    choices-next i choice others old made new below is narrowed first second =
-        entries_part problem tables wanted stack model (IsMacroAmong problem.objects number prefix (take i choices) rows) (IsMacroExtending problem.objects number prefix choice others) (IsMacroAmong problem.objects number prefix (take (i + 1) choices) rows) old made new
-        (among-next problem.objects number prefix [] rows choices i choice below is others narrowed) first second
-
-    pub choices-all : (terms : List Term) (i : ℕ) (old new : List Entry) → Contains rows choices → length choices ≤ i → Gathered (IsMacroAmong problem.objects number prefix (take i choices) rows) old new → Gathered (IsMacroExtending problem.objects number prefix terms rows) old new
-    choices-all terms i old new has end gathered =
-        entries_less problem tables wanted stack model (IsMacroAmong problem.objects number prefix choices rows) (IsMacroExtending problem.objects number prefix terms rows) old new (extending-among problem.objects number prefix terms rows choices has)
-        (subst (λ (l : List (List Term)). Gathered (IsMacroAmong problem.objects number prefix l rows) old new) (take_all i choices end) gathered)
-
   -- match by match
-  module _ (IsPart : List Term → Entry → Type 0) where
-    abbrev pub IsMatched : List (List Term) → Entry → Type 0
-    IsMatched matches entry = OneOf matches (λ (terms : List Term). IsPart terms entry)
+  module _ {X : Type 0} (IsPart : X → Entry → Type 0) where
+    abbrev pub IsMatched : List X → Entry → Type 0
+    IsMatched matches entry = OneOf matches (λ (x : X). IsPart x entry)
 
     pub matched-none : (found : List Entry) → Gathered (IsMatched []) found found
-    matched-none found = entries_none problem tables wanted stack model (IsMatched []) found (λ entry relevant one. one_none (λ (terms : List Term). IsPart terms entry) one)
+    matched-none found = entries_none problem tables wanted stack model (IsMatched []) found (λ entry relevant one. one_none (λ (x : X). IsPart x entry) one)
 
-    pub matched-next : (matches : List (List Term)) (i : ℕ) (terms : List Term) (old made new : List Entry) → i < length matches → terms ≡ get_or matches i terms
+    pub matched-next : (matches : List X) (i : ℕ) (terms : X) (old made new : List Entry) → i < length matches → terms ≡ get_or matches i terms
         → Gathered (IsMatched (take i matches)) old made → Gathered (IsPart terms) made new → Gathered (IsMatched (take (i + 1) matches)) old new
     matched-next matches i terms old made new below is first second =
         entries_part problem tables wanted stack model (IsMatched (take i matches)) (IsPart terms) (IsMatched (take (i + 1) matches)) old made new
-        (λ entry w. (one_next (λ (ts : List Term). IsPart ts entry) matches i terms below is).0 w) first second
+        (λ entry w. (one_next (λ (x : X). IsPart x entry) matches i terms below is).0 w) first second
 
-    pub matched-all : (matches : List (List Term)) (i : ℕ) (old new : List Entry) → length matches ≤ i → Gathered (IsMatched (take i matches)) old new → Gathered (IsMatched matches) old new
-    matched-all matches i old new end gathered = subst (λ (l : List (List Term)). Gathered (IsMatched l) old new) (take_all i matches end) gathered
+    pub matched-all : (matches : List X) (i : ℕ) (old new : List Entry) → length matches ≤ i → Gathered (IsMatched (take i matches)) old new → Gathered (IsMatched matches) old new
+    matched-all matches i old new end gathered = subst (λ (l : List X). Gathered (IsMatched l) old new) (take_all i matches end) gathered
 
   -- an entry that is none, or isn't relevant
   pub irrelevant-none : (sigma : List ℕ) (found : List Entry) → (IsRelevant problem tables wanted stack (Macro number prefix sigma) → ⊥) → Gathered (λ other. Macro number prefix sigma ≡ other) found found
@@ -143,33 +115,59 @@ wide-extends limit count wide start sigma unbound long extends = record {
   same = λ v n at. let never : Obj n ≡ Var v = unbound.each v (Obj n) at in absurd (cc);
 }
 
-pub wide-gather : (problem : Problem) (tables : List Table) (wanted : List Atom) (stack : List Entry) (number prefix : ℕ) (table : Table) (at : slice_get tables number ≡ Some table) (is_table : IsTable problem table) (model : List Atom) (ascends : IsAtomSet model)
-    (wide : List Term) (unbound : AreUnbound table.params wide) (some : 0 < problem.objects) (rows : List (List (List Term))) (known : AreRowsKnown (setting_of problem model) table wide prefix rows) (start : List Term) (first : AreFirstTerms table prefix start) (matches : List (List Term))
-    → Matches problem.objects (length start) start (λ sigma. OneOf wanted (λ (atom : Atom). OneOf (take prefix table.steps) (λ (step : OpInst). OneOf (adds problem step) (λ (add : Atom). substitute_atom (object_terms sigma) add ≡ atom)))) [] matches
-    → (old new : List Entry) → GathersEntries problem tables wanted stack model (λ entry. OneOf matches (λ (terms : List Term). IsMacroFitting problem.objects number prefix terms rows entry)) old new
-    → GathersEntries problem tables wanted stack model (IsOfFront number prefix) old new
-wide-gather problem tables wanted stack number prefix table at is_table model ascends wide unbound some rows known start first matches matched old new gathers =
-    entries_pushable problem tables wanted stack model (λ entry. OneOf matches (λ (terms : List Term). IsMacroFitting problem.objects number prefix terms rows entry)) (IsOfFront number prefix) old new
-    (λ entry pushable of.
-    let one = of_matches problem tables wanted stack number prefix table at is_table start first matches some matched entry pushable.relevant of in
-    let sigma = one.2.0 in
-    let here = subst (IsPushable problem tables wanted stack model) (sym one.2.2) pushable in
-    let is = relevant_macro problem tables number prefix table at sigma wanted stack here.relevant in
-    let is_open = subst (IsOpen problem) (needs_are problem tables number prefix table at sigma model) here.open_entry in
-    let extends = wide-extends problem.objects table.params wide start sigma unbound first.count (first-extends problem table prefix start first sigma is some) in
-    (one.0, one.1, (sigma, one.2.1, rows-fit problem table sigma model wide (wide-binding) unbound.count plain ascends extends prefix is.within rows known is_open, one.2.2)))
-    (λ entry (sigma, same) relevant.
-    let is = relevant_macro problem tables number prefix table at sigma wanted stack (subst (IsRelevant problem tables wanted stack) (sym same) relevant) in
-    let extends = wide-extends problem.objects table.params wide start sigma unbound first.count (first-extends problem table prefix start first sigma is some) in
-    let unlimited = rows-unlimited problem table sigma model wide (wide-binding) unbound.count plain ascends extends prefix is.within rows known in
-    subst (λ (e : Entry). AreUnlimited problem (obligations_of problem tables model e)) same (subst (AreUnlimited problem) (sym (needs_are problem tables number prefix table at sigma model)) unlimited))
-    gathers
-  where
-    wide-binding : IsBinding problem.objects wide
-    wide-binding = unbound-binding problem.objects table.params wide unbound (λ _. some)
+-- objects that fit one of the row's choices fit one of each row, where there is but this row
+fits-alone : (row : List (List Term)) (sigma : List ℕ) → FitsOne row sigma → FitsEach (row ∷ []) sigma
+fits-alone row sigma fit = All-cons (λ (choices : List (List Term)). FitsOne choices sigma) row [] fit (All-nil (λ (choices : List (List Term)). FitsOne choices sigma))
 
-    plain : All (λ (mark : Mark). IsPlain (length wide) mark.atom) table.marks
-    plain = marks-plain problem table wide is_table unbound.count
+module _ (problem : Problem) (tables : List Table) (wanted : List Atom) (stack : List Entry) (number prefix : ℕ) (table : Table) (at : slice_get tables number ≡ Some table) (is_table : IsTable problem table) (model : List Atom) (ascends : IsAtomSet model)
+    (wide : List Term) (unbound : AreUnbound table.params wide) (some : 0 < problem.objects) (rows limited : List (List (List Term))) (known : AreRowsKnown (setting_of problem model) table wide prefix rows limited) (start : List Term)
+    (first : AreFirstTerms table prefix start) (matches : List (List Term)) (matched : AreMatches problem wanted prefix start table.steps matches) where
+  abbrev IsKnownFor : List ℕ → Type 0
+  IsKnownFor sigma = (k : ℕ) → k < prefix → IsInstanceKnown (setting_of problem model) table (k + 1) (get_or rows k []) sigma
+
+  -- its objects fit one of the terms at which some row meets the limit, or each row is known with them
+  limited_or_told : (sigma : List ℕ) → IsMacro problem table prefix sigma → OneOf limited (λ (row : List (List Term)). FitsOne row sigma) ⊎ IsKnownFor sigma
+  limited_or_told sigma is = limited_or_known (setting_of problem model) table wide prefix rows limited known sigma (wide-extends problem.objects table.params wide start sigma unbound first.count (first-extends problem table prefix start first sigma is some))
+
+  limited-part : (terms : List Term) → Contains matches terms → (sigma : List ℕ) → Extends problem.objects terms sigma → OneOf limited (λ (row : List (List Term)). FitsOne row sigma) → (entry : Entry) → Macro number prefix sigma ≡ entry
+      → OneOf matches (λ (ts : List Term). IsMacroTold problem.objects number prefix rows limited ts entry)
+  limited-part terms has sigma extends one entry same = (terms, has, inl (one.0, one.1, (sigma, extends, fits-alone one.0 sigma one.2, same)))
+
+  pub wide-gather : (old new : List Entry) → GathersEntries problem tables wanted stack model (λ entry. OneOf matches (λ (terms : List Term). IsMacroTold problem.objects number prefix rows limited terms entry)) old new
+      → GathersEntries problem tables wanted stack model (IsOfFront number prefix) old new
+  wide-gather old new gathers = record {
+    kept = gathers.kept;
+    only = gathers.only;
+    all = λ entry of pushable.
+        let one = of_matches problem tables wanted stack number prefix table at is_table start first matches some matched entry pushable.relevant of in
+        let sigma = one.2.0 in
+        let here = subst (IsPushable problem tables wanted stack model) (sym one.2.2) pushable in
+        let is = relevant_macro problem tables number prefix table at sigma wanted stack here.relevant in
+        let is_open = subst (IsOpen problem) (needs_are problem tables number prefix table at sigma model) here.open_entry in
+        gathers.all entry (elim (limited_or_told sigma is) [
+          | inl one_limited ↦ limited-part one.0 one.1 sigma one.2.1 one_limited entry one.2.2
+          | inr told ↦ (one.0, one.1, inr (sigma, one.2.1, rows-fit problem table sigma model ascends prefix is.within rows known.count told is_open, one.2.2))
+        ]) pushable;
+    unlimited = λ entry of relevant.
+        let one = of_matches problem tables wanted stack number prefix table at is_table start first matches some matched entry relevant of in
+        let sigma = one.2.0 in
+        let is = relevant_macro problem tables number prefix table at sigma wanted stack (subst (IsRelevant problem tables wanted stack) (sym one.2.2) relevant) in
+        elim (limited_or_told sigma is) [
+          | inl one_limited ↦ gathers.unlimited entry (limited-part one.0 one.1 sigma one.2.1 one_limited entry one.2.2) relevant
+          | inr told ↦
+              let unlimited = rows-unlimited problem table sigma model ascends prefix is.within rows known.count told in
+              subst (λ (e : Entry). AreUnlimited problem (obligations_of problem tables model e)) one.2.2 (subst (AreUnlimited problem) (sym (needs_are problem tables number prefix table at sigma model)) unlimited)
+        ];
+  }
+
+-- the same of lists that are lent
+pub told-same : (problem : Problem) (tables : List Table) (wanted : List Atom) (stack : List Entry) (model : List Atom) (number count : ℕ) (lent matches : List (List Term)) (lent_rows rows lent_limited limited : List (List (List Term))) (old new : List Entry)
+    → lent ≡ matches → lent_rows ≡ rows → lent_limited ≡ limited → GathersEntries problem tables wanted stack model (λ entry. OneOf lent (λ (terms : List Term). IsMacroTold problem.objects number count (take count lent_rows) (take count lent_limited) terms entry)) old new
+    → GathersEntries problem tables wanted stack model (λ entry. OneOf matches (λ (terms : List Term). IsMacroTold problem.objects number count (take count rows) (take count limited) terms entry)) old new
+told-same problem tables wanted stack model number count lent matches lent_rows rows lent_limited limited old new same same_rows same_limited gathers =
+    subst (λ (l : List (List Term)). GathersEntries problem tables wanted stack model (λ entry. OneOf l (λ (terms : List Term). IsMacroTold problem.objects number count (take count rows) (take count limited) terms entry)) old new) same
+    (subst (λ (l : List (List (List Term))). GathersEntries problem tables wanted stack model (λ entry. OneOf lent (λ (terms : List Term). IsMacroTold problem.objects number count (take count l) (take count limited) terms entry)) old new) same_rows
+    (subst (λ (l : List (List (List Term))). GathersEntries problem tables wanted stack model (λ entry. OneOf lent (λ (terms : List Term). IsMacroTold problem.objects number count (take count lent_rows) (take count l) terms entry)) old new) same_limited gathers))
 
 -- ---- tables, one after the other, and their first steps
 

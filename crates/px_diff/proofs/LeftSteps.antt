@@ -1,6 +1,6 @@
 -- Loops that pick items of a list: what a step leaves of facts, and the atoms of a row.
-use Rattle.std.proofs.Common.{◌≡◌, ◌+◌, ◌<◌, ◌≤◌, ◌++◌, ℕ, Bool, true, false, List, [], ◌∷◌, length, take, get_or, refl, sym, ap, ◌∙◌, append-nil}
-use Rattle.std.specs.Prelude.{MatchBool, map, filter, not, cond}
+use Rattle.std.proofs.Common.{◌≡◌, ◌+◌, ◌<◌, ◌≤◌, ◌++◌, ℕ, suc, Bool, true, false, List, [], ◌∷◌, length, take, get_or, refl, sym, ap, ◌∙◌, append-nil, arith}
+use Rattle.std.specs.Prelude.{All, IfOk, Result, Ok, Err, MatchBool, map, filter, not, cond}
 use Rattle.std.proofs.lemmas.List.{map-append, take_all}
 use Rattle.std.proofs.lemmas.List.Elements.{filter-append}
 use Rattle.std.proofs.lemmas.List.Kept.{IsStrictlySortedBy-filter}
@@ -70,3 +70,17 @@ module _ (p : Atom → Bool) (facts : List Atom) where
 pub not-twice : (b : Bool) → b ≡ not (not b)
 not-twice true = refl
 not-twice false = refl
+
+-- where nothing is left out all is left
+pub left-whole : {X : Type 0} (test : X → Bool) (xs : List X) → All (λ x. test x ≡ false) xs → filter (λ x. not (test x)) xs ≡ xs
+left-whole test [] all = refl
+left-whole test (x ∷ xs) all =
+    ap (λ (b : Bool). cond (not b) (x ∷ filter (λ y. not (test y)) xs) (filter (λ y. not (test y)) xs)) (all 0 x (omega arith))
+    ∙ ap (λ (l : List _). x ∷ l) (left-whole test xs (λ k d below. all (suc k) d (omega (arith, below))))
+
+pub left-same : {X : Type 0} (test : X → Bool) (xs model copy : List X) → xs ≡ model → All (λ x. test x ≡ false) xs → copy ≡ model → copy ≡ filter (λ x. not (test x)) model
+left-same {X} test xs model copy same all is = is ∙ sym same ∙ sym (left-whole test xs all) ∙ ap (filter (λ x. not (test x))) same
+
+pub ok_map : {A E : Type 0} (P Q : A → Type 0) (result : Result A E) → ((a : A) → P a → Q a) → IfOk result P → IfOk result Q
+ok_map P Q (Ok a) f h = f a h
+ok_map P Q (Err e) f h = tt

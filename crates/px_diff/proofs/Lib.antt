@@ -8,6 +8,7 @@ mod AddableLaws
 mod AnswerRowLaws
 mod JoinSteps
 mod LeftSteps
+pub mod RowTurns
 pub mod RowSteps
 mod KnownSteps
 mod StackLaws
@@ -37,7 +38,15 @@ mod PrefixLemmas
 mod MacroLemmas
 mod MatchLemmas
 mod RowAnswerLemmas
+mod RowSplitting
 mod AddedLemmas
 mod FittingLemmas
 mod GatherLemmas
 mod WholeLemmas
+mod RestLaws
+mod RestOpening
+mod ShapeCounts
+mod ListBounds
+mod AtomBounds
+mod UseBounds
+mod BoundLoops

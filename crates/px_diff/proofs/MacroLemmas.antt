@@ -5,7 +5,6 @@ use Rattle.std.proofs.lemmas.List.{length-map, take-map}
 use Rattle.std.proofs.lemmas.Option.{slice_get_within}
 use Rattle.px_base.specs.ListLaws.{All-at, All-each, Contains-cases, Contains-first, Contains-later, Contains-none}
 use Rattle.px_question.specs.Answers.{object_terms}
-use Rattle.px_question.specs.Settings.{setting_of}
 use Rattle.px_table.specs.declared.entry.Entry.{Entry}
 use Rattle.px_table.specs.declared.entry.Entry.TheVariants.{Macro}
 use Rattle.px_table.specs.declared.mark.Mark.{Mark}
@@ -14,7 +13,6 @@ use Rattle.px_table.specs.Kernels.{instance_under, steps_under}
 use Rattle.px_table.specs.Prefixes.{IsMacro, IsUsed}
 use Rattle.px_table.specs.Tables.{IsStepOf, IsTable}
 use Rattle.px_table.specs.UnderLaws.{adds-under}
-use Rattle.px_terms.specs.AtomSets.{IsAtomSet}
 use Rattle.px_terms.specs.Language.{substitute}
 use Rattle.px_terms.specs.Operators.{IsAdded, adds}
 use Rattle.px_terms.specs.Substitution.{substitute_atom}
@@ -24,21 +22,17 @@ use Rattle.px_terms.specs.declared.instance.OpInst.{OpInst}
 use Rattle.px_terms.specs.declared.problem.Problem.{Problem}
 use Rattle.px_terms.specs.declared.term.Term.{Term}
 use Rattle.px_terms.specs.declared.term.Term.TheVariants.{Obj, Var, Any as Wild}
-use Rattle.px_diff.specs.Bindings.{Extends, IsBinding, IsPlain, first_values}
+use Rattle.px_diff.specs.Bindings.{Extends, IsPlain, first_values}
 use Rattle.px_diff.specs.Closings.{OneOf}
-use Rattle.px_diff.specs.Entries.{IsOpen, obligations_of}
-use Rattle.px_diff.specs.Macros.{GathersEntries, IsMacroBefore, IsMacroBy, IsMacroFitting, IsOfFront}
+use Rattle.px_diff.specs.Macros.{IsMacroBefore, IsMacroBy, IsOfFront}
 use Rattle.px_diff.specs.Parameters.{AreFirstTerms, Matches}
-use Rattle.px_diff.specs.Pushes.{IsPushable, IsRelevant}
-use Rattle.px_diff.specs.Questions.{AreUnlimited}
-use Rattle.px_diff.specs.RowQuestions.{AreRowsKnown}
+use Rattle.px_diff.specs.Pushes.{IsRelevant}
 use Rattle.px_diff.proofs.Choosing.{bound-extends, term-at}
 use Rattle.px_diff.proofs.Describing.{atom-plain, from-mapped}
 use Rattle.px_diff.proofs.Covering.{Contains-from_mapped}
-use Rattle.px_diff.proofs.EntryLemmas.{effect_is, entries_pushable, macro_entry, needs_are, relevant_macro}
+use Rattle.px_diff.proofs.EntryLemmas.{effect_is, macro_entry, relevant_macro}
 use Rattle.px_diff.proofs.Loops.{level_or_below}
 use Rattle.px_diff.proofs.ParameterLemmas.{first-extends, zero-values}
-use Rattle.px_diff.proofs.PrefixLemmas.{rows-fit, rows-unlimited}
 
 -- ---- the objects of one parameter, one after the other
 
@@ -149,21 +143,3 @@ module _ (problem : Problem) (tables : List Table) (wanted : List Atom) (stack :
   front-range entry relevant (sigma, same) =
       let is = relevant_macro problem tables number prefix table at sigma wanted stack (subst (IsRelevant problem tables wanted stack) (sym same) relevant) in
       (is.several, is.within)
-
-  -- where the rows are known with variables
-  module _ (model : List Atom) (terms : List Term) (binding : IsBinding problem.objects terms) (long : length terms ≡ table.params) (ascends : IsAtomSet model) (rows : List (List (List Term))) (known : AreRowsKnown (setting_of problem model) table terms prefix rows) where
-    plain : All (λ (mark : Mark). IsPlain (length terms) mark.atom) table.marks
-    plain = marks-plain problem table terms is_table long
-
-    pub rows-gather : (old new : List Entry) → GathersEntries problem tables wanted stack model (IsMacroFitting problem.objects number prefix terms rows) old new → GathersEntries problem tables wanted stack model (IsMacroBy problem.objects number prefix terms) old new
-    rows-gather old new gathers = entries_pushable problem tables wanted stack model (IsMacroFitting problem.objects number prefix terms rows) (IsMacroBy problem.objects number prefix terms) old new
-        (λ entry pushable (sigma, extends, same).
-        let here = subst (IsPushable problem tables wanted stack model) (sym same) pushable in
-        let is = relevant_macro problem tables number prefix table at sigma wanted stack here.relevant in
-        let is_open = subst (IsOpen problem) (needs_are problem tables number prefix table at sigma model) here.open_entry in
-        (sigma, extends, rows-fit problem table sigma model terms binding long plain ascends extends prefix is.within rows known is_open, same))
-        (λ entry (sigma, extends, same) relevant.
-        let is = relevant_macro problem tables number prefix table at sigma wanted stack (subst (IsRelevant problem tables wanted stack) (sym same) relevant) in
-        let unlimited = rows-unlimited problem table sigma model terms binding long plain ascends extends prefix is.within rows known in
-        subst (λ (e : Entry). AreUnlimited problem (obligations_of problem tables model e)) same (subst (AreUnlimited problem) (sym (needs_are problem tables number prefix table at sigma model)) unlimited))
-        gathers

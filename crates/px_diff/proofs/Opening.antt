@@ -84,11 +84,11 @@ limits_finding problem tables wanted stack model inst kept shapes relevant none 
 }
 
 -- the instance has an answer: a list that closes nothing
-abbrev IsAnsweredIn : PartialInstance → List GapList → OpInst → Type 0
+abbrev pub IsAnsweredIn : PartialInstance → List GapList → OpInst → Type 0
 IsAnsweredIn partial lists inst = OneOf lists (λ list. (list.gaps ≡ []) × (instance_by partial list.objects ≡ inst))
 
 -- it has one or it hasn't
-answered-or : (partial : PartialInstance) (lists : List GapList) (inst : OpInst) → IsAnsweredIn partial lists inst ⊎ (IsAnsweredIn partial lists inst → ⊥)
+pub answered-or : (partial : PartialInstance) (lists : List GapList) (inst : OpInst) → IsAnsweredIn partial lists inst ⊎ (IsAnsweredIn partial lists inst → ⊥)
 answered-or partial [] inst = inr (λ one. Contains-none one.0 one.1)
 answered-or partial (list ∷ lists) inst = elim (answered-or partial lists inst) [
   | inl later ↦ inl (later.0, Contains-later list lists later.0 later.1, later.2)
@@ -115,7 +115,7 @@ module _ (problem : Problem) (valid : IsValid problem) (model : List Atom) (part
   literals-same : (full : OpInst) (objects : List ℕ) → Fills problem partial full objects → literals_of (precondition problem partial.inst) objects ≡ literals_of (precondition problem full) []
   literals-same full objects fills = same_needs problem valid partial form objects fills.count fills.below ∙ ap (λ (i : OpInst). literals_of (precondition problem i) []) fills.same
 
-  list_full : (rules : Rules) (full : OpInst) (objects : List ℕ) (ds : Derivations) → Fills problem partial full objects → IsList rules s (precondition problem partial.inst) partial.vars objects ds → IsList rules s (precondition problem full) 0 [] ds
+  pub list_full : (rules : Rules) (full : OpInst) (objects : List ℕ) (ds : Derivations) → Fills problem partial full objects → IsList rules s (precondition problem partial.inst) partial.vars objects ds → IsList rules s (precondition problem full) 0 [] ds
   list_full rules full objects ds fills list = record {
     count = refl;
     below = All-nil (λ n. n < problem.objects);
@@ -123,7 +123,7 @@ module _ (problem : Problem) (valid : IsValid problem) (model : List Atom) (part
     low = list.low;
   }
 
-  list_open : (rules : Rules) (full : OpInst) (objects none : List ℕ) (ds : Derivations) → Fills problem partial full objects → IsList rules s (precondition problem full) 0 none ds → IsList rules s (precondition problem partial.inst) partial.vars objects ds
+  pub list_open : (rules : Rules) (full : OpInst) (objects none : List ℕ) (ds : Derivations) → Fills problem partial full objects → IsList rules s (precondition problem full) 0 none ds → IsList rules s (precondition problem partial.inst) partial.vars objects ds
   list_open rules full objects none ds fills list = record {
     count = fills.count;
     below = fills.below;

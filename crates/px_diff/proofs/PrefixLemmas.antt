@@ -1,13 +1,10 @@
 -- The rows of a MACROP, where what is asked of them with variables stays below the limit.
-use Rattle.std.proofs.Common.{◌≡◌, Some, slice_get, ◌⊎◌, ◌+◌, ◌-◌, ◌<◌, ◌≤◌, ℕ, suc, List, [], ◌∷◌, length, take, get_or, ap, sym, subst, inl, inr, arith}
+use Rattle.std.proofs.Common.{◌≡◌, ◌⊎◌, ◌+◌, ◌-◌, ◌<◌, ◌≤◌, ℕ, suc, List, [], ◌∷◌, length, take, get_or, ap, sym, subst, inl, inr, arith}
 use Rattle.std.specs.Prelude.{All, Contains, filter, not}
-use Rattle.std.proofs.lemmas.List.{length-take, length-map}
-use Rattle.std.proofs.lemmas.Option.{slice_get_within}
+use Rattle.std.proofs.lemmas.List.{get_or_default, length-take, length-map}
 use Rattle.std.proofs.lemmas.List.Kept.{IsStrictlySortedBy-filter}
 use Rattle.px_base.specs.ListLaws.{All-at, All-each, Contains-filter, Contains-cases, Contains-first, Contains-later, Contains-none}
-use Rattle.px_proof.specs.PlaceLaws.{slice_get-read}
 use Rattle.px_question.specs.Settings.{setting_of}
-use Rattle.px_table.specs.declared.mark.Mark.{Mark}
 use Rattle.px_table.specs.declared.table.Table.{Table}
 use Rattle.px_table.specs.Kernels.{instance_under, steps_under}
 use Rattle.px_terms.specs.AtomSets.{IsAtomSet}
@@ -17,13 +14,11 @@ use Rattle.px_terms.specs.declared.atom.Atom.{Atom}
 use Rattle.px_terms.specs.declared.instance.OpInst.{OpInst}
 use Rattle.px_terms.specs.declared.problem.Problem.{Problem}
 use Rattle.px_terms.specs.declared.term.Term.{Term}
-use Rattle.px_diff.specs.Bindings.{Extends, IsBinding, IsPlain}
-use Rattle.px_diff.specs.Closings.{OneOf}
-use Rattle.px_diff.specs.Entries.{HasAnswer, HasGap, IsOpen, Obligation, initial_atoms, row_obligations}
-use Rattle.px_diff.specs.Parameters.{Fits}
+use Rattle.px_diff.specs.Entries.{HasAnswer, HasGap, IsOpen, Obligation, initial_atoms}
 use Rattle.px_diff.specs.Questions.{AreUnlimited, FindingGaps, MeetsLimit, Proving}
-use Rattle.px_diff.specs.RowQuestions.{AreRowsKnown, FitsEach, IsRowKnown}
+use Rattle.px_diff.specs.RowQuestions.{FitsEach, FitsOne, IsInstanceKnown}
 use Rattle.px_diff.proofs.Describing.{any-of}
+use Rattle.px_diff.proofs.RowTurns.{row_obligations}
 use Rattle.px_diff.proofs.RowLemmas.{answer-fits, finding-unlimited, gap-fits, proving-unlimited}
 
 -- what is needed for a row, from some of the model's atoms
@@ -73,8 +68,8 @@ module _ (problem : Problem) (table : Table) (sigma : List ℕ) (model : List At
       first_or_later : (row at : ℕ) → row ≤ at → (row ≡ at) ⊎ (suc row ≤ at)
       first_or_later row at low = grind (arith, low)
 
-  module _ (terms : List Term) (binding : IsBinding problem.objects terms) (long : length terms ≡ table.params) (plain : All (λ (mark : Mark). IsPlain (length terms) mark.atom) table.marks) (set : IsAtomSet model)
-      (extends : Extends problem.objects terms sigma) (prefix : ℕ) (within : prefix ≤ length table.steps) (rows : List (List (List Term))) (known : AreRowsKnown (setting_of problem model) table terms prefix rows) where
+  module _ (set : IsAtomSet model) (prefix : ℕ) (within : prefix ≤ length table.steps) (rows : List (List (List Term))) (count : length rows ≡ prefix)
+      (known : (k : ℕ) → k < prefix → IsInstanceKnown (setting_of problem model) table (k + 1) (get_or rows k []) sigma) where
     steps_long : length (take prefix (steps_under table sigma)) ≡ prefix
     steps_long = omega (arith, length-take prefix (steps_under table sigma), within, shorter)
       where
@@ -88,41 +83,40 @@ module _ (problem : Problem) (table : Table) (sigma : List ℕ) (model : List At
     needs = row_obligations problem table sigma model 1 (take prefix (steps_under table sigma))
 
     -- the row's choices
-    row-known : (at : ℕ) → 1 ≤ at → at < 1 + prefix → (choices : List (List Term)) × IsRowKnown (setting_of problem model) table terms at choices
+    row-known : (at : ℕ) → 1 ≤ at → at < 1 + prefix → IsInstanceKnown (setting_of problem model) table at (get_or rows (at - 1) []) sigma
     row-known at low high =
-        let place : at - 1 < length rows = omega (arith, low, high, known.count) in
         let back : at - 1 + 1 ≡ at = omega (arith, low) in
-        let choices = get_or rows (at - 1) [] in
-        (choices, subst (λ (n : ℕ). IsRowKnown (setting_of problem model) table terms n choices) back (known.each (at - 1) choices (slice_get-read rows (at - 1) [] place)))
+        subst (λ (n : ℕ). IsInstanceKnown (setting_of problem model) table n (get_or rows (at - 1) []) sigma) back (known (at - 1) (omega (arith, low, high)))
 
     pub rows-unlimited : AreUnlimited problem (row_obligations problem table sigma model 1 (take prefix (steps_under table sigma)))
     rows-unlimited question formula shapes asks met =
         let one = any-of (λ (needed : Obligation). (question ≡ Proving needed) ⊎ ((HasAnswer problem needed → ⊥) × (question ≡ FindingGaps needed))) needs asks in
         let part = part-row (take prefix (steps_under table sigma)) 1 model all-among set one.0 one.1 in
         let row = row-known part.0 part.1 (omega (arith, part.2, steps_long)) in
+        let choices = get_or rows (part.0 - 1) [] in
         let is = part.3 in
         elim one.2 [
           | inl proving ↦
               let here = subst (λ (needed : Obligation). MeetsLimit problem (Proving needed) formula shapes) is.same (subst (λ q. MeetsLimit problem q formula shapes) proving met) in
-              proving-unlimited (setting_of problem model) is.facts is.among is.set table terms binding long plain sigma extends part.0 row.0 row.1 shapes here.1
+              proving-unlimited (setting_of problem model) is.facts is.among is.set table sigma part.0 choices row shapes here.1
           | inr finding ↦
               let here = subst (λ (needed : Obligation). MeetsLimit problem (FindingGaps needed) formula shapes) is.same (subst (λ q. MeetsLimit problem q formula shapes) finding.1 met) in
-              finding-unlimited (setting_of problem model) is.facts is.among is.set table terms binding long plain sigma extends part.0 row.0 row.1 formula shapes here
+              finding-unlimited (setting_of problem model) is.facts is.among is.set table sigma part.0 choices row formula shapes here
         ]
 
     row-open : (needed : Obligation) → IsOpen problem needs → Contains needs needed → HasAnswer problem needed ⊎ ((gap : Atom) × HasGap problem needed gap)
     row-open needed is_open has = All-at (λ (n : Obligation). HasAnswer problem n ⊎ ((gap : Atom) × HasGap problem n gap)) needs needed is_open has
 
-    row-fits : IsOpen problem (row_obligations problem table sigma model 1 (take prefix (steps_under table sigma))) → (k : ℕ) (choices : List (List Term)) → slice_get rows k ≡ Some choices → OneOf choices (λ choice. Fits choice sigma)
-    row-fits is_open k choices at =
-        let below : k < length rows = slice_get_within rows k choices at in
-        let part = row-part (take prefix (steps_under table sigma)) 1 model all-among set (k + 1) (omega arith) (omega (arith, below, known.count, steps_long)) in
-        let row = known.each k choices at in
+    row-fits : IsOpen problem (row_obligations problem table sigma model 1 (take prefix (steps_under table sigma))) → (k : ℕ) → k < prefix → FitsOne (get_or rows k []) sigma
+    row-fits is_open k below =
+        let part = row-part (take prefix (steps_under table sigma)) 1 model all-among set (k + 1) (omega arith) (omega (arith, below, steps_long)) in
+        let row = known k below in
+        let choices = get_or rows k [] in
         let is = part.2 in
         elim (subst (λ (n : Obligation). HasAnswer problem n ⊎ ((gap : Atom) × HasGap problem n gap)) is.same (row-open part.0 is_open part.1)) [
-          | inl answer ↦ answer-fits (setting_of problem model) is.facts is.among is.set table terms binding long plain sigma extends (k + 1) choices row answer.0 answer.1 answer.2
-          | inr missing ↦ gap-fits (setting_of problem model) is.facts is.among is.set table terms binding long plain sigma extends (k + 1) choices row missing.1.1.0 missing.1.1.1 missing.1.1.2
+          | inl answer ↦ answer-fits (setting_of problem model) is.facts is.among is.set table sigma (k + 1) choices row answer.0 answer.1 answer.2
+          | inr missing ↦ gap-fits (setting_of problem model) is.facts is.among is.set table sigma (k + 1) choices row missing.1.1.0 missing.1.1.1 missing.1.1.2
         ]
 
     pub rows-fit : IsOpen problem (row_obligations problem table sigma model 1 (take prefix (steps_under table sigma))) → FitsEach rows sigma
-    rows-fit is_open k d within = row-fits is_open k (get_or rows k d) (slice_get-read rows k d within)
+    rows-fit is_open k d below = subst (λ (l : List (List Term)). FitsOne l sigma) (get_or_default rows k [] d below) (row-fits is_open k (omega (arith, below, count)))

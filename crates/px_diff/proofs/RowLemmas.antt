@@ -22,10 +22,8 @@ use Rattle.px_table.specs.declared.mark.Mark.{Mark}
 use Rattle.px_table.specs.declared.table.Table.{Table}
 use Rattle.px_table.specs.Kernels.{atom_under}
 use Rattle.px_diff.specs.Bindings.{Extends, IsBinding, IsPlain}
-use Rattle.px_diff.specs.Closings.{OneOf}
 use Rattle.px_diff.specs.Entries.{initial_atoms}
-use Rattle.px_diff.specs.Parameters.{Fits}
-use Rattle.px_diff.specs.RowQuestions.{IsRowKnown, row_formula}
+use Rattle.px_diff.specs.RowQuestions.{FitsOne, IsInstanceKnown, row_formula}
 use Rattle.px_diff.proofs.Choosing.{atom-under, term-at}
 use Rattle.px_diff.proofs.Fewness.{few-gaps, few-proofs}
 use Rattle.px_diff.proofs.GapLists.{list_by}
@@ -107,17 +105,9 @@ module _ (s : Setting) (fewer : List Atom) (among : All (Contains s.facts) fewer
   loose-more : (formula : List Atom) (objects : List ℕ) (ds : Derivations) → IsList (loose_gaps_in (with_facts s fewer)) (with_facts s fewer) formula 0 objects ds → IsList (loose_gaps_in s) s formula 0 objects (all_placed_in s.facts ds)
   loose-more formula objects ds list = fewer_facts-have_no_more.gap_proofs s fewer formula 0 objects ds among list
 
-  module _ (table : Table) (terms : List Term) (binding : IsBinding s.objects terms) (long : length terms ≡ table.params) (plain : All (λ (mark : Mark). IsPlain (length terms) mark.atom) table.marks)
-      (sigma : List ℕ) (extends : Extends s.objects terms sigma) (row : ℕ) (choices : List (List Term)) (known : IsRowKnown s table terms row choices) where
-    count_is : length sigma ≡ table.params
-    count_is = extends.count ∙ long
-
-    wide-list : (nothing : List ℕ) (ds : Derivations) → IsList (loose_gaps_in s) s (initial_atoms table sigma row) 0 nothing ds → IsList (loose_gaps_in s) s (row_formula table terms row) table.params sigma ds
-    wide-list nothing ds list = list-wide s table.params (row_formula table terms row) (initial_atoms table sigma row) sigma count_is extends.below (row-same s.objects terms binding sigma extends table row plain) (loose_gaps_in s) nothing ds list
-
+  module _ (table : Table) (sigma : List ℕ) (row : ℕ) (choices : List (List Term)) (known : IsInstanceKnown s table row choices sigma) where
     few-here : AreFewGapShapes (with_facts s fewer) (initial_atoms table sigma row) 0
-    few-here = fewer_facts-have_no_more.gap_shapes s fewer (initial_atoms table sigma row) 0 among set
-        (few-full s table.params (row_formula table terms row) (initial_atoms table sigma row) sigma count_is extends.below (row-same s.objects terms binding sigma extends table row plain) known.few)
+    few-here = fewer_facts-have_no_more.gap_shapes s fewer (initial_atoms table sigma row) 0 among set known.few
 
     pub proving-unlimited : (shapes : List (List Tick)) → IsLimited (with_facts s fewer) (initial_atoms table sigma row) 0 shapes → ⊥
     proving-unlimited shapes = few-proofs (with_facts s fewer) (initial_atoms table sigma row) 0 shapes few-here
@@ -127,19 +117,19 @@ module _ (s : Setting) (fewer : List Atom) (among : All (Contains s.facts) fewer
     finding-unlimited kept shapes (inr (atom, alone, loose, limited)) =
         let more = loose-more (initial_atoms table sigma row) loose.0 loose.1 loose.2 in
         let closes : Contains (all_gaps_of (all_placed_in s.facts loose.1)) atom = subst (λ (l : List Atom). Contains l atom) (sym (all_placed-gaps s.facts loose.1)) loose.3 in
-        atom-unlimited atom shapes (known.atoms atom (sigma, all_placed_in s.facts loose.1, wide-list loose.0 (all_placed_in s.facts loose.1) more, closes)) (subst (λ (l : List Atom). IsLimited (with_facts s fewer) l 0 shapes) alone limited)
+        atom-unlimited atom shapes (known.atoms atom (loose.0, all_placed_in s.facts loose.1, more, closes)) (subst (λ (l : List Atom). IsLimited (with_facts s fewer) l 0 shapes) alone limited)
 
-    loose-fits : (objects : List ℕ) (ds : Derivations) → IsList (loose_gaps_in (with_facts s fewer)) (with_facts s fewer) (initial_atoms table sigma row) 0 objects ds → OneOf choices (λ choice. Fits choice sigma)
+    loose-fits : (objects : List ℕ) (ds : Derivations) → IsList (loose_gaps_in (with_facts s fewer)) (with_facts s fewer) (initial_atoms table sigma row) 0 objects ds → FitsOne choices sigma
     loose-fits objects ds list =
         let more = loose-more (initial_atoms table sigma row) objects ds list in
-        known.covers sigma (all_gaps_of (all_placed_in s.facts ds)) (all_placed_in s.facts ds, wide-list objects (all_placed_in s.facts ds) more, λ atom. (λ h. h, λ h. h))
+        known.covers objects (all_gaps_of (all_placed_in s.facts ds)) (all_placed_in s.facts ds, more, λ atom. (λ h. h, λ h. h))
 
-    pub answer-fits : (objects : List ℕ) (ds : Derivations) → IsList (proofs_in (with_facts s fewer)) (with_facts s fewer) (initial_atoms table sigma row) 0 objects ds → OneOf choices (λ choice. Fits choice sigma)
+    pub answer-fits : (objects : List ℕ) (ds : Derivations) → IsList (proofs_in (with_facts s fewer)) (with_facts s fewer) (initial_atoms table sigma row) 0 objects ds → FitsOne choices sigma
     answer-fits objects ds list =
         loose-fits objects ds
         (list_by (with_facts s fewer) (initial_atoms table sigma row) 0 objects ds (proofs_in (with_facts s fewer)) (loose_gaps_in (with_facts s fewer)) (record { choices = λ t h. h; facts = λ leaf h. h; opens = λ h. h }) (λ atom has h. absurd h) list)
 
-    pub gap-fits : (objects : List ℕ) (ds : Derivations) → IsList (gaps_in (with_facts s fewer)) (with_facts s fewer) (initial_atoms table sigma row) 0 objects ds → OneOf choices (λ choice. Fits choice sigma)
+    pub gap-fits : (objects : List ℕ) (ds : Derivations) → IsList (gaps_in (with_facts s fewer)) (with_facts s fewer) (initial_atoms table sigma row) 0 objects ds → FitsOne choices sigma
     gap-fits objects ds list =
         loose-fits objects ds
         (list_by (with_facts s fewer) (initial_atoms table sigma row) 0 objects ds (gaps_in (with_facts s fewer)) (loose_gaps_in (with_facts s fewer)) (record { choices = λ t h. h; facts = λ leaf h. h; opens = λ h. h }) (λ atom has h. h.0) list)

@@ -23,12 +23,13 @@ use Rattle.px_base.specs.declared.no_memory.NoMemory.{NoMemory}
 use Rattle.px_table.specs.declared.entry.Entry.TheVariants.{Macro}
 use Rattle.px_table.specs.declared.mark.Mark.{Mark}
 use Rattle.px_table.specs.declared.table.Table.{Table}
-use Rattle.px_diff.specs.Entries.{Obligation, IsEntry, initial_atoms, obligations_of, row_obligations, table_at}
+use Rattle.px_diff.specs.Entries.{Obligation, IsEntry, initial_atoms, obligations_of, row_needs, table_at}
 use Rattle.px_diff.specs.Joined.{IsAtLimit, Joins}
 use Rattle.px_diff.specs.Known.{IsKnownOf}
 use Rattle.px_diff.specs.declared.known.Known.{Known}
 use Rattle.px_diff.specs.declared.known.Known.TheVariants.{Applicable}
 use Rattle.px_diff.proofs.JoinSteps.{limit-whole, nothing-needed}
+use Rattle.px_diff.proofs.RowTurns.{in_turn, row_obligations}
 
 -- ---- what stands in a table
 
@@ -144,23 +145,23 @@ module _ (problem : Problem) (table : Table) (sigma : List ℕ) (steps : List Op
     asked-next left next left_is next_is = rw (left_is, next_is) (record { done = before.done ++ needed_at count facts ∷ []; known_done = known-next; whole = whole-next })
 
     -- or the limit is met, and nothing more is asked
-    pub asked-limit : IsAtLimit both → IsKnownOf problem whole_of both
-    asked-limit at = subst (λ (l : List Obligation). IsKnownOf problem l both) (sym whole-next) (limit-whole problem (before.done ++ needed_at count facts ∷ []) _ both at known-next)
+    pub asked-limit : IsAtLimit both → IsKnownOf problem (row_needs problem table sigma model steps) both
+    asked-limit at = subst (λ (l : List Obligation). IsKnownOf problem l both) (sym (in_turn problem table sigma model steps ∙ whole-next)) (limit-whole problem (before.done ++ needed_at count facts ∷ []) _ both at known-next)
 
   -- all rows
-  pub asked-all : (count : ℕ) (facts : List Atom) (known : Known) → length steps ≤ count → AreAsked problem table sigma steps model count facts known → IsKnownOf problem whole_of known
+  pub asked-all : (count : ℕ) (facts : List Atom) (known : Known) → length steps ≤ count → AreAsked problem table sigma steps model count facts known → IsKnownOf problem (row_needs problem table sigma model steps) known
   asked-all count facts known end are =
-      subst (λ (l : List Obligation). IsKnownOf problem l known) (sym (are.whole ∙ ap (λ (l : List OpInst). are.done ++ row_obligations problem table sigma facts (suc count) l) (drop_all count steps end) ∙ append-nil are.done)) are.known_done
+      subst (λ (l : List Obligation). IsKnownOf problem l known) (sym (in_turn problem table sigma model steps ∙ are.whole ∙ ap (λ (l : List OpInst). are.done ++ row_obligations problem table sigma facts (suc count) l) (drop_all count steps end) ∙ append-nil are.done)) are.known_done
 
 -- ---- the table of an entry
 
 pub macro-known : (problem : Problem) (tables : List Table) (model : List Atom) (number prefix : ℕ) (sigma slice : List ℕ) (table : Table) (result : Result Known NoMemory) → slice ≡ sigma → number < length tables → table ≡ get_or tables number table
-    → IfOk result (IsKnownOf problem (row_obligations problem table slice model 1 (take prefix (steps_under table slice)))) → IfOk result (IsKnownOf problem (obligations_of problem tables model (Macro number prefix sigma)))
+    → IfOk result (IsKnownOf problem (row_needs problem table slice model (take prefix (steps_under table slice)))) → IfOk result (IsKnownOf problem (obligations_of problem tables model (Macro number prefix sigma)))
 macro-known problem tables model number prefix sigma slice table result slice_is below is known =
     let no_table : Table = record { params = 0; steps = []; goal = []; goal_vars = 0; marks = []; proofs = [] } in
     let found : table_at tables number ≡ table = ap (λ (o : Option Table). unwrap_or o no_table) (slice_get_read tables (length tables) number table refl below is) in
-    subst (λ (t : Table). IfOk result (IsKnownOf problem (row_obligations problem t sigma model 1 (take prefix (steps_under t sigma))))) (sym found)
-    (subst (λ (s : List ℕ). IfOk result (IsKnownOf problem (row_obligations problem table s model 1 (take prefix (steps_under table s))))) slice_is known)
+    subst (λ (t : Table). IfOk result (IsKnownOf problem (row_needs problem t sigma model (take prefix (steps_under t sigma))))) (sym found)
+    (subst (λ (s : List ℕ). IfOk result (IsKnownOf problem (row_needs problem table s model (take prefix (steps_under table s))))) slice_is known)
 
 pub macro-within : (problem : Problem) (tables : List Table) (number prefix : ℕ) (sigma : List ℕ) → IsEntry problem tables (Macro number prefix sigma) → number < length tables
 macro-within problem tables number prefix sigma e = slice_get_within tables number e.0 e.1

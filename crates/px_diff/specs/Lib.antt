@@ -2,6 +2,7 @@ pub mod Addable
 pub mod AnswerRows
 pub mod Apart
 pub mod Bindings
+pub mod Bounds
 pub mod Choices
 pub mod Closings
 pub mod Concluding
@@ -23,5 +24,6 @@ pub mod Provable
 pub mod Pushes
 pub mod Questions
 pub mod Requests
+pub mod Rest
 pub mod RowQuestions
 pub mod Stacks

@@ -1,5 +1,5 @@
 -- Gathering the entries that may be pushed, part by part.
-use Rattle.std.specs.Prelude.{◌≡◌, ◌⊎◌, ◌<◌, ◌≤◌, ℕ, Some, List, length, slice_get, slice_index, Contains}
+use Rattle.std.specs.Prelude.{◌≡◌, ◌⊎◌, ◌<◌, ◌≤◌, ℕ, Some, List, [], ◌∷◌, length, slice_get, slice_index, Contains}
 use Rattle.px_table.specs.declared.entry.Entry.{Entry}
 use Rattle.px_table.specs.declared.entry.Entry.TheVariants.{Macro, Op}
 use Rattle.px_table.specs.declared.table.Table.{Table}
@@ -10,7 +10,8 @@ use Rattle.px_terms.specs.declared.term.Term.{Term}
 use Rattle.px_diff.specs.Bindings.{Extends}
 use Rattle.px_diff.specs.Closings.{OneOf}
 use Rattle.px_diff.specs.Entries.{obligations_of}
-use Rattle.px_diff.specs.RowQuestions.{ExtendsEach, FitsEach}
+use Rattle.px_diff.specs.Parameters.{Fits}
+use Rattle.px_diff.specs.RowQuestions.{FitsEach}
 use Rattle.px_diff.specs.Pushes.{IsPushable, IsRelevant}
 use Rattle.px_diff.specs.Questions.{AreUnlimited}
 use Rattle.px_diff.specs.declared.front.Front.{Front}
@@ -35,18 +36,22 @@ IsMacroBy limit number prefix terms entry = (sigma : List ℕ) × Extends limit 
 abbrev pub IsMacroBefore : ℕ → ℕ → ℕ → List Term → ℕ → ℕ → Entry → Type 0
 IsMacroBefore limit number prefix terms v object entry = (sigma : List ℕ) × Extends limit terms sigma × (slice_index sigma v < object) × (Macro number prefix sigma ≡ entry)
 
--- the same, where the objects fit one of the choices of each row
+-- so many steps of the table of that number, with objects that extend the terms and fit one of the choices of each row
 abbrev pub IsMacroFitting : ℕ → ℕ → ℕ → List Term → List (List (List Term)) → Entry → Type 0
 IsMacroFitting limit number prefix terms rows entry = (sigma : List ℕ) × Extends limit terms sigma × FitsEach rows sigma × (Macro number prefix sigma ≡ entry)
 
--- the same, where they extend one of the choices of each row
-abbrev pub IsMacroExtending : ℕ → ℕ → ℕ → List Term → List (List (List Term)) → Entry → Type 0
-IsMacroExtending limit number prefix terms rows entry = (sigma : List ℕ) × Extends limit terms sigma × ExtendsEach limit rows sigma × (Macro number prefix sigma ≡ entry)
+-- the same, where the objects fit one of the terms at which some row meets the limit
+abbrev pub IsMacroLimited : ℕ → ℕ → ℕ → List Term → List (List (List Term)) → Entry → Type 0
+IsMacroLimited limit number prefix terms limited entry = OneOf limited (λ (row : List (List Term)). IsMacroFitting limit number prefix terms (row ∷ []) entry)
 
--- the same, where they extend one of these choices, too
-abbrev pub IsMacroAmong : ℕ → ℕ → ℕ → List (List Term) → List (List (List Term)) → Entry → Type 0
-IsMacroAmong limit number prefix choices rows entry =
-    (sigma : List ℕ) × OneOf choices (λ (choice : List Term). Extends limit choice sigma) × ExtendsEach limit rows sigma × (Macro number prefix sigma ≡ entry)
+-- the same, where the objects fit one of the choices of each row, or one of the terms at which some row meets the limit
+abbrev pub IsMacroTold : ℕ → ℕ → ℕ → List (List (List Term)) → List (List (List Term)) → List Term → Entry → Type 0
+IsMacroTold limit number prefix rows limited terms entry = IsMacroLimited limit number prefix terms limited entry ⊎ IsMacroFitting limit number prefix terms rows entry
+
+-- so many steps with objects that extend the terms, and fit one of these choices and one of the choices of each row
+abbrev pub IsMacroAmong : ℕ → ℕ → ℕ → List Term → List (List Term) → List (List (List Term)) → Entry → Type 0
+IsMacroAmong limit number prefix terms choices rows entry =
+    (sigma : List ℕ) × Extends limit terms sigma × OneOf choices (λ (choice : List Term). Fits choice sigma) × FitsEach rows sigma × (Macro number prefix sigma ≡ entry)
 
 -- two or more of the first steps of the table of that number
 pub record IsFrontOf (tables : List Table) (front : Front) : Type 0 where

@@ -1,5 +1,5 @@
--- What one question of gaps tells of a row of a table whose parameters have objects in part.
-use Rattle.std.specs.Prelude.{◌≡◌, ◌<◌, ◌==◌, ◌&&◌, ◌+◌, ℕ, Some, List, [], ◌∷◌, length, map, filter, slice_get, All}
+-- What questions of gaps tell of a row of a table, where some of its parameters have objects.
+use Rattle.std.specs.Prelude.{◌≡◌, ◌⊎◌, ◌<◌, ◌==◌, ◌&&◌, ◌+◌, ℕ, List, [], ◌∷◌, length, map, filter, get_or, All}
 use Rattle.px_prover.specs.PatternLists.{lists_of}
 use Rattle.px_prover.specs.Patterns.{AreGapPatterns}
 use Rattle.px_prover.specs.declared.pattern.GapPattern.{GapPattern}
@@ -15,9 +15,9 @@ use Rattle.px_terms.specs.declared.problem.Problem.{Problem}
 use Rattle.px_terms.specs.declared.term.Term.{Term}
 use Rattle.px_diff.specs.Closings.{IsClosedIn, OneOf}
 use Rattle.px_diff.specs.Bindings.{AreUnbound, Extends}
-use Rattle.px_diff.specs.Parameters.{Fits, IsMatch}
-use Rattle.px_diff.specs.declared.row_choices.RowChoices.{RowChoices}
-use Rattle.px_diff.specs.declared.row_choices.RowChoices.TheVariants.{Known, Limited}
+use Rattle.px_diff.specs.Entries.{initial_atoms}
+use Rattle.px_diff.specs.Parameters.{Fits}
+use Rattle.px_diff.specs.declared.row_choices.TableChoices.{TableChoices}
 
 -- the atoms of the row's marks that come from the initial model, with these terms for the parameters
 abbrev pub row_formula : Table → List Term → ℕ → List Atom
@@ -30,46 +30,50 @@ pub record IsRowAnswer (s : Setting) (formula : List Atom) (vars : ℕ) (pattern
   pub few : AreFewGapShapes s formula vars
   pub atoms : (atom : Atom) → IsClosedIn (lists_of s.objects patterns) atom → AreFewGapShapes s (atom ∷ []) 0
 
--- Choices of terms for the parameters, so that whatever objects a list of loose gap proofs of the row has fit one of them. Fewer
--- unfinished gap proofs of the row exist than the limit, and fewer of each atom that a loose gap proof of it closes.
-pub record IsRowKnown (s : Setting) (table : Table) (terms : List Term) (row : ℕ) (choices : List (List Term)) : Type 0 where
-  pub few : AreFewGapShapes s (row_formula table terms row) table.params
-  pub atoms : (atom : Atom) → IsLooseGap s (row_formula table terms row) table.params atom → AreFewGapShapes s (atom ∷ []) 0
+-- the objects fit one of the choices
+abbrev pub FitsOne : List (List Term) → List ℕ → Type 0
+FitsOne choices sigma = OneOf choices (λ (choice : List Term). Fits choice sigma)
+
+-- The row with these objects for the parameters: fewer unfinished gap proofs of it exist than the limit, and fewer of each atom that a
+-- loose gap proof of it closes. Where it has a list of loose gap proofs, the objects fit one of the choices.
+pub record IsInstanceKnown (s : Setting) (table : Table) (row : ℕ) (choices : List (List Term)) (sigma : List ℕ) : Type 0 where
+  pub few : AreFewGapShapes s (initial_atoms table sigma row) 0
+  pub atoms : (atom : Atom) → IsLooseGap s (initial_atoms table sigma row) 0 atom → AreFewGapShapes s (atom ∷ []) 0
+  pub covers : (objects : List ℕ) (gaps : List Atom) → IsGapList s (initial_atoms table sigma row) 0 objects gaps → FitsOne choices sigma
+
+-- this is so for all objects of the part
+abbrev pub AreInstancesKnown : Setting → Table → ℕ → (List ℕ → Type 0) → List (List Term) → Type 0
+AreInstancesKnown s table row IsPart choices = (sigma : List ℕ) → IsPart sigma → IsInstanceKnown s table row choices sigma
+
+-- this is so for all objects of the part but those that fit one of the terms at which the row meets the limit
+abbrev pub AreAskedOf : Setting → Table → ℕ → (List ℕ → Type 0) → List (List Term) → List (List Term) → Type 0
+AreAskedOf s table row IsPart choices limited = (sigma : List ℕ) → IsPart sigma → FitsOne limited sigma ⊎ IsInstanceKnown s table row choices sigma
+
+-- The new choices have a term for each parameter, if the old ones had. Objects that fit one of the old ones fit one of the new ones.
+pub record Widens (params : ℕ) (old new : List (List Term)) : Type 0 where
+  pub long : All (λ choice. length choice ≡ params) old → All (λ choice. length choice ≡ params) new
+  pub kept : (sigma : List ℕ) → FitsOne old sigma → FitsOne new sigma
+
+-- Choices of terms for the parameters, and terms at which the row meets the limit: all objects that extend the given terms are asked of.
+pub record IsRowKnown (s : Setting) (table : Table) (terms : List Term) (row : ℕ) (choices limited : List (List Term)) : Type 0 where
   pub long : All (λ choice. length choice ≡ table.params) choices
-  pub covers : (sigma : List ℕ) (gaps : List Atom) → IsGapList s (row_formula table terms row) table.params sigma gaps → OneOf choices (λ choice. Fits choice sigma)
+  pub limited_long : All (λ choice. length choice ≡ table.params) limited
+  pub asked : AreAskedOf s table row (Extends s.objects terms) choices limited
 
--- such choices for each of the first rows
-pub record AreRowsKnown (s : Setting) (table : Table) (terms : List Term) (prefix : ℕ) (rows : List (List (List Term))) : Type 0 where
+-- the same of each of the first rows
+pub record AreRowsKnown (s : Setting) (table : Table) (terms : List Term) (prefix : ℕ) (rows limited : List (List (List Term))) : Type 0 where
   pub count : length rows ≡ prefix
-  pub each : (k : ℕ) (choices : List (List Term)) → slice_get rows k ≡ Some choices → IsRowKnown s table terms (k + 1) choices
+  pub limited_count : length limited ≡ prefix
+  pub each : (k : ℕ) → k < prefix → IsRowKnown s table terms (k + 1) (get_or rows k []) (get_or limited k [])
 
--- what the questions about the first rows tell: such choices, or nothing
-abbrev pub AreChoicesOf : Setting → Table → List Term → ℕ → RowChoices → Type 0
-AreChoicesOf s table terms prefix (Known rows) = AreRowsKnown s table terms prefix rows
-AreChoicesOf s table terms prefix (Limited row) = Unit {0}
-
--- what they tell where the terms are variables: such choices of each row of the table, or nothing
-abbrev pub AreTableChoices : Problem → List Atom → Table → RowChoices → Type 0
-AreTableChoices problem facts table (Known rows) =
-    (terms : List Term) × AreUnbound table.params terms × (0 < problem.objects) × IsAtomSet facts × AreRowsKnown (setting_of problem facts) table terms (length table.steps) rows
-AreTableChoices problem facts table (Limited row) = Unit {0}
+-- the same of all rows of the table, where the terms are variables, the problem has an object, and the facts are a set
+pub record AreTableChoices (problem : Problem) (facts : List Atom) (table : Table) (found : TableChoices) : Type 0 where
+  pub terms : List Term
+  pub unbound : AreUnbound table.params terms
+  pub some_object : 0 < problem.objects
+  pub set : IsAtomSet facts
+  pub known : AreRowsKnown (setting_of problem facts) table terms (length table.steps) found.choices found.limited
 
 -- the objects fit one of the choices of each row
 abbrev pub FitsEach : List (List (List Term)) → List ℕ → Type 0
 FitsEach rows sigma = All (λ choices. OneOf choices (λ (choice : List Term). Fits choice sigma)) rows
-
--- they extend one of them
-abbrev pub ExtendsEach : ℕ → List (List (List Term)) → List ℕ → Type 0
-ExtendsEach limit rows sigma = All (λ choices. OneOf choices (λ (choice : List Term). Extends limit choice sigma)) rows
-
--- The new choices have the objects of the terms. Objects that extend these and fit one of the old choices of each row extend one of
--- the new choices of each row.
-pub record AreNarrowed (limit : ℕ) (terms : List Term) (old new : List (List (List Term))) : Type 0 where
-  pub form : All (All (IsMatch limit (length terms))) new
-  pub fits : (sigma : List ℕ) → Extends limit terms sigma → FitsEach old sigma → ExtendsEach limit new sigma
-
--- The new list has what the old one has, and for each of the rows the choices that have the objects of the terms beside their own.
-pub record Narrows (limit : ℕ) (terms : List Term) (rows old new : List (List (List Term))) : Type 0 where
-  pub count : length new ≡ length old + length rows
-  pub form : All (All (IsMatch limit (length terms))) old → All (All (IsMatch limit (length terms))) new
-  pub fits : (sigma : List ℕ) → Extends limit terms sigma → FitsEach rows sigma → ExtendsEach limit old sigma → ExtendsEach limit new sigma

@@ -1,5 +1,5 @@
 //! What is known of an entry in a world model: row by row, each from what the steps before leave.
-ghost use Rattle.std.specs.Prelude.{◌≡◌, ◌<◌, ◌==◌, ◌&&◌, ◌++◌, ◌∷◌, [], length, not, take, filter, slice_get, Some, All, IfOk, OnOk, MatchBool};
+ghost use Rattle.std.specs.Prelude.{◌≡◌, ◌<◌, ◌==◌, ◌&&◌, ◌++◌, ◌∷◌, [], false, length, not, take, filter, slice_get, Some, All, IfOk, OnOk, MatchBool, IsTrue};
 ghost use Rattle.px_terms.specs.AtomSets.{with_atom};
 ghost use Rattle.px_terms.specs.Instances.{IsGround};
 ghost use Rattle.px_table.specs.Kernels.{steps_under};
@@ -8,7 +8,7 @@ ghost use Rattle.px_table.specs.Tables.{IsTable};
 ghost use Rattle.px_terms.specs.Language.{IsVariableBelow};
 ghost use Rattle.px_terms.specs.Operators.{deletes as deletes_of};
 ghost use Rattle.px_terms.specs.Validity.{IsValid, IsAtomOf, IsGroundInstanceOf, IsInstanceOf};
-ghost use Rattle.px_diff.specs.Entries.{IsEntry, initial_atoms, obligations_of, row_obligations};
+ghost use Rattle.px_diff.specs.Entries.{IsEntry, initial_atoms, obligations_of, row_needs};
 ghost use Rattle.px_diff.specs.Known.{IsKnownOf};
 ghost use Rattle.px_diff.specs.Learned.{AreLearned};
 
@@ -96,6 +96,22 @@ pub fn initial_of(
     Ok(atoms)
 }
 
+/// Is it so that the instance deletes none of the atoms?
+fn none_is_deleted(problem: &Problem, inst: &OpInst, atoms: &[Atom]) -> bool
+    requires problem { IsValid problem.now }
+    requires inst { IsGroundInstanceOf problem.now inst.now }
+    requires is_ground { All IsGround atoms.now }
+    ensures { IsTrue result → All (λ atom. deletes_of problem.now inst.now atom ≡ false) atoms.now }
+{
+    let schema = schema_of(problem, inst);
+    for atom in atoms {
+        if deletes(schema, inst, atom) {
+            return false;
+        }
+    }
+    true
+}
+
 /// Puts the atom into the model, unless it is deleted.
 fn insert_undeleted(left: &mut Model, atom: &Atom, is_deleted: bool) -> Result<(), NoMemory>
     requires { IsGround atom.now }
@@ -123,6 +139,10 @@ pub fn left_of(
 {
     let schema = schema_of(problem, inst);
     let held = facts.atoms();
+    let stay = none_is_deleted(problem, inst, held);
+    if stay {
+        return facts.try_copy();
+    }
     let mut left = Model::new(alloc);
     for atom in held {
         let is_deleted = deletes(schema, inst, atom);
@@ -152,7 +172,7 @@ fn known_prefix(
     requires problem { IsValid problem.now }
     requires table { IsTable problem.now table.now }
     requires prefix { IsMacro problem.now table.now prefix sigma.now }
-    ensures { IfOk result (IsKnownOf problem.now (row_obligations problem.now table.now sigma.now model.now.atoms 1 (take prefix (steps_under table.now sigma.now)))) }
+    ensures { IfOk result (IsKnownOf problem.now (row_needs problem.now table.now sigma.now model.now.atoms (take prefix (steps_under table.now sigma.now)))) }
 {
     let mut known = Known::Applicable;
     let mut facts = model.try_copy()?;

@@ -1,120 +1,72 @@
-//! Choices of terms for the parameters of a table, where each row has its own.
-ghost use Rattle.std.specs.Prelude.{◌≡◌, ◌<◌, [], List, length, All, IfSome, IfOk, OnOk};
+//! Choices of terms for the parameters of a table, where each row has its own: which row to take next.
+ghost use Rattle.std.specs.Prelude.{◌≡◌, ◌<◌, ◌++◌, ◌+◌, List, length, take, drop, All, IfSome, IfOk};
 ghost use Rattle.px_terms.specs.declared.term.Term.{Term as TermValue};
-ghost use Rattle.px_diff.specs.Bindings.{IsBinding};
-ghost use Rattle.px_diff.specs.Closings.{OneOf};
-ghost use Rattle.px_diff.specs.Parameters.{Fits, Matches};
-ghost use Rattle.px_diff.specs.RowQuestions.{AreNarrowed, Narrows};
 
-use crate::parameters::merged;
-use px_base::push;
+use crate::parameters::can_fit;
 use px_terms::{NoMemory, Sequence, Term};
 use std::alloc::Global;
 
-/// Adds the terms with the objects of the choice beside their own, where some objects fit both.
-fn push_merged(
-    next: &mut Vec<Sequence<Term>>,
-    alloc: Global,
-    limit: u32,
-    terms: &[Term],
-    choice: &[Term],
-) -> Result<(), NoMemory>
-    requires long { length choice.now ≡ length terms.now }
-    requires binding { IsBinding limit terms.now }
-    ensures { OnOk result (Matches limit (length terms.now) terms.now (Fits choice.now) next.old.items next.new.items) }
-{
-    let found = merged(alloc, limit, terms, choice)?;
-    match found {
-        Some(both) => push(next, Sequence::from_vec(both)),
-        None => Ok(()),
-    }
-}
-
-/// The row's choices with the objects of the terms, without those that don't fit them.
-fn narrowed_row(
-    alloc: Global,
-    limit: u32,
-    terms: &[Term],
-    choices: &[Sequence<Term>],
-) -> Result<Sequence<Sequence<Term>>, NoMemory>
+/// How many of the choices can fit the terms, counted no further than the limit.
+fn count_fitting(objects: u32, terms: &[Term], choices: &[Sequence<Term>], most: usize) -> usize
     requires long { All (λ (choice : List TermValue). length choice ≡ length terms.now) choices.now }
-    requires binding { IsBinding limit terms.now }
-    ensures { IfOk result (Matches limit (length terms.now) terms.now (λ sigma. OneOf choices.now (λ (choice : List TermValue). Fits choice sigma)) []) }
 {
-    let mut next = Vec::new(alloc);
+    let mut count = 0;
     for choice in choices {
-        push_merged(&mut next, alloc, limit, terms, choice.as_slice())?;
+        if count >= most {
+            return count;
+        }
+        if can_fit(objects, terms, choice.as_slice()) {
+            count += 1;
+        }
     }
-    Ok(Sequence::from_vec(next))
+    count
 }
 
-/// Puts the choices of the rows last, each with the objects of the terms, without those that don't fit them.
-fn push_narrowed(
-    next: &mut Vec<Sequence<Sequence<Term>>>,
-    alloc: Global,
-    limit: u32,
+/// The place of a row with the fewest choices that can fit the terms, among the rows of these numbers. None where there is no number.
+pub fn fewest(
+    objects: u32,
     terms: &[Term],
     rows: &[Sequence<Sequence<Term>>],
-) -> Result<(), NoMemory>
+    numbers: &[usize],
+) -> Option<usize>
     requires long { All (All (λ (choice : List TermValue). length choice ≡ length terms.now)) rows.now }
-    requires binding { IsBinding limit terms.now }
-    ensures { OnOk result (Narrows limit terms.now rows.now next.old.items next.new.items) }
+    requires numbers { All (λ number. number < length rows.now) numbers.now }
+    ensures { IfSome result (λ place. place < length numbers.now) }
 {
-    for row in rows {
-        let choices = narrowed_row(alloc, limit, terms, row.as_slice())?;
-        push(next, choices)?;
-    }
-    Ok(())
-}
-
-/// The choices of the rows with the objects of the terms, without those that don't fit them.
-pub fn narrowed(
-    alloc: Global,
-    limit: u32,
-    terms: &[Term],
-    rows: &[Sequence<Sequence<Term>>],
-) -> Result<Vec<Sequence<Sequence<Term>>>, NoMemory>
-    requires long { All (All (λ (choice : List TermValue). length choice ≡ length terms.now)) rows.now }
-    requires binding { IsBinding limit terms.now }
-    ensures { IfOk result (λ next. AreNarrowed limit terms.now rows.now next.items) }
-{
-    let mut next = Vec::new(alloc);
-    push_narrowed(&mut next, alloc, limit, terms, rows)?;
-    Ok(next)
-}
-
-/// The same of the rows but the one at this place.
-pub fn narrowed_others(
-    alloc: Global,
-    limit: u32,
-    terms: &[Term],
-    rows: &[Sequence<Sequence<Term>>],
-    place: usize,
-) -> Result<Vec<Sequence<Sequence<Term>>>, NoMemory>
-    requires long { All (All (λ (choice : List TermValue). length choice ≡ length terms.now)) rows.now }
-    requires binding { IsBinding limit terms.now }
-    requires place { place < length rows.now }
-    ensures others { IfOk result (λ next. AreNarrowed limit terms.now rows.now next.items) }
-    ensures fewer { IfOk result (λ next. length next.items < length rows.now) }
-{
-    let mut next = Vec::new(alloc);
-    push_narrowed(&mut next, alloc, limit, terms, &rows[..place])?;
-    push_narrowed(&mut next, alloc, limit, terms, &rows[place + 1..])?;
-    Ok(next)
-}
-
-/// The place of a row with the fewest choices. None where there is no row.
-pub fn fewest(rows: &[Sequence<Sequence<Term>>]) -> Option<usize>
-    ensures { IfSome result (λ place. place < length rows.now) }
-{
-    if rows.is_empty() {
+    if numbers.is_empty() {
         return None;
     }
     let mut least = 0;
-    for place in 1..rows.len() {
-        if rows[place].len() < rows[least].len() {
+    let mut count = usize::MAX;
+    for place in 0..numbers.len() {
+        let row = rows[numbers[place]].as_slice();
+        let fitting = count_fitting(objects, terms, row, count);
+        if fitting < count {
             least = place;
+            count = fitting;
         }
     }
     Some(least)
+}
+
+/// The numbers below this one, ascending.
+pub fn numbers_below(alloc: Global, count: usize) -> Result<Vec<usize>, NoMemory>
+    ensures { IfOk result (λ numbers. All (λ number. number < count) numbers.items) }
+{
+    let mut numbers = Vec::new(alloc);
+    for number in 0..count {
+        numbers.push(number)?;
+    }
+    Ok(numbers)
+}
+
+/// The numbers but the one at this place.
+pub fn without_place(alloc: Global, numbers: &[usize], place: usize) -> Result<Vec<usize>, NoMemory>
+    requires { place < length numbers.now }
+    ensures { IfOk result (λ others. others.items ≡ take place numbers.now ++ drop (place + 1) numbers.now) }
+{
+    let mut others = Vec::new(alloc);
+    others.extend_from_slice(&numbers[..place])?;
+    others.extend_from_slice(&numbers[place + 1..])?;
+    Ok(others)
 }

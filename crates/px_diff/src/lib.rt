@@ -14,7 +14,7 @@
 //! - Both have a valid problem as their condition, and the formula of `gaps` is of the problem's atoms over its variables.
 //!   They stop with [`AskErr::ShapeLimit`] where a question meets the shape limit. It has the formula at which it does,
 //!   which is the question's own or one atom that a gap would close, and the first shapes. `gaps` is one question, finding
-//!   the gaps. `relevant` asks, of each entry that isn't on the stack and adds a wanted atom, whether a formula that it
+//!   the gaps. `relevant` asks, of each entry that isn't on the stack and adds a wanted atom, whether each formula that it
 //!   needs has an answer, and where it has none, for its gaps. An `Ok` says that no question meets the limit. Whether
 //!   `relevant` meets it doesn't depend on the order in which it works.
 //! - What a search needs to know once of a world model: [`try_formula`] tells whether a formula has an answer ([`Tried`]),
@@ -50,10 +50,14 @@
 //! for the formula's variables under which one does (`choices`).
 //!
 //! `relevant` matches what operators add with the wanted atoms. A match has objects for those parameters that the atom
-//! determines, and the others stay variables. One question of gaps is asked for each match. Where it meets the limit, the
-//! first variable is bound to each object in turn, and each of these narrower matches is asked in the same way. That ends
-//! where a question answers, or where no variable is left. What is asked of operators, and of rows as below, goes through one
-//! struct (`asker`), which counts.
+//! determines, and the others stay variables. One question of gaps is asked for each match. An atom whose predicate some operator
+//! adds, and no axiom concludes, is a fact or a gap closes it, so it never decides whether an instance is open. Where the number of
+//! shapes is known to stay below the limit, the question is therefore about the other atoms of the precondition alone (`rest`). The
+//! number is counted predicate by predicate (`bounds`): an atom is closed by a fact or a gap in at most two ways, and by each Horn axiom
+//! that concludes it in as many ways as the atoms that are then to be proved, if the axiom has no variable beside those of what it
+//! concludes. Else the question is about the whole precondition. Where it meets the limit, the first variable is bound to each object in turn, and each of these narrower matches
+//! is asked in the same way. That ends where a question answers, or where no variable is left. What is asked of operators, and of
+//! rows as below, goes through one struct (`asker`), which counts.
 //!
 //! Then it matches what the steps of each table add with the wanted atoms (`macro_matching`), for each number of first steps. A
 //! match has an object for each parameter that the atom determines, and object 0 for each that these steps don't use
@@ -61,9 +65,13 @@
 //! from what the steps before it leave of the model, so it has no more shapes than that question, and nothing that the question
 //! doesn't offer. What is provable from the whole model says nothing of it, so nothing is left out for that. The objects that
 //! the rows offer are joined, the row with the fewest choices first (`fitting`), so that tuples of objects aren't listed. Each
-//! MACROP that comes out is tried by itself, by the calls for one entry, whose questions aren't counted (`macros`). Where a question
-//! meets the limit, tuples are listed: a parameter of its row is bound to each object in turn, and each of these narrower matches
-//! is asked in the same way, in the end each MACROP by itself.
+//! MACROP that comes out is tried by itself, by the calls for one entry, whose questions aren't counted (`macros`).
+//!
+//! Where the question of a row meets the limit, one of the row's own parameters is bound to each object in turn, and each of these
+//! narrower rows is asked in the same way. What is known of the other rows stays as it is. Where each parameter of the row has an
+//! object and a question still meets the limit, each MACROP that has these objects is tried by itself: its row may have fewer shapes,
+//! since it is proved from what the steps before leave. No other tuples of objects are listed, unless the table has more than 4,096
+//! parameters, which are more than a question may have variables.
 #![tactic(auto)]
 
 mod apart;
@@ -71,6 +79,7 @@ mod ask_err;
 mod asker;
 mod asking;
 mod bindings;
+mod bounds;
 mod choices;
 mod differences;
 mod entry_rows;
@@ -104,6 +113,7 @@ mod pushes;
 mod reference;
 mod relevance;
 mod request;
+mod rest;
 mod row_choices;
 mod row_questions;
 #[cfg(test)]

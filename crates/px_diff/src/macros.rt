@@ -1,15 +1,14 @@
 //! MACROPs that may be pushed: the first steps of learned tables (Fikes, Hart and Nilsson 1972).
-ghost use Rattle.std.specs.Prelude.{◌≡◌, ◌↔◌, ◌<◌, ℕ, Some, List, length, slice_get, All, IsTrue, IfOk, OnOk};
+ghost use Rattle.std.specs.Prelude.{◌≡◌, ◌↔◌, ◌<◌, ℕ, Some, List, length, slice_get, All, IsTrue, IfSome, IfOk, OnOk};
 ghost use Rattle.px_table.specs.declared.entry.Entry.TheVariants.{Macro};
 ghost use Rattle.px_table.specs.Prefixes.{IsMacro};
 ghost use Rattle.px_table.specs.Tables.{IsTable};
 ghost use Rattle.px_terms.specs.Validity.{IsValid};
 ghost use Rattle.px_terms.specs.declared.term.Term.{Term as TermValue};
-ghost use Rattle.px_terms.specs.declared.term.Term.TheVariants.{Var};
-ghost use Rattle.px_diff.specs.Bindings.{IsBinding, IsPlain};
+ghost use Rattle.px_diff.specs.Bindings.{IsBinding};
 ghost use Rattle.px_diff.specs.Closings.{OneOf};
 ghost use Rattle.px_diff.specs.Learned.{AreLearned};
-ghost use Rattle.px_diff.specs.Macros.{GathersEntriesFor, IsFrontOf, IsMacroBy, IsMacroEntry, IsMacroExtending, IsMacroFitting, IsOfFront, IsOfTable};
+ghost use Rattle.px_diff.specs.Macros.{GathersEntriesFor, IsFrontOf, IsMacroBy, IsMacroEntry, IsMacroFitting, IsMacroLimited, IsMacroTold, IsOfFront, IsOfTable};
 ghost use Rattle.px_diff.specs.Parameters.{IsMatch};
 ghost use Rattle.px_diff.specs.Outcomes.{IfLimit};
 ghost use Rattle.px_diff.specs.Requests.{IsRelevantEntryFor, LimitsFor};
@@ -17,9 +16,9 @@ ghost use Rattle.px_diff.specs.RowQuestions.{AreTableChoices};
 
 use crate::ask_err::AskErr;
 use crate::asker::Asker;
-use crate::bindings::{bound, open_variable, unbound};
-use crate::entry_rows::{is_initial, known_entry};
-use crate::fitting::{fewest, narrowed, narrowed_others};
+use crate::bindings::{bound, unbound};
+use crate::entry_rows::known_entry;
+use crate::fitting::{fewest, numbers_below, without_place};
 use crate::front::Front;
 use crate::known::Known;
 use crate::macro_matching::macro_matches;
@@ -27,7 +26,7 @@ use crate::macro_steps::{add_wanted, steps_with};
 use crate::parameters::{first_terms, first_unbound, merged, objects_of};
 use crate::relevance::is_stacked;
 use crate::request::Request;
-use crate::row_choices::RowChoices;
+use crate::row_choices::TableChoices;
 use crate::row_questions::choices_of_rows;
 use px_base::push;
 use px_table::{Entry, Table, is_macro};
@@ -157,33 +156,38 @@ fn keep_all(
     Ok(())
 }
 
-/// Adds those whose objects extend one of the choices of each row. Each call of itself has a row less.
-fn keep_extending(
+/// Adds those whose objects fit one of the choices of each row. Each call of itself chooses from one of the rows of these numbers,
+/// and has a number less. It takes the row of which the fewest choices fit the terms.
+fn keep_by_rows(
     alloc: Global,
     found: &mut Vec<Entry>,
     request: &Request,
     front: &Front,
     terms: &[Term],
     rows: &[Sequence<Sequence<Term>>],
+    numbers: &[usize],
 ) -> Result<(), AskErr>
     requires problem { IsValid request.now.problem.now }
     requires tables { AreLearned request.now.problem.now request.now.tables.now }
     requires front { IsFrontOf request.now.tables.now front.now }
     requires binding { IsBinding request.now.problem.now.objects terms.now }
-    requires rows { All (All (IsMatch request.now.problem.now.objects (length terms.now))) rows.now }
-    ensures gathers { OnOk result (GathersEntriesFor request.now (IsMacroExtending request.now.problem.now.objects front.now.number front.now.count terms.now rows.now) found.old.items found.new.items) }
+    requires rows { All (All (λ (choice : List TermValue). length choice ≡ length terms.now)) rows.now }
+    requires numbers { All (λ number. number < length rows.now) numbers.now }
+    ensures gathers { OnOk result (GathersEntriesFor request.now (IsMacroFitting request.now.problem.now.objects front.now.number front.now.count terms.now rows.now) found.old.items found.new.items) }
     ensures limited { IfLimit result (LimitsFor request.now) }
 {
     let limit = request.problem.objects;
-    let place = match fewest(rows) {
+    let place = match fewest(limit, terms, rows, numbers) {
         Some(place) => place,
         None => return keep_all(alloc, found, request, front, terms),
     };
-    let choices = rows[place].as_slice();
+    let others = without_place(alloc, numbers, place)?;
+    let choices = rows[numbers[place]].as_slice();
     for choice in choices {
-        let next = choice.as_slice();
-        let others = narrowed_others(alloc, limit, next, rows, place)?;
-        keep_extending(alloc, found, request, front, next, &others)?;
+        match merged(alloc, limit, terms, choice.as_slice())? {
+            Some(next) => keep_by_rows(alloc, found, request, front, &next, rows, &others)?,
+            None => {}
+        }
     }
     Ok(())
 }
@@ -205,77 +209,13 @@ fn keep_fitting(
     ensures gathers { OnOk result (GathersEntriesFor request.now (IsMacroFitting request.now.problem.now.objects front.now.number front.now.count terms.now rows.now) found.old.items found.new.items) }
     ensures limited { IfLimit result (LimitsFor request.now) }
 {
-    let limit = request.problem.objects;
-    let next = narrowed(alloc, limit, terms, rows)?;
-    keep_extending(alloc, found, request, front, terms, &next)
+    let numbers = numbers_below(alloc, rows.len())?;
+    keep_by_rows(alloc, found, request, front, terms, rows, &numbers)
 }
 
-/// A parameter that has no object: the first one in what the row takes from the initial model, else the one that is given.
-fn next_parameter(table: &Table, terms: &[Term], row: u32, parameter: u32) -> u32
-    requires marks { All (λ mark. IsPlain (length terms.now) mark.atom) table.now.marks }
-    requires binding { (limit : ℕ) × IsBinding limit terms.now }
-    requires parameter { slice_get terms.now parameter ≡ Some (Var parameter) }
-    ensures { slice_get terms.now result ≡ Some (Var result) }
-{
-    let marks = table.marks.as_slice();
-    for mark in marks {
-        if is_initial(mark, row) {
-            if let Some(found) = open_variable(terms, &mark.atom) {
-                return found;
-            }
-        }
-    }
-    parameter
-}
-
-/// Adds those of the entries of the first steps, with the objects that are chosen, that may be pushed: by one question for each
-/// row, where these stay below the limit, else in the same way for each object of a parameter that has none.
-fn gather_macros(
-    asker: &mut Asker,
-    found: &mut Vec<Entry>,
-    request: &Request,
-    front: &Front,
-    terms: &[Term],
-) -> Result<(), AskErr>
-    requires problem { IsValid request.now.problem.now }
-    requires tables { AreLearned request.now.problem.now request.now.tables.now }
-    requires front { IsFrontOf request.now.tables.now front.now }
-    requires terms { length terms.now ≡ front.now.table.now.params }
-    requires binding { IsBinding request.now.problem.now.objects terms.now }
-    ensures gathers { OnOk result (GathersEntriesFor request.now (IsMacroBy request.now.problem.now.objects front.now.number front.now.count terms.now) found.old.items found.new.items) }
-    ensures limited { IfLimit result (LimitsFor request.now) }
-{
-    let first = match first_unbound(terms) {
-        Some(parameter) => parameter,
-        None => return keep_all(asker.alloc, found, request, front, terms),
-    };
-    let model = request.model;
-    let rows = choices_of_rows(
-        asker,
-        request.problem,
-        model,
-        front.table,
-        front.count,
-        terms,
-    )?;
-    match rows {
-        RowChoices::Known(rows) => {
-            keep_fitting(asker.alloc, found, request, front, terms, rows.as_slice())
-        }
-        RowChoices::Limited(row) => {
-            let parameter = next_parameter(front.table, terms, row, first);
-            for object in 0..request.problem.objects {
-                let next = bound(asker.alloc, terms, parameter, object)?;
-                gather_macros(asker, found, request, front, &next)?;
-            }
-            Ok(())
-        }
-    }
-}
-
-/// Adds those of all entries of the first steps that may be pushed, where the problem has an object.
-fn gather_matches(
-    asker: &mut Asker,
+/// Adds all entries that the matches stand for and that may be pushed, each tried by itself.
+fn keep_listed(
+    alloc: Global,
     found: &mut Vec<Entry>,
     request: &Request,
     front: &Front,
@@ -289,12 +229,67 @@ fn gather_matches(
     ensures limited { IfLimit result (LimitsFor request.now) }
 {
     for terms in matches {
-        gather_macros(asker, found, request, front, terms.as_slice())?;
+        keep_all(alloc, found, request, front, terms.as_slice())?;
     }
     Ok(())
 }
 
-/// Adds those of the entries that the matches stand for whose objects fit one of the choices of each row.
+/// Adds those whose objects fit one of the terms at which some row meets the limit.
+fn keep_limited(
+    alloc: Global,
+    found: &mut Vec<Entry>,
+    request: &Request,
+    front: &Front,
+    terms: &[Term],
+    limited: &[Sequence<Sequence<Term>>],
+) -> Result<(), AskErr>
+    requires problem { IsValid request.now.problem.now }
+    requires tables { AreLearned request.now.problem.now request.now.tables.now }
+    requires front { IsFrontOf request.now.tables.now front.now }
+    requires binding { IsBinding request.now.problem.now.objects terms.now }
+    requires limited { All (All (λ (choice : List TermValue). length choice ≡ length terms.now)) limited.now }
+    ensures gathers { OnOk result (GathersEntriesFor request.now (IsMacroLimited request.now.problem.now.objects front.now.number front.now.count terms.now limited.now) found.old.items found.new.items) }
+    ensures limited { IfLimit result (LimitsFor request.now) }
+{
+    for place in 0..limited.len() {
+        keep_fitting(
+            alloc,
+            found,
+            request,
+            front,
+            terms,
+            &limited[place..place + 1],
+        )?;
+    }
+    Ok(())
+}
+
+/// Adds those that have the objects of the terms and fit one of the choices of each row, or one of the terms at which some row
+/// meets the limit.
+fn keep_told(
+    alloc: Global,
+    found: &mut Vec<Entry>,
+    request: &Request,
+    front: &Front,
+    terms: &[Term],
+    rows: &[Sequence<Sequence<Term>>],
+    limited: &[Sequence<Sequence<Term>>],
+) -> Result<(), AskErr>
+    requires problem { IsValid request.now.problem.now }
+    requires tables { AreLearned request.now.problem.now request.now.tables.now }
+    requires front { IsFrontOf request.now.tables.now front.now }
+    requires binding { IsBinding request.now.problem.now.objects terms.now }
+    requires rows { All (All (λ (choice : List TermValue). length choice ≡ length terms.now)) rows.now }
+    requires limited { All (All (λ (choice : List TermValue). length choice ≡ length terms.now)) limited.now }
+    ensures gathers { OnOk result (GathersEntriesFor request.now (IsMacroTold request.now.problem.now.objects front.now.number front.now.count rows.now limited.now terms.now) found.old.items found.new.items) }
+    ensures limited { IfLimit result (LimitsFor request.now) }
+{
+    keep_limited(alloc, found, request, front, terms, limited)?;
+    keep_fitting(alloc, found, request, front, terms, rows)
+}
+
+/// Adds those of the entries that the matches stand for whose objects fit one of the choices of each row, or one of the terms at
+/// which some row meets the limit.
 fn keep_matches(
     alloc: Global,
     found: &mut Vec<Entry>,
@@ -302,38 +297,47 @@ fn keep_matches(
     front: &Front,
     matches: &[Sequence<Term>],
     rows: &[Sequence<Sequence<Term>>],
+    limited: &[Sequence<Sequence<Term>>],
 ) -> Result<(), AskErr>
     requires problem { IsValid request.now.problem.now }
     requires tables { AreLearned request.now.problem.now request.now.tables.now }
     requires front { IsFrontOf request.now.tables.now front.now }
     requires matches { All (IsMatch request.now.problem.now.objects front.now.table.now.params) matches.now }
     requires rows { All (All (λ (choice : List TermValue). length choice ≡ front.now.table.now.params)) rows.now }
-    ensures gathers { OnOk result (GathersEntriesFor request.now (λ entry. OneOf matches.now (λ (terms : List TermValue). IsMacroFitting request.now.problem.now.objects front.now.number front.now.count terms rows.now entry)) found.old.items found.new.items) }
+    requires limited { All (All (λ (choice : List TermValue). length choice ≡ front.now.table.now.params)) limited.now }
+    ensures gathers { OnOk result (GathersEntriesFor request.now (λ entry. OneOf matches.now (λ (terms : List TermValue). IsMacroTold request.now.problem.now.objects front.now.number front.now.count rows.now limited.now terms entry)) found.old.items found.new.items) }
     ensures limited { IfLimit result (LimitsFor request.now) }
 {
     for terms in matches {
-        keep_fitting(alloc, found, request, front, terms.as_slice(), rows)?;
+        keep_told(
+            alloc,
+            found,
+            request,
+            front,
+            terms.as_slice(),
+            rows,
+            limited,
+        )?;
     }
     Ok(())
 }
 
 /// Adds those of all entries of the first steps that may be pushed. The rows are what questions about the whole table told, where
-/// no parameter had an object.
+/// no parameter had an object; without them each entry is tried by itself.
 fn gather_front(
-    asker: &mut Asker,
+    alloc: Global,
     found: &mut Vec<Entry>,
     request: &Request,
     front: &Front,
-    rows: &RowChoices,
+    rows: &Option<TableChoices>,
 ) -> Result<(), AskErr>
     requires problem { IsValid request.now.problem.now }
     requires tables { AreLearned request.now.problem.now request.now.tables.now }
     requires front { IsFrontOf request.now.tables.now front.now }
-    requires rows { AreTableChoices request.now.problem.now request.now.model.now.atoms front.now.table.now rows.now }
+    requires rows { IfSome rows.now (AreTableChoices request.now.problem.now request.now.model.now.atoms front.now.table.now) }
     ensures gathers { OnOk result (GathersEntriesFor request.now (IsOfFront front.now.number front.now.count) found.old.items found.new.items) }
     ensures limited { IfLimit result (LimitsFor request.now) }
 {
-    let alloc = asker.alloc;
     let start = first_terms(alloc, front.table, front.count)?;
     let terms = start.as_slice();
     if request.problem.objects == 0 {
@@ -341,53 +345,43 @@ fn gather_front(
         return keep_open(alloc, found, request, front, &sigma);
     }
     let count = front.count as usize;
-    let steps = front.table.steps.as_slice();
-    let made = macro_matches(
-        alloc,
-        request.problem,
-        terms,
-        &steps[..count],
-        request.wanted,
-    )?;
+    let steps = &front.table.steps.as_slice()[..count];
+    let made = macro_matches(alloc, request.problem, terms, steps, request.wanted)?;
     let matches = made.as_slice();
     match rows {
-        RowChoices::Known(known) => {
-            let all = known.as_slice();
-            keep_matches(alloc, found, request, front, matches, &all[..count])
+        Some(known) => {
+            let choices = &known.choices.as_slice()[..count];
+            let limited = &known.limited.as_slice()[..count];
+            keep_matches(alloc, found, request, front, matches, choices, limited)
         }
-        RowChoices::Limited(_) => gather_matches(asker, found, request, front, matches),
+        None => keep_listed(alloc, found, request, front, matches),
     }
 }
 
-/// The choices of objects for all rows of the table, where no parameter has an object yet and the table's steps add a wanted atom.
+/// What is known of all rows of the table, where no parameter has an object yet. None where the problem has no object, where the
+/// table has more parameters than a question has variables, and where none of its steps adds a wanted atom.
 fn choices_of_table(
     asker: &mut Asker,
     request: &Request,
     table: &Table,
-) -> Result<RowChoices, NoMemory>
+) -> Result<Option<TableChoices>, NoMemory>
     requires problem { IsValid request.now.problem.now }
     requires table { IsTable request.now.problem.now table.now }
-    ensures { IfOk result (AreTableChoices request.now.problem.now request.now.model.now.atoms table.now) }
+    ensures { IfOk result (λ found. IfSome found (AreTableChoices request.now.problem.now request.now.model.now.atoms table.now)) }
 {
     let problem = request.problem;
-    if problem.objects == 0 {
-        return Ok(RowChoices::Limited(1));
+    if problem.objects == 0 || table.params > 4096 {
+        return Ok(None);
     }
     let made = unbound(asker.alloc, table.params)?;
     let terms = made.as_slice();
     let steps = table.steps.as_slice();
     let matches = macro_matches(asker.alloc, problem, terms, steps, request.wanted)?;
     if matches.is_empty() {
-        return Ok(RowChoices::Limited(1));
+        return Ok(None);
     }
-    choices_of_rows(
-        asker,
-        problem,
-        request.model,
-        table,
-        steps.len() as u32,
-        terms,
-    )
+    let rows = choices_of_rows(asker, problem, request.model, table, terms)?;
+    Ok(Some(rows))
 }
 
 /// Adds those of the table's entries that may be pushed.
@@ -413,7 +407,7 @@ fn gather_table(
             table,
             count,
         };
-        gather_front(asker, found, request, &front, rows)?;
+        gather_front(asker.alloc, found, request, &front, rows)?;
     }
     Ok(())
 }

@@ -1,5 +1,5 @@
 //! Objects for a table's parameters, chosen one after the other.
-ghost use Rattle.std.specs.Prelude.{◌≡◌, ℕ, List, Some, length, slice_get, All, IfSome, IfNone, IfOk, IsSomeAnd};
+ghost use Rattle.std.specs.Prelude.{◌≡◌, ℕ, List, Some, length, slice_get, All, IfSome, IfNone, IfOk, IsSomeAnd, IsTrue};
 ghost use Rattle.px_terms.specs.Language.{IsObject};
 ghost use Rattle.px_terms.specs.declared.term.Term.TheVariants.{Var};
 ghost use Rattle.px_diff.specs.Bindings.{Extends, IsBinding, first_values};
@@ -68,6 +68,19 @@ pub fn merged_term(limit: u32, term: Term, other: Term) -> Option<Term>
     }
 }
 
+/// Can objects of the problem fit both? Takes no memory.
+pub fn can_fit(limit: u32, terms: &[Term], others: &[Term]) -> bool
+    requires { length others.now ≡ length terms.now }
+    ensures { (sigma : List ℕ) → Extends limit terms.now sigma → Fits others.now sigma → IsTrue result }
+{
+    for place in 0..terms.len() {
+        if merged_term(limit, terms[place], others[place]).is_none() {
+            return false;
+        }
+    }
+    true
+}
+
 /// The terms with the objects of the others beside their own. None where no objects of the problem fit both.
 pub fn merged(
     alloc: Global,
@@ -80,7 +93,11 @@ pub fn merged(
     ensures long { IfOk result (λ merged. IfSome merged (λ next. length next.items ≡ length terms.now)) }
     ensures fits { IfOk result (λ merged. (sigma : List ℕ) → Extends limit terms.now sigma → Fits others.now sigma → IsSomeAnd merged (λ next. Extends limit next.items sigma)) }
 {
+    if !can_fit(limit, terms, others) {
+        return Ok(None);
+    }
     let mut next = Vec::new(alloc);
+    next.reserve(terms.len())?;
     for place in 0..terms.len() {
         let term = match merged_term(limit, terms[place], others[place]) {
             Some(term) => term,

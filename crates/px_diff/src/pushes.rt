@@ -2,29 +2,32 @@
 ghost use Rattle.std.specs.Prelude.{◌≡◌, ◌↔◌, ◌⊎◌, ◌++◌, ◌∷◌, [], ℕ, List, map, All, Any, Contains, IfOk, OnOk};
 ghost use Rattle.std.specs.List.Sorted.{IsStrictlySortedBy};
 ghost use Rattle.px_proof.specs.declared.shape.Tick.{Tick};
+ghost use Rattle.px_prover.specs.PatternLists.{lists_of};
 ghost use Rattle.px_question.specs.Settings.{setting_of};
 ghost use Rattle.px_question.specs.Gaps.{MeetsGapLimit};
 ghost use Rattle.px_table.specs.declared.entry.Entry.{Entry};
 ghost use Rattle.px_table.specs.declared.entry.Entry.TheVariants.{Op};
 ghost use Rattle.px_table.specs.EntryOrder.{order_of};
-ghost use Rattle.px_terms.specs.declared.atom.Atom.{Atom};
 ghost use Rattle.px_terms.specs.declared.instance.OpInst.{OpInst};
 ghost use Rattle.px_terms.specs.Operators.{precondition};
 ghost use Rattle.px_terms.specs.Validity.{IsValid, IsInstanceOf};
+ghost use Rattle.px_diff.specs.Bounds.{AreBounds};
 ghost use Rattle.px_diff.specs.Closings.{OneOf};
 ghost use Rattle.px_diff.specs.Entries.{obligations_of};
-ghost use Rattle.px_diff.specs.GapAnswers.{IsGapAnswer};
-ghost use Rattle.px_diff.specs.Gathering.{AreObjectsFor, instance_by};
+ghost use Rattle.px_diff.specs.GapAnswers.{AnswersSome, IsGapAnswer};
+ghost use Rattle.px_diff.specs.Gathering.{AreObjectsFor, IsOpenIn, instance_by};
 ghost use Rattle.px_diff.specs.Instances.{IsCovered, IsPartialInstance, StandsFor};
 ghost use Rattle.px_diff.specs.Learned.{AreLearned};
 ghost use Rattle.px_diff.specs.Outcomes.{AtLimit, IfLimit};
 ghost use Rattle.px_diff.specs.Pushes.{IsRelevant, IsPushable};
 ghost use Rattle.px_diff.specs.Questions.{AreBelow, AreUnlimited, LimitsRelevant};
 ghost use Rattle.px_diff.specs.Requests.{AreBelowFor, AreUnlimitedFor, GathersFor, IsPushableFor, IsRelevantFor, LimitsFor};
+ghost use Rattle.px_diff.specs.Rest.{IsRestAnswer};
 
 use crate::ask_err::AskErr;
 use crate::asker::Asker;
 use crate::asking::copied;
+use crate::bounds::Bounds;
 use crate::choices::choices_of;
 use crate::gap_answer::{GapAnswer, ask_gaps};
 use crate::instances::{bound, filled};
@@ -34,6 +37,7 @@ use crate::measured::Measured;
 use crate::partial::PartialInstance;
 use crate::relevance::{is_relevant, schema_of};
 use crate::request::Request;
+use crate::rest::rest_answer;
 use px_ops::Model;
 use px_prover::ProveErr;
 use px_table::{Entry, Table};
@@ -137,6 +141,24 @@ fn keep_choices(
     Ok(())
 }
 
+/// Adds the relevant instances that the partial one is with the objects of those gap lists that close nothing provable.
+fn keep_open(
+    alloc: Global,
+    found: &mut Vec<OpInst>,
+    request: &Request,
+    partial: &PartialInstance,
+    answer: &GapAnswer,
+) -> Result<(), NoMemory>
+    requires problem { IsValid request.now.problem.now }
+    requires partial { IsPartialInstance request.now.problem.now partial.now }
+    requires answer { AnswersSome request.now.problem.now request.now.model.now.atoms partial.now.vars answer.now.patterns.items answer.now.provable.atoms }
+    ensures { OnOk result ((inst : OpInst) → Contains found.new.items inst ↔ (Contains found.old.items inst ⊎ (IsOpenIn partial.now (lists_of request.now.problem.now.objects answer.now.patterns.items) answer.now.provable.atoms inst × IsRelevantFor request.now inst))) }
+{
+    let limit = request.problem.objects;
+    let choices = choices_of(alloc, limit, &answer.patterns, &answer.provable)?;
+    keep_choices(found, request, partial, &choices)
+}
+
 /// Adds the instances that the partial one stands for and that may be pushed, where this is the answer for what it needs.
 fn gather_answer(
     alloc: Global,
@@ -150,25 +172,50 @@ fn gather_answer(
     requires answer { IsGapAnswer (setting_of request.now.problem.now request.now.model.now.atoms) (precondition request.now.problem.now partial.now.inst) partial.now.vars answer.now.patterns.items answer.now.provable.atoms }
     ensures { OnOk result (GathersFor request.now (StandsFor request.now.problem.now partial.now) found.old.items found.new.items) }
 {
-    let limit = request.problem.objects;
-    let choices = choices_of(alloc, limit, &answer.patterns, &answer.provable)?;
-    keep_choices(found, request, partial, &choices)
+    keep_open(alloc, found, request, partial, answer)
 }
 
-/// Adds the instances that the partial one stands for and that may be pushed: by one question, where this answers all of
-/// them, else in the same way for each object that its first variable may be. Each call of itself has a variable less.
+/// The same where this is the answer for the rest of what it needs.
+fn gather_rest(
+    alloc: Global,
+    found: &mut Vec<OpInst>,
+    request: &Request,
+    partial: &PartialInstance,
+    answer: &GapAnswer,
+) -> Result<(), NoMemory>
+    requires problem { IsValid request.now.problem.now }
+    requires partial { IsPartialInstance request.now.problem.now partial.now }
+    requires answer { IsRestAnswer request.now.problem.now request.now.model.now.atoms (precondition request.now.problem.now partial.now.inst) partial.now.vars answer.now.patterns.items answer.now.provable.atoms }
+    ensures { OnOk result (GathersFor request.now (StandsFor request.now.problem.now partial.now) found.old.items found.new.items) }
+{
+    let _facts = request.model.atoms();
+    keep_open(alloc, found, request, partial, answer)
+}
+
+/// Adds the instances that the partial one stands for and that may be pushed: by one question, about the rest of what it needs
+/// or about all of it, where this answers all of them, else in the same way for each object that its first variable may be.
+/// Each call of itself has a variable less.
 fn gather(
     asker: &mut Asker,
     found: &mut Vec<OpInst>,
     request: &Request,
+    bounds: &Bounds,
     partial: &PartialInstance,
 ) -> Result<(), AskErr>
     requires problem { IsValid request.now.problem.now }
+    requires bounds { AreBounds request.now.problem.now request.now.problem.now.height bounds.now.table }
     requires partial { IsPartialInstance request.now.problem.now partial.now }
     ensures gathers { OnOk result (GathersFor request.now (StandsFor request.now.problem.now partial.now) found.old.items found.new.items) }
     ensures limited { IfLimit result (LimitsFor request.now) }
 {
     let formula = precondition_of(asker.alloc, request.problem, partial)?;
+    match rest_answer(asker, request, bounds, &formula, partial.vars)? {
+        Some(answer) => {
+            gather_rest(asker.alloc, found, request, partial, &answer)?;
+            return Ok(());
+        }
+        None => {}
+    }
     match ask_gaps(
         asker,
         request.problem,
@@ -187,7 +234,7 @@ fn gather(
             }
             for object in 0..request.problem.objects {
                 let next = bound(partial, 0, object);
-                gather(asker, found, request, &next)?;
+                gather(asker, found, request, bounds, &next)?;
             }
             Ok(())
         }
@@ -199,15 +246,17 @@ fn gather_matches(
     asker: &mut Asker,
     found: &mut Vec<OpInst>,
     request: &Request,
+    bounds: &Bounds,
     matches: &[PartialInstance],
 ) -> Result<(), AskErr>
     requires problem { IsValid request.now.problem.now }
+    requires bounds { AreBounds request.now.problem.now request.now.problem.now.height bounds.now.table }
     requires matches { All (IsPartialInstance request.now.problem.now) matches.now }
     ensures gathers { OnOk result (GathersFor request.now (IsCovered request.now.problem.now matches.now) found.old.items found.new.items) }
     ensures limited { IfLimit result (LimitsFor request.now) }
 {
     for partial in matches {
-        gather(asker, found, request, partial)?;
+        gather(asker, found, request, bounds, partial)?;
     }
     Ok(())
 }
@@ -244,8 +293,9 @@ fn pushable_for(asker: &mut Asker, request: &Request) -> Result<Vec<Entry>, AskE
     ensures limited { IfLimit result (LimitsFor request.now) }
 {
     let matches = matches_of(asker.alloc, request.problem, request.wanted)?;
+    let bounds = Bounds::of(asker.alloc, request.problem)?;
     let mut found = Vec::new(asker.alloc);
-    gather_matches(asker, &mut found, request, &matches)?;
+    gather_matches(asker, &mut found, request, &bounds, &matches)?;
     let mut entries = entries_of(asker.alloc, &found)?;
     gather_tables(asker, &mut entries, request)?;
     Ok(ordered(entries))
@@ -253,7 +303,8 @@ fn pushable_for(asker: &mut Asker, request: &Request) -> Result<Vec<Entry>, AskE
 
 /// What `relevant` answers, with the number of questions that it asks the prover. The number is measured: it begins with 0,
 /// and the clause `counted` of each of the two private methods that ask (`Asker::gap_patterns` and `Asker::prove`) says that
-/// it asks one more, up to the greatest number of 64 bits. No clause of this call speaks of it.
+/// it asks one more, up to the greatest number of 64 bits. What is asked of each MACROP by itself isn't counted. No clause of this
+/// call speaks of the number.
 ///
 /// # Errors
 /// Those of `relevant`.

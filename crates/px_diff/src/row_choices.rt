@@ -1,12 +1,20 @@
-//! What the questions about the rows of a table's first steps tell.
+//! What the questions about the rows of a table tell.
 use px_terms::{Sequence, Term};
 
-/// What the questions about the rows of a table's first steps tell.
+/// What the questions about one row tell.
 #[derive(Drop)]
-pub enum RowChoices {
-    /// The choices of objects for the parameters, row by row.
-    Known(Sequence<Sequence<Sequence<Term>>>),
-    /// Nothing is told: a question about the row of this number meets the limit, or would have too many variables, so a parameter of
-    /// this row is to be bound next. Nothing rests on the number.
-    Limited(u32),
+pub struct RowChoices {
+    /// Choices of terms for the parameters.
+    pub choices: Sequence<Sequence<Term>>,
+    /// Terms with an object for each parameter of the row, where it meets the limit.
+    pub limited: Sequence<Sequence<Term>>,
+}
+
+/// What the questions about all rows of a table tell.
+#[derive(Drop)]
+pub struct TableChoices {
+    /// The choices of terms for the parameters, row by row.
+    pub choices: Sequence<Sequence<Sequence<Term>>>,
+    /// The terms at which a row meets the limit, row by row.
+    pub limited: Sequence<Sequence<Sequence<Term>>>,
 }

@@ -4,7 +4,11 @@
 //! what the steps before leave of the model, so it has no more shapes than that. What is provable from the whole model says
 //! nothing about it, though; so the gaps of the answer are taken as they are, and of each atom that a gap closes it is asked how
 //! many unfinished proofs it has in all.
-ghost use Rattle.std.specs.Prelude.{◌≡◌, ◌<◌, ◌≤◌, ◌∷◌, [], ℕ, List, length, All, IsTrue, IfSome, IfOk, OnOk};
+//!
+//! Where a question meets the limit, a parameter of the row is bound to each object in turn, and each of these narrower rows is
+//! asked in the same way. Where each parameter of the row has an object and a question still meets the limit, the terms are kept
+//! as terms at which it does.
+ghost use Rattle.std.specs.Prelude.{◌≡◌, ◌<◌, ◌≤◌, ◌∷◌, [], ℕ, Some, List, length, slice_get, All, IsTrue, IfSome, IfOk, OnOk};
 ghost use Rattle.px_ops.specs.Models.{IsModel};
 ghost use Rattle.px_prover.specs.declared.pattern.GapPattern.{GapPattern as PatternValue};
 ghost use Rattle.px_question.specs.Limits.{AreFewGapShapes};
@@ -13,16 +17,19 @@ ghost use Rattle.px_table.specs.Tables.{IsTable};
 ghost use Rattle.px_terms.specs.Language.{IsVariableBelow};
 ghost use Rattle.px_terms.specs.Validity.{IsAtomOf, IsValid};
 ghost use Rattle.px_terms.specs.declared.term.Term.{Term as TermValue};
-ghost use Rattle.px_diff.specs.Bindings.{IsBinding};
+ghost use Rattle.px_terms.specs.declared.term.Term.TheVariants.{Var};
+ghost use Rattle.px_diff.specs.Bindings.{Extends, IsBinding, IsPlain};
 ghost use Rattle.px_diff.specs.Closings.{OneOf};
 ghost use Rattle.px_diff.specs.Forms.{IsForm};
 ghost use Rattle.px_diff.specs.Parameters.{Fits};
-ghost use Rattle.px_diff.specs.RowQuestions.{AreChoicesOf, IsRowAnswer, IsRowKnown, row_formula as formula_by};
+ghost use Rattle.px_diff.specs.RowQuestions.{AreAskedOf, AreInstancesKnown, AreRowsKnown, FitsOne, IsRowAnswer, IsRowKnown, Widens, row_formula as formula_by};
 
 use crate::asker::Asker;
+use crate::bindings::{bound, open_variable};
 use crate::entry_rows::{is_initial, push_wanted};
 use crate::forms::forms_of;
-use crate::row_choices::RowChoices;
+use crate::parameters::merged;
+use crate::row_choices::{RowChoices, TableChoices};
 use px_base::push;
 use px_ops::Model;
 use px_prover::{GapErr, GapPattern};
@@ -88,7 +95,7 @@ fn have_few(
     Ok(true)
 }
 
-/// The gap patterns of the formula, where neither finding them nor proving an atom that they close meets the limit.
+/// The gap patterns of the formula, where finding them stays below the limit, and so does finding those of each atom that they close.
 fn ask_row(
     asker: &mut Asker,
     problem: &Problem,
@@ -141,7 +148,7 @@ fn is_wider(wide: &[Term], narrow: &[Term]) -> bool
 /// Do all objects that fit the terms fit one of the choices?
 fn is_covered(choices: &[Sequence<Term>], terms: &[Term]) -> bool
     requires { All (λ (choice : List TermValue). length choice ≡ length terms.now) choices.now }
-    ensures { IsTrue result → (sigma : List ℕ) → Fits terms.now sigma → OneOf choices.now (λ (choice : List TermValue). Fits choice sigma) }
+    ensures { IsTrue result → (sigma : List ℕ) → Fits terms.now sigma → FitsOne choices.now sigma }
 {
     for choice in choices {
         if is_wider(choice.as_slice(), terms) {
@@ -159,8 +166,8 @@ fn push_choice(
 ) -> Result<(), NoMemory>
     requires { All (λ (choice : List TermValue). length choice ≡ length terms.now) choices.old.items }
     ensures long { OnOk result (All (λ (choice : List TermValue). length choice ≡ length terms.now) choices.new.items) }
-    ensures kept { OnOk result ((sigma : List ℕ) → OneOf choices.old.items (λ (choice : List TermValue). Fits choice sigma) → OneOf choices.new.items (λ (choice : List TermValue). Fits choice sigma)) }
-    ensures covers { OnOk result ((sigma : List ℕ) → Fits terms.now sigma → OneOf choices.new.items (λ (choice : List TermValue). Fits choice sigma)) }
+    ensures kept { OnOk result ((sigma : List ℕ) → FitsOne choices.old.items sigma → FitsOne choices.new.items sigma) }
+    ensures covers { OnOk result ((sigma : List ℕ) → Fits terms.now sigma → FitsOne choices.new.items sigma) }
 {
     let last = choices.len().saturating_sub(32);
     if is_covered(&choices[last..], terms) {
@@ -170,26 +177,146 @@ fn push_choice(
     push(choices, choice)
 }
 
-/// The objects that the patterns have, as choices that cover each other as little as may be: a pattern that gaps close comes
-/// last, and is mostly the widest.
-fn choices_by(
+/// Puts the terms with the objects of the pattern beside their own last among the choices, where some objects fit both.
+fn push_offer(
+    choices: &mut Vec<Sequence<Term>>,
     alloc: Global,
-    vars: u32,
-    patterns: &[GapPattern],
-) -> Result<Vec<Sequence<Term>>, NoMemory>
-    requires { All (λ (pattern : PatternValue). length pattern.terms ≡ vars) patterns.now }
-    ensures long { IfOk result (λ choices. All (λ (choice : List TermValue). length choice ≡ vars) choices.items) }
-    ensures covers { IfOk result (λ choices. (sigma : List ℕ) → OneOf patterns.now (λ (pattern : PatternValue). Fits pattern.terms sigma) → OneOf choices.items (λ (choice : List TermValue). Fits choice sigma)) }
+    limit: u32,
+    terms: &[Term],
+    offer: &[Term],
+) -> Result<(), NoMemory>
+    requires long { length offer.now ≡ length terms.now }
+    requires choices { All (λ (choice : List TermValue). length choice ≡ length terms.now) choices.old.items }
+    ensures widens { OnOk result (Widens (length terms.now) choices.old.items choices.new.items) }
+    ensures covers { OnOk result ((sigma : List ℕ) → Extends limit terms.now sigma → Fits offer.now sigma → FitsOne choices.new.items sigma) }
 {
-    let mut choices = Vec::new(alloc);
-    for passed in 0..patterns.len() {
-        let place = patterns.len() - passed - 1;
-        push_choice(&mut choices, alloc, patterns[place].terms.as_slice())?;
+    let found = merged(alloc, limit, terms, offer)?;
+    match found {
+        Some(both) => push_choice(choices, alloc, &both),
+        None => Ok(()),
     }
-    Ok(choices)
 }
 
-/// The choices of objects for a row, where no question about it meets the limit.
+/// Puts the terms with the objects that each pattern has last among the choices, which then cover each other as little as may be:
+/// a pattern that gaps close comes last, and is mostly the widest.
+fn push_offers(
+    choices: &mut Vec<Sequence<Term>>,
+    alloc: Global,
+    limit: u32,
+    terms: &[Term],
+    patterns: &[GapPattern],
+) -> Result<(), NoMemory>
+    requires long { All (λ (pattern : PatternValue). length pattern.terms ≡ length terms.now) patterns.now }
+    requires choices { All (λ (choice : List TermValue). length choice ≡ length terms.now) choices.old.items }
+    ensures widens { OnOk result (Widens (length terms.now) choices.old.items choices.new.items) }
+    ensures covers { OnOk result ((sigma : List ℕ) → Extends limit terms.now sigma → OneOf patterns.now (λ (pattern : PatternValue). Fits pattern.terms sigma) → FitsOne choices.new.items sigma) }
+{
+    for passed in 0..patterns.len() {
+        let place = patterns.len() - passed - 1;
+        push_offer(
+            choices,
+            alloc,
+            limit,
+            terms,
+            patterns[place].terms.as_slice(),
+        )?;
+    }
+    Ok(())
+}
+
+/// The first parameter without object in what the row takes from the initial model.
+fn open_parameter(table: &Table, terms: &[Term], row: u32) -> Option<u32>
+    requires marks { All (λ mark. IsPlain (length terms.now) mark.atom) table.now.marks }
+    requires binding { (limit : ℕ) × IsBinding limit terms.now }
+    ensures { IfSome result (λ parameter. slice_get terms.now parameter ≡ Some (Var parameter)) }
+{
+    let marks = table.marks.as_slice();
+    for mark in marks {
+        if is_initial(mark, row) {
+            if let Some(found) = open_variable(terms, &mark.atom) {
+                return Some(found);
+            }
+        }
+    }
+    None
+}
+
+/// Adds the choices of objects for a row, where no question about it meets the limit. Says whether that is so.
+fn ask_choices(
+    asker: &mut Asker,
+    choices: &mut Vec<Sequence<Term>>,
+    problem: &Problem,
+    model: &Model,
+    table: &Table,
+    terms: &[Term],
+    row: u32,
+) -> Result<bool, NoMemory>
+    requires problem { IsValid problem.now }
+    requires table { IsTable problem.now table.now }
+    requires terms { length terms.now ≡ table.now.params }
+    requires binding { IsBinding problem.now.objects terms.now }
+    requires few_parameters { table.now.params ≤ 4096 }
+    requires choices { All (λ (choice : List TermValue). length choice ≡ table.now.params) choices.old.items }
+    ensures widens { OnOk result (Widens table.now.params choices.old.items choices.new.items) }
+    ensures known { IfOk result (λ is_known. IsTrue is_known → AreInstancesKnown (setting_of problem.now model.now.atoms) table.now row (Extends problem.now.objects terms.now) choices.new.items) }
+{
+    let formula = row_formula(asker.alloc, table, terms, row)?;
+    let answer = ask_row(asker, problem, model, &formula, table.params)?;
+    match answer {
+        Some(patterns) => {
+            push_offers(
+                choices,
+                asker.alloc,
+                problem.objects,
+                terms,
+                patterns.as_slice(),
+            )?;
+            Ok(true)
+        }
+        None => Ok(false),
+    }
+}
+
+/// Adds what is known of the row with the objects that are chosen: choices for the parameters, and terms at which it meets the
+/// limit. Each call of itself has a parameter without object less.
+fn add_choices(
+    asker: &mut Asker,
+    choices: &mut Vec<Sequence<Term>>,
+    limited: &mut Vec<Sequence<Term>>,
+    problem: &Problem,
+    model: &Model,
+    table: &Table,
+    terms: &[Term],
+    row: u32,
+) -> Result<(), NoMemory>
+    requires problem { IsValid problem.now }
+    requires table { IsTable problem.now table.now }
+    requires terms { length terms.now ≡ table.now.params }
+    requires binding { IsBinding problem.now.objects terms.now }
+    requires few_parameters { table.now.params ≤ 4096 }
+    requires choices { All (λ (choice : List TermValue). length choice ≡ table.now.params) choices.old.items }
+    ensures choices { OnOk result (Widens table.now.params choices.old.items choices.new.items) }
+    ensures limited { OnOk result (Widens table.now.params limited.old.items limited.new.items) }
+    ensures known { OnOk result (AreAskedOf (setting_of problem.now model.now.atoms) table.now row (Extends problem.now.objects terms.now) choices.new.items limited.new.items) }
+{
+    if ask_choices(asker, choices, problem, model, table, terms, row)? {
+        return Ok(());
+    }
+    let parameter = match open_parameter(table, terms, row) {
+        Some(parameter) => parameter,
+        None => {
+            let kept = Sequence::from_slice(asker.alloc, terms)?;
+            return push(limited, kept);
+        }
+    };
+    for object in 0..problem.objects {
+        let next = bound(asker.alloc, terms, parameter, object)?;
+        add_choices(asker, choices, limited, problem, model, table, &next, row)?;
+    }
+    Ok(())
+}
+
+/// What is known of the row with the objects that are chosen.
 fn choices_of_row(
     asker: &mut Asker,
     problem: &Problem,
@@ -197,54 +324,65 @@ fn choices_of_row(
     table: &Table,
     terms: &[Term],
     row: u32,
-) -> Result<Option<Sequence<Sequence<Term>>>, NoMemory>
-    requires problem { IsValid problem.now }
-    requires table { IsTable problem.now table.now }
-    requires terms { length terms.now ≡ table.now.params }
-    requires binding { IsBinding problem.now.objects terms.now }
-    requires few_parameters { table.now.params ≤ 4096 }
-    ensures { IfOk result (λ found. IfSome found (IsRowKnown (setting_of problem.now model.now.atoms) table.now terms.now row)) }
-{
-    let formula = row_formula(asker.alloc, table, terms, row)?;
-    let answer = ask_row(asker, problem, model, &formula, table.params)?;
-    match answer {
-        Some(patterns) => {
-            let choices = choices_by(asker.alloc, table.params, patterns.as_slice())?;
-            Ok(Some(Sequence::from_vec(choices)))
-        }
-        None => Ok(None),
-    }
-}
-
-/// The choices of objects for the rows of the first steps, or the number of a row about which a question meets the limit. That is
-/// so also where the table has more parameters than a question has variables.
-pub fn choices_of_rows(
-    asker: &mut Asker,
-    problem: &Problem,
-    model: &Model,
-    table: &Table,
-    prefix: u32,
-    terms: &[Term],
 ) -> Result<RowChoices, NoMemory>
     requires problem { IsValid problem.now }
     requires table { IsTable problem.now table.now }
     requires terms { length terms.now ≡ table.now.params }
     requires binding { IsBinding problem.now.objects terms.now }
-    ensures choices { IfOk result (AreChoicesOf (setting_of problem.now model.now.atoms) table.now terms.now prefix) }
+    requires few_parameters { table.now.params ≤ 4096 }
+    ensures { IfOk result (λ found. IsRowKnown (setting_of problem.now model.now.atoms) table.now terms.now row found.choices found.limited) }
+{
+    let mut choices = Vec::new(asker.alloc);
+    let mut limited = Vec::new(asker.alloc);
+    add_choices(
+        asker,
+        &mut choices,
+        &mut limited,
+        problem,
+        model,
+        table,
+        terms,
+        row,
+    )?;
+    Ok(RowChoices {
+        choices: Sequence::from_vec(choices),
+        limited: Sequence::from_vec(limited),
+    })
+}
+
+/// What is known of the table's rows with the objects that are chosen.
+pub fn choices_of_rows(
+    asker: &mut Asker,
+    problem: &Problem,
+    model: &Model,
+    table: &Table,
+    terms: &[Term],
+) -> Result<TableChoices, NoMemory>
+    requires problem { IsValid problem.now }
+    requires table { IsTable problem.now table.now }
+    requires terms { length terms.now ≡ table.now.params }
+    requires binding { IsBinding problem.now.objects terms.now }
+    requires few_parameters { table.now.params ≤ 4096 }
+    ensures rows { IfOk result (λ found. AreRowsKnown (setting_of problem.now model.now.atoms) table.now terms.now (length table.now.steps) found.choices found.limited) }
     ensures facts { IsModel model.now.atoms }
 {
     let _known = model.atoms();
-    if table.params > 4096 {
-        return Ok(RowChoices::Limited(1));
-    }
     let mut rows = Vec::new(asker.alloc);
-    for place in 0..prefix {
-        let found = choices_of_row(asker, problem, model, table, terms, place + 1)?;
-        let choices = match found {
-            Some(choices) => choices,
-            None => return Ok(RowChoices::Limited(place + 1)),
-        };
+    let mut limited_rows = Vec::new(asker.alloc);
+    for place in 0..table.steps.len() as u32 {
+        let RowChoices { choices, limited } = choices_of_row(
+            asker,
+            problem,
+            model,
+            table,
+            terms,
+            place + 1,
+        )?;
         push(&mut rows, choices)?;
+        push(&mut limited_rows, limited)?;
     }
-    Ok(RowChoices::Known(Sequence::from_vec(rows)))
+    Ok(TableChoices {
+        choices: Sequence::from_vec(rows),
+        limited: Sequence::from_vec(limited_rows),
+    })
 }

@@ -39,7 +39,7 @@ pub record AreLimits (one other : Reply) : Type 0 where
 abbrev pub SameReply : Reply → Reply → Type 0
 SameReply one other = (one ≡ other) ⊎ AreLimits one other
 
--- A session's state and a command have one lawful reply and leave one state; and the same replies have one text.
+-- A session's state and a command have at most one lawful reply and leave one state; and the same replies have one text.
 pub record LawfulIsOne : Type 0 where
   pub replies : (problem : Problem) (old : SessionState) (command : Command) (one other : Reply) (new later : SessionState)
       → IsValid problem → IsSession problem old → Lawful problem old command one new → Lawful problem old command other later

@@ -9,8 +9,8 @@ ghost use Rattle.px_session.specs.WorkedDemo.{WorkedDemo};
 ghost use Rattle.px_session.specs.WorkedRooms.{WorkedRooms};
 ghost use Rattle.px_session.specs.WorkedSession.{WorkedSession};
 
-/// A session's state and a command have one lawful reply and leave one state. Where a search met the limit of shapes, one of
-/// several questions may be told, and the text is the same.
+/// A session's state and a command have at most one lawful reply and leave one state. Where a search met the limit of shapes, one
+/// of several questions may be told, and the text is the same.
 pub fn lawful_is_one()
     ensures { LawfulIsOne }
 {}
@@ -26,7 +26,7 @@ pub fn replies_are_named()
     ensures { RepliesAreNamed }
 {}
 
-/// A script with a valid problem, whose facts are a set, has one list of lawful replies, but for questions at limits of shapes, and one text.
+/// A script with a valid problem, whose facts are a set, has at most one list of lawful replies, but for questions at limits of shapes, and one text.
 pub fn answers_are_one()
     ensures { AnswersAreOne }
 {}

@@ -22,8 +22,8 @@
 //!   proof that is too high. The opening state is such where the facts are a set, and each lawful reply leaves such a state
 //!   ([`sessions_are_kept`], which also says that these tables' kernels carry, and that atoms and edits of the problem stay such,
 //!   `IsOwnState` in `specs/OwnStates`).
-//! - A session's state and a command have one lawful reply ([`lawful_is_one`]; where a search met the limit of shapes, one of
-//!   several questions may be told, and the text is one).
+//! - A session's state and a command have at most one lawful reply ([`lawful_is_one`]; where a search met the limit of shapes, one
+//!   of several questions may be told, and the text is one).
 //! - `Transcript` in `specs/Transcripts` is what is to be written for the bytes of a script: the texts of lawful replies to its
 //!   commands, one after the other. `Summary` in `specs/Demo` is the line of the demo, whose script
 //!   `px_demo` makes. Both are determined ([`answers_are_one`], [`transcripts_are_one`]).

@@ -26,7 +26,8 @@ use Rattle.px_table.specs.Kernels.{steps_under}
 use Rattle.px_table.specs.Prefixes.{IsMacro}
 use Rattle.px_table.specs.Tables.{IsTable, rows_of}
 use Rattle.px_diff.proofs.RowSteps.{steps-count, steps-ground}
-use Rattle.px_diff.specs.Entries.{IsEntry, Obligation, effect_of, initial_atoms, obligations_of, row_obligations, table_at}
+use Rattle.px_diff.proofs.RowTurns.{in_turn, row_obligations}
+use Rattle.px_diff.specs.Entries.{IsEntry, Obligation, effect_of, initial_atoms, obligations_of, row_needs, table_at}
 use Rattle.px_diff.specs.Learned.{AreLearned}
 use Rattle.px_ends.specs.Made.{IsGraft, MacroRows}
 use Rattle.px_support.specs.declared.macros.Learned.{Learned}
@@ -35,7 +36,7 @@ use Rattle.px_support.specs.declared.walk.Walk.{Walk}
 use Rattle.px_support.specs.Asking.{IsFindable}
 use Rattle.px_support.specs.Going.{IsEntryApplied}
 use Rattle.px_support.specs.Grafted.{IsGraftable}
-use Rattle.px_support.specs.MacroSteps.{IsLearnedOf, IsMacroApplied, IsStepTaken, steps_in}
+use Rattle.px_support.specs.MacroSteps.{IsLearnedOf, IsMacroApplied, IsStepTaken, NeedsOfMacro, steps_in}
 use Rattle.px_support.proofs.LearnedRows.{row-graftable, rows-count}
 use Rattle.px_support.proofs.MacroTables.{macro-table}
 use Rattle.px_support.proofs.RowSteps.{rows-push}
@@ -80,7 +81,7 @@ module _ (problem : Problem) (learned : Learned) where
     pub count : length within.walk.steps.items ≡ length old.steps.items + place
 
 module _ (problem : Problem) (learned : Learned) (is : IsLearnedOf problem learned) where
-  pub within-none : (old : Walk) (within : Within) → within.walk ≡ old → within.facts.atoms ≡ old.model.atoms → needs_from problem learned 0 old.model.atoms (steps_in learned) → All (IsGroundInstanceOf problem) old.steps.items → IsWithin problem learned old 0 within
+  pub within-none : (old : Walk) (within : Within) → within.walk ≡ old → within.facts.atoms ≡ old.model.atoms → NeedsOfMacro problem learned old.model.atoms (All (IsFindable problem)) → All (IsGroundInstanceOf problem) old.steps.items → IsWithin problem learned old 0 within
   within-none old within same facts findable all_ground = record {
     stack = ap (λ (w : Walk). w.stack.items) same;
     steps = ap (λ (w : Walk). w.steps.items ++ steps_in learned) same;
@@ -90,7 +91,8 @@ module _ (problem : Problem) (learned : Learned) (is : IsLearnedOf problem learn
     made = λ rest rows.
         subst (λ (made : List OpInst). MacroRows problem learned.sigma.now learned.shift made old.model.atoms (rows_of learned.table.now.proofs) (steps_in learned) rest) (ap (λ (w : Walk). w.steps.items) same)
         (subst (λ (atoms : List Atom). MacroRows problem learned.sigma.now learned.shift within.walk.steps.items atoms (rows_of learned.table.now.proofs) (steps_in learned) rest) facts rows);
-    findable = subst (λ (atoms : List Atom). needs_from problem learned 0 atoms (steps_in learned)) (sym facts) findable;
+    findable = subst (λ (atoms : List Atom). needs_from problem learned 0 atoms (steps_in learned)) (sym facts)
+        (subst (All (IsFindable problem)) (in_turn problem learned.table.now learned.sigma.now old.model.atoms (steps_in learned)) findable);
     all_ground = subst (λ (w : Walk). All (IsGroundInstanceOf problem) w.steps.items) (sym same) all_ground;
     count = ap (λ (w : Walk). length w.steps.items) same ∙ omega arith;
   }
@@ -227,8 +229,8 @@ module _ (problem : Problem) (tables : List Table) (all : AreLearned problem tab
   }
 
   pub learned-needs : (given : Table) (model : List Atom) (P : List Obligation → Type 0) → given ≡ table → P (obligations_of problem tables model (Macro number prefix sigma))
-      → P (row_obligations problem given sigma model 1 (take prefix (steps_under given sigma)))
-  learned-needs given model P same needs = subst (λ (t : Table). P (row_obligations problem t sigma model 1 (take prefix (steps_under t sigma)))) (found ∙ sym same) needs
+      → P (row_needs problem given sigma model (take prefix (steps_under given sigma)))
+  learned-needs given model P same needs = subst (λ (t : Table). P (row_needs problem t sigma model (take prefix (steps_under t sigma)))) (found ∙ sym same) needs
 
   -- the steps are the entry's effect, and their rows the entry's
   entry-applied : (learned : Learned) (old new : Walk) → learned.table.now ≡ table → learned.prefix ≡ prefix → learned.sigma.now ≡ sigma → learned.shift ≡ length old.steps.items → IsMacroApplied problem learned old new

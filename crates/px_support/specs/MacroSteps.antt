@@ -11,7 +11,7 @@ use Rattle.px_proof.specs.Substitution.{derivation_under}
 use Rattle.px_table.specs.Kernels.{steps_under}
 use Rattle.px_table.specs.Prefixes.{IsMacro}
 use Rattle.px_table.specs.Tables.{IsTable, rows_of}
-use Rattle.px_diff.specs.Entries.{Obligation, row_obligations}
+use Rattle.px_diff.specs.Entries.{Obligation, row_needs}
 use Rattle.px_ends.specs.Made.{IsGraft, MacroRows}
 use Rattle.px_support.specs.declared.macros.Learned.{Learned}
 use Rattle.px_support.specs.declared.macros.Within.{Within}
@@ -30,7 +30,7 @@ pub record IsLearnedOf (problem : Problem) (learned : Learned) : Type 0 where
 
 -- what the steps need, from this model
 abbrev pub NeedsOfMacro : Problem → Learned → List Atom → (List Obligation → Type 0) → Type 0
-NeedsOfMacro problem learned model P = P (row_obligations problem learned.table.now learned.sigma.now model 1 (steps_in learned))
+NeedsOfMacro problem learned model P = P (row_needs problem learned.table.now learned.sigma.now model (steps_in learned))
 
 -- the step at the place is taken: its row is the table's, put onto the facts that were left
 pub record IsStepTaken (problem : Problem) (learned : Learned) (place : ℕ) (old new : Within) : Type 0 where

@@ -5,7 +5,8 @@ use Rattle.std.specs.Str.{bytes_eq}
 use Rattle.std.specs.Str.Parse.{digits_value}
 use Rattle.std.proofs.lemmas.Bool.{and_parts, cond_both}
 use Rattle.px_words.specs.Numbers.{in_range, is_number, number_within}
-use Rattle.px_words.specs.Orders.{HasRanges, demo_order, order_in, order_of}
+use Rattle.px_words.specs.Orders.{HasRanges, demo_order, order_of}
+use Rattle.px_words.specs.Reading.{order_in}
 use Rattle.px_words.specs.declared.orders.Order.{Order}
 use Rattle.px_words.specs.declared.orders.Order.TheVariants.{Demo}
 

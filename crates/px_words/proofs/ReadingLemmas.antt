@@ -13,8 +13,8 @@ use Rattle.clap.specs.declared.parser.matches.Found.{Found}
 use Rattle.clap.proofs.OnLiterals.{clap_on_literals}
 use Rattle.clap.proofs.WalkLemmas.{first_value-rows}
 use Rattle.px_words.specs.Numbers.{is_number, number_within}
-use Rattle.px_words.specs.Orders.{demo_order, order_in, order_of, order_read}
-use Rattle.px_words.specs.Reading.{planex}
+use Rattle.px_words.specs.Orders.{demo_order, order_of}
+use Rattle.px_words.specs.Reading.{order_in, order_read, planex}
 use Rattle.px_words.specs.declared.orders.Order.{Order}
 use Rattle.px_words.specs.declared.orders.Order.TheVariants.{Demo, Run}
 use Rattle.px_words.proofs.NumberLemmas.{other-than, plain-number}

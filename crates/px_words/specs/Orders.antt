@@ -1,8 +1,6 @@
 -- What the words of the command line order.
 use Rattle.std.specs.Prelude.{◌≤◌, ℕ, List, [], ◌∷◌, codes, if◌then◌else◌, Option, None, Some, option_and_then, option_map}
 use Rattle.std.specs.Str.{bytes_eq}
-use Rattle.clap.specs.Words.{first_value}
-use Rattle.clap.specs.declared.parser.matches.Found.{Found}
 use Rattle.px_words.specs.Numbers.{number_within}
 use Rattle.px_words.specs.declared.orders.Order.{Order}
 use Rattle.px_words.specs.declared.orders.Order.TheVariants.{Run, Demo}
@@ -11,17 +9,10 @@ use Rattle.px_words.specs.declared.orders.Order.TheVariants.{Run, Demo}
 abbrev pub demo_order : (rooms seed : List ℕ) → Option Order
 demo_order rooms seed = option_and_then (λ rooms. option_map (Demo rooms) (number_within 0 2147483647 seed)) (number_within 3 12 rooms)
 
--- what a first word orders, with the two words that may follow it
-abbrev pub order_in : List ℕ → (rooms seed : Option (List ℕ)) → Option Order
-order_in word None None = if bytes_eq word (codes "run") then Some Run else None
-order_in word (Some rooms) (Some seed) = if bytes_eq word (codes "demo") then demo_order rooms seed else None
-order_in word None (Some seed) = None
-order_in word (Some rooms) None = None
-
 -- what the words order, if they are taken: `run`, or `demo ROOMS SEED`
 abbrev pub order_of : List (List ℕ) → Option Order
-order_of (word ∷ []) = order_in word None None
-order_of (word ∷ rooms ∷ seed ∷ []) = order_in word (Some rooms) (Some seed)
+order_of (word ∷ []) = if bytes_eq word (codes "run") then Some Run else None
+order_of (word ∷ rooms ∷ seed ∷ []) = if bytes_eq word (codes "demo") then demo_order rooms seed else None
 order_of [] = None
 order_of (word ∷ rooms ∷ []) = None
 order_of (word ∷ rooms ∷ seed ∷ more ∷ words) = None
@@ -31,7 +22,3 @@ abbrev pub HasRanges : Option Order → Type 0
 HasRanges (Some (Demo rooms seed)) = (3 ≤ rooms) × (rooms ≤ 12) × (seed ≤ 2147483647)
 HasRanges (Some Run) = Unit {0}
 HasRanges None = Unit {0}
-
--- what the words order that `clap` found
-abbrev pub order_read : Found → Option Order
-order_read found = option_and_then (λ word. order_in word (first_value found (codes "ROOMS")) (first_value found (codes "SEED"))) (first_value found (codes "WORD"))

@@ -1,6 +1,7 @@
 //! What the words order.
 ghost use Rattle.std.specs.Prelude.{◌≡◌, IfErr, IfOk, Some, is_some, map, option_map, true};
-ghost use Rattle.px_words.specs.Orders.{HasRanges, demo_order, order_in, order_of};
+ghost use Rattle.px_words.specs.Orders.{HasRanges, demo_order, order_of};
+ghost use Rattle.px_words.specs.Reading.{order_in};
 
 use crate::numbers::number_within;
 use crate::reading::{read, read_order};

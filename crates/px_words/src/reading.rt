@@ -1,8 +1,8 @@
 //! Words that are taken, read by `clap`.
 ghost use Rattle.std.specs.Prelude.{◌≡◌, IfErr, IfOk, codes, is_some, map, true};
 ghost use Rattle.clap.specs.Words.{app_of, first_value, found_of, kind_of};
-ghost use Rattle.px_words.specs.Orders.{order_of, order_read};
-ghost use Rattle.px_words.specs.Reading.{planex};
+ghost use Rattle.px_words.specs.Orders.{order_of};
+ghost use Rattle.px_words.specs.Reading.{order_read, planex};
 
 use crate::orders::{Order, order_in};
 use clap::error::ErrorKind;

@@ -1,9 +1,10 @@
-use Rattle.std.proofs.Common.{◌∙◌, ap}
-use Rattle.std.specs.Prelude.{not}
+use Rattle.std.proofs.Common.{◌≡◌, ◌∙◌, ap}
+use Rattle.std.specs.Prelude.{filter, not}
+use Rattle.px_ops.specs.ModelValue.{ModelValue}
 use Rattle.px_terms.specs.Operators.{deletes, is_deleted}
 use Rattle.px_terms.specs.declared.atom.Atom.{Atom}
 use Rattle.px_terms.specs.declared.problem.Schema.{Schema}
-use Rattle.px_diff.proofs.LeftSteps.{left-all, left-next, left-none, not-twice}
+use Rattle.px_diff.proofs.LeftSteps.{left-all, left-next, left-none, left-same, not-twice, ok_map}
 use Rattle.px_diff.proofs.entry_rows.left_of.Goals as goal
 
 pub loop-atom-init : goal.loop-atom-init
@@ -20,3 +21,8 @@ loop-atom-preserved c =
 pub returns : goal.returns
 returns c =
     left-all (λ (other : Atom). not (deletes c.args.problem.now c.args.inst.now other)) c.atoms-held.result.now c.loop-atom.atom-index c.loop-atom.left.atoms c.args.facts.now.atoms c.atoms-held.ensures.value c.atoms-held.ensures.model.ascending c.loop-atom-test.false c.loop-atom.invariant
+
+pub returns-then-stay : goal.returns-then-stay
+returns-then-stay c =
+    ok_map (λ (model : ModelValue). model.atoms ≡ c.args.facts.now.atoms) (λ (model : ModelValue). model.atoms ≡ filter (λ (atom : Atom). not (deletes c.args.problem.now c.args.inst.now atom)) c.args.facts.now.atoms) c.try_copy.result
+    (λ (model : ModelValue) is. left-same (deletes c.args.problem.now c.args.inst.now) c.atoms-held.result.now c.args.facts.now.atoms model.atoms c.atoms-held.ensures.value (c.none_is_deleted-stay.ensures c.if-stay.true) is) c.try_copy.ensures

@@ -3,7 +3,6 @@ use Rattle.std.specs.Prelude.{All}
 use Rattle.px_table.specs.Tables.{IsStepOf}
 use Rattle.px_diff.specs.Bindings.{AreUnbound, IsBinding}
 use Rattle.px_diff.proofs.Describing.{unbound-binding}
-use Rattle.px_diff.proofs.RowAnswerLemmas.{table-choices}
 use Rattle.px_diff.proofs.macros.choices_of_table.Goals as goal
 
 pub macro_matches-requires-clause-steps : goal.macro_matches-requires-clause-steps
@@ -22,7 +21,14 @@ pub choices_of_rows-requires-clause-binding : goal.choices_of_rows-requires-clau
 choices_of_rows-requires-clause-binding c =
     subst (IsBinding c.args.request.now.problem.now.objects) (sym c.as_slice-terms.ensures.value) (unbound-binding c.args.request.now.problem.now.objects c.args.table.now.params c.in_ok-made.made.items c.in_ok-made.ensures (λ _. omega (arith, c.if-problem-eq0.false)))
 
+pub choices_of_rows-requires-clause-few_parameters : goal.choices_of_rows-requires-clause-few_parameters
+choices_of_rows-requires-clause-few_parameters c = omega (arith, c.if-table-gt4096.false)
+
 pub returns : goal.returns
-returns c =
-    table-choices c.args.request.now.problem.now c.args.request.now.model.now.atoms c.args.table.now c.as_slice-terms.result.now c.choices_of_rows.result (subst (AreUnbound c.args.table.now.params) (sym c.as_slice-terms.ensures.value) c.in_ok-made.ensures) (omega (arith, c.if-problem-eq0.false)) c.choices_of_rows.ensures.facts.ascending
-    (ap length c.as_slice-steps.ensures) c.choices_of_rows.ensures.choices
+returns c = record {
+  terms = c.as_slice-terms.result.now;
+  unbound = subst (AreUnbound c.args.table.now.params) (sym c.as_slice-terms.ensures.value) c.in_ok-made.ensures;
+  some_object = omega (arith, c.if-problem-eq0.false);
+  set = c.in_ok-rows.ensures.facts.ascending;
+  known = c.in_ok-rows.ensures.rows;
+}

@@ -9,15 +9,16 @@ use Rattle.px_terms.specs.declared.instance.OpInst.{OpInst}
 use Rattle.px_terms.specs.declared.term.Term.{Term}
 use Rattle.px_diff.specs.Bindings.{IsBinding, first_values}
 use Rattle.px_diff.specs.Closings.{OneOf}
-use Rattle.px_diff.specs.Macros.{GathersEntries, IsMacroBy, IsMacroFitting, IsOfFront}
+use Rattle.px_diff.specs.Macros.{GathersEntries, IsMacroBy, IsOfFront}
 use Rattle.px_diff.specs.Parameters.{IsMatch}
 use Rattle.px_diff.specs.RowQuestions.{AreTableChoices}
 use Rattle.px_diff.proofs.EntryLemmas.{entries_relevant}
-use Rattle.px_diff.proofs.GatherLemmas.{front-table, matches-as, wide-gather}
+use Rattle.px_diff.proofs.FittingLemmas.{some_found}
+use Rattle.px_diff.proofs.GatherLemmas.{front-table, matches-as, told-same, wide-gather}
 use Rattle.px_diff.proofs.Loops.{on_ok}
 use Rattle.px_diff.proofs.MacroLemmas.{of_matches, of_zeros}
 use Rattle.px_diff.proofs.ParameterLemmas.{first-binding}
-use Rattle.px_diff.proofs.RowAnswerLemmas.{choices-long, rows-taken}
+use Rattle.px_diff.proofs.RowSplitting.{choices-long, limited-long, rows-taken}
 use Rattle.px_diff.proofs.macros.gather_front.Goals as goal
 
 pub returns-then-request-eq0-clause-gathers : goal.returns-then-request-eq0-clause-gathers
@@ -36,16 +37,16 @@ macro_matches-requires-clause-steps c =
     let table = c.args.front.now.table.now in
     let is_table = front-table problem c.args.request.now.tables.now c.args.front.now c.requires.tables c.requires.front in
     let long : length c.as_slice-terms.result.now ≡ table.params = ap length c.as_slice-terms.ensures.value ∙ c.in_ok-start.ensures.count in
-    subst (λ (n : ℕ). All (IsStepOf problem n) (take c.args.front.now.count c.as_slice-steps.result.now)) (sym long)
-    (subst (λ (l : List OpInst). All (IsStepOf problem table.params) (take c.args.front.now.count l)) (sym c.as_slice-steps.ensures) (All-take (IsStepOf problem table.params) c.args.front.now.count table.steps is_table.in_range.steps))
+    subst (λ (n : ℕ). All (IsStepOf problem n) (take c.args.front.now.count c.as_slice.result.now)) (sym long)
+    (subst (λ (l : List OpInst). All (IsStepOf problem table.params) (take c.args.front.now.count l)) (sym c.as_slice.ensures) (All-take (IsStepOf problem table.params) c.args.front.now.count table.steps is_table.in_range.steps))
 
 pub macro_matches-requires-clause-binding : goal.macro_matches-requires-clause-binding
 macro_matches-requires-clause-binding c =
     let problem = c.args.request.now.problem.now in
     subst (IsBinding problem.objects) (sym c.as_slice-terms.ensures.value) (first-binding problem c.args.front.now.table.now c.args.front.now.count c.in_ok-start.start.items c.in_ok-start.ensures (omega (arith, c.if-request-eq0.false)))
 
-pub gather_matches-requires-clause-matches : goal.gather_matches-requires-clause-matches
-gather_matches-requires-clause-matches c =
+pub keep_listed-requires-clause-matches : goal.keep_listed-requires-clause-matches
+keep_listed-requires-clause-matches c =
     let problem = c.args.request.now.problem.now in
     let table = c.args.front.now.table.now in
     let long : length c.as_slice-terms.result.now ≡ table.params = ap length c.as_slice-terms.ensures.value ∙ c.in_ok-start.ensures.count in
@@ -64,27 +65,41 @@ pub keep_matches-requires-clause-rows : goal.keep_matches-requires-clause-rows
 keep_matches-requires-clause-rows c =
     let problem = c.args.request.now.problem.now in
     let table = c.args.front.now.table.now in
-    let told = subst (AreTableChoices problem c.args.request.now.model.now.atoms table) c.in-Known.is c.requires.rows in
-    subst (λ (l : List (List (List Term))). All (All (λ (choice : List Term). length choice ≡ table.params)) (take c.args.front.now.count l)) (sym c.as_slice-all.ensures)
-    (All-take (All (λ (choice : List Term). length choice ≡ table.params)) c.args.front.now.count c.in-Known.known (choices-long (setting_of problem c.args.request.now.model.now.atoms) table told.0 (length table.steps) c.in-Known.known told.4))
+    let found = c.in-Some.known in
+    let told = some_found (AreTableChoices problem c.args.request.now.model.now.atoms table) c.args.rows.now found c.in-Some.is c.requires.rows in
+    subst (λ (l : List (List (List Term))). All (All (λ (choice : List Term). length choice ≡ table.params)) (take c.args.front.now.count l)) (sym c.as_slice-in-Some.ensures)
+    (All-take (All (λ (choice : List Term). length choice ≡ table.params)) c.args.front.now.count found.choices (choices-long (setting_of problem c.args.request.now.model.now.atoms) table told.terms (length table.steps) found.choices found.limited told.known))
 
-pub returns-in-Known-clause-gathers : goal.returns-in-Known-clause-gathers
-returns-in-Known-clause-gathers c =
+pub keep_matches-requires-clause-limited : goal.keep_matches-requires-clause-limited
+keep_matches-requires-clause-limited c =
+    let problem = c.args.request.now.problem.now in
+    let table = c.args.front.now.table.now in
+    let found = c.in-Some.known in
+    let told = some_found (AreTableChoices problem c.args.request.now.model.now.atoms table) c.args.rows.now found c.in-Some.is c.requires.rows in
+    subst (λ (l : List (List (List Term))). All (All (λ (choice : List Term). length choice ≡ table.params)) (take c.args.front.now.count l)) (sym c.as_slice-in-Some-2.ensures)
+    (All-take (All (λ (choice : List Term). length choice ≡ table.params)) c.args.front.now.count found.limited (limited-long (setting_of problem c.args.request.now.model.now.atoms) table told.terms (length table.steps) found.choices found.limited told.known))
+
+pub returns-in-Some-clause-gathers : goal.returns-in-Some-clause-gathers
+returns-in-Some-clause-gathers c =
     let problem = c.args.request.now.problem.now in
     let tables = c.args.request.now.tables.now in
     let wanted = c.args.request.now.wanted.now in
+    let stack = c.args.request.now.stack.now in
+    let model = c.args.request.now.model.now.atoms in
     let table = c.args.front.now.table.now in
+    let number = c.args.front.now.number in
     let count = c.args.front.now.count in
-    let s = setting_of problem c.args.request.now.model.now.atoms in
+    let s = setting_of problem model in
     let is_table = front-table problem tables c.args.front.now c.requires.tables c.requires.front in
-    let told = subst (AreTableChoices problem c.args.request.now.model.now.atoms table) c.in-Known.is c.requires.rows in
-    let rows = take count c.in-Known.known in
-    let matched = matches-as problem wanted c.args.front.now.count c.as_slice-terms.result.now c.in_ok-start.start.items c.as_slice-steps.result.now table.steps c.in_ok-made.made.items c.as_slice-terms.ensures.value c.as_slice-steps.ensures c.in_ok-made.ensures in
+    let found = c.in-Some.known in
+    let told = some_found (AreTableChoices problem model table) c.args.rows.now found c.in-Some.is c.requires.rows in
+    let known = rows-taken s table told.terms (length table.steps) count found.choices found.limited c.requires.front.within told.known in
+    let matched = matches-as problem wanted count c.as_slice-terms.result.now c.in_ok-start.start.items c.as_slice.result.now table.steps c.in_ok-made.made.items c.as_slice-terms.ensures.value c.as_slice.ensures c.in_ok-made.ensures in
     on_ok c.keep_matches.result (λ gathers.
-    wide-gather problem tables wanted c.args.request.now.stack.now c.args.front.now.number c.args.front.now.count table c.requires.front.table is_table c.args.request.now.model.now.atoms told.3 told.0 told.1 told.2 rows (rows-taken s table told.0 (length table.steps) count c.in-Known.known c.requires.front.within told.4)
-    c.in_ok-start.start.items c.in_ok-start.ensures c.in_ok-made.made.items matched c.args.found.now.items c.keep_matches.new.found.items
-    (subst (λ (l : List (List Term)). GathersEntries c.args.request.now.problem.now c.args.request.now.tables.now c.args.request.now.wanted.now c.args.request.now.stack.now c.args.request.now.model.now.atoms (λ (entry : Entry). OneOf l (λ (terms : List Term). IsMacroFitting problem.objects c.args.front.now.number c.args.front.now.count terms rows entry)) c.args.found.now.items c.keep_matches.new.found.items) c.as_slice-matches.ensures.value
-    (subst (λ (r : List (List (List Term))). GathersEntries c.args.request.now.problem.now c.args.request.now.tables.now c.args.request.now.wanted.now c.args.request.now.stack.now c.args.request.now.model.now.atoms (λ (entry : Entry). OneOf c.as_slice-matches.result.now (λ (terms : List Term). IsMacroFitting problem.objects c.args.front.now.number c.args.front.now.count terms (take count r) entry)) c.args.found.now.items c.keep_matches.new.found.items) c.as_slice-all.ensures gathers))) c.keep_matches.ensures.gathers
+    wide-gather problem tables wanted stack number count table c.requires.front.table is_table model told.set told.terms told.unbound told.some_object (take count found.choices) (take count found.limited) known c.in_ok-start.start.items c.in_ok-start.ensures c.in_ok-made.made.items matched c.args.found.now.items
+    c.keep_matches.new.found.items
+    (told-same problem tables wanted stack model number count c.as_slice-matches.result.now c.in_ok-made.made.items c.as_slice-in-Some.result.now found.choices c.as_slice-in-Some-2.result.now found.limited c.args.found.now.items c.keep_matches.new.found.items c.as_slice-matches.ensures.value c.as_slice-in-Some.ensures c.as_slice-in-Some-2.ensures
+    gathers)) c.keep_matches.ensures.gathers
 
 pub returns-clause-gathers : goal.returns-clause-gathers
 returns-clause-gathers c =
@@ -93,7 +108,7 @@ returns-clause-gathers c =
     let wanted = c.args.request.now.wanted.now in
     let table = c.args.front.now.table.now in
     let is_table = front-table problem tables c.args.front.now c.requires.tables c.requires.front in
-    let matched = matches-as problem wanted c.args.front.now.count c.as_slice-terms.result.now c.in_ok-start.start.items c.as_slice-steps.result.now table.steps c.in_ok-made.made.items c.as_slice-terms.ensures.value c.as_slice-steps.ensures c.in_ok-made.ensures in
-    on_ok c.gather_matches.result (λ gathers. entries_relevant c.args.request.now.problem.now c.args.request.now.tables.now c.args.request.now.wanted.now c.args.request.now.stack.now c.args.request.now.model.now.atoms (λ (entry : Entry). OneOf c.in_ok-made.made.items (λ (terms : List Term). IsMacroBy problem.objects c.args.front.now.number c.args.front.now.count terms entry)) (IsOfFront c.args.front.now.number c.args.front.now.count) c.args.found.now.items c.gather_matches.new.found.items
+    let matched = matches-as problem wanted c.args.front.now.count c.as_slice-terms.result.now c.in_ok-start.start.items c.as_slice.result.now table.steps c.in_ok-made.made.items c.as_slice-terms.ensures.value c.as_slice.ensures c.in_ok-made.ensures in
+    on_ok c.keep_listed.result (λ gathers. entries_relevant c.args.request.now.problem.now c.args.request.now.tables.now c.args.request.now.wanted.now c.args.request.now.stack.now c.args.request.now.model.now.atoms (λ (entry : Entry). OneOf c.in_ok-made.made.items (λ (terms : List Term). IsMacroBy problem.objects c.args.front.now.number c.args.front.now.count terms entry)) (IsOfFront c.args.front.now.number c.args.front.now.count) c.args.found.now.items c.keep_listed.new.found.items
     (of_matches problem tables wanted c.args.request.now.stack.now c.args.front.now.number c.args.front.now.count table c.requires.front.table is_table c.in_ok-start.start.items c.in_ok-start.ensures c.in_ok-made.made.items (omega (arith, c.if-request-eq0.false)) matched)
-    (subst (λ (l : List (List Term)). GathersEntries c.args.request.now.problem.now c.args.request.now.tables.now c.args.request.now.wanted.now c.args.request.now.stack.now c.args.request.now.model.now.atoms (λ (entry : Entry). OneOf l (λ (terms : List Term). IsMacroBy problem.objects c.args.front.now.number c.args.front.now.count terms entry)) c.args.found.now.items c.gather_matches.new.found.items) c.as_slice-matches.ensures.value gathers)) c.gather_matches.ensures.gathers
+    (subst (λ (l : List (List Term)). GathersEntries c.args.request.now.problem.now c.args.request.now.tables.now c.args.request.now.wanted.now c.args.request.now.stack.now c.args.request.now.model.now.atoms (λ (entry : Entry). OneOf l (λ (terms : List Term). IsMacroBy problem.objects c.args.front.now.number c.args.front.now.count terms entry)) c.args.found.now.items c.keep_listed.new.found.items) c.as_slice-matches.ensures.value gathers)) c.keep_listed.ensures.gathers

@@ -8,9 +8,13 @@ use Rattle.px_diff.proofs.Loops.{level_or_below, on_ok}
 use Rattle.px_diff.proofs.PartialLemmas.{needs-are, stands-closed}
 use Rattle.px_diff.proofs.pushes.+gather.Goals as goal
 
+pub rest_answer-requires-clause-formula : goal.rest_answer-requires-clause-formula
+rest_answer-requires-clause-formula t c =
+    subst (All (IsAtomOf c.args.request.now.problem.now c.args.partial.now.vars)) (sym (c.deref.ensures.value ∙ c.in_ok-formula.ensures)) (needs-are c.args.request.now.problem.now c.args.partial.now c.requires.problem c.requires.partial)
+
 pub ask_gaps-requires-clause-formula : goal.ask_gaps-requires-clause-formula
 ask_gaps-requires-clause-formula t c =
-    subst (All (IsAtomOf c.args.request.now.problem.now c.args.partial.now.vars)) (sym (c.deref.ensures.value ∙ c.in_ok-formula.ensures)) (needs-are c.args.request.now.problem.now c.args.partial.now c.requires.problem c.requires.partial)
+    subst (All (IsAtomOf c.args.request.now.problem.now c.args.partial.now.vars)) (sym (c.deref-2.ensures.value ∙ c.in_ok-formula.ensures)) (needs-are c.args.request.now.problem.now c.args.partial.now c.requires.problem c.requires.partial)
 
 pub returns-then-partial-eq0-clause-gathers : goal.returns-then-partial-eq0-clause-gathers
 returns-then-partial-eq0-clause-gathers t c =

@@ -1,0 +1,63 @@
+//! The part of a formula that decides whether it is open, and one question of gaps about it alone.
+ghost use Rattle.std.specs.Prelude.{◌↔◌, ◌≤◌, ◌<◌, All, IfOk, IfSome, IsTrue};
+ghost use Rattle.px_terms.specs.Validity.{IsValid, IsAtomOf};
+ghost use Rattle.px_diff.specs.Bounds.{AreBounds};
+ghost use Rattle.px_diff.specs.Rest.{IsOnlyAdded, IsRest, IsRestAnswer};
+
+use crate::ask_err::AskErr;
+use crate::asker::Asker;
+use crate::bounds::Bounds;
+use crate::facts::is_concluded;
+use crate::gap_answer::{GapAnswer, ask_gaps};
+use crate::request::Request;
+use px_base::push;
+use px_ops::is_addable;
+use px_terms::{Atom, NoMemory, Problem};
+use std::alloc::Global;
+
+/// Does some operator add the atom's predicate, and no axiom conclude it?
+fn is_only_added(problem: &Problem, atom: &Atom) -> bool
+    ensures { IsTrue result ↔ IsOnlyAdded problem.now atom.now }
+{
+    is_addable(problem, atom) && !is_concluded(problem, atom.pred())
+}
+
+/// The other atoms of the formula.
+fn rest_of(alloc: Global, problem: &Problem, formula: &[Atom]) -> Result<Vec<Atom>, NoMemory>
+    ensures { IfOk result (λ rest. IsRest problem.now formula.now rest.items) }
+{
+    let mut rest = Vec::new(alloc);
+    for atom in formula {
+        if !is_only_added(problem, atom) {
+            push(&mut rest, *atom)?;
+        }
+    }
+    Ok(rest)
+}
+
+/// Returns what one question of gaps tells of the formula's rest, where that tells which of its instances are open: where none of
+/// them has too many shapes, and the question stays below the limit.
+pub fn rest_answer(
+    asker: &mut Asker,
+    request: &Request,
+    bounds: &Bounds,
+    formula: &[Atom],
+    vars: u32,
+) -> Result<Option<GapAnswer>, NoMemory>
+    requires problem { IsValid request.now.problem.now }
+    requires bounds { AreBounds request.now.problem.now request.now.problem.now.height bounds.now.table }
+    requires formula { All (IsAtomOf request.now.problem.now vars) formula.now }
+    requires few_variables { vars ≤ 4096 }
+    requires some_object { 0 < vars → 0 < request.now.problem.now.objects }
+    ensures { IfOk result (λ found. IfSome found (λ answer. IsRestAnswer request.now.problem.now request.now.model.now.atoms formula.now vars answer.patterns.items answer.provable.atoms)) }
+{
+    if !bounds.has_few(request.problem, formula) {
+        return Ok(None);
+    }
+    let rest = rest_of(asker.alloc, request.problem, formula)?;
+    match ask_gaps(asker, request.problem, &rest, vars, request.model) {
+        Ok(answer) => Ok(Some(answer)),
+        Err(AskErr::NoMemory) => Err(NoMemory),
+        Err(AskErr::ShapeLimit { .. }) => Ok(None),
+    }
+}
