@@ -11,7 +11,7 @@ use Rattle.px_terms.specs.declared.problem.Problem.{Problem}
 use Rattle.px_terms.specs.declared.term.Term.TheVariants.{Var}
 use Rattle.px_diff.specs.Bounds.{AreBounds, AreBoundsAbove, IsAtomShape, IsBound, IsBoundAbove, IsBoundBefore, IsBoundBy, IsBoundOfUse, IsListBound, IsUseBoundBy, bound_beside, bound_either}
 use Rattle.px_diff.specs.declared.bounds.Bound.{Bound}
-use Rattle.px_diff.proofs.AtomBounds.{table-none, table-push}
+use Rattle.px_diff.proofs.AtomBounds.{table-push}
 use Rattle.px_diff.proofs.ListBounds.{preds_bound-cons, preds_bound-nil}
 use Rattle.px_diff.proofs.Loops.{level_or_below}
 use Rattle.px_diff.proofs.ShapeCounts.{bound_for-none}
@@ -165,9 +165,6 @@ pub nothing-low : (problem : Problem) (pred : ℕ) → IsBound problem 0 pred (r
 nothing-low problem pred = record {
   holds = λ facts set path asserting q same. bound_for-none (IsAtomShape (setting_of problem facts) 0 path q) (λ shape h. low-none h.0 h.2);
 }
-
-pub above-none : (problem : Problem) (table : List (Option Bound)) → AreBoundsAbove problem table []
-above-none problem table = record { holds = λ low bounds. table-none problem (low + 1) }
 
 pub above-push : (problem : Problem) (table old new : List (Option Bound)) (pred : ℕ) (bound : Option Bound) → length old ≡ pred
     → AreBoundsAbove problem table old → IfSome bound (IsBoundAbove problem table pred)

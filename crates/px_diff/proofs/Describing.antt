@@ -23,7 +23,7 @@ use Rattle.px_terms.specs.declared.atom.Atom.{Atom}
 use Rattle.px_terms.specs.declared.problem.Problem.{Problem}
 use Rattle.px_terms.specs.declared.term.Term.{Term}
 use Rattle.px_terms.specs.declared.term.Term.TheVariants.{Obj, Var, Any as Wild}
-use Rattle.px_diff.specs.Bindings.{ArePlain, AreUnbound, Extends, IsBinding, IsOpenAs, IsOpenInstance, IsPlain, IsSlot}
+use Rattle.px_diff.specs.Bindings.{AreUnbound, Extends, IsBinding, IsOpenAs, IsOpenInstance, IsPlain, IsSlot}
 use Rattle.px_diff.specs.Closings.{IsChosenIn, IsClosedIn, IsMissingIn, OneOf}
 use Rattle.px_diff.specs.Described.{IsChosenBy, IsClosedBy, IsMissingBy, IsPlainPattern}
 use Rattle.px_diff.specs.Forms.{IsForm, IsInstanceIn, IsStoodFor, form_by}
@@ -57,9 +57,6 @@ unbound-open limit vars terms atoms taken made x are = (
   λ is. (is.0, record { count = is.1.extends.count ∙ are.count; below = is.1.extends.below }, is.1.avoids, is.2),
   λ is. (is.0, record { extends = chosen-extends limit vars terms is.0 are is.1; avoids = is.2 }, is.3),
 )
-
-pub plain-terms : (vars : ℕ) (terms : List Term) (atoms : List Atom) → AreUnbound vars terms → ArePlain vars atoms → ArePlain (length terms) atoms
-plain-terms vars terms atoms are plain = subst (λ (n : ℕ). ArePlain n atoms) (sym are.count) plain
 
 -- ---- the patterns' lists
 

@@ -29,11 +29,6 @@ module _ (problem : Problem) (tables : List Table) (wanted : List Atom) (stack :
   pub entries_relevant : (V W : Entry → Type 0) (old new : List Entry) → ((entry : Entry) → IsRelevant problem tables wanted stack entry → W entry → V entry) → Gathering V old new → Gathering W old new
   entries_relevant V W old new f g = record { kept = g.kept; only = g.only; all = λ entry w p. g.all entry (f entry p.relevant w) p; unlimited = λ entry w r. g.unlimited entry (f entry r w) r }
 
-  -- where no question about the part meets the limit, and what may be pushed of it is of the smaller one
-  pub entries_pushable : (V W : Entry → Type 0) (old new : List Entry) → ((entry : Entry) → IsPushable problem tables wanted stack model entry → W entry → V entry)
-      → ((entry : Entry) → W entry → IsRelevant problem tables wanted stack entry → AreUnlimited problem (obligations_of problem tables model entry)) → Gathering V old new → Gathering W old new
-  entries_pushable V W old new f unlimited g = record { kept = g.kept; only = g.only; all = λ entry w p. g.all entry (f entry p w) p; unlimited = unlimited }
-
   -- one more part
   pub entries_part : (V U W : Entry → Type 0) (old made new : List Entry) → ((entry : Entry) → W entry → V entry ⊎ U entry) → Gathering V old made → Gathering U made new → Gathering W old new
   entries_part V U W old made new f g h = record {
@@ -108,7 +103,3 @@ module _ (problem : Problem) (tables : List Table) (number prefix : ℕ) (table 
 
   pub relevant_macro : (wanted : List Atom) (stack : List Entry) → IsRelevant problem tables wanted stack (Macro number prefix sigma) → IsMacro problem table prefix sigma
   relevant_macro wanted stack relevant = entry_macro relevant.is_entry
-
--- a MACROP tells what it is of
-pub macro_parts : (n m p q : ℕ) (xs ys : List ℕ) → Macro n p xs ≡ Macro m q ys → (n ≡ m) × (p ≡ q) × (xs ≡ ys)
-macro_parts n m p q xs ys e = (cc, cc, cc)

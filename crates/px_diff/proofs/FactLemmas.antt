@@ -36,7 +36,7 @@ use Rattle.px_diff.specs.Provable.{FindsProvable}
 use Rattle.px_diff.proofs.GapAtoms.{object_terms-are}
 use Rattle.px_diff.proofs.Grows.{grouped, grown, members_next}
 
-any-of : {X : Type 0} (P : X → Type 0) (xs : List X) (x : X) → Contains xs x → P x → Any P xs
+pub any-of : {X : Type 0} (P : X → Type 0) (xs : List X) (x : X) → Contains xs x → P x → Any P xs
 any-of P xs x has holds = (has.0, x, has.1, has.2, holds)
 
 closed-args : (terms ts : List Term) → All (λ t. substitute terms t ≡ t) ts → map (substitute terms) ts ≡ ts
@@ -44,7 +44,7 @@ closed-args terms [] same = refl
 closed-args terms (t ∷ ts) same = let here = same 0 t (omega arith) in let rest = closed-args terms ts (λ k d within. same (suc k) d (omega (arith, within))) in λ i. here i ∷ rest i
 
 -- an atom without variables stays as it is
-ground-same : (terms : List Term) (q : Atom) → IsGround q → substitute_atom terms q ≡ q
+pub ground-same : (terms : List Term) (q : Atom) → IsGround q → substitute_atom terms q ≡ q
 ground-same terms q closed = let args = closed-args terms q.args (λ k d within. object-same _ (closed k d within)) in λ i. record { pred = q.pred; args = args i }
   where
     object-same : (t : Term) → Rattle.px_terms.specs.Language.IsObject t → substitute terms t ≡ t

@@ -30,7 +30,7 @@ object-is_term problem Any below = absurd below
 abbrev IsLiteralOf : Problem → Lit → Type 0
 IsLiteralOf problem lit = IsAtomOf problem 0 lit.atom
 
-All_remove : {X : Type 0} (P : X → Type 0) (xs : List X) (k : ℕ) → All P xs → All P (remove xs k)
+pub All_remove : {X : Type 0} (P : X → Type 0) (xs : List X) (k : ℕ) → All P xs → All P (remove xs k)
 All_remove P xs k all = All-each P (remove xs k) (λ q has. All-at P (remove xs k) q (All-append P _ _ (All-take P k xs all) (All-drop P (suc k) xs all)) has)
 
 -- the objects as terms of the problem
@@ -68,7 +68,7 @@ module _ (problem : Problem) (valid : IsValid problem) (facts : List Atom) where
     gaps-are_of path [] (also d ds) atom each of has = absurd each
     gaps-are_of path (lit ∷ lits) none atom each of has = absurd each
 
-  literals-are : (formula : List Atom) (vars : ℕ) (objects : List ℕ) → All (IsAtomOf problem vars) formula → length objects ≡ vars → All (λ n. n < problem.objects) objects → All (IsLiteralOf problem) (literals_of formula objects)
+  pub literals-are : (formula : List Atom) (vars : ℕ) (objects : List ℕ) → All (IsAtomOf problem vars) formula → length objects ≡ vars → All (λ n. n < problem.objects) objects → All (IsLiteralOf problem) (literals_of formula objects)
   literals-are formula vars objects of count below =
       let same : length (object_terms objects) ≡ vars = length-objects objects vars count in
       All-map (IsLiteralOf problem) (λ atom. positive_of (substitute_atom (object_terms objects) atom)) formula

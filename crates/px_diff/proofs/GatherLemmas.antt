@@ -1,5 +1,5 @@
 -- Gathering MACROPs, where the parts are what objects for parameters make.
-use Rattle.std.proofs.Common.{◌≡◌, ◌∙◌, ◌⊎◌, ◌+◌, ◌<◌, ◌≤◌, ℕ, Some, List, [], ◌∷◌, length, take, set, slice_get, get_or, ap, sym, subst, inl, inr, arith}
+use Rattle.std.proofs.Common.{◌≡◌, ◌∙◌, ◌⊎◌, ◌+◌, ◌<◌, ◌≤◌, ℕ, Some, List, [], ◌∷◌, length, take, set, slice_get, get_or, ap, sym, subst, inl, inr, arith, map}
 use Rattle.std.specs.Prelude.{All, Contains}
 use Rattle.std.proofs.lemmas.List.{take_all}
 use Rattle.std.proofs.lemmas.List.Elements.{All-cons, All-nil}
@@ -9,13 +9,12 @@ use Rattle.px_question.specs.FewerShapes.{Contains-at}
 use Rattle.px_table.specs.declared.entry.Entry.{Entry}
 use Rattle.px_table.specs.declared.entry.Entry.TheVariants.{Macro}
 use Rattle.px_table.specs.declared.table.Table.{Table}
-use Rattle.px_question.specs.Answers.{object_terms}
 use Rattle.px_question.specs.Settings.{setting_of}
 use Rattle.px_table.specs.Prefixes.{IsMacro}
 use Rattle.px_table.specs.Tables.{IsTable}
 use Rattle.px_terms.specs.AtomSets.{IsAtomSet}
-use Rattle.px_terms.specs.Operators.{adds}
-use Rattle.px_terms.specs.Substitution.{substitute_atom}
+use Rattle.px_table.specs.Kernels.{instance_under}
+use Rattle.px_terms.specs.Operators.{IsAdded}
 use Rattle.px_terms.specs.declared.instance.OpInst.{OpInst}
 use Rattle.px_terms.specs.declared.atom.Atom.{Atom}
 use Rattle.px_terms.specs.declared.problem.Problem.{Problem}
@@ -99,7 +98,7 @@ module _ (problem : Problem) (tables : List Table) (wanted : List Atom) (stack :
 
 abbrev pub AreMatches : Problem → List Atom → ℕ → List Term → List OpInst → List (List Term) → Type 0
 AreMatches problem wanted count start steps matches =
-    Matches problem.objects (length start) start (λ sigma. OneOf wanted (λ (atom : Atom). OneOf (take count steps) (λ (step : OpInst). OneOf (adds problem step) (λ (add : Atom). substitute_atom (object_terms sigma) add ≡ atom)))) [] matches
+    Matches problem.objects (length start) start (λ sigma. OneOf wanted (IsAdded problem (map (instance_under sigma) (take count steps)))) [] matches
 
 pub matches-as : (problem : Problem) (wanted : List Atom) (count : ℕ) (terms start : List Term) (steps all : List OpInst) (matches : List (List Term)) → terms ≡ start → steps ≡ all → AreMatches problem wanted count terms steps matches → AreMatches problem wanted count start all matches
 matches-as problem wanted count terms start steps all matches same same_steps are =

@@ -7,6 +7,7 @@ pub mod Fewness
 mod AddableLaws
 mod AnswerRowLaws
 mod JoinSteps
+mod LeftAdds
 mod LeftSteps
 pub mod RowTurns
 pub mod RowSteps
@@ -24,6 +25,7 @@ mod PartLemmas
 mod ChoiceLemmas
 mod Proving
 mod FactLemmas
+mod FewLaws
 mod Covering
 mod SameInstance
 mod Ordered
@@ -45,6 +47,10 @@ mod GatherLemmas
 mod WholeLemmas
 mod RestLaws
 mod RestOpening
+mod DecidingLaws
+mod DecidingSteps
+mod ModelLaws
+mod PlainLaws
 mod ShapeCounts
 mod ListBounds
 mod AtomBounds

@@ -4,7 +4,6 @@ use Rattle.std.specs.Prelude.{All, Contains, slice_index}
 use Rattle.std.proofs.lemmas.List.{length-map, take-map}
 use Rattle.std.proofs.lemmas.Option.{slice_get_within}
 use Rattle.px_base.specs.ListLaws.{All-at, All-each, Contains-cases, Contains-first, Contains-later, Contains-none}
-use Rattle.px_question.specs.Answers.{object_terms}
 use Rattle.px_table.specs.declared.entry.Entry.{Entry}
 use Rattle.px_table.specs.declared.entry.Entry.TheVariants.{Macro}
 use Rattle.px_table.specs.declared.mark.Mark.{Mark}
@@ -12,10 +11,8 @@ use Rattle.px_table.specs.declared.table.Table.{Table}
 use Rattle.px_table.specs.Kernels.{instance_under, steps_under}
 use Rattle.px_table.specs.Prefixes.{IsMacro, IsUsed}
 use Rattle.px_table.specs.Tables.{IsStepOf, IsTable}
-use Rattle.px_table.specs.UnderLaws.{adds-under}
 use Rattle.px_terms.specs.Language.{substitute}
-use Rattle.px_terms.specs.Operators.{IsAdded, adds}
-use Rattle.px_terms.specs.Substitution.{substitute_atom}
+use Rattle.px_terms.specs.Operators.{IsAdded}
 use Rattle.px_terms.specs.Validity.{IsAtomOf, IsInstanceOf, IsTermOf}
 use Rattle.px_terms.specs.declared.atom.Atom.{Atom}
 use Rattle.px_terms.specs.declared.instance.OpInst.{OpInst}
@@ -28,7 +25,7 @@ use Rattle.px_diff.specs.Macros.{IsMacroBefore, IsMacroBy, IsOfFront}
 use Rattle.px_diff.specs.Parameters.{AreFirstTerms, Matches}
 use Rattle.px_diff.specs.Pushes.{IsRelevant}
 use Rattle.px_diff.proofs.Choosing.{bound-extends, term-at}
-use Rattle.px_diff.proofs.Describing.{atom-plain, from-mapped}
+use Rattle.px_diff.proofs.Describing.{atom-plain}
 use Rattle.px_diff.proofs.Covering.{Contains-from_mapped}
 use Rattle.px_diff.proofs.EntryLemmas.{effect_is, macro_entry, relevant_macro}
 use Rattle.px_diff.proofs.Loops.{level_or_below}
@@ -51,19 +48,6 @@ module _ (limit number prefix : ℕ) (terms : List Term) (v : ℕ) (is_open : sl
 
   pub macro_before-none : (entry : Entry) → IsMacroBefore limit number prefix terms v 0 entry → ⊥
   macro_before-none entry w = omega (arith, w.2)
-
--- ---- what MACROPs add
-
--- what the instances of steps add comes of what the steps add
-added-from : (problem : Problem) (sigma : List ℕ) (atom : Atom) (steps : List OpInst) → IsAdded problem (map (instance_under sigma) steps) atom
-    → OneOf steps (λ (step : OpInst). OneOf (adds problem step) (λ (add : Atom). substitute_atom (object_terms sigma) add ≡ atom))
-added-from problem sigma atom [] never = absurd never
-added-from problem sigma atom (step ∷ steps) (inl now) =
-    let one = from-mapped (substitute_atom (map Obj sigma)) (adds problem step) atom (subst (λ (l : List Atom). Contains l atom) (adds-under problem (map Obj sigma) step) now.0) in
-    (step, Contains-first step steps, one)
-added-from problem sigma atom (step ∷ steps) (inr later) =
-    let r = added-from problem sigma atom steps later in
-    (r.0, Contains-later step steps r.0 r.1, r.2)
 
 -- ---- the instances of the first steps
 
@@ -123,14 +107,14 @@ module _ (problem : Problem) (tables : List Table) (wanted : List Atom) (stack :
   -- what is relevant of the first steps is of the matches
   module _ (start : List Term) (first : AreFirstTerms table prefix start) where
     pub of_matches : (matches : List (List Term)) → 0 < problem.objects
-        → Matches problem.objects (length start) start (λ sigma. OneOf wanted (λ (atom : Atom). OneOf (take prefix table.steps) (λ (step : OpInst). OneOf (adds problem step) (λ (add : Atom). substitute_atom (object_terms sigma) add ≡ atom)))) [] matches
+        → Matches problem.objects (length start) start (λ sigma. OneOf wanted (IsAdded problem (map (instance_under sigma) (take prefix table.steps)))) [] matches
         → (entry : Entry) → IsRelevant problem tables wanted stack entry → IsOfFront number prefix entry → OneOf matches (λ (terms : List Term). IsMacroBy problem.objects number prefix terms entry)
     of_matches matches some matched entry relevant (sigma, same) =
         let here = subst (IsRelevant problem tables wanted stack) (sym same) relevant in
         let is = relevant_macro problem tables number prefix table at sigma wanted stack here in
         let extends = first-extends problem table prefix start first sigma is some in
         let adds_one = macro_adds sigma here in
-        let one = matched.all sigma extends (adds_one.0, adds_one.1, added-from problem sigma adds_one.0 (take prefix table.steps) (subst (λ (l : List OpInst). IsAdded problem l adds_one.0) (take-map (instance_under sigma) prefix table.steps) adds_one.2)) in
+        let one = matched.all sigma extends (adds_one.0, adds_one.1, subst (λ (l : List OpInst). IsAdded problem l adds_one.0) (take-map (instance_under sigma) prefix table.steps) adds_one.2) in
         (one.0, one.1, (sigma, one.2, same))
 
     -- without objects there is one at most

@@ -1,5 +1,5 @@
 -- Objects for a table's parameters, chosen one after the other.
-use Rattle.std.proofs.Common.{◌≡◌, ◌∙◌, ◌⊎◌, ℕ, zero, suc, ◌<◌, Bool, true, false, Some, None, List, [], ◌∷◌, ◌++◌, length, map, drop, set, slice_get, get_or, refl, ap, sym, subst, inl, inr, arith}
+use Rattle.std.proofs.Common.{◌≡◌, ◌∙◌, ◌⊎◌, ℕ, zero, suc, ◌<◌, Bool, true, false, Some, None, List, [], ◌∷◌, ◌++◌, length, drop, set, slice_get, get_or, refl, ap, sym, subst, inl, inr, arith}
 use Rattle.std.specs.Prelude.{All, Contains, cond, nat_lt, ◌==◌, slice_index, slice_index_or}
 use borrow.Author.Tests.{ltb-true}
 use Rattle.std.proofs.lemmas.List.{get_or_default, length-map, length-set, get_or-map, same_lists}
@@ -11,7 +11,7 @@ use Rattle.px_table.specs.Prefixes.{IsMacro}
 use Rattle.px_terms.specs.declared.problem.Problem.{Problem}
 use Rattle.px_terms.specs.declared.term.Term.{Term}
 use Rattle.px_terms.specs.declared.term.Term.TheVariants.{Obj, Var, Any}
-use Rattle.px_terms.specs.Language.{IsObject, substitute}
+use Rattle.px_terms.specs.Language.{IsObject}
 use Rattle.px_diff.specs.Bindings.{Extends, IsBinding, IsSlot, first_values}
 use Rattle.px_diff.specs.Parameters.{AreFirstTerms, Fits, merged_term}
 use Rattle.px_diff.proofs.Choosing.{set-at, term-at}
@@ -116,9 +116,6 @@ merged-slot limit v Any other next slot is = absurd slot
 abbrev pub IsValueAt : Term → ℕ → Type 0
 IsValueAt t value = (n : ℕ) → t ≡ Obj n → value ≡ n
 
-value-of : (n value : ℕ) → value ≡ n → IsValueAt (Obj n) value
-value-of n value is m e = is ∙ same_object n m e
-
 equal_numbers : (a b : ℕ) → a ≡ b → (a == b) ≡ true
 equal_numbers a b e = grind (arith, e)
 
@@ -141,9 +138,6 @@ extends-fits limit terms sigma extends v n at = extends.same v n at
 
 pub fits-at : (terms : List Term) (sigma : List ℕ) (v : ℕ) (d : Term) → Fits terms sigma → v < length terms → IsValueAt (get_or terms v d) (slice_index sigma v)
 fits-at terms sigma v d fits within n is = fits v n (slice_get-read terms v d within ∙ ap (λ (t : Term). Some t) is)
-
-pub at-fits : (terms : List Term) (sigma : List ℕ) → ((v : ℕ) → v < length terms → IsValueAt (get_or terms v Any) (slice_index sigma v)) → Fits terms sigma
-at-fits terms sigma each v n at = each v (slice_get_within terms v (Obj n) at) n (get_or_from_slice_get terms v (Obj n) Any at)
 
 pub value-within : (limit : ℕ) (terms : List Term) (sigma : List ℕ) (v : ℕ) → Extends limit terms sigma → v < length terms → slice_index sigma v < limit
 value-within limit terms sigma v extends within = extends.below v 0 (omega (arith, within, extends.count))
@@ -221,10 +215,6 @@ put-fits limit p terms sigma wanted d within extends is =
 
 pub put-slot : (limit p : ℕ) (terms : List Term) (wanted d next : Term) → IsBinding limit terms → p < length terms → merged_term limit (get_or terms p d) wanted ≡ Some next → IsBinding limit (set terms p next)
 put-slot limit p terms wanted d next binding within is = put-binding limit p terms next binding (merged-slot limit p (get_or terms p d) wanted next (binding.each p (get_or terms p d) (slice_get-read terms p d within)) is)
-
--- the arguments of an atom that becomes another
-pub argument-same : (values : List ℕ) (args objects : List Term) (k : ℕ) (d e : Term) → map (substitute (object_terms values)) args ≡ objects → k < length args → substitute (object_terms values) (get_or args k d) ≡ get_or objects k e
-argument-same values args objects k d e same within = sym (get_or-map (substitute (object_terms values)) args k d e within) ∙ ap (λ (l : List Term). get_or l k e) same
 
 -- ---- one more term
 

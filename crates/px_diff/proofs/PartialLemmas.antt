@@ -58,9 +58,6 @@ term_variable problem vars (Obj n) of = tt
 term_variable problem vars (Var v) of = of
 term_variable problem vars Any of = tt
 
-pub terms_variables : (problem : Problem) (partial : PartialInstance) → IsPartialInstance problem partial → All (IsVariableBelow partial.vars) partial.inst.args
-terms_variables problem partial form k d below = term_variable problem partial.vars _ (form.terms k d below)
-
 -- what fills a partial instance is an entry
 pub fills-instance : (problem : Problem) (partial : PartialInstance) (full : OpInst) (objects : List ℕ) → IsPartialInstance problem partial → Fills problem partial full objects → IsInstanceOf problem full
 fills-instance problem partial full objects form fills = subst (IsInstanceOf problem) fills.same (record {
@@ -270,21 +267,7 @@ unbound-fills problem inst full params args few op count objects = record {
       ∙ object_again problem _ (objects k Any there)
       ∙ get_or_default full.args k Any d there)
 
-pub unbound-terms : (problem : Problem) (params : ℕ) → params ≤ 8 → All (IsTermOf problem params) (take params eight)
-unbound-terms problem params few k d below =
-    let within : k < params = omega (arith, below, length-take params eight, few) in
-    subst (IsTermOf problem params) (sym (get_or-take params eight k d within ∙ variable_at k d (omega (arith, within, few)))) within
-
 -- ---- objects for all variables
-
-pub filled_terms : (objects : List ℕ) (terms : List Term) → length terms ≡ 8 → length objects ≤ 8 → ((k : ℕ) → k < length objects → get_or terms k Any ≡ Obj (get_or objects k 0)) → take (length objects) terms ≡ object_terms objects
-filled_terms objects terms size few are = same_lists (take (length objects) terms) (object_terms objects) (omega (arith, length-take (length objects) terms, length-map objects (λ n. Obj n), size, few))
-    (λ k d below.
-    let within : k < length objects = omega (arith, below, length-take (length objects) terms) in
-    get_or-take (length objects) terms k d within
-    ∙ get_or_default terms k d Any (omega (arith, within, few, size))
-    ∙ are k within
-    ∙ sym (get_or-map (λ n. Obj n) objects k 0 d within))
 
 -- ---- the operator
 

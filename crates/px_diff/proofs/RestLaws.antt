@@ -69,7 +69,7 @@ same-atom a b = elim (atom_eq a b) as (λ t. atom_eq a b ≡ t → (a ≡ b) ⊎
   | false ↦ λ no'. inr (λ same. both_answers (atom_eq a b) no' ((atom_eq-decides a b).1 same))
 ] refl
 
-among-or-not : (atoms : List Atom) (q : Atom) → Contains atoms q ⊎ (Contains atoms q → ⊥)
+pub among-or-not : (atoms : List Atom) (q : Atom) → Contains atoms q ⊎ (Contains atoms q → ⊥)
 among-or-not [] q = inr (Contains-none q)
 among-or-not (x ∷ xs) q = elim (same-atom x q) [
   | inl here ↦ inl (subst (Contains (x ∷ xs)) here (Contains-first x xs))
@@ -122,11 +122,11 @@ module _ (problem : Problem) (facts : List Atom) (objects : List ℕ) where
   put-first rules atom atoms high d proves low (es, each, most) = (also d es, (proves, each), max-le low most)
 
   -- the leaf of a fact
-  leaf-of : (q : Atom) → Contains facts q → (leaf : Leaf) × (positive_of q ≡ positive_of leaf.atom) × (proofs_in here).IsFact leaf
+  pub leaf-of : (q : Atom) → Contains facts q → (leaf : Leaf) × (positive_of q ≡ positive_of leaf.atom) × (proofs_in here).IsFact leaf
   leaf-of q has = let at = Contains-place facts q has in (record { column = 0; index = at.0; atom = q }, refl, (refl, at.1))
 
   -- a fact or a gap closes an atom that operators add and no axiom concludes
-  closed-by : (q : Atom) → IsGround q → IsOnlyAdded problem q → (d : Derivation) × Proves (gaps_in here) problem.axioms [] (positive_of q) d × (height d ≡ 1)
+  pub closed-by : (q : Atom) → IsGround q → IsOnlyAdded problem q → (d : Derivation) × Proves (gaps_in here) problem.axioms [] (positive_of q) d × (height d ≡ 1)
   closed-by q is_ground added = elim (among-or-not facts q) [
     | inl has ↦ let leaf = leaf-of q has in (fact leaf.0, (leaf.1, leaf.2), refl)
     | inr never ↦ (gap q, (refl, ((addable-alike problem facts q).0 added.0, λ proved. never (provable-fact here q added.1 is_ground proved))), refl)

@@ -23,7 +23,7 @@ use Rattle.px_table.specs.declared.table.Table.{Table}
 use Rattle.px_table.specs.declared.entry.Entry.TheVariants.{Op}
 use Rattle.px_diff.specs.Bounds.{HasFewShapes}
 use Rattle.px_diff.specs.Closings.{IsClosedIn}
-use Rattle.px_diff.specs.Entries.{HasAnswer, IsOpen}
+use Rattle.px_diff.specs.Entries.{HasAnswer, HasGap, IsOpen, Obligation}
 use Rattle.px_diff.specs.Gathering.{Gathers, IsOpenIn, instance_by}
 use Rattle.px_diff.specs.Instances.{Fills, IsPartialInstance, StandsFor}
 use Rattle.px_diff.specs.Pushes.{IsRelevant}
@@ -47,35 +47,44 @@ free-unlimited problem model valid atom shapes free limited =
     few_firsts (IsPartialShape (proofs_in (setting_of problem model)) (setting_of problem model) (atom ∷ []) 0) (IsPartialShape (proofs_in (setting_of problem model)) (setting_of problem model) (atom ∷ []) 0)
     problem.shapes shapes (few-shapes (setting_of problem model) atom free.0 valid.shapes.0) (λ shape h. h) limited.count limited.kept
 
--- an instance with a list of gap proofs is open, if it is known whether it has an answer
-open-from : (problem : Problem) (model : List Atom) (inst : OpInst) → HasAnswer problem (needed_by problem model inst) ⊎ (HasAnswer problem (needed_by problem model inst) → ⊥)
-    → (ds : Derivations) → IsList (gaps_in (setting_of problem model)) (setting_of problem model) (precondition problem inst) 0 [] ds → IsOpen problem (needed_by problem model inst ∷ [])
-open-from problem model inst known ds list = open_one problem model inst (elim known [
+-- what is needed has an answer or a gap where it has a list of gap proofs, if it is known whether it has an answer
+pub gaps-open : (problem : Problem) (needed : Obligation) → HasAnswer problem needed ⊎ (¬ HasAnswer problem needed) → (objects : List ℕ) (ds : Derivations)
+    → IsList (gaps_in (setting_of problem needed.facts)) (setting_of problem needed.facts) needed.formula needed.vars objects ds → HasAnswer problem needed ⊎ ((gap : Atom) × HasGap problem needed gap)
+gaps-open problem needed known objects ds list = elim known [
   | inl answer ↦ inl answer
   | inr unanswered ↦ elim (some-or-none (all_gaps_of ds)) [
-    | inl some ↦ inr (some.0, (unanswered, ([], ds, list, some.1)))
+    | inl some ↦ inr (some.0, (unanswered, (objects, ds, list, some.1)))
     | inr never ↦
-        let s = setting_of problem model in
-        inl ([], ds, list_by s (precondition problem inst) 0 [] ds (gaps_in s) (proofs_in s) (record { choices = λ t h. h; facts = λ leaf h. h; opens = λ h. h }) (λ atom has h. absurd (never atom has)) list)
+        let s = setting_of problem needed.facts in
+        inl (objects, ds, list_by s needed.formula needed.vars objects ds (gaps_in s) (proofs_in s) (record { choices = λ t h. h; facts = λ leaf h. h; opens = λ h. h }) (λ atom has h. absurd (never atom has)) list)
   ]
-])
+]
 
--- an open instance has such a list
-open-to : (problem : Problem) (model : List Atom) (inst : OpInst) → IsOpen problem (needed_by problem model inst ∷ [])
-    → (none : List ℕ) × (ds : Derivations) × IsList (gaps_in (setting_of problem model)) (setting_of problem model) (precondition problem inst) 0 none ds
-open-to problem model inst is_open = elim (one_open problem model inst is_open) [
+-- and what has an answer or a gap has such a list
+pub open-gaps : (problem : Problem) (needed : Obligation) → HasAnswer problem needed ⊎ ((gap : Atom) × HasGap problem needed gap)
+    → (objects : List ℕ) × (ds : Derivations) × IsList (gaps_in (setting_of problem needed.facts)) (setting_of problem needed.facts) needed.formula needed.vars objects ds
+open-gaps problem needed is_open = elim is_open [
   | inl answer ↦
-      let s = setting_of problem model in
-      (answer.0, answer.1, list_by s (precondition problem inst) 0 answer.0 answer.1 (proofs_in s) (gaps_in s) (record { choices = λ t h. h; facts = λ leaf h. h; opens = λ h. h }) (λ atom has h. absurd h) answer.2)
+      let s = setting_of problem needed.facts in
+      (answer.0, answer.1, list_by s needed.formula needed.vars answer.0 answer.1 (proofs_in s) (gaps_in s) (record { choices = λ t h. h; facts = λ leaf h. h; opens = λ h. h }) (λ atom has h. absurd h) answer.2)
   | inr gap ↦ (gap.1.1.0, gap.1.1.1, gap.1.1.2)
 ]
+
+-- so it is with what an instance needs
+open-from : (problem : Problem) (model : List Atom) (inst : OpInst) → HasAnswer problem (needed_by problem model inst) ⊎ (¬ HasAnswer problem (needed_by problem model inst))
+    → (ds : Derivations) → IsList (gaps_in (setting_of problem model)) (setting_of problem model) (precondition problem inst) 0 [] ds → IsOpen problem (needed_by problem model inst ∷ [])
+open-from problem model inst known ds list = open_one problem model inst (gaps-open problem (needed_by problem model inst) known [] ds list)
+
+open-to : (problem : Problem) (model : List Atom) (inst : OpInst) → IsOpen problem (needed_by problem model inst ∷ [])
+    → (none : List ℕ) × (ds : Derivations) × IsList (gaps_in (setting_of problem model)) (setting_of problem model) (precondition problem inst) 0 none ds
+open-to problem model inst is_open = open-gaps problem (needed_by problem model inst) (one_open problem model inst is_open)
 
 -- the objects of a gap list fill the partial instance
 pub stands-by : (problem : Problem) (model formula : List Atom) (partial : PartialInstance) (lists : List GapList) → AreGapLists (setting_of problem model) formula partial.vars lists
     → (list : GapList) → Contains lists list → Fills problem partial (instance_by partial list.objects) list.objects
 stands-by problem model formula partial lists listed list has = let known = ((listed.members list).0 has).0 in record { count = known.1.count; below = known.1.below; same = refl }
 
-preds-same : (args : List Term) (atoms : List Atom) → map (λ (atom : Atom). atom.pred) (map (substitute_atom args) atoms) ≡ map (λ (atom : Atom). atom.pred) atoms
+pub preds-same : (args : List Term) (atoms : List Atom) → map (λ (atom : Atom). atom.pred) (map (substitute_atom args) atoms) ≡ map (λ (atom : Atom). atom.pred) atoms
 preds-same args [] = refl
 preds-same args (atom ∷ atoms) = ap (λ (l : List ℕ). atom.pred ∷ l) (preds-same args atoms)
 

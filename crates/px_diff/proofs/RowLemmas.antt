@@ -48,7 +48,7 @@ mutual
 abbrev in_row : ℕ → Mark → Bool
 in_row row mark = (mark.row == row) && (mark.column == 0)
 
-no_objects : (objects : List ℕ) → length objects ≡ 0 → objects ≡ []
+pub no_objects : (objects : List ℕ) → length objects ≡ 0 → objects ≡ []
 no_objects [] count = refl
 no_objects (n ∷ objects) count = absurd (omega (arith, count))
 

@@ -5,25 +5,18 @@ use Rattle.px_terms.specs.declared.instance.OpInst.{OpInst}
 use Rattle.px_terms.specs.declared.problem.Problem.{Problem}
 use Rattle.px_terms.specs.declared.problem.Schema.{Schema}
 use Rattle.std.specs.Prelude.{slice_index_or}
-use Rattle.px_terms.specs.Operators.{no_schema, schema_of, precondition, adds, atoms_of}
-use Rattle.px_terms.specs.Validity.{IsValid, IsSchemaOf, IsSchemaWellFormed, IsInstanceOf}
-use Rattle.px_terms.specs.ValidityLaws.{well_formed_schema}
+use Rattle.px_terms.specs.Operators.{no_schema, schema_of, adds, atoms_of}
+use Rattle.px_terms.specs.Validity.{IsValid, IsSchemaOf, IsInstanceOf}
 use Rattle.px_diff.specs.Instances.{IsSchemaAt}
 
 pub schema_here : (problem : Problem) (schema : Schema) (entry : OpInst) → IsSchemaAt problem schema → schema.op ≡ entry.op → schema_of problem entry ≡ schema
 schema_here problem schema entry at op = ap (λ n. slice_index_or problem.schemas n no_schema) (sym op) ∙ at.here
-
-pub precondition_here : (problem : Problem) (schema : Schema) (entry : OpInst) → IsSchemaAt problem schema → schema.op ≡ entry.op → precondition problem entry ≡ atoms_of schema.pre entry
-precondition_here problem schema entry at op = ap (λ (s : Schema). atoms_of s.pre entry) (schema_here problem schema entry at op)
 
 pub adds_here : (problem : Problem) (schema : Schema) (entry : OpInst) → IsSchemaAt problem schema → schema.op ≡ entry.op → adds problem entry ≡ atoms_of schema.add entry
 adds_here problem schema entry at op = ap (λ (s : Schema). atoms_of s.add entry) (schema_here problem schema entry at op)
 
 pub schema_of_problem : (problem : Problem) (schema : Schema) → IsValid problem → IsSchemaAt problem schema → IsSchemaOf problem schema.op schema
 schema_of_problem problem schema valid at = subst (IsSchemaOf problem schema.op) at.here (valid.schemas schema.op at.within)
-
-pub well_formed_here : (problem : Problem) (schema : Schema) → IsValid problem → IsSchemaAt problem schema → IsSchemaWellFormed schema
-well_formed_here problem schema valid at = well_formed_schema problem schema.op schema (schema_of_problem problem schema valid at)
 
 pub count_here : (problem : Problem) (schema : Schema) (entry : OpInst) → IsSchemaAt problem schema → schema.op ≡ entry.op → IsInstanceOf problem entry → length entry.args ≡ schema.params
 count_here problem schema entry at op is = is.count ∙ ap (λ (s : Schema). s.params) (schema_here problem schema entry at op)

@@ -7,8 +7,10 @@ pub mod Choices
 pub mod Closings
 pub mod Concluding
 pub mod Counting
+pub mod Deciding
 pub mod Described
 pub mod Entries
+pub mod Few
 pub mod Forms
 pub mod GapAnswers
 pub mod Gathering
@@ -18,8 +20,10 @@ pub mod Known
 pub mod Learned
 pub mod Listed
 pub mod Macros
+pub mod Models
 pub mod Outcomes
 pub mod Parameters
+pub mod Plain
 pub mod Provable
 pub mod Pushes
 pub mod Questions

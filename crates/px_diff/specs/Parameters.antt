@@ -1,9 +1,16 @@
 -- Objects for a table's parameters, chosen one after the other.
-use Rattle.std.specs.Prelude.{◌≡◌, ◌⊎◌, ◌==◌, ℕ, cond, nat_lt, Option, Some, None, List, length, slice_get, slice_index, All}
+use Rattle.std.specs.Prelude.{◌≡◌, ◌⊎◌, ◌==◌, ℕ, false, cond, nat_lt, Option, Some, None, List, length, slice_get, slice_index, All}
+use Rattle.px_question.specs.Answers.{object_terms}
 use Rattle.px_table.specs.declared.table.Table.{Table}
+use Rattle.px_table.specs.Kernels.{instance_under}
 use Rattle.px_table.specs.Prefixes.{IsUsed}
+use Rattle.px_terms.specs.declared.atom.Atom.{Atom}
+use Rattle.px_terms.specs.declared.instance.OpInst.{OpInst}
+use Rattle.px_terms.specs.declared.problem.Problem.{Problem}
 use Rattle.px_terms.specs.declared.term.Term.{Term}
 use Rattle.px_terms.specs.declared.term.Term.TheVariants.{Obj, Var, Any}
+use Rattle.px_terms.specs.Operators.{deletes}
+use Rattle.px_terms.specs.Substitution.{substitute_atom}
 use Rattle.px_diff.specs.Bindings.{Extends, IsBinding}
 use Rattle.px_diff.specs.Closings.{OneOf}
 
@@ -29,6 +36,10 @@ merged_term limit (Var v) (Obj b) = cond (nat_lt b limit) (Some (Obj b)) None
 merged_term limit (Var v) (Var w) = Some (Var v)
 merged_term limit (Var v) Any = Some (Var v)
 merged_term limit Any other = Some Any
+
+-- with these objects the add is the atom, and none of the later steps deletes that
+abbrev pub IsLeftAdd : Problem → List OpInst → Atom → List ℕ → Atom → Type 0
+IsLeftAdd problem later wanted sigma add = (substitute_atom (object_terms sigma) add ≡ wanted) × All (λ (step : OpInst). deletes problem (instance_under sigma step) wanted ≡ false) later
 
 -- terms for so many parameters, each an object or the parameter itself
 pub record IsMatch (limit count : ℕ) (terms : List Term) : Type 0 where

@@ -31,7 +31,7 @@ pub fn copied(alloc: Global, atoms: &[Atom]) -> Result<Sequence<Atom>, NoMemory>
 }
 
 /// Has the atom a proof?
-fn is_provable(
+pub fn is_provable(
     asker: &mut Asker,
     problem: &Problem,
     model: &Model,

@@ -2,7 +2,7 @@
 ghost use Rattle.std.specs.Prelude.{◌≡◌, ◌<◌, ◌==◌, ◌&&◌, ◌++◌, ◌∷◌, [], false, length, not, take, filter, slice_get, Some, All, IfOk, OnOk, MatchBool, IsTrue};
 ghost use Rattle.px_terms.specs.AtomSets.{with_atom};
 ghost use Rattle.px_terms.specs.Instances.{IsGround};
-ghost use Rattle.px_table.specs.Kernels.{steps_under};
+ghost use Rattle.px_table.specs.Kernels.{atom_under, steps_under};
 ghost use Rattle.px_table.specs.Prefixes.{IsMacro};
 ghost use Rattle.px_table.specs.Tables.{IsTable};
 ghost use Rattle.px_terms.specs.Language.{IsVariableBelow};
@@ -73,6 +73,18 @@ pub fn push_wanted(atoms: &mut Vec<Atom>, atom: Atom, is_wanted: bool) -> Result
     Ok(())
 }
 
+/// Puts the mark's atom last, with the objects of `sigma` for the parameters, where the mark is one of the row that comes from the
+/// initial model.
+fn push_initial(atoms: &mut Vec<Atom>, sigma: &[u32], mark: &Mark, row: u32) -> Result<(), NoMemory>
+    requires mark { All (IsVariableBelow (length sigma.now)) mark.now.atom.args }
+    ensures { OnOk result (MatchBool ((mark.now.row == row) && (mark.now.column == 0)) (atoms.new.items ≡ atoms.old.items ++ atom_under sigma.now mark.now.atom ∷ []) (atoms.new.items ≡ atoms.old.items)) }
+{
+    if is_initial(mark, row) {
+        push(atoms, atom_with(sigma, &mark.atom))?;
+    }
+    Ok(())
+}
+
 /// The atoms of the row's marks that come from the initial model, with the objects of `sigma` for the parameters.
 ///
 /// # Errors
@@ -89,9 +101,7 @@ pub fn initial_of(
     let marks = table.marks.as_slice();
     let mut atoms = Vec::new(alloc);
     for mark in marks {
-        let is_wanted = is_initial(mark, row);
-        let atom = atom_with(sigma, &mark.atom);
-        push_wanted(&mut atoms, atom, is_wanted)?;
+        push_initial(&mut atoms, sigma, mark, row)?;
     }
     Ok(atoms)
 }
@@ -123,6 +133,27 @@ fn insert_undeleted(left: &mut Model, atom: &Atom, is_deleted: bool) -> Result<(
     Ok(())
 }
 
+/// The facts that the instance doesn't delete, put into a new model.
+fn undeleted(
+    alloc: Global,
+    problem: &Problem,
+    facts: &Model,
+    inst: &OpInst,
+) -> Result<Model, NoMemory>
+    requires problem { IsValid problem.now }
+    requires inst { IsGroundInstanceOf problem.now inst.now }
+    ensures { IfOk result (λ left. left.atoms ≡ filter (λ atom. not (deletes_of problem.now inst.now atom)) facts.now.atoms) }
+{
+    let schema = schema_of(problem, inst);
+    let held = facts.atoms();
+    let mut left = Model::new(alloc);
+    for atom in held {
+        let is_deleted = deletes(schema, inst, atom);
+        insert_undeleted(&mut left, atom, is_deleted)?;
+    }
+    Ok(left)
+}
+
 /// What the instance leaves of the facts, without what it adds.
 ///
 /// # Errors
@@ -137,18 +168,30 @@ pub fn left_of(
     requires inst { IsGroundInstanceOf problem.now inst.now }
     ensures { IfOk result (λ left. left.atoms ≡ filter (λ atom. not (deletes_of problem.now inst.now atom)) facts.now.atoms) }
 {
-    let schema = schema_of(problem, inst);
     let held = facts.atoms();
     let stay = none_is_deleted(problem, inst, held);
     if stay {
         return facts.try_copy();
     }
-    let mut left = Model::new(alloc);
-    for atom in held {
-        let is_deleted = deletes(schema, inst, atom);
-        insert_undeleted(&mut left, atom, is_deleted)?;
+    undeleted(alloc, problem, facts, inst)
+}
+
+/// The same of facts that are handed over. Takes no memory where the instance deletes none of them.
+fn left_in_place(
+    alloc: Global,
+    problem: &Problem,
+    facts: Model,
+    inst: &OpInst,
+) -> Result<Model, NoMemory>
+    requires problem { IsValid problem.now }
+    requires inst { IsGroundInstanceOf problem.now inst.now }
+    ensures { IfOk result (λ left. left.atoms ≡ filter (λ atom. not (deletes_of problem.now inst.now atom)) facts.atoms) }
+{
+    let stay = none_is_deleted(problem, inst, facts.atoms());
+    if stay {
+        return Ok(facts);
     }
-    Ok(left)
+    undeleted(alloc, problem, &facts, inst)
 }
 
 /// The step at the place, with the objects of `sigma` for the parameters. Takes no memory.
@@ -184,7 +227,7 @@ fn known_prefix(
         if is_limited(&both) {
             return Ok(both);
         }
-        let left = left_of(alloc, problem, &facts, &step)?;
+        let left = left_in_place(alloc, problem, facts, &step)?;
         known = both;
         facts = left;
     }

@@ -1,14 +1,18 @@
 //! What is known of formulas, of operators and of the first steps of a table.
 
-use crate::test_problems::{atom, blocks, chain, model_of, o, stacked, two_steps};
-use crate::test_tables::both_steps;
+use crate::test_problems::{
+    atom, blocks, chain, model_of, o, sequence_of, stacked, things, two_steps,
+};
+use crate::test_tables::{both_steps, take_and_use};
 use crate::{
-    Known, Tried, addable_alike, answers_support, are_learned, is_entry, known_entry,
-    known_formula, relevance_over_stacks, try_formula,
+    Known, Tried, addable_alike, answers_support, are_learned, initial_of, is_entry, known_entry,
+    known_formula, left_of, relevance_over_stacks, step_under, try_formula,
 };
 use px_ops::Model;
 use px_table::{Entry, Table};
-use px_terms::{Atom, NoMemory, OpInst, Problem, Sequence, Term, are_atoms_of, is_valid};
+use px_terms::{
+    Atom, OpInst, Problem, Term, are_atoms_of, are_variables_below, is_instance_of, is_valid,
+};
 use std::alloc::Global;
 use std::process::Abort;
 use std::rt::HostRuntime;
@@ -21,10 +25,10 @@ fn tried_of(
     problem: &Problem,
     formula: &[Atom],
     model: &Model,
-) -> Result<Tried, NoMemory> {
+) -> Tried {
     assert!(rt; is_valid(problem));
     assert!(rt; are_atoms_of(problem, 0, formula));
-    try_formula(alloc, problem, formula, 0, model)
+    try_formula(alloc, problem, formula, 0, model).expect(rt, "memory")
 }
 
 /// What is known of such a formula, where it is seen that it has no answer.
@@ -34,16 +38,19 @@ fn known_of(
     problem: &Problem,
     formula: &[Atom],
     model: &Model,
-) -> Result<Option<Known>, NoMemory> {
+) -> Option<Known> {
     assert!(rt; is_valid(problem));
     assert!(rt; are_atoms_of(problem, 0, formula));
-    match try_formula(alloc, problem, formula, 0, model)? {
-        Tried::Answered => Ok(None),
-        Tried::Unanswered => Ok(Some(known_formula(alloc, problem, formula, 0, model)?)),
+    match try_formula(alloc, problem, formula, 0, model).expect(rt, "memory") {
+        Tried::Answered => None,
+        Tried::Unanswered => {
+            let known = known_formula(alloc, problem, formula, 0, model);
+            Some(known.expect(rt, "memory"))
+        }
         Tried::Limited {
             formula: _,
             shapes: _,
-        } => Ok(None),
+        } => None,
     }
 }
 
@@ -55,15 +62,15 @@ fn entry_known(
     tables: &[Table],
     entry: &Entry,
     model: &Model,
-) -> Result<Known, NoMemory> {
+) -> Known {
     assert!(rt; is_valid(problem));
     assert!(rt; are_learned(problem, tables));
     assert!(rt; is_entry(problem, tables, entry));
-    known_entry(alloc, problem, tables, entry, model)
+    known_entry(alloc, problem, tables, entry, model).expect(rt, "memory")
 }
 
 /// Is it open with these gaps?
-fn is_open_with(known: &Known, wanted: &[Atom]) -> bool {
+pub fn is_open_with(known: &Known, wanted: &[Atom]) -> bool {
     match known {
         Known::Open(gaps) => gaps.as_slice() == wanted,
         _ => false,
@@ -84,20 +91,41 @@ fn formulas_are_answered_open_and_limited(rt: HostRuntime) -> Result<(), Fail> {
     answers_support();
     addable_alike();
     let alloc = rt.alloc();
-    let mut problem = chain(alloc, &rt)?;
+    let mut problem = chain(alloc, &rt);
     let formula = [atom(&rt, 0, &[])];
     let between = atom(&rt, 1, &[]);
     let nothing = Model::new(alloc);
-    let one = model_of(alloc, &[between])?;
-    let tried = tried_of(alloc, &rt, &problem, &formula, &one)?;
+    let one = model_of(alloc, &rt, &[between]);
+    let tried = tried_of(alloc, &rt, &problem, &formula, &one);
     assert!(&rt; matches!(&tried, Tried::Answered));
-    let tried = tried_of(alloc, &rt, &problem, &formula, &nothing)?;
+    let tried = tried_of(alloc, &rt, &problem, &formula, &nothing);
     assert!(&rt; matches!(&tried, Tried::Unanswered));
-    let known = known_of(alloc, &rt, &problem, &formula, &nothing)?;
+    let known = known_of(alloc, &rt, &problem, &formula, &nothing);
     assert!(&rt; matches!(&known, Some(found) if is_open_with(found, &[between])));
     problem.shapes = 2;
-    let tried = tried_of(alloc, &rt, &problem, &formula, &nothing)?;
+    let tried = tried_of(alloc, &rt, &problem, &formula, &nothing);
     assert!(&rt; matches!(&tried, Tried::Limited { formula: _, shapes } if shapes.len() == 2));
+    Ok(())
+}
+
+/// Nothing adds atom 3 of the chain. Proving the one atom that a gap closes has four unfinished shapes, and a formula that nothing
+/// proves has a second unfinished gap proof, in which its first atom is a gap.
+#[test]
+fn formulas_without_answer_are_closed_and_limited(rt: HostRuntime) -> Result<(), Fail> {
+    let alloc = rt.alloc();
+    let mut problem = chain(alloc, &rt);
+    let nothing = Model::new(alloc);
+    let known = known_of(alloc, &rt, &problem, &[atom(&rt, 3, &[])], &nothing);
+    assert!(&rt; matches!(&known, Some(Known::Closed)));
+    problem.shapes = 4;
+    let between = [atom(&rt, 1, &[])];
+    let known = known_of(alloc, &rt, &problem, &[atom(&rt, 0, &[])], &nothing);
+    assert!(&rt; matches!(&known, Some(found) if is_limited_at(found, &between, 4)));
+    let mut problem = blocks(alloc, &rt);
+    problem.shapes = 2;
+    let formula = [atom(&rt, 0, &[o(0), o(0)]), atom(&rt, 2, &[o(0), o(0)])];
+    let known = known_of(alloc, &rt, &problem, &formula, &nothing);
+    assert!(&rt; matches!(&known, Some(found) if is_limited_at(found, &formula, 2)));
     Ok(())
 }
 
@@ -111,21 +139,24 @@ fn entry_of(rt: &impl Abort, op: u32, terms: &[Term]) -> Entry {
 #[test]
 fn operators_are_known(rt: HostRuntime) -> Result<(), Fail> {
     let alloc = rt.alloc();
-    let mut problem = chain(alloc, &rt)?;
+    let mut problem = chain(alloc, &rt);
     let nothing = Model::new(alloc);
     let first = entry_of(&rt, 0, &[]);
     let second = entry_of(&rt, 1, &[]);
     let between = atom(&rt, 1, &[]);
-    let known = entry_known(alloc, &rt, &problem, &[], &first, &nothing)?;
+    let known = entry_known(alloc, &rt, &problem, &[], &first, &nothing);
     assert!(&rt; matches!(&known, Known::Applicable));
-    let known = entry_known(alloc, &rt, &problem, &[], &second, &nothing)?;
+    let known = entry_known(alloc, &rt, &problem, &[], &second, &nothing);
     assert!(&rt; is_open_with(&known, &[between]));
+    problem.shapes = 4;
+    let known = entry_known(alloc, &rt, &problem, &[], &second, &nothing);
+    assert!(&rt; is_limited_at(&known, &[between], 4));
     problem.shapes = 2;
-    let known = entry_known(alloc, &rt, &problem, &[], &second, &nothing)?;
+    let known = entry_known(alloc, &rt, &problem, &[], &second, &nothing);
     assert!(&rt; is_limited_at(&known, &[atom(&rt, 0, &[])], 2));
-    let problem = blocks(alloc, &rt)?;
+    let problem = blocks(alloc, &rt);
     let same = entry_of(&rt, 1, &[o(0), o(0)]);
-    let known = entry_known(alloc, &rt, &problem, &[], &same, &stacked(alloc, &rt)?)?;
+    let known = entry_known(alloc, &rt, &problem, &[], &same, &stacked(alloc, &rt));
     assert!(&rt; matches!(&known, Known::Closed));
     Ok(())
 }
@@ -135,19 +166,81 @@ fn operators_are_known(rt: HostRuntime) -> Result<(), Fail> {
 #[test]
 fn a_row_is_asked_from_what_is_left(rt: HostRuntime) -> Result<(), Fail> {
     let alloc = rt.alloc();
-    let problem = two_steps(alloc, &rt)?;
-    let tables = [both_steps(alloc, &rt)?];
+    let problem = two_steps(alloc, &rt);
+    let tables = [both_steps(alloc, &rt)];
     let entry = Entry::Macro {
         number: 0,
         prefix: 2,
-        sigma: Sequence::from_slice(alloc, &[])?,
+        sigma: sequence_of(alloc, &rt, &[]),
     };
     let deleted = atom(&rt, 0, &[]);
-    let model = model_of(alloc, &[deleted])?;
-    let known = entry_known(alloc, &rt, &problem, &tables, &entry, &model)?;
+    let model = model_of(alloc, &rt, &[deleted]);
+    let known = entry_known(alloc, &rt, &problem, &tables, &entry, &model);
     assert!(&rt; is_open_with(&known, &[deleted]));
-    let model = model_of(alloc, &[atom(&rt, 1, &[])])?;
-    let known = entry_known(alloc, &rt, &problem, &tables, &entry, &model)?;
+    let model = model_of(alloc, &rt, &[atom(&rt, 1, &[])]);
+    let known = entry_known(alloc, &rt, &problem, &tables, &entry, &model);
     assert!(&rt; matches!(&known, Known::Applicable));
+    Ok(())
+}
+
+/// The initial facts of a row under objects, of which it is seen that they are enough.
+fn initial_under(
+    alloc: Global,
+    rt: &impl Abort,
+    table: &Table,
+    sigma: &[u32],
+    row: u32,
+) -> Vec<Atom> {
+    let marks = table.marks.as_slice();
+    let are_enough = marks
+        .iter()
+        .all(|mark| are_variables_below(sigma.len(), mark.atom.args()));
+    assert!(rt; are_enough);
+    initial_of(alloc, table, sigma, row).expect(rt, "memory")
+}
+
+/// What an instance leaves, of which it is seen that it is one.
+fn left_by(
+    alloc: Global,
+    rt: &impl Abort,
+    problem: &Problem,
+    facts: &Model,
+    inst: &OpInst,
+) -> Model {
+    assert!(rt; is_valid(problem));
+    assert!(rt; is_instance_of(problem, inst));
+    left_of(alloc, problem, facts, inst).expect(rt, "memory")
+}
+
+/// The step at the place under objects, of which it is seen that they are enough.
+fn step_at(rt: &impl Abort, table: &Table, sigma: &[u32], place: u32) -> OpInst {
+    let steps = table.steps.as_slice();
+    let are_enough = steps
+        .iter()
+        .all(|step| are_variables_below(sigma.len(), step.args()));
+    assert!(rt; are_enough && (place as usize) < steps.len());
+    step_under(table, sigma, place)
+}
+
+/// The use of thing 1 needs that it is here, and what the step before adds is no fact of the beginning. Taking a thing leaves the
+/// others here, and what is taken isn't added.
+#[test]
+fn rows_and_steps_under_objects(rt: HostRuntime) -> Result<(), Fail> {
+    let alloc = rt.alloc();
+    let problem = things(alloc, &rt);
+    let table = take_and_use(alloc, &rt);
+    let sigma = [2, 0, 1];
+    let here = [atom(&rt, 0, &[o(0)])];
+    let needed = initial_under(alloc, &rt, &table, &sigma, 2);
+    assert!(&rt; needed.as_slice() == here.as_slice());
+    let needed = initial_under(alloc, &rt, &table, &sigma, 4);
+    assert!(&rt; needed.is_empty());
+    let step = step_at(&rt, &table, &sigma, 0);
+    assert!(&rt; step == OpInst::new(0, &[o(2)]).expect(&rt, "few arguments"));
+    let model = model_of(alloc, &rt, &[here[0], atom(&rt, 0, &[o(2)])]);
+    let left = left_by(alloc, &rt, &problem, &model, &step);
+    assert!(&rt; left.atoms() == here.as_slice());
+    let left = left_by(alloc, &rt, &problem, &left, &step);
+    assert!(&rt; left.atoms() == here.as_slice());
     Ok(())
 }

@@ -23,6 +23,11 @@
 //!   MACROP's rows are asked each from what the steps before leave of the model. The tables have to be learned ones
 //!   (`AreLearned`: at most 32, of at most 64 steps, which `check_table` of `px_table` accepts), as [`are_learned`] tests, and
 //!   the entry has to be one, as [`is_entry`] tests. The limit is an answer like the others, so their only error is `NoMemory`.
+//! - What a search needs to know across world models: an atom whose predicate some operator adds, and no axiom mentions, is a fact or a
+//!   gap closes it, so it never decides whether an entry is open. [`deciding_part`] gives the other facts of a model. Models with the
+//!   same deciding facts allow the same pushes ([`relevance_over_models`]). [`never_limited`] tells by the numbers of shapes that no
+//!   question about any entry can meet the limit, whatever the facts are; [`known_below`] is then `known_entry`, told by the facts where
+//!   they suffice.
 //! - [`initial_of`], [`step_under`] and [`left_of`] are what a MACROP's needs are made of: the initial facts of a row, a step with
 //!   objects for its parameters, and what it leaves of the facts.
 //! - What `relevant` answers with an empty stack serves every stack: what may be pushed over a stack is its list without the
@@ -37,7 +42,8 @@
 //! The definitions are in `specs/`: `Entries` (what an entry needs, does and adds, and when it is open), `Pushes` (which
 //! entries are relevant, and which may be pushed) and `Questions` (what is asked of a list of needed formulas, and where
 //! that meets the limit), `Known` (what is known of what is needed), `Learned` (which tables entries may come from), `Stacks`
-//! and `AnswerRows` (the laws). Laws about them for callers are in `proofs/`: `Opening` (when an operator's instance is open, and
+//! and `AnswerRows` (the laws), `Deciding` and `Models` (what decides, and the law over models). Laws about them for callers are in
+//! `proofs/`: `RowSteps` and `RowTurns` (what a MACROP's rows need, step by step), `Opening` (when an operator's instance is open, and
 //! what is asked about it), `GapLemmas` (the gaps of a formula and their limit, by what one question of gaps tells of it),
 //! `Fewness` (few unfinished gap proofs exclude both limits), `GapLists`, `GapAtoms` and `PartialLemmas`.
 //!
@@ -80,7 +86,10 @@ mod asker;
 mod asking;
 mod bindings;
 mod bounds;
+#[cfg(test)]
+mod bounds_tests;
 mod choices;
+mod deciding;
 mod differences;
 mod entry_rows;
 mod facts;
@@ -96,6 +105,7 @@ mod known;
 mod known_tests;
 mod laws;
 mod learned;
+mod limiting;
 mod macro_matching;
 #[cfg(test)]
 mod macro_reference;
@@ -108,6 +118,9 @@ mod measured;
 mod missing;
 mod parameters;
 mod partial;
+mod plain;
+#[cfg(test)]
+mod plain_tests;
 mod pushes;
 #[cfg(test)]
 mod reference;
@@ -124,11 +137,14 @@ mod test_tables;
 mod tests;
 
 pub use ask_err::AskErr;
+pub use deciding::deciding_part;
 pub use differences::gaps;
 pub use entry_rows::{initial_of, known_entry, left_of, step_under};
 pub use knowing::{known_formula, try_formula};
 pub use known::{Known, Tried};
-pub use laws::{addable_alike, answers_support, relevance_over_stacks};
+pub use laws::{addable_alike, answers_support, relevance_over_models, relevance_over_stacks};
 pub use learned::{are_learned, is_entry};
+pub use limiting::never_limited;
 pub use measured::Measured;
+pub use plain::known_below;
 pub use pushes::{relevant, relevant_measured};

@@ -1,22 +1,24 @@
 //! Matches of what the first steps of a table add with wanted atoms. A match has an object for each parameter that the wanted
-//! atom determines. Whether a later step deletes the atom is asked of each entry by itself.
-ghost use Rattle.std.specs.Prelude.{◌≡◌, ◌<◌, ℕ, List, [], length, All, IsTrue, IfOk, OnOk};
+//! atom determines. What a later step deletes whatever the objects are is passed over; what one deletes with some objects only is
+//! asked of each entry by itself.
+ghost use Rattle.std.specs.Prelude.{◌≡◌, ◌<◌, ℕ, false, true, List, [], length, map, All, IsTrue, IfOk, OnOk};
+ghost use Rattle.std.specs.Cmp.Lexicographic.{pointwise};
 ghost use Rattle.px_question.specs.Answers.{object_terms};
+ghost use Rattle.px_table.specs.Kernels.{instance_under};
 ghost use Rattle.px_table.specs.Tables.{IsStepOf};
+ghost use Rattle.px_terms.specs.Instances.{is_filled_place, is_instance};
 ghost use Rattle.px_terms.specs.Language.{IsPlainBelow, substitute};
-ghost use Rattle.px_terms.specs.Operators.{adds as adds_of};
+ghost use Rattle.px_terms.specs.Operators.{IsAdded, adds as adds_of, deletes as deletes_of};
 ghost use Rattle.px_terms.specs.Substitution.{substitute_atom};
 ghost use Rattle.px_terms.specs.Validity.{IsValid};
-ghost use Rattle.px_terms.specs.declared.atom.Atom.{Atom as AtomValue};
-ghost use Rattle.px_terms.specs.declared.instance.OpInst.{OpInst as InstanceValue};
 ghost use Rattle.px_diff.specs.Bindings.{Extends, IsBinding, IsPlain};
 ghost use Rattle.px_diff.specs.Closings.{OneOf};
-ghost use Rattle.px_diff.specs.Parameters.{Matches};
+ghost use Rattle.px_diff.specs.Parameters.{IsLeftAdd, Matches};
 
 use crate::parameters::merged_term;
 use px_base::push;
 use px_ops::{adds, schema_of};
-use px_terms::{Atom, NoMemory, OpInst, Problem, Sequence, Term};
+use px_terms::{Atom, NoMemory, OpInst, Problem, Sequence, Term, apply};
 use std::alloc::Global;
 
 /// Gives the parameter that the term is the wanted object. No where that can't be.
@@ -92,29 +94,111 @@ fn match_pattern(
     push(found, Sequence::from_vec(terms))
 }
 
-/// Adds the matches of what the step adds with the wanted atom.
+/// Is the pattern's term the wild card or this one?
+fn is_filled_by(pattern: Term, term: Term) -> bool
+    ensures { result ≡ is_filled_place pattern term }
+{
+    pattern == Term::Any || pattern == term
+}
+
+/// Are there as many terms, and is each of the pattern's the wild card or the one in its place?
+fn is_filled(pattern: &[Term], terms: &[Term]) -> bool
+    ensures { result ≡ pointwise is_filled_place pattern.now terms.now }
+{
+    if pattern.len() != terms.len() {
+        return false;
+    }
+    for (place, term) in pattern.iter().enumerate() {
+        if !is_filled_by(*term, terms[place]) {
+            return false;
+        }
+    }
+    true
+}
+
+/// Does the pattern stand for the atom, whatever objects the variables of both have?
+fn always_fills(atom: &Atom, pattern: &Atom) -> bool
+    ensures { result ≡ is_instance atom.now pattern.now }
+{
+    atom.pred() == pattern.pred() && is_filled(pattern.args(), atom.args())
+}
+
+/// Is it sure that the step deletes the atom, whatever objects the parameters have?
+fn always_deletes(problem: &Problem, step: &OpInst, atom: &Atom) -> bool
+    requires problem { IsValid problem.now }
+    requires step { (params : ℕ) × IsStepOf problem.now params step.now }
+    ensures { IsTrue result → (sigma : List ℕ) → deletes_of problem.now (instance_under sigma step.now) (substitute_atom (object_terms sigma) atom.now) ≡ true }
+{
+    let patterns = schema_of(problem, step).del.as_slice();
+    for pattern in patterns {
+        if always_fills(atom, &apply(step.args(), pattern)) {
+            return true;
+        }
+    }
+    false
+}
+
+/// Is it sure that one of the steps deletes the atom, whatever objects the parameters have?
+fn one_always_deletes(problem: &Problem, steps: &[OpInst], atom: &Atom) -> bool
+    requires problem { IsValid problem.now }
+    requires steps { (params : ℕ) × All (IsStepOf problem.now params) steps.now }
+    ensures { IsTrue result → (sigma : List ℕ) → ¬ All (λ step. deletes_of problem.now (instance_under sigma step) (substitute_atom (object_terms sigma) atom.now) ≡ false) steps.now }
+{
+    for step in steps {
+        if always_deletes(problem, step, atom) {
+            return true;
+        }
+    }
+    false
+}
+
+/// Adds the match of the add with the wanted atom, where it may be that no later step deletes it.
+fn match_add(
+    found: &mut Vec<Sequence<Term>>,
+    alloc: Global,
+    problem: &Problem,
+    start: &[Term],
+    add: &Atom,
+    later: &[OpInst],
+    wanted: &Atom,
+) -> Result<(), NoMemory>
+    requires problem { IsValid problem.now }
+    requires add { IsPlain (length start.now) add.now }
+    requires later { All (IsStepOf problem.now (length start.now)) later.now }
+    requires binding { IsBinding problem.now.objects start.now }
+    ensures { OnOk result (Matches problem.now.objects (length start.now) start.now (λ sigma. IsLeftAdd problem.now later.now wanted.now sigma add.now) found.old.items found.new.items) }
+{
+    if one_always_deletes(problem, later, add) {
+        return Ok(());
+    }
+    match_pattern(found, alloc, problem.objects, start, add, wanted)
+}
+
+/// Adds the matches of what the step adds, and no later one deletes, with the wanted atom.
 fn match_step(
     found: &mut Vec<Sequence<Term>>,
     alloc: Global,
     problem: &Problem,
     start: &[Term],
     step: &OpInst,
+    later: &[OpInst],
     wanted: &Atom,
 ) -> Result<(), NoMemory>
     requires problem { IsValid problem.now }
     requires step { IsStepOf problem.now (length start.now) step.now }
+    requires later { All (IsStepOf problem.now (length start.now)) later.now }
     requires binding { IsBinding problem.now.objects start.now }
-    ensures { OnOk result (Matches problem.now.objects (length start.now) start.now (λ sigma. OneOf (adds_of problem.now step.now) (λ (add : AtomValue). substitute_atom (object_terms sigma) add ≡ wanted.now)) found.old.items found.new.items) }
+    ensures { OnOk result (Matches problem.now.objects (length start.now) start.now (λ sigma. OneOf (adds_of problem.now step.now) (IsLeftAdd problem.now later.now wanted.now sigma)) found.old.items found.new.items) }
 {
     let schema = schema_of(problem, step);
     for place in 0..schema.add.len() {
-        let pattern = adds(schema, step, place);
-        match_pattern(found, alloc, problem.objects, start, &pattern, wanted)?;
+        let add = adds(schema, step, place);
+        match_add(found, alloc, problem, start, &add, later, wanted)?;
     }
     Ok(())
 }
 
-/// Adds the matches of what the steps add with the wanted atom.
+/// Adds the matches of what the steps together add with the wanted atom.
 fn match_steps(
     found: &mut Vec<Sequence<Term>>,
     alloc: Global,
@@ -126,15 +210,16 @@ fn match_steps(
     requires problem { IsValid problem.now }
     requires steps { All (IsStepOf problem.now (length start.now)) steps.now }
     requires binding { IsBinding problem.now.objects start.now }
-    ensures { OnOk result (Matches problem.now.objects (length start.now) start.now (λ sigma. OneOf steps.now (λ (step : InstanceValue). OneOf (adds_of problem.now step) (λ (add : AtomValue). substitute_atom (object_terms sigma) add ≡ wanted.now))) found.old.items found.new.items) }
+    ensures { OnOk result (Matches problem.now.objects (length start.now) start.now (λ sigma. IsAdded problem.now (map (instance_under sigma) steps.now) wanted.now) found.old.items found.new.items) }
 {
-    for step in steps {
-        match_step(found, alloc, problem, start, step, wanted)?;
+    for place in 0..steps.len() {
+        let later = &steps[place + 1..];
+        match_step(found, alloc, problem, start, &steps[place], later, wanted)?;
     }
     Ok(())
 }
 
-/// The matches of what the steps add with the wanted atoms, beside the objects that the parameters have at first.
+/// The matches of what the steps together add with the wanted atoms, beside the objects that the parameters have at first.
 pub fn macro_matches(
     alloc: Global,
     problem: &Problem,
@@ -145,11 +230,33 @@ pub fn macro_matches(
     requires problem { IsValid problem.now }
     requires steps { All (IsStepOf problem.now (length start.now)) steps.now }
     requires binding { IsBinding problem.now.objects start.now }
-    ensures { IfOk result (λ found. Matches problem.now.objects (length start.now) start.now (λ sigma. OneOf wanted.now (λ (atom : AtomValue). OneOf steps.now (λ (step : InstanceValue). OneOf (adds_of problem.now step) (λ (add : AtomValue). substitute_atom (object_terms sigma) add ≡ atom)))) [] found.items) }
+    ensures { IfOk result (λ found. Matches problem.now.objects (length start.now) start.now (λ sigma. OneOf wanted.now (IsAdded problem.now (map (instance_under sigma) steps.now))) [] found.items) }
 {
     let mut found = Vec::new(alloc);
     for atom in wanted {
         match_steps(&mut found, alloc, problem, start, steps, atom)?;
     }
     Ok(found)
+}
+
+/// Does one of the steps by itself have a match?
+pub fn one_matches(
+    alloc: Global,
+    problem: &Problem,
+    start: &[Term],
+    steps: &[OpInst],
+    wanted: &[Atom],
+) -> Result<bool, NoMemory>
+    requires problem { IsValid problem.now }
+    requires steps { All (IsStepOf problem.now (length start.now)) steps.now }
+    requires binding { IsBinding problem.now.objects start.now }
+{
+    for place in 0..steps.len() {
+        let step = &steps[place..place + 1];
+        let matches = macro_matches(alloc, problem, start, step, wanted)?;
+        if !matches.is_empty() {
+            return Ok(true);
+        }
+    }
+    Ok(false)
 }

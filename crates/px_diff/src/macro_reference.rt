@@ -4,11 +4,11 @@
 use crate::front::Front;
 use crate::reference::{Limit, is_open, list_at, lists_count, under};
 use crate::request::Request;
+use crate::test_problems::put;
 use px_ops::Model;
 use px_table::{Entry, Table};
 use px_terms::{
-    Atom, NoMemory, OpInst, Problem, Schema, Sequence, Term, apply_inst, are_variables_below,
-    is_ground,
+    Atom, OpInst, Problem, Schema, Sequence, Term, apply_inst, are_variables_below, is_ground,
 };
 use std::alloc::Global;
 use std::process::Abort;
@@ -103,13 +103,13 @@ fn steps_under(
     table: &Table,
     prefix: u32,
     terms: &[Term],
-) -> Result<Vec<OpInst>, NoMemory> {
+) -> Vec<OpInst> {
     let mut steps = Vec::new(alloc);
     for step in first_steps(table, prefix) {
         assert!(rt; are_variables_below(terms.len(), step.args()));
-        steps.push(apply_inst(terms, step))?;
+        put(rt, &mut steps, apply_inst(terms, step));
     }
-    Ok(steps)
+    steps
 }
 
 /// Does no step delete a mark that it stands between?
@@ -134,36 +134,25 @@ fn are_kept(
 }
 
 /// What these steps leave of the model.
-fn left_by(
-    alloc: Global,
-    rt: &impl Abort,
-    request: &Request,
-    steps: &[OpInst],
-) -> Result<Model, NoMemory> {
+fn left_by(alloc: Global, rt: &impl Abort, request: &Request, steps: &[OpInst]) -> Model {
     let mut left = Model::new(alloc);
     for atom in request.model.atoms() {
         if is_ground(atom) && !is_deleted(rt, request.problem, steps, atom) {
-            left.insert(*atom)?;
+            left.insert(*atom).expect(rt, "memory");
         }
     }
-    Ok(left)
+    left
 }
 
 /// What the row takes from the initial model.
-fn row_of(
-    alloc: Global,
-    rt: &impl Abort,
-    table: &Table,
-    row: usize,
-    terms: &[Term],
-) -> Result<Vec<Atom>, NoMemory> {
+fn row_of(alloc: Global, rt: &impl Abort, table: &Table, row: usize, terms: &[Term]) -> Vec<Atom> {
     let mut atoms = Vec::new(alloc);
     for mark in table.marks.as_slice() {
         if mark.row as usize == row && mark.column == 0 {
-            atoms.push(under(rt, terms, &mark.atom))?;
+            put(rt, &mut atoms, under(rt, terms, &mark.atom));
         }
     }
-    Ok(atoms)
+    atoms
 }
 
 /// Has each row an answer or a gap? Of no use where a limit is met.
@@ -175,30 +164,30 @@ fn are_open(
     steps: &[OpInst],
     terms: &[Term],
     limits: &mut Vec<Limit>,
-) -> Result<bool, NoMemory> {
+) -> bool {
     let mut all = true;
     for k in 0..steps.len() {
-        let formula = row_of(alloc, rt, table, k + 1, terms)?;
-        let facts = left_by(alloc, rt, request, &steps[..k])?;
-        let row = is_open(alloc, rt, request.problem, &formula, &facts, limits)?;
+        let formula = row_of(alloc, rt, table, k + 1, terms);
+        let facts = left_by(alloc, rt, request, &steps[..k]);
+        let row = is_open(alloc, rt, request.problem, &formula, &facts, limits);
         all = all && row;
     }
-    Ok(all)
+    all
 }
 
 /// The entry of the table's first steps with these objects for the parameters.
-fn entry_of(alloc: Global, number: u32, prefix: u32, terms: &[Term]) -> Result<Entry, NoMemory> {
+fn entry_of(alloc: Global, rt: &impl Abort, number: u32, prefix: u32, terms: &[Term]) -> Entry {
     let mut sigma = Vec::new(alloc);
     for term in terms {
         if let Term::Obj(object) = term {
-            sigma.push(*object)?;
+            put(rt, &mut sigma, *object);
         }
     }
-    Ok(Entry::Macro {
+    Entry::Macro {
         number,
         prefix,
         sigma: Sequence::from_vec(sigma),
-    })
+    }
 }
 
 /// Adds those of the entries of the table's first steps that may be pushed.
@@ -209,7 +198,7 @@ fn push_prefix(
     front: &Front,
     entries: &mut Vec<Entry>,
     limits: &mut Vec<Limit>,
-) -> Result<(), NoMemory> {
+) {
     let table = front.table;
     let prefix = front.count;
     let objects = request.problem.objects;
@@ -217,19 +206,20 @@ fn push_prefix(
     for list in 0..lists_count(objects, params) {
         let all = list_at(objects, params, list);
         let terms = &all[..params as usize];
-        let entry = entry_of(alloc, front.number, prefix, terms)?;
-        let steps = steps_under(alloc, rt, table, prefix, terms)?;
-        let is_one = are_zero(table, prefix, terms)
-            && are_kept(rt, request.problem, table, &steps, terms);
-        let is_wanted = add_wanted(rt, request.problem, &steps, request.wanted);
-        if !is_one || !is_wanted || request.stack.contains(&entry) {
+        let steps = steps_under(alloc, rt, table, prefix, terms);
+        if !add_wanted(rt, request.problem, &steps, request.wanted) {
             continue;
         }
-        if are_open(alloc, rt, request, table, &steps, terms, limits)? {
-            entries.push(entry)?;
+        let entry = entry_of(alloc, rt, front.number, prefix, terms);
+        let is_one = are_zero(table, prefix, terms)
+            && are_kept(rt, request.problem, table, &steps, terms);
+        if !is_one || request.stack.contains(&entry) {
+            continue;
+        }
+        if are_open(alloc, rt, request, table, &steps, terms, limits) {
+            put(rt, entries, entry);
         }
     }
-    Ok(())
 }
 
 /// Adds those of the tables' entries that may be pushed, and the limits that questions about them meet.
@@ -239,7 +229,7 @@ pub fn push_macros(
     request: &Request,
     entries: &mut Vec<Entry>,
     limits: &mut Vec<Limit>,
-) -> Result<(), NoMemory> {
+) {
     let mut number = 0u32;
     for table in request.tables {
         let steps = table.steps.len().min(64) as u32;
@@ -249,9 +239,8 @@ pub fn push_macros(
                 table,
                 count,
             };
-            push_prefix(alloc, rt, request, &front, entries, limits)?;
+            push_prefix(alloc, rt, request, &front, entries, limits);
         }
         number = number.saturating_add(1);
     }
-    Ok(())
 }

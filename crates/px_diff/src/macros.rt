@@ -21,7 +21,7 @@ use crate::entry_rows::known_entry;
 use crate::fitting::{fewest, numbers_below, without_place};
 use crate::front::Front;
 use crate::known::Known;
-use crate::macro_matching::macro_matches;
+use crate::macro_matching::{macro_matches, one_matches};
 use crate::macro_steps::{add_wanted, steps_with};
 use crate::parameters::{first_terms, first_unbound, merged, objects_of};
 use crate::relevance::is_stacked;
@@ -376,8 +376,7 @@ fn choices_of_table(
     let made = unbound(asker.alloc, table.params)?;
     let terms = made.as_slice();
     let steps = table.steps.as_slice();
-    let matches = macro_matches(asker.alloc, problem, terms, steps, request.wanted)?;
-    if matches.is_empty() {
+    if !one_matches(asker.alloc, problem, terms, steps, request.wanted)? {
         return Ok(None);
     }
     let rows = choices_of_rows(asker, problem, request.model, table, terms)?;

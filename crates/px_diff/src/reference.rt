@@ -7,14 +7,15 @@ ghost use Rattle.px_question.specs.Settings.{setting_of};
 
 use crate::macro_reference::push_macros;
 use crate::request::Request;
+use crate::test_problems::put;
 use px_ops::Model;
 use px_proof::{Shape, Tick};
 use px_prover::{Answer, GapErr, ProveErr, gap_lists, prove};
 use px_question::GapList;
 use px_table::Entry;
 use px_terms::{
-    Atom, NoMemory, OpInst, Problem, Schema, Term, apply, are_atoms_of, are_variables_below,
-    is_ground, is_valid,
+    Atom, OpInst, Problem, Schema, Term, apply, are_atoms_of, are_variables_below, is_ground,
+    is_valid,
 };
 use std::alloc::Global;
 use std::process::Abort;
@@ -39,27 +40,25 @@ pub struct Limit {
     pub shapes: Vec<Vec<Mark>>,
 }
 
-pub fn limit_of(alloc: Global, formula: &[Atom], shapes: &[Shape]) -> Result<Limit, NoMemory> {
+pub fn limit_of(alloc: Global, rt: &impl Abort, formula: &[Atom], shapes: &[Shape]) -> Limit {
     let mut atoms = Vec::new(alloc);
-    for atom in formula {
-        atoms.push(*atom)?;
-    }
-    Ok(Limit {
+    atoms.extend_from_slice(formula).expect(rt, "memory");
+    Limit {
         formula: atoms,
-        shapes: marks_of(alloc, shapes)?,
-    })
+        shapes: marks_of(alloc, rt, shapes),
+    }
 }
 
-fn marks_of(alloc: Global, shapes: &[Shape]) -> Result<Vec<Vec<Mark>>, NoMemory> {
+fn marks_of(alloc: Global, rt: &impl Abort, shapes: &[Shape]) -> Vec<Vec<Mark>> {
     let mut all = Vec::new(alloc);
     for shape in shapes {
         let mut marks = Vec::new(alloc);
         for tick in shape.ticks() {
-            marks.push(mark_of(*tick))?;
+            put(rt, &mut marks, mark_of(*tick));
         }
-        all.push(marks)?;
+        put(rt, &mut all, marks);
     }
-    Ok(all)
+    all
 }
 
 /// Is it so, or does a question meet the limit?
@@ -95,15 +94,16 @@ fn has_answer(
     formula: &[Atom],
     model: &Model,
     limits: &mut Vec<Limit>,
-) -> Result<Plain, NoMemory> {
+) -> Plain {
     match ask(alloc, rt, problem, formula, 0, model) {
-        Ok(_) => Ok(Plain::Yes),
-        Err(ProveErr::Unprovable) => Ok(Plain::No),
+        Ok(_) => Plain::Yes,
+        Err(ProveErr::Unprovable) => Plain::No,
         Err(ProveErr::ShapeLimit(shapes)) => {
-            limits.push(limit_of(alloc, formula, &shapes)?)?;
-            Ok(Plain::Limited)
+            let limit = limit_of(alloc, rt, formula, &shapes);
+            put(rt, limits, limit);
+            Plain::Limited
         }
-        Err(ProveErr::NoMemory) => Err(NoMemory),
+        Err(ProveErr::NoMemory) => panic!(rt; "memory"),
     }
 }
 
@@ -114,12 +114,12 @@ fn lists_of(
     problem: &Problem,
     formula: &[Atom],
     model: &Model,
-) -> Result<Result<Vec<GapList>, Vec<Shape>>, NoMemory> {
+) -> Result<Vec<GapList>, Vec<Shape>> {
     assert!(rt; is_valid(problem) && are_atoms_of(problem, 0, formula));
     match gap_lists(alloc, problem, formula, 0, model) {
-        Ok(lists) => Ok(Ok(lists)),
-        Err(GapErr::ShapeLimit(shapes)) => Ok(Err(shapes)),
-        Err(GapErr::NoMemory) => Err(NoMemory),
+        Ok(lists) => Ok(lists),
+        Err(GapErr::ShapeLimit(shapes)) => Err(shapes),
+        Err(GapErr::NoMemory) => panic!(rt; "memory"),
     }
 }
 
@@ -152,17 +152,12 @@ pub fn under(rt: &impl Abort, terms: &[Term], atom: &Atom) -> Atom {
 }
 
 /// The atoms with these terms for their variables.
-fn atoms_under(
-    alloc: Global,
-    rt: &impl Abort,
-    terms: &[Term],
-    atoms: &[Atom],
-) -> Result<Vec<Atom>, NoMemory> {
+fn atoms_under(alloc: Global, rt: &impl Abort, terms: &[Term], atoms: &[Atom]) -> Vec<Atom> {
     let mut made = Vec::new(alloc);
     for atom in atoms {
-        made.push(under(rt, terms, atom))?;
+        put(rt, &mut made, under(rt, terms, atom));
     }
-    Ok(made)
+    made
 }
 
 /// The first unfinished shapes of a formula without variables, as many as the limit or all: at the greatest limit that they
@@ -173,18 +168,18 @@ fn shapes_of(
     problem: &mut Problem,
     formula: &[Atom],
     model: &Model,
-) -> Result<Vec<Vec<Mark>>, NoMemory> {
+) -> Vec<Vec<Mark>> {
     let limit = problem.shapes;
     let mut found = Vec::new(alloc);
     for less in 0..limit.min(20) {
         problem.shapes = (limit - less).max(2);
-        if let Err(shapes) = lists_of(alloc, rt, problem, formula, model)? {
-            found = marks_of(alloc, &shapes)?;
+        if let Err(shapes) = lists_of(alloc, rt, problem, formula, model) {
+            found = marks_of(alloc, rt, &shapes);
             break;
         }
     }
     problem.shapes = limit;
-    Ok(found)
+    found
 }
 
 /// Keeps the limit of the formula, where its instances have as many unfinished shapes.
@@ -196,24 +191,23 @@ fn insert_limit(
     vars: u32,
     model: &Model,
     limits: &mut Vec<Limit>,
-) -> Result<(), NoMemory> {
+) {
     let mut all = Vec::new(alloc);
     for number in 0..lists_count(problem.objects, vars) {
         let terms = list_at(problem.objects, vars, number);
-        let instance = atoms_under(alloc, rt, &terms, formula)?;
-        for shape in shapes_of(alloc, rt, problem, &instance, model)? {
-            all.push(shape)?;
+        let instance = atoms_under(alloc, rt, &terms, formula);
+        for shape in shapes_of(alloc, rt, problem, &instance, model) {
+            put(rt, &mut all, shape);
         }
     }
-    all.sort()?;
+    all.sort().expect(rt, "memory");
     all.dedup();
     if all.len() >= problem.shapes as usize {
         all.truncate(problem.shapes as usize);
-        let mut limit = limit_of(alloc, formula, &[])?;
+        let mut limit = limit_of(alloc, rt, formula, &[]);
         limit.shapes = all;
-        limits.push(limit)?;
+        put(rt, limits, limit);
     }
-    Ok(())
 }
 
 /// Which of the atoms is provable: one, none, or proving one of them meets the limit.
@@ -224,25 +218,34 @@ fn any_provable(
     atoms: &[Atom],
     model: &Model,
     limits: &mut Vec<Limit>,
-) -> Result<Plain, NoMemory> {
+) -> Plain {
     let mut found = Plain::No;
     for atom in atoms {
-        let one = has_answer(alloc, rt, problem, &[*atom], model, limits)?;
+        let one = has_answer(alloc, rt, problem, &[*atom], model, limits);
         if found != Plain::Limited && one != Plain::No {
             found = one;
         }
     }
-    Ok(found)
+    found
 }
 
 /// Puts the ground ones of the atoms into the set.
-fn insert_ground(set: &mut Model, atoms: &[Atom]) -> Result<(), NoMemory> {
+fn insert_ground(rt: &impl Abort, set: &mut Model, atoms: &[Atom]) {
     for atom in atoms {
         if is_ground(atom) {
-            set.insert(*atom)?;
+            set.insert(*atom).expect(rt, "memory");
         }
     }
-    Ok(())
+}
+
+/// Are the atoms all in the set? Of gaps it is known that none is provable.
+fn are_held(set: &Model, atoms: &[Atom]) -> bool {
+    for atom in atoms {
+        if !set.atoms().contains(atom) {
+            return false;
+        }
+    }
+    true
 }
 
 /// Adds the gaps of a formula without variables: the atoms of those lists that close nothing provable.
@@ -254,22 +257,28 @@ fn insert_gaps(
     model: &Model,
     gaps: &mut Model,
     limits: &mut Vec<Limit>,
-) -> Result<(), NoMemory> {
-    match lists_of(alloc, rt, problem, formula, model)? {
+) {
+    match lists_of(alloc, rt, problem, formula, model) {
         Ok(lists) => {
             for list in &lists {
                 let atoms = list.gaps.as_slice();
-                if any_provable(alloc, rt, problem, atoms, model, limits)? == Plain::No {
-                    insert_ground(gaps, atoms)?;
+                if are_held(gaps, atoms) {
+                    continue;
+                }
+                if any_provable(alloc, rt, problem, atoms, model, limits) == Plain::No {
+                    insert_ground(rt, gaps, atoms);
                 }
             }
         }
-        Err(shapes) => limits.push(limit_of(alloc, formula, &shapes)?)?,
+        Err(shapes) => {
+            let limit = limit_of(alloc, rt, formula, &shapes);
+            put(rt, limits, limit);
+        }
     }
-    Ok(())
 }
 
-/// The gaps of a formula without an answer, from those of each instance of it, and the limits that questions meet.
+/// The gaps of a formula without an answer, from those of each instance of it, and the limits that questions meet. Without
+/// variables it is its only instance.
 pub fn plain_gaps(
     alloc: Global,
     rt: &impl Abort,
@@ -278,19 +287,21 @@ pub fn plain_gaps(
     vars: u32,
     model: &Model,
     limits: &mut Vec<Limit>,
-) -> Result<Model, NoMemory> {
+) -> Model {
     let mut gaps = Model::new(alloc);
     let before = limits.len();
-    insert_limit(alloc, rt, problem, formula, vars, model, limits)?;
+    if vars > 0 {
+        insert_limit(alloc, rt, problem, formula, vars, model, limits);
+    }
     if limits.len() > before {
-        return Ok(gaps);
+        return gaps;
     }
     for number in 0..lists_count(problem.objects, vars) {
         let terms = list_at(problem.objects, vars, number);
-        let instance = atoms_under(alloc, rt, &terms, formula)?;
-        insert_gaps(alloc, rt, problem, &instance, model, &mut gaps, limits)?;
+        let instance = atoms_under(alloc, rt, &terms, formula);
+        insert_gaps(alloc, rt, problem, &instance, model, &mut gaps, limits);
     }
-    Ok(gaps)
+    gaps
 }
 
 /// Has what an instance needs an answer or a gap? Of no use where a limit is met.
@@ -301,14 +312,14 @@ pub fn is_open(
     formula: &[Atom],
     model: &Model,
     limits: &mut Vec<Limit>,
-) -> Result<bool, NoMemory> {
-    let answered = has_answer(alloc, rt, problem, formula, model, limits)?;
+) -> bool {
+    let answered = has_answer(alloc, rt, problem, formula, model, limits);
     if answered != Plain::No {
-        return Ok(answered == Plain::Yes);
+        return answered == Plain::Yes;
     }
     let mut gaps = Model::new(alloc);
-    insert_gaps(alloc, rt, problem, formula, model, &mut gaps, limits)?;
-    Ok(!gaps.atoms().is_empty())
+    insert_gaps(alloc, rt, problem, formula, model, &mut gaps, limits);
+    !gaps.atoms().is_empty()
 }
 
 /// Does the schema with these terms add a wanted atom?
@@ -329,7 +340,7 @@ fn push_instances(
     schema: &Schema,
     entries: &mut Vec<Entry>,
     limits: &mut Vec<Limit>,
-) -> Result<(), NoMemory> {
+) {
     let objects = request.problem.objects;
     let params = schema.params.min(8);
     for number in 0..lists_count(objects, params) {
@@ -338,12 +349,11 @@ fn push_instances(
         if request.stack.contains(&entry) || !adds_one(rt, request.wanted, schema, &terms) {
             continue;
         }
-        let needs = atoms_under(alloc, rt, &terms, schema.pre.as_slice())?;
-        if is_open(alloc, rt, request.problem, &needs, request.model, limits)? {
-            entries.push(entry)?;
+        let needs = atoms_under(alloc, rt, &terms, schema.pre.as_slice());
+        if is_open(alloc, rt, request.problem, &needs, request.model, limits) {
+            put(rt, entries, entry);
         }
     }
-    Ok(())
 }
 
 /// The entries that may be pushed, and the limits that questions meet: each instance of each operator is tried, and each list of
@@ -353,11 +363,11 @@ pub fn plain_relevant(
     rt: &impl Abort,
     request: &Request,
     limits: &mut Vec<Limit>,
-) -> Result<Vec<Entry>, NoMemory> {
+) -> Vec<Entry> {
     let mut entries = Vec::new(alloc);
     for schema in request.problem.schemas.as_slice() {
-        push_instances(alloc, rt, request, schema, &mut entries, limits)?;
+        push_instances(alloc, rt, request, schema, &mut entries, limits);
     }
-    push_macros(alloc, rt, request, &mut entries, limits)?;
-    Ok(entries)
+    push_macros(alloc, rt, request, &mut entries, limits);
+    entries
 }

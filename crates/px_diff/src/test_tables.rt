@@ -1,62 +1,13 @@
 //! Tables of two and three steps for the tests.
 
-use crate::test_problems::{atom, o, v};
+use crate::test_problems::{atom, o, put, sequence_of, v};
 use px_proof::{Leaf, Proof};
 use px_table::{Mark, Row, Table};
-use px_terms::{Atom, NoMemory, OpInst, Sequence, Term};
+use px_terms::{Atom, OpInst, Sequence, Term};
 use std::alloc::Global;
 use std::process::Abort;
 
-/// The row of these leaves.
-fn row_of(alloc: Global, leaves: &[Leaf]) -> Result<Row, NoMemory> {
-    let mut proofs = Vec::new(alloc);
-    for leaf in leaves {
-        proofs.push(Proof::Fact(*leaf))?;
-    }
-    Ok(Row::from_proofs(proofs))
-}
-
-/// A leaf in that column.
-fn leaf(column: u32, atom: Atom) -> Leaf {
-    Leaf {
-        column,
-        index: 0,
-        atom,
-    }
-}
-
-/// The mark of that leaf in the row.
-fn mark(row: u32, leaf: &Leaf) -> Mark {
-    Mark {
-        atom: leaf.atom,
-        row,
-        column: leaf.column,
-        index: leaf.index,
-    }
-}
-
-/// Both operators one after the other: the second row needs atom 1, given at first, and atom 2, which the first step adds.
-pub fn both_steps(alloc: Global, rt: &impl Abort) -> Result<Table, NoMemory> {
-    let given = leaf(0, atom(rt, 1, &[]));
-    let made = leaf(1, atom(rt, 2, &[]));
-    let reached = leaf(2, atom(rt, 3, &[]));
-    let mut rows = Vec::new(alloc);
-    rows.push(row_of(alloc, &[])?)?;
-    rows.push(row_of(alloc, &[given, made])?)?;
-    rows.push(row_of(alloc, &[reached])?)?;
-    let first = OpInst::new(0, &[]).expect(rt, "few arguments");
-    let second = OpInst::new(1, &[]).expect(rt, "few arguments");
-    Ok(Table {
-        params: 0,
-        steps: Sequence::from_slice(alloc, &[first, second])?,
-        goal: Sequence::from_slice(alloc, &[reached.atom])?,
-        goal_vars: 0,
-        marks: Sequence::from_slice(alloc, &[mark(2, &given), mark(2, &made), mark(3, &reached)])?,
-        proofs: Sequence::from_vec(rows),
-    })
-}
-
-/// A leaf of the add of that index of the step.
+/// A leaf of the add of that index of the step; of the initial model where that is step 0.
 fn added(step: u32, index: u32, atom: Atom) -> Leaf {
     Leaf {
         column: step,
@@ -65,148 +16,204 @@ fn added(step: u32, index: u32, atom: Atom) -> Leaf {
     }
 }
 
+/// A leaf of the initial model.
+fn given(atom: Atom) -> Leaf {
+    added(0, 0, atom)
+}
+
 fn step_of(rt: &impl Abort, op: u32, terms: &[Term]) -> OpInst {
     OpInst::new(op, terms).expect(rt, "few arguments")
 }
 
-/// A block is put on the table from block 1, and block 1 on block 2. The row needs that block 1 is on the table.
+/// The rows of a table and their marks.
+#[derive(Drop)]
+struct Rows {
+    proofs: Vec<Row>,
+    marks: Vec<Mark>,
+}
+
+fn no_rows(alloc: Global) -> Rows {
+    Rows {
+        proofs: Vec::new(alloc),
+        marks: Vec::new(alloc),
+    }
+}
+
+/// What the leaf proves: its atom, or with terms for the first axiom's variables what follows by that axiom.
+fn proof_of(alloc: Global, rt: &impl Abort, leaf: Leaf, theta: &[Term]) -> Proof {
+    if theta.is_empty() {
+        return Proof::Fact(leaf);
+    }
+    let mut subs = Vec::new(alloc);
+    put(rt, &mut subs, Proof::Fact(leaf));
+    Proof::Step {
+        clause: 0,
+        theta: sequence_of(alloc, rt, theta),
+        place: 1,
+        subs: Sequence::from_vec(subs),
+    }
+}
+
+/// Adds the row of that number, of these leaves, the last of which may prove something by the first axiom.
+fn add_row(
+    alloc: Global,
+    rt: &impl Abort,
+    rows: &mut Rows,
+    row: u32,
+    leaves: &[Leaf],
+    theta: &[Term],
+) {
+    let mut proofs = Vec::new(alloc);
+    for (place, leaf) in leaves.iter().enumerate() {
+        let is_last = place + 1 == leaves.len();
+        let mark = Mark {
+            atom: leaf.atom,
+            row,
+            column: leaf.column,
+            index: leaf.index,
+        };
+        put(rt, &mut rows.marks, mark);
+        let terms = if is_last { theta } else { &[] };
+        put(rt, &mut proofs, proof_of(alloc, rt, *leaf, terms));
+    }
+    put(rt, &mut rows.proofs, Row::from_proofs(proofs));
+}
+
+/// The table of these steps and rows.
+fn table_of(
+    alloc: Global,
+    rt: &impl Abort,
+    params: u32,
+    steps: &[OpInst],
+    goal: &[Atom],
+    goal_vars: u32,
+    rows: Rows,
+) -> Table {
+    let Rows { proofs, marks } = rows;
+    Table {
+        params,
+        steps: sequence_of(alloc, rt, steps),
+        goal: sequence_of(alloc, rt, goal),
+        goal_vars,
+        marks: Sequence::from_vec(marks),
+        proofs: Sequence::from_vec(proofs),
+    }
+}
+
+/// Both operators one after the other: the second row needs atom 1, given at first, and atom 2, which the first step adds.
+pub fn both_steps(alloc: Global, rt: &impl Abort) -> Table {
+    let needed = [given(atom(rt, 1, &[])), added(1, 0, atom(rt, 2, &[]))];
+    let goal = [atom(rt, 3, &[])];
+    let mut rows = no_rows(alloc);
+    add_row(alloc, rt, &mut rows, 1, &[], &[]);
+    add_row(alloc, rt, &mut rows, 2, &needed, &[]);
+    add_row(alloc, rt, &mut rows, 3, &[added(2, 0, goal[0])], &[]);
+    let steps = [step_of(rt, 0, &[]), step_of(rt, 1, &[])];
+    table_of(alloc, rt, 0, &steps, &goal, 0, rows)
+}
+
+/// What putting block 0 from block 1 on the table needs.
 fn put_down(rt: &impl Abort) -> [Leaf; 3] {
     [
-        leaf(0, atom(rt, 1, &[v(0)])),
-        leaf(0, atom(rt, 0, &[v(0), v(1)])),
-        leaf(0, atom(rt, 2, &[v(0), v(1)])),
+        given(atom(rt, 1, &[v(0)])),
+        given(atom(rt, 0, &[v(0), v(1)])),
+        given(atom(rt, 2, &[v(0), v(1)])),
     ]
 }
 
-/// What putting block 1 on block 2 needs after that.
+/// What putting block 1 from the table on block 2 needs after that.
 fn put_up(rt: &impl Abort) -> [Leaf; 4] {
     [
         added(1, 1, atom(rt, 1, &[v(1)])),
-        leaf(0, atom(rt, 1, &[v(2)])),
-        leaf(0, atom(rt, 0, &[v(1), o(3)])),
-        leaf(0, atom(rt, 2, &[v(1), v(2)])),
+        given(atom(rt, 1, &[v(2)])),
+        given(atom(rt, 0, &[v(1), o(3)])),
+        given(atom(rt, 2, &[v(1), v(2)])),
     ]
 }
 
 /// What putting block 0 back on block 1 needs then.
 fn put_back(rt: &impl Abort) -> [Leaf; 4] {
     [
-        leaf(0, atom(rt, 1, &[v(0)])),
+        given(atom(rt, 1, &[v(0)])),
         added(1, 1, atom(rt, 1, &[v(1)])),
         added(1, 0, atom(rt, 0, &[v(0), o(3)])),
-        leaf(0, atom(rt, 2, &[v(0), v(1)])),
+        given(atom(rt, 2, &[v(0), v(1)])),
     ]
 }
 
-/// Adds a row of these leaves with its marks.
-fn add_row(
-    alloc: Global,
-    rows: &mut Vec<Row>,
-    marks: &mut Vec<Mark>,
-    number: u32,
-    leaves: &[Leaf],
-) -> Result<(), NoMemory> {
-    for leaf in leaves {
-        marks.push(mark(number, leaf))?;
-    }
-    rows.push(row_of(alloc, leaves)?)?;
-    Ok(())
+/// The rows of putting block 0 from block 1 on the table, and block 1 from there on block 2.
+fn moving_rows(alloc: Global, rt: &impl Abort) -> Rows {
+    let mut rows = no_rows(alloc);
+    add_row(alloc, rt, &mut rows, 1, &put_down(rt), &[]);
+    add_row(alloc, rt, &mut rows, 2, &put_up(rt), &[]);
+    rows
 }
 
 /// Block 0 is put from block 1 on the table, and block 1 from there on block 2.
-pub fn two_moves(alloc: Global, rt: &impl Abort) -> Result<Table, NoMemory> {
-    let reached = added(2, 0, atom(rt, 0, &[v(1), v(2)]));
-    let mut rows = Vec::new(alloc);
-    let mut marks = Vec::new(alloc);
-    add_row(alloc, &mut rows, &mut marks, 1, &put_down(rt))?;
-    add_row(alloc, &mut rows, &mut marks, 2, &put_up(rt))?;
-    add_row(alloc, &mut rows, &mut marks, 3, &[reached])?;
+pub fn two_moves(alloc: Global, rt: &impl Abort) -> Table {
+    let goal = [atom(rt, 0, &[v(1), v(2)])];
+    let mut rows = moving_rows(alloc, rt);
+    add_row(alloc, rt, &mut rows, 3, &[added(2, 0, goal[0])], &[]);
     let steps = [step_of(rt, 0, &[v(0), v(1)]), step_of(rt, 1, &[v(1), v(2)])];
-    Ok(Table {
-        params: 3,
-        steps: Sequence::from_slice(alloc, &steps)?,
-        goal: Sequence::from_slice(alloc, &[reached.atom])?,
-        goal_vars: 0,
-        marks: Sequence::from_vec(marks),
-        proofs: Sequence::from_vec(rows),
-    })
+    table_of(alloc, rt, 3, &steps, &goal, 0, rows)
 }
 
 /// The same, and then block 0 is put on block 1 again. What the first step adds of block 1 the third deletes.
-pub fn three_moves(alloc: Global, rt: &impl Abort) -> Result<Table, NoMemory> {
-    let reached = added(3, 0, atom(rt, 0, &[v(0), v(1)]));
-    let mut rows = Vec::new(alloc);
-    let mut marks = Vec::new(alloc);
-    add_row(alloc, &mut rows, &mut marks, 1, &put_down(rt))?;
-    add_row(alloc, &mut rows, &mut marks, 2, &put_up(rt))?;
-    add_row(alloc, &mut rows, &mut marks, 3, &put_back(rt))?;
-    add_row(alloc, &mut rows, &mut marks, 4, &[reached])?;
+pub fn three_moves(alloc: Global, rt: &impl Abort) -> Table {
+    let goal = [atom(rt, 0, &[v(0), v(1)])];
+    let mut rows = moving_rows(alloc, rt);
+    add_row(alloc, rt, &mut rows, 3, &put_back(rt), &[]);
+    add_row(alloc, rt, &mut rows, 4, &[added(3, 0, goal[0])], &[]);
     let steps = [
         step_of(rt, 0, &[v(0), v(1)]),
         step_of(rt, 1, &[v(1), v(2)]),
         step_of(rt, 1, &[v(0), v(1)]),
     ];
-    Ok(Table {
-        params: 3,
-        steps: Sequence::from_slice(alloc, &steps)?,
-        goal: Sequence::from_slice(alloc, &[reached.atom])?,
-        goal_vars: 0,
-        marks: Sequence::from_vec(marks),
-        proofs: Sequence::from_vec(rows),
-    })
+    table_of(alloc, rt, 3, &steps, &goal, 0, rows)
 }
 
-/// The door that is wanted connects the rooms the other way round.
-fn back_through(alloc: Global, there: &Leaf) -> Result<Proof, NoMemory> {
-    let mut subs = Vec::new(alloc);
-    subs.push(Proof::Fact(*there))?;
-    Ok(Proof::Step {
-        clause: 0,
-        theta: Sequence::from_slice(alloc, &[v(4), v(5), v(2)])?,
-        place: 1,
-        subs: Sequence::from_vec(subs),
-    })
+/// Thing 0 is taken, thing 1 is used, and thing 2 is taken. Thing 1 is seen since it is here, which the first step may have
+/// changed; what the second step adds of it, the third may delete. The first two steps don't have thing 2.
+pub fn take_and_use(alloc: Global, rt: &impl Abort) -> Table {
+    let here = given(atom(rt, 0, &[v(1)]));
+    let goal = [atom(rt, 2, &[v(2)])];
+    let mut rows = no_rows(alloc);
+    add_row(alloc, rt, &mut rows, 1, &[], &[]);
+    add_row(alloc, rt, &mut rows, 2, &[here], &[v(1)]);
+    add_row(alloc, rt, &mut rows, 3, &[], &[]);
+    add_row(alloc, rt, &mut rows, 4, &[added(3, 0, goal[0])], &[]);
+    let steps = [
+        step_of(rt, 0, &[v(0)]),
+        step_of(rt, 1, &[v(1)]),
+        step_of(rt, 0, &[v(2)]),
+    ];
+    table_of(alloc, rt, 3, &steps, &goal, 0, rows)
 }
 
 /// To what the plan of the example of 1972 generalises: through door 1 from room 0 into room 2, and box 3 through door 4 from
-/// there into room 5.
-pub fn go_and_push(alloc: Global, rt: &impl Abort) -> Result<Table, NoMemory> {
-    let first = [
-        leaf(0, atom(rt, 0, &[o(0), v(0)])),
-        leaf(0, atom(rt, 1, &[v(1), v(0), v(2)])),
+/// there into room 5. The door that is wanted connects the rooms the other way round.
+pub fn go_and_push(alloc: Global, rt: &impl Abort) -> Table {
+    let going = [
+        given(atom(rt, 0, &[o(0), v(0)])),
+        given(atom(rt, 1, &[v(1), v(0), v(2)])),
     ];
-    let second = [
-        leaf(0, atom(rt, 0, &[v(3), v(2)])),
+    let pushing = [
+        given(atom(rt, 0, &[v(3), v(2)])),
         added(1, 0, atom(rt, 0, &[o(0), v(2)])),
-        leaf(0, atom(rt, 1, &[v(4), v(5), v(2)])),
+        given(atom(rt, 1, &[v(4), v(5), v(2)])),
     ];
-    let third = [
-        leaf(0, atom(rt, 2, &[v(3)])),
+    let reached = [
+        given(atom(rt, 2, &[v(3)])),
         added(2, 1, atom(rt, 0, &[v(3), v(5)])),
     ];
-    let mut pushing = Vec::new(alloc);
-    pushing.push(Proof::Fact(second[0]))?;
-    pushing.push(Proof::Fact(second[1]))?;
-    pushing.push(back_through(alloc, &second[2])?)?;
-    let mut rows = Vec::new(alloc);
-    let mut marks = Vec::new(alloc);
-    add_row(alloc, &mut rows, &mut marks, 1, &first)?;
-    rows.push(Row::from_proofs(pushing))?;
-    for leaf in &second {
-        marks.push(mark(2, leaf))?;
-    }
-    add_row(alloc, &mut rows, &mut marks, 3, &third)?;
+    let mut rows = no_rows(alloc);
+    add_row(alloc, rt, &mut rows, 1, &going, &[]);
+    add_row(alloc, rt, &mut rows, 2, &pushing, &[v(4), v(5), v(2)]);
+    add_row(alloc, rt, &mut rows, 3, &reached, &[]);
     let steps = [
         step_of(rt, 0, &[v(1), v(0), v(2)]),
         step_of(rt, 1, &[v(3), v(4), v(2), v(5)]),
     ];
     let goal = [atom(rt, 2, &[v(6)]), atom(rt, 0, &[v(6), v(5)])];
-    Ok(Table {
-        params: 6,
-        steps: Sequence::from_slice(alloc, &steps)?,
-        goal: Sequence::from_slice(alloc, &goal)?,
-        goal_vars: 1,
-        marks: Sequence::from_vec(marks),
-        proofs: Sequence::from_vec(rows),
-    })
+    table_of(alloc, rt, 6, &steps, &goal, 1, rows)
 }

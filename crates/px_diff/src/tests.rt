@@ -2,13 +2,13 @@
 use crate::reference::{Limit, Mark, ask, limit_of, plain_gaps, plain_relevant};
 use crate::request::Request;
 use crate::test_problems::{
-    atom, blocks, chain, model_of, o, opening, rooms, stacked, transitive, v,
+    atom, blocks, chain, model_of, o, opening, put, rooms, stacked, transitive, v,
 };
-use crate::{AskErr, are_learned, gaps, relevant};
+use crate::{AskErr, Measured, are_learned, gaps, relevant, relevant_measured};
 use px_ops::Model;
 use px_prover::ProveErr;
 use px_table::Entry;
-use px_terms::{Atom, NoMemory, OpInst, Problem, Term, are_atoms_of, is_valid};
+use px_terms::{Atom, OpInst, Problem, Term, are_atoms_of, is_valid};
 use std::alloc::Global;
 use std::process::Abort;
 use std::rt::HostRuntime;
@@ -49,15 +49,16 @@ fn are_gaps(found: &Result<Option<Vec<Atom>>, AskErr>, wanted: &[Atom]) -> bool 
 /// Is the answer that this limit is met?
 fn is_at(
     alloc: Global,
+    rt: &impl Abort,
     found: &Result<Option<Vec<Atom>>, AskErr>,
     limit: &Limit,
-) -> Result<bool, NoMemory> {
+) -> bool {
     match found {
         Err(AskErr::ShapeLimit { formula, shapes }) => {
-            Ok(limit_of(alloc, formula.as_slice(), shapes.as_slice())? == *limit)
+            limit_of(alloc, rt, formula.as_slice(), shapes.as_slice()) == *limit
         }
-        Err(AskErr::NoMemory) => Ok(false),
-        Ok(_) => Ok(false),
+        Err(AskErr::NoMemory) => false,
+        Ok(_) => false,
     }
 }
 
@@ -76,16 +77,88 @@ pub fn pushes_of(alloc: Global, rt: &impl Abort, request: &Request) -> Result<Ve
 }
 
 /// The entry of the operator with these terms.
-fn entry_of(rt: &impl Abort, op: u32, terms: &[Term]) -> Entry {
+pub fn entry_of(rt: &impl Abort, op: u32, terms: &[Term]) -> Entry {
     Entry::Op(OpInst::new(op, terms).expect(rt, "few arguments"))
+}
+
+/// Are these the entries that are answered?
+pub fn are_entries(found: &Result<Vec<Entry>, AskErr>, wanted: &[Entry]) -> bool {
+    match found {
+        Ok(entries) => entries.as_slice() == wanted,
+        Err(_) => false,
+    }
+}
+
+/// Are so many entries answered?
+pub fn has_count(found: &Result<Vec<Entry>, AskErr>, count: usize) -> bool {
+    match found {
+        Ok(entries) => entries.len() == count,
+        Err(_) => false,
+    }
+}
+
+/// Is the answer that the limit is met?
+pub fn is_limited(found: &Result<Vec<Entry>, AskErr>) -> bool {
+    matches!(found, Err(AskErr::ShapeLimit { .. }))
+}
+
+/// Is the answer what the plain program finds: the same entries, or one of its limits?
+fn is_plain(
+    alloc: Global,
+    rt: &impl Abort,
+    found: &Result<Vec<Entry>, AskErr>,
+    entries: &[Entry],
+    limits: &[Limit],
+) -> bool {
+    match found {
+        Ok(pushes) => limits.is_empty() && pushes.as_slice() == entries,
+        Err(AskErr::ShapeLimit { formula, shapes }) => {
+            limits.contains(&limit_of(alloc, rt, formula.as_slice(), shapes.as_slice()))
+        }
+        Err(AskErr::NoMemory) => false,
+    }
+}
+
+/// The entries that may be pushed, which have to be what the plain program finds.
+pub fn agreed(alloc: Global, rt: &impl Abort, request: &Request) -> Result<Vec<Entry>, AskErr> {
+    let mut limits = Vec::new(alloc);
+    let entries = plain_relevant(alloc, rt, request, &mut limits);
+    let found = pushes_of(alloc, rt, request);
+    let is_same = is_plain(alloc, rt, &found, entries.as_slice(), limits.as_slice());
+    assert!(rt; is_same);
+    found
+}
+
+/// The gaps of a formula, which have to be what the plain program finds.
+fn agreed_gaps(
+    alloc: Global,
+    rt: &impl Abort,
+    problem: &mut Problem,
+    formula: &[Atom],
+    vars: u32,
+    model: &Model,
+) -> Result<Option<Vec<Atom>>, AskErr> {
+    let mut limits = Vec::new(alloc);
+    let plain = plain_gaps(alloc, rt, problem, formula, vars, model, &mut limits);
+    let found = gaps_of(alloc, rt, problem, formula, vars, model);
+    let is_same = match &found {
+        Ok(Some(gaps)) => limits.is_empty() && gaps.as_slice() == plain.atoms(),
+        Ok(None) => true,
+        Err(AskErr::ShapeLimit { formula, shapes }) => {
+            limits.contains(&limit_of(alloc, rt, formula.as_slice(), shapes.as_slice()))
+        }
+        Err(AskErr::NoMemory) => false,
+    };
+    assert!(rt; is_same);
+    found
 }
 
 /// The box isn't in room 1, and it may be pushed there.
 #[test]
 fn the_box_in_the_first_room(rt: HostRuntime) -> Result<(), Fail> {
     let alloc = rt.alloc();
-    let problem = rooms(alloc, &rt)?;
-    let model = opening(alloc, &rt)?;
+    let problem = rooms(alloc, &rt);
+    let model = opening(alloc, &rt);
     let goal = [atom(&rt, 2, &[v(0)]), atom(&rt, 0, &[v(0), o(1)])];
     let wanted = [atom(&rt, 0, &[o(6), o(1)])];
     let found = gaps_of(alloc, &rt, &problem, &goal, 1, &model);
@@ -97,32 +170,67 @@ fn the_box_in_the_first_room(rt: HostRuntime) -> Result<(), Fail> {
         model: &model,
         tables: &[],
     };
+    let found = pushes_of(alloc, &rt, &request);
     let push = [entry_of(&rt, 1, &[o(6), o(4), o(2), o(1)])];
-    match pushes_of(alloc, &rt, &request) {
-        Ok(entries) => assert!(&rt; entries.as_slice() == push.as_slice()),
-        Err(_) => assert!(&rt; false),
-    }
+    assert!(&rt; are_entries(&found, &push));
+    Ok(())
+}
+
+/// The entries that may be pushed, with the number of questions that this took.
+fn measured_of(
+    alloc: Global,
+    rt: &impl Abort,
+    problem: &Problem,
+    wanted: &[Atom],
+    model: &Model,
+) -> Measured {
+    assert!(rt; is_valid(problem));
+    assert!(rt; are_learned(problem, &[]));
+    let measured = relevant_measured(alloc, problem, wanted, &[], model, &[]);
+    measured.expect(rt, "below the limit")
+}
+
+/// Where nothing is wanted nothing is asked.
+#[test]
+fn questions_are_counted(rt: HostRuntime) -> Result<(), Fail> {
+    let alloc = rt.alloc();
+    let problem = rooms(alloc, &rt);
+    let model = opening(alloc, &rt);
+    let wanted = [atom(&rt, 0, &[o(6), o(1)])];
+    let measured = measured_of(alloc, &rt, &problem, &[], &model);
+    assert!(&rt; measured.questions == 0 && measured.entries.is_empty());
+    let measured = measured_of(alloc, &rt, &problem, &wanted, &model);
+    let push = [entry_of(&rt, 1, &[o(6), o(4), o(2), o(1)])];
+    assert!(&rt; measured.questions > 0 && measured.entries.as_slice() == push.as_slice());
     Ok(())
 }
 
 /// The entries that are to be pushed for the robot in room 2.
-fn sixteen(alloc: Global, rt: &impl Abort) -> Result<Vec<Entry>, NoMemory> {
+fn sixteen(alloc: Global, rt: &impl Abort) -> Vec<Entry> {
     let mut entries = Vec::new(alloc);
-    entries.push(entry_of(rt, 0, &[o(4), o(1), o(2)]))?;
-    entries.push(entry_of(rt, 0, &[o(5), o(3), o(2)]))?;
+    put(rt, &mut entries, entry_of(rt, 0, &[o(4), o(1), o(2)]));
+    put(rt, &mut entries, entry_of(rt, 0, &[o(5), o(3), o(2)]));
     for thing in 0..7 {
-        entries.push(entry_of(rt, 1, &[o(thing), o(4), o(1), o(2)]))?;
-        entries.push(entry_of(rt, 1, &[o(thing), o(5), o(3), o(2)]))?;
+        put(
+            rt,
+            &mut entries,
+            entry_of(rt, 1, &[o(thing), o(4), o(1), o(2)]),
+        );
+        put(
+            rt,
+            &mut entries,
+            entry_of(rt, 1, &[o(thing), o(5), o(3), o(2)]),
+        );
     }
-    Ok(entries)
+    entries
 }
 
 /// To push the box into room 1 the robot has to come into room 2.
 #[test]
 fn the_robot_in_the_second_room(rt: HostRuntime) -> Result<(), Fail> {
     let alloc = rt.alloc();
-    let problem = rooms(alloc, &rt)?;
-    let model = opening(alloc, &rt)?;
+    let problem = rooms(alloc, &rt);
+    let model = opening(alloc, &rt);
     let request = Request {
         problem: &problem,
         wanted: &[atom(&rt, 0, &[o(0), o(2)])],
@@ -130,95 +238,79 @@ fn the_robot_in_the_second_room(rt: HostRuntime) -> Result<(), Fail> {
         model: &model,
         tables: &[],
     };
-    match pushes_of(alloc, &rt, &request) {
-        Ok(entries) => assert!(&rt; entries.as_slice() == sixteen(alloc, &rt)?.as_slice()),
-        Err(_) => assert!(&rt; false),
-    }
+    let found = pushes_of(alloc, &rt, &request);
+    assert!(&rt; are_entries(&found, sixteen(alloc, &rt).as_slice()));
     Ok(())
 }
 
-/// Does `relevant` answer what the plain program finds: the same entries, or one of its limits?
-pub fn agrees_on_pushes(
+/// What may be pushed for the thing in room 2, where the box is already pushed out of it. The limit is met below that number.
+fn agree_on_room(
     alloc: Global,
     rt: &impl Abort,
-    request: &Request,
-) -> Result<bool, NoMemory> {
-    let mut limits = Vec::new(alloc);
-    let others = plain_relevant(alloc, rt, request, &mut limits)?;
-    match pushes_of(alloc, rt, request) {
-        Ok(entries) => Ok(limits.is_empty() && entries.as_slice() == others.as_slice()),
-        Err(AskErr::ShapeLimit { formula, shapes }) => {
-            let limit = limit_of(alloc, formula.as_slice(), shapes.as_slice())?;
-            Ok(limits.contains(&limit))
-        }
-        Err(AskErr::NoMemory) => Ok(false),
-    }
-}
-
-/// Is it seen that the formula has no answer? Then `gaps` has to answer what the plain program finds.
-fn asks_gaps(
-    alloc: Global,
-    rt: &impl Abort,
-    problem: &mut Problem,
-    formula: &[Atom],
-    vars: u32,
+    problem: &Problem,
     model: &Model,
-) -> Result<bool, NoMemory> {
-    let mut limits = Vec::new(alloc);
-    let others = plain_gaps(alloc, rt, problem, formula, vars, model, &mut limits)?;
-    match gaps_of(alloc, rt, problem, formula, vars, model) {
-        Ok(Some(found)) => {
-            assert!(rt; limits.is_empty() && found.as_slice() == others.atoms());
-            Ok(true)
-        }
-        Ok(None) => Ok(false),
-        Err(AskErr::ShapeLimit { formula, shapes }) => {
-            let limit = limit_of(alloc, formula.as_slice(), shapes.as_slice())?;
-            assert!(rt; limits.contains(&limit));
-            Ok(true)
-        }
-        Err(AskErr::NoMemory) => Err(NoMemory),
-    }
+    thing: u32,
+    enough: u32,
+) -> Result<Vec<Entry>, AskErr> {
+    let request = Request {
+        problem,
+        wanted: &[atom(rt, 0, &[o(thing), o(2)])],
+        stack: &[entry_of(rt, 1, &[o(6), o(4), o(2), o(1)])],
+        model,
+        tables: &[],
+    };
+    let found = agreed(alloc, rt, &request);
+    assert!(rt; is_limited(&found) == (problem.shapes < enough));
+    found
 }
 
-/// Is the answer that the limit is met?
-pub fn is_limited(found: &Result<Vec<Entry>, AskErr>) -> bool {
-    matches!(found, Err(AskErr::ShapeLimit { .. }))
-}
-
-/// With limits that are met and limits that are just not met: 4 and 5 by the gaps, 11 and 12 by what may be pushed for the
-/// box, 19 and 20 by what may be pushed for the robot.
+/// To push the box into room 1 the robot has to come into room 2. With limits that are met and limits that are just not met: 4
+/// and 5 by the gaps, 11 and 12 by what may be pushed for the box, 19 and 20 by what may be pushed for the robot.
 #[test]
 fn a_plain_program_agrees_on_rooms(rt: HostRuntime) -> Result<(), Fail> {
     let alloc = rt.alloc();
-    let mut problem = rooms(alloc, &rt)?;
-    let model = opening(alloc, &rt)?;
-    let stack = [entry_of(&rt, 1, &[o(6), o(4), o(2), o(1)])];
+    let mut problem = rooms(alloc, &rt);
+    let model = opening(alloc, &rt);
     let goal = [
         atom(&rt, 2, &[v(0)]),
         atom(&rt, 0, &[v(0), v(1)]),
         atom(&rt, 0, &[o(0), v(1)]),
     ];
+    let pushes = sixteen(alloc, &rt);
     for shapes in [4, 5, 11, 12, 19, 20] {
         problem.shapes = shapes;
-        for thing in [0, 6] {
-            let request = Request {
-                problem: &problem,
-                wanted: &[atom(&rt, 0, &[o(thing), o(2)])],
-                stack: &stack,
-                model: &model,
-                tables: &[],
-            };
-            assert!(&rt; agrees_on_pushes(alloc, &rt, &request)?);
-            let found = pushes_of(alloc, &rt, &request);
-            let enough = if thing == 0 { 20 } else { 12 };
-            assert!(&rt; is_limited(&found) == (shapes < enough));
-        }
-        assert!(&rt; asks_gaps(alloc, &rt, &mut problem, &goal, 2, &model)?);
-        let found = gaps_of(alloc, &rt, &problem, &goal, 2, &model);
-        assert!(&rt; found.is_ok() == (shapes > 4));
+        let found = agree_on_room(alloc, &rt, &problem, &model, 0, 20);
+        assert!(&rt; are_entries(&found, pushes.as_slice()) == (shapes == 20));
+        let found = agree_on_room(alloc, &rt, &problem, &model, 6, 12);
+        assert!(&rt; is_limited(&found) == (shapes < 12));
+        let gaps = agreed_gaps(alloc, &rt, &mut problem, &goal, 2, &model);
+        assert!(&rt; gaps.is_ok() == (shapes > 4));
     }
     Ok(())
+}
+
+/// Is it seen that nothing is on that object while it is on something? The plain program has to agree on what is missing then,
+/// and on what may be pushed so that block 0 is on it, or that it is clear.
+fn agree_on_block(
+    alloc: Global,
+    rt: &impl Abort,
+    problem: &mut Problem,
+    model: &Model,
+    below: u32,
+) -> bool {
+    let request = Request {
+        problem,
+        wanted: &[atom(rt, 0, &[o(0), o(below)]), atom(rt, 1, &[o(below)])],
+        stack: &[],
+        model,
+        tables: &[],
+    };
+    let _found = agreed(alloc, rt, &request);
+    let goal = [
+        atom(rt, 0, &[v(0), o(below)]),
+        atom(rt, 0, &[o(below), v(1)]),
+    ];
+    !matches!(agreed_gaps(alloc, rt, problem, &goal, 2, model), Ok(None))
 }
 
 /// The same of blocks, where several adds match, and an atom of a gap list may be provable. Something is on block 0, which
@@ -226,26 +318,13 @@ fn a_plain_program_agrees_on_rooms(rt: HostRuntime) -> Result<(), Fail> {
 #[test]
 fn a_plain_program_agrees_on_blocks(rt: HostRuntime) -> Result<(), Fail> {
     let alloc = rt.alloc();
-    let mut problem = blocks(alloc, &rt)?;
-    let model = stacked(alloc, &rt)?;
+    let mut problem = blocks(alloc, &rt);
+    let model = stacked(alloc, &rt);
     let mut asked = 0u32;
     for shapes in 2..11 {
         problem.shapes = shapes;
         for below in 0..4 {
-            let on_it = atom(&rt, 0, &[o(0), o(below)]);
-            let request = Request {
-                problem: &problem,
-                wanted: &[on_it, atom(&rt, 1, &[o(below)])],
-                stack: &[],
-                model: &model,
-                tables: &[],
-            };
-            assert!(&rt; agrees_on_pushes(alloc, &rt, &request)?);
-            let goal = [
-                atom(&rt, 0, &[v(0), o(below)]),
-                atom(&rt, 0, &[o(below), v(1)]),
-            ];
-            if asks_gaps(alloc, &rt, &mut problem, &goal, 2, &model)? {
+            if agree_on_block(alloc, &rt, &mut problem, &model, below) {
                 asked = asked.saturating_add(1);
             }
         }
@@ -266,56 +345,70 @@ fn is_limited_at(found: &Result<Vec<Entry>, AskErr>, atom: &Atom) -> bool {
 #[test]
 fn one_atom_meets_the_limit(rt: HostRuntime) -> Result<(), Fail> {
     let alloc = rt.alloc();
-    let mut problem = chain(alloc, &rt)?;
+    let mut problem = chain(alloc, &rt);
     let model = Model::new(alloc);
     let between = atom(&rt, 1, &[]);
+    let wanted = [atom(&rt, 2, &[])];
     for shapes in 2..7 {
         problem.shapes = shapes;
         let request = Request {
             problem: &problem,
-            wanted: &[atom(&rt, 2, &[])],
+            wanted: &wanted,
             stack: &[],
             model: &model,
             tables: &[],
         };
-        assert!(&rt; agrees_on_pushes(alloc, &rt, &request)?);
-        let found = pushes_of(alloc, &rt, &request);
-        let at_atom = is_limited_at(&found, &between);
-        assert!(&rt; at_atom == (shapes == 3 || shapes == 4));
-        let is_open = matches!(&found, Ok(entries) if entries.len() == 1);
-        assert!(&rt; is_open == (shapes > 4));
+        let found = agreed(alloc, &rt, &request);
+        assert!(&rt; is_limited_at(&found, &between) == (shapes == 3 || shapes == 4));
+        assert!(&rt; has_count(&found, 1) == (shapes > 4));
     }
     Ok(())
 }
 
 /// The first so many shapes of proofs of the one atom: open, or an axiom from the second on at its second place.
-fn at_between(alloc: Global, rt: &impl Abort, count: u32) -> Result<Limit, NoMemory> {
-    let mut limit = limit_of(alloc, &[atom(rt, 1, &[])], &[])?;
+fn at_between(alloc: Global, rt: &impl Abort, count: u32) -> Limit {
+    let mut limit = limit_of(alloc, rt, &[atom(rt, 1, &[])], &[]);
     for clause in 0..count {
         let step: [Mark; 2] = [(3, clause, 1), (0, 0, 0)];
         let mut marks = Vec::new(alloc);
-        marks.extend_from_slice(if clause == 0 { &step[1..] } else { &step })?;
-        limit.shapes.push(marks)?;
+        let kept = if clause == 0 { &step[1..] } else { &step };
+        marks.extend_from_slice(kept).expect(rt, "memory");
+        put(rt, &mut limit.shapes, marks);
     }
-    Ok(limit)
+    limit
 }
 
 /// The formula has two unfinished gap proofs, and proving the one atom that a third closes has four unfinished ones.
 #[test]
 fn gaps_at_the_limit_of_one_atom(rt: HostRuntime) -> Result<(), Fail> {
     let alloc = rt.alloc();
-    let mut problem = chain(alloc, &rt)?;
+    let mut problem = chain(alloc, &rt);
     let model = Model::new(alloc);
     let formula = [atom(&rt, 0, &[])];
+    let between = [atom(&rt, 1, &[])];
     for shapes in 3..6 {
         problem.shapes = shapes;
-        assert!(&rt; asks_gaps(alloc, &rt, &mut problem, &formula, 0, &model)?);
-        let found = gaps_of(alloc, &rt, &problem, &formula, 0, &model);
-        let at = is_at(alloc, &found, &at_between(alloc, &rt, shapes)?)?;
+        let found = agreed_gaps(alloc, &rt, &mut problem, &formula, 0, &model);
+        let at = is_at(alloc, &rt, &found, &at_between(alloc, &rt, shapes));
         assert!(&rt; at == (shapes < 5));
-        assert!(&rt; are_gaps(&found, &[atom(&rt, 1, &[])]) == (shapes == 5));
+        assert!(&rt; are_gaps(&found, &between) == (shapes == 5));
     }
     Ok(())
+}
+
+/// The plain program agrees on what may be pushed and on what is missing so that the first object is on the second.
+fn agree_on_standing(alloc: Global, rt: &impl Abort, problem: &mut Problem, model: &Model) {
+    let wanted = [atom(rt, 0, &[o(0), o(1)])];
+    let request = Request {
+        problem,
+        wanted: &wanted,
+        stack: &[],
+        model,
+        tables: &[],
+    };
+    let _found = agreed(alloc, rt, &request);
+    let gaps = agreed_gaps(alloc, rt, problem, &wanted, 0, model);
+    assert!(rt; !matches!(&gaps, Ok(None)));
 }
 
 /// With a transitive axiom over what operators add the plain program agrees, over two and three objects, where nothing
@@ -323,22 +416,12 @@ fn gaps_at_the_limit_of_one_atom(rt: HostRuntime) -> Result<(), Fail> {
 #[test]
 fn a_plain_program_agrees_on_a_transitive_axiom(rt: HostRuntime) -> Result<(), Fail> {
     let alloc = rt.alloc();
-    let wanted = [atom(&rt, 0, &[o(0), o(1)])];
     let nothing = Model::new(alloc);
-    let one = model_of(alloc, &[atom(&rt, 0, &[o(1), o(0)])])?;
+    let one = model_of(alloc, &rt, &[atom(&rt, 0, &[o(1), o(0)])]);
     for objects in [2, 3] {
-        let mut problem = transitive(alloc, &rt, objects)?;
-        for model in [&nothing, &one] {
-            let request = Request {
-                problem: &problem,
-                wanted: &wanted,
-                stack: &[],
-                model,
-                tables: &[],
-            };
-            assert!(&rt; agrees_on_pushes(alloc, &rt, &request)?);
-            assert!(&rt; asks_gaps(alloc, &rt, &mut problem, &wanted, 0, model)?);
-        }
+        let mut problem = transitive(alloc, &rt, objects);
+        agree_on_standing(alloc, &rt, &mut problem, &nothing);
+        agree_on_standing(alloc, &rt, &mut problem, &one);
     }
     Ok(())
 }
@@ -348,11 +431,10 @@ fn a_plain_program_agrees_on_a_transitive_axiom(rt: HostRuntime) -> Result<(), F
 fn gaps_and_pushes_of_a_transitive_axiom(rt: HostRuntime) -> Result<(), Fail> {
     let alloc = rt.alloc();
     let wanted = [atom(&rt, 0, &[o(0), o(1)])];
-    let problem = transitive(alloc, &rt, 30)?;
+    let problem = transitive(alloc, &rt, 30);
     let model = Model::new(alloc);
     let found = gaps_of(alloc, &rt, &problem, &wanted, 0, &model);
-    let all = matches!(&found, Ok(Some(gaps)) if gaps.len() == 900);
-    assert!(&rt; all);
+    assert!(&rt; matches!(&found, Ok(Some(gaps)) if gaps.len() == 900));
     let request = Request {
         problem: &problem,
         wanted: &wanted,
@@ -361,7 +443,6 @@ fn gaps_and_pushes_of_a_transitive_axiom(rt: HostRuntime) -> Result<(), Fail> {
         tables: &[],
     };
     let found = pushes_of(alloc, &rt, &request);
-    let all = matches!(&found, Ok(entries) if entries.len() == 31);
-    assert!(&rt; all);
+    assert!(&rt; has_count(&found, 31));
     Ok(())
 }

@@ -27,10 +27,14 @@ mod building;
 mod general_err;
 mod generalising;
 mod laws;
+#[cfg(test)]
+mod limit_tests;
 mod limits;
 mod naming;
 #[cfg(test)]
 mod plain_check;
+#[cfg(test)]
+mod plain_plans;
 #[cfg(test)]
 mod test_plans;
 #[cfg(test)]

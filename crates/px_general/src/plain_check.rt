@@ -1,90 +1,17 @@
-//! All supports of a small plan's shape over three objects, against the proper instances of its general table.
-ghost use Rattle.std.specs.Prelude.{◌≡◌, IsTrue};
+//! All supports of small plans' shapes over three objects, against the proper instances of their general tables.
+ghost use Rattle.std.specs.Prelude.{IsTrue};
 ghost use Rattle.px_terms.specs.Validity.{IsValid};
 ghost use Rattle.px_table.specs.Kernels.{IsInstantiation};
 ghost use Rattle.px_table.specs.Tables.{IsTable};
 
 use crate::generalise;
-use crate::test_plans::{atom, fact, instance, row, sequence_of};
-use px_base::Sequence;
-use px_table::{Table, check_table, marks, proper};
-use px_terms::{ClauseArena, Problem, Schema, Term, is_valid};
+use crate::plain_plans::{Form, candidate, small_problem};
+use crate::walking::walk;
+use px_table::{Table, check_table, proper};
+use px_terms::{Problem, Term};
 use std::alloc::Global;
 use std::process::Abort;
 use std::rt::HostRuntime;
-
-const X: Term = Term::Var(0);
-
-/// Three objects; MAKE(x) adds A(x), and PUT(x) deletes A(x) and adds B(x).
-fn making(alloc: Global, rt: &impl Abort) -> Problem
-    ensures { IsValid result }
-{
-    let (a, b) = (atom(rt, 0, &[X]), atom(rt, 1, &[X]));
-    let mut schemas = Vec::new(alloc);
-    schemas
-        .push(schema(alloc, rt, 0, &[], a))
-        .expect(rt, "memory");
-    schemas
-        .push(schema(alloc, rt, 1, &[a], b))
-        .expect(rt, "memory");
-    let problem = Problem {
-        objects: 3,
-        arities: sequence_of(alloc, rt, &[1, 1]),
-        axioms: ClauseArena::new(alloc),
-        schemas: Sequence::from_vec(schemas),
-        height: 8,
-        nodes: 100,
-        shapes: 100,
-    };
-    assert!(rt; is_valid(&problem));
-    problem
-}
-
-/// An operator of one parameter that needs nothing.
-fn schema(
-    alloc: Global,
-    rt: &impl Abort,
-    op: u32,
-    del: &[px_terms::Atom],
-    add: px_terms::Atom,
-) -> Schema {
-    Schema {
-        op,
-        params: 1,
-        pre: sequence_of(alloc, rt, &[]),
-        del: sequence_of(alloc, rt, del),
-        add: sequence_of(alloc, rt, &[add]),
-    }
-}
-
-/// MAKE and PUT of the first two objects, the goal A and B of the next two, and facts of the last two that the steps add.
-fn candidate(alloc: Global, rt: &impl Abort, objects: &[Term; 6]) -> Table
-    ensures { result.params ≡ 0 }
-{
-    let [made, put, a, b, first, second] = *objects;
-    let from_make = fact(1, 0, atom(rt, 0, &[first]));
-    let from_put = fact(2, 0, atom(rt, 1, &[second]));
-    let mut rows = Vec::new(alloc);
-    rows.push(row(alloc, rt, [None, None, None]))
-        .expect(rt, "memory");
-    rows.push(row(alloc, rt, [None, None, None]))
-        .expect(rt, "memory");
-    rows.push(row(alloc, rt, [Some(from_make), Some(from_put), None]))
-        .expect(rt, "memory");
-    assert!(rt; rows.len() == 3);
-    Table {
-        params: 0,
-        steps: sequence_of(
-            alloc,
-            rt,
-            &[instance(rt, 0, &[made]), instance(rt, 1, &[put])],
-        ),
-        goal: sequence_of(alloc, rt, &[atom(rt, 0, &[a]), atom(rt, 1, &[b])]),
-        goal_vars: 0,
-        marks: marks(alloc, &rows).expect(rt, "memory"),
-        proofs: Sequence::from_vec(rows),
-    }
-}
 
 /// Is there an object of the problem for each parameter?
 fn is_instantiation(problem: &Problem, table: &Table, sigma: &[u32]) -> bool
@@ -102,31 +29,33 @@ fn is_support(problem: &Problem, table: &Table) -> bool
         && proper(problem, table, &[], 1)
 }
 
-/// The terms of its steps, its goal and its marks.
+/// The terms of its leaves, its steps, its proofs and its goal.
 fn terms(alloc: Global, rt: &impl Abort, table: &Table) -> Vec<Term> {
-    let mut terms = Vec::new(alloc);
-    for inst in table.steps.as_slice() {
-        terms.extend_from_slice(inst.args()).expect(rt, "memory");
-    }
+    let mut terms = walk(alloc, table.steps.as_slice(), table.proofs.as_slice(), 0, 0).expect(
+        rt, "memory",
+    );
     for one in table.goal.as_slice() {
         terms.extend_from_slice(one.args()).expect(rt, "memory");
-    }
-    for mark in table.marks.as_slice() {
-        terms
-            .extend_from_slice(mark.atom.args())
-            .expect(rt, "memory");
     }
     terms
 }
 
-/// Is the term the other with these objects for parameters?
+/// Is the term the other with these objects for parameters? The goal's own variables come after those.
 fn is_under(sigma: &[u32], general: Term, term: Term) -> bool {
     match general {
         Term::Var(v) => match sigma.get(v as usize) {
             Some(object) => term == Term::Obj(*object),
-            None => false,
+            None => is_own(term, (v as usize).saturating_sub(sigma.len())),
         },
         Term::Obj(_) | Term::Any => term == general,
+    }
+}
+
+/// Is the term the variable of that number?
+fn is_own(term: Term, number: usize) -> bool {
+    match term {
+        Term::Var(v) => v as usize == number,
+        Term::Obj(_) | Term::Any => false,
     }
 }
 
@@ -155,47 +84,88 @@ fn has_instance(
     requires table { IsTable problem.now general.now }
 {
     let own = terms(alloc, rt, general);
-    for first in 0..3 {
-        for second in 0..3 {
-            let sigma = [first, second];
-            assert!(rt; is_instantiation(problem, general, &sigma));
-            if are_under(&sigma, &own, wanted) && proper(problem, general, &sigma, 1) {
-                return true;
-            }
+    assert!(rt; general.params <= 3);
+    for number in 0..27 {
+        let objects = digits(number);
+        let sigma = &objects[..general.params as usize];
+        assert!(rt; is_instantiation(problem, general, sigma));
+        if are_under(sigma, &own, wanted) && proper(problem, general, sigma, 1) {
+            return true;
         }
     }
     false
 }
 
-/// The six objects of that number.
-fn objects_of(number: u32) -> [Term; 6] {
+/// The eight digits to the base three of that number, the last one first.
+fn digits(number: u32) -> [u32; 8] {
     [
-        Term::Obj(number % 3),
-        Term::Obj(number / 3 % 3),
-        Term::Obj(number / 9 % 3),
-        Term::Obj(number / 27 % 3),
-        Term::Obj(number / 81 % 3),
-        Term::Obj(number / 243 % 3),
+        number % 3,
+        number / 3 % 3,
+        number / 9 % 3,
+        number / 27 % 3,
+        number / 81 % 3,
+        number / 243 % 3,
+        number / 729 % 3,
+        number / 2187 % 3,
     ]
 }
 
-/// Six of 729 are supports: PUT may not take away what MAKE made.
-#[test]
-fn supports_are_proper_instances(rt: HostRuntime) {
-    let problem = making(rt.alloc(), &rt);
-    let plan = candidate(rt.alloc(), &rt, &objects_of(3 + 27 + 243));
-    assert!(&rt; is_support(&problem, &plan));
-    assert!(&rt; check_table(&problem, &plan));
-    let general = generalise(rt.alloc(), &problem, &plan).expect(&rt, "memory");
+/// The objects of these numbers.
+fn objects_of(numbers: [u32; 8]) -> [Term; 8] {
+    numbers.map(|number| Term::Obj(number))
+}
+
+/// How many of the first tables of the form are supports: just those that are proper instances of what generalises the plan.
+fn supports(alloc: Global, rt: &impl Abort, form: Form, plan: [u32; 8], tables: u32) -> u32 {
+    let problem = small_problem(alloc, rt);
+    let plan = candidate(alloc, rt, form, &objects_of(plan));
+    assert!(rt; is_support(&problem, &plan));
+    assert!(rt; check_table(&problem, &plan));
+    let general = generalise(alloc, &problem, &plan).expect(rt, "memory");
     let mut found: u32 = 0;
-    for number in 0..729 {
-        let table = candidate(rt.alloc(), &rt, &objects_of(number));
+    for number in 0..tables {
+        let table = candidate(alloc, rt, form, &objects_of(digits(number)));
         let is_one = is_support(&problem, &table);
-        let own = terms(rt.alloc(), &rt, &table);
-        assert!(&rt; is_one == has_instance(rt.alloc(), &rt, &problem, &general, &own));
+        let own = terms(alloc, rt, &table);
+        assert!(rt; is_one == has_instance(alloc, rt, &problem, &general, &own));
         if is_one {
             found = found.saturating_add(1);
         }
     }
-    assert!(&rt; found == 6);
+    found
+}
+
+/// PUT may not take away what MAKE made.
+#[test]
+fn what_is_made_stays(rt: HostRuntime) {
+    let plan = [0, 1, 0, 1, 0, 1, 0, 0];
+    assert!(&rt; supports(rt.alloc(), &rt, Form::MakeAndPut, plan, 729) == 6);
+}
+
+/// An axiom's variables are what its literals need, and of another axiom an object stays.
+#[test]
+fn an_axiom_is_used(rt: HostRuntime) {
+    let turned = [1, 1, 1, 1, 1, 1, 1, 1];
+    assert!(&rt; supports(rt.alloc(), &rt, Form::ByAxiom, turned, 6561) == 9);
+    let kept = [1, 0, 1, 1, 1, 0, 0, 0];
+    assert!(&rt; supports(rt.alloc(), &rt, Form::AxiomsObject, kept, 729) == 3);
+}
+
+/// A complement of the goal is met below it.
+#[test]
+fn an_ancestor_is_met(rt: HostRuntime) {
+    assert!(&rt; supports(rt.alloc(), &rt, Form::ByAncestor, [2; 8], 27) == 3);
+}
+
+/// The two uses of a fact may be of different objects.
+#[test]
+fn a_fact_is_used_twice(rt: HostRuntime) {
+    assert!(&rt; supports(rt.alloc(), &rt, Form::UsedTwice, [0; 8], 729) == 9);
+}
+
+/// A goal's variable makes two objects one, and an object of the goal may be another.
+#[test]
+fn a_goal_has_variables(rt: HostRuntime) {
+    assert!(&rt; supports(rt.alloc(), &rt, Form::GoalVariable, [0; 8], 243) == 3);
+    assert!(&rt; supports(rt.alloc(), &rt, Form::OpenGoal, [0; 8], 243) == 9);
 }

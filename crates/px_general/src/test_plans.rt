@@ -118,10 +118,21 @@ pub fn rooms(alloc: Global, rt: &impl Abort) -> Problem
 pub fn the_other_way(alloc: Global, rt: &impl Abort, fact_of: Proof, theta: &[Term]) -> Proof {
     let mut subs = Vec::new(alloc);
     subs.push(fact_of).expect(rt, "memory");
+    by_axiom(alloc, rt, (0, 1), theta, subs)
+}
+
+/// The literal at that place of the axiom of that number, by proofs of the complements of the others.
+pub fn by_axiom(
+    alloc: Global,
+    rt: &impl Abort,
+    (clause, place): (u32, u32),
+    theta: &[Term],
+    subs: Vec<Proof>,
+) -> Proof {
     Proof::Step {
-        clause: 0,
+        clause,
         theta: sequence_of(alloc, rt, theta),
-        place: 1,
+        place,
         subs: Sequence::from_vec(subs),
     }
 }
@@ -155,7 +166,7 @@ pub fn plan(
     ensures table { IsTable problem.now result }
     ensures no_params { result.params ≡ 0 }
 {
-    assert!(rt; rows.len() <= 65);
+    assert!(rt; rows.len() <= 66);
     let table = Table {
         params: 0,
         steps: sequence_of(alloc, rt, steps),

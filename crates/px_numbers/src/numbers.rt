@@ -1,11 +1,11 @@
 //! All that a search keeps by number.
-ghost use Rattle.std.specs.Prelude.{◌≡◌, ◌<◌, ◌≤◌, ◌↔◌, ◌∷◌, List, [], Some, length, slice_get, All, Contains, IsTrue, IfOk, OnOk, IfSome, ℕ};
+ghost use Rattle.std.specs.Prelude.{◌≡◌, ◌<◌, ◌≤◌, ◌↔◌, ◌∷◌, List, [], Some, length, slice_get, All, Contains, IsTrue, IfOk, OnErr, OnOk, IfSome, ℕ};
 ghost use Rattle.std.specs.List.Sorted.{IsStrictlySortedBy};
 ghost use Rattle.std.specs.Ordering.{nat_cmp};
 ghost use Rattle.px_terms.specs.AtomSets.{IsAtomSet};
 ghost use Rattle.px_terms.specs.Instances.{IsGround};
 ghost use Rattle.px_table.specs.declared.entry.Entry.{Entry};
-ghost use Rattle.px_ops.specs.Keeping.{AreOnce, KeepsPlaces};
+ghost use Rattle.px_ops.specs.Keeping.{AreOnce, Keeps, KeepsPlaces};
 ghost use Rattle.px_numbers.specs.Numbers.{AreNumbersOf, AreSound, IsModelAt, IsStackAt, IsTopOf, KeepsAll};
 
 use crate::entries::EntryIndex;
@@ -36,6 +36,28 @@ impl std::marker::Model for Numbers {
     ghost invariant = { λ n. AreSound (record { atoms = n.atoms; lists = n.lists; entries = n.entries; frames = n.stacks }) };
 }
 
+/// The number of the atom, if it is this one.
+fn number_if(index: &AtomIndex, number: u32, atom: &Atom) -> Option<u32>
+    ensures { IfSome result (λ number. slice_get index.now number ≡ Some atom.now) }
+{
+    if number < index.count() && index.atom(number) == *atom {
+        return Some(number);
+    }
+    None
+}
+
+/// The number of the atom. Most atoms of a model have the number after that of the atom before them, so that one is tried first.
+fn number_of(index: &mut AtomIndex, next: u32, atom: &Atom) -> Result<u32, NoMemory>
+    requires { IsGround atom.now }
+    ensures kept { IfOk result (Keeps index.old index.new atom.now) }
+    ensures err { OnErr result (index.new ≡ index.old) }
+{
+    match number_if(index, next, atom) {
+        Some(number) => Ok(number),
+        None => index.intern(atom),
+    }
+}
+
 /// The numbers of the atoms, in their order.
 fn numbers_of(alloc: Global, index: &mut AtomIndex, atoms: &[Atom]) -> Result<Vec<u32>, NoMemory>
     requires { All IsGround atoms.now }
@@ -44,9 +66,11 @@ fn numbers_of(alloc: Global, index: &mut AtomIndex, atoms: &[Atom]) -> Result<Ve
     ensures numbers { IfOk result (λ numbers. AreNumbersOf index.new numbers.items atoms.now) }
 {
     let mut numbers = Vec::new(alloc);
+    let mut next = 0;
     for atom in atoms {
-        let number = index.intern(atom)?;
+        let number = number_of(index, next, atom)?;
         numbers.push(number)?;
+        next = number.saturating_add(1);
     }
     Ok(numbers)
 }

@@ -1,8 +1,8 @@
 -- What inserting or removing at the place of an atom makes of a model.
-use Rattle.std.proofs.Common.{◌≡◌, ◌+◌, ◌-◌, ◌<◌, ◌≤◌, ℕ, min, suc, Bool, true, false, List, [], ◌∷◌, ◌++◌, length, take, drop, get_or, refl, sym, ap, ◌∙◌, subst, inl, inr, arith, add-one, append_assoc, append-nil, add-zero, get_or-drop, length-append, length-drop, length-take}
+use Rattle.std.proofs.Common.{is_lt, ◌≡◌, ◌+◌, ◌-◌, ◌<◌, ◌≤◌, ℕ, min, suc, Bool, true, false, List, [], ◌∷◌, ◌++◌, length, take, drop, get_or, refl, sym, ap, ◌∙◌, subst, inl, inr, arith, add-one, append_assoc, append-nil, add-zero, get_or-drop, length-append, length-drop, length-take}
 use Rattle.std.specs.Prelude.{not, filter, All, Contains, cond, is_ok, Result, Ok, Err}
 use Rattle.std.proofs.Math.Seq.{drop-cons, take-suc}
-use Rattle.std.proofs.lemmas.List.{take-append-drop}
+use Rattle.std.proofs.lemmas.List.{get_or_default, take-append-drop}
 use Rattle.std.proofs.lemmas.List.Elements.{All-contains_itself, All-cons, Contains-append_cases, filter-append}
 use Rattle.std.proofs.lemmas.List.Sums.{length-filter, count_by-le-length}
 use Rattle.std.proofs.lemmas.List.Filters.{FiltersInPlace}
@@ -13,7 +13,7 @@ use Rattle.std.specs.List.{insert, remove}
 use Rattle.std.specs.List.Sorted.{IsStrictlySortedBy, IsBinarySearchResult, IsSearchInRange}
 use Rattle.std.specs.Ordering.{is_eq, ordering_reverse}
 use Rattle.std.specs.declared.cmp.Ordering.{Ordering}
-use Rattle.std.specs.declared.cmp.Ordering.TheVariants.{Less, Equal}
+use Rattle.std.specs.declared.cmp.Ordering.TheVariants.{Less, Equal, Greater}
 use Rattle.px_terms.specs.declared.atom.Atom.{Atom}
 use Rattle.px_terms.specs.Instances.{IsGround}
 use Rattle.px_base.specs.ListLaws.{Contains-filter}
@@ -23,7 +23,7 @@ use Rattle.px_terms.specs.AtomSets.{IsAtomSet, with_atom, atom_set}
 use Rattle.px_base.specs.ListLaws.{Contains-later, Contains-cases, AllByRecursion-at, AllByRecursion-map}
 use Rattle.px_base.specs.SetLaws.{with_item-sorted, with_item-members, same_set, set_of-sorted, set_of-push}
 use Rattle.px_ops.specs.Models.{IsModel, IsPlace, Parts, without_atom}
-use Rattle.px_ops.proofs.PlaceLemmas.{front_of, back_of, filter_all, around, rising, with_item-between}
+use Rattle.px_ops.proofs.PlaceLemmas.{front_of, back_of, filter_all, around, level_or_below, rising, sorted_pair, with_item-between}
 
 -- what a binary search answers is the place
 pub searched_place : (atoms : List Atom) (atom : Atom) (r : Result ℕ ℕ) → IsAtomSet atoms → IsSearchInRange r (length atoms)
@@ -38,6 +38,27 @@ searched_place atoms atom (Err i) sorted below found =
       record {
         below = front_of _ atoms i below parts.0;
         above = back_of _ atoms i (λ k d low high. atom_cmp-total.antisymm atom (get_or atoms k d) ∙ ap ordering_reverse (parts.1 k d low high));
+      },
+    )
+
+pub less_is : (r : Ordering) → is_lt r ≡ true → r ≡ Less
+less_is Less is = refl
+less_is Equal is = cc
+less_is Greater is = cc
+
+-- an atom above the last one comes after all
+pub last_place : (atoms : List Atom) (atom default : Atom) → IsAtomSet atoms → 0 < length atoms → atom_cmp (get_or atoms (length atoms - 1) default) atom ≡ Less → IsPlace atoms atom (Err (length atoms))
+last_place atoms atom default sorted some above =
+    let last = length atoms - 1 in
+    let within : last < length atoms = omega (arith, some) in
+    let last_below : (d : Atom) → atom_cmp (get_or atoms last d) atom ≡ Less = λ d. subst (λ (a : Atom). atom_cmp a atom ≡ Less) (get_or_default atoms last default d within) above in (
+      omega arith,
+      record {
+        below = front_of _ atoms (length atoms) (omega arith) (λ k d low high. elim (level_or_below k last (omega (arith, high, some))) [
+          | inl before ↦ atom_cmp-total.trans _ _ atom (sorted_pair atom_cmp atom_cmp-total atoms k last d sorted before within) (last_below d)
+          | inr level ↦ rw level (last_below d)
+        ]);
+        above = back_of _ atoms (length atoms) (λ k d low high. absurd (omega (arith, low, high)));
       },
     )
 

@@ -71,6 +71,19 @@ impl Model {
         self.atoms.binary_search(atom)
     }
 
+    /// The same. An atom that comes after all others is told by one comparison, as where a model is filled in order.
+    fn place_from_end(&self, atom: &Atom) -> Result<usize, usize>
+        ensures place { IsPlace self.now.atoms atom.now result }
+        ensures model { IsModel self.now.atoms }
+    {
+        let atoms = self.atoms();
+        let count = atoms.len();
+        if count > 0 && atoms[count - 1].cmp(atom).is_lt() {
+            return Err(count);
+        }
+        self.place(atom)
+    }
+
     /// Is the atom in the model? Takes no memory.
     pub fn holds(&self, atom: &Atom) -> bool
         ensures { IsTrue result ↔ Contains self.now.atoms atom.now }
@@ -92,7 +105,7 @@ impl Model {
         ensures there { Contains self.old.atoms atom → IsOk result }
         ensures err { OnErr result (self.new ≡ self.old) }
     {
-        match self.place(&atom) {
+        match self.place_from_end(&atom) {
             Ok(_) => Ok(false),
             Err(place) => {
                 self.reserve(1)?;
@@ -147,7 +160,7 @@ impl Model {
         ensures is_new { MatchBool result (¬ Contains self.old.atoms atom) (Contains self.old.atoms atom) }
         ensures spare { self.old.spare ≤ self.new.spare + 1 }
     {
-        match self.place(&atom) {
+        match self.place_from_end(&atom) {
             Ok(_) => false,
             Err(place) => {
                 self.put(place, atom);

@@ -15,7 +15,7 @@ use Rattle.px_terms.specs.OrderLaws.{atom_cmp-total, atom_cmp-same}
 use Rattle.px_rooms.specs.declared.standing.Standing.{Standing}
 use Rattle.px_rooms.specs.declared.standing.Standing.TheVariants.{Room as a_room, Door as a_door, Box as a_box}
 use Rattle.px_rooms.specs.Domain.{connects, in_room, is_box, is_door, is_room, robot}
-use Rattle.px_rooms.specs.States.{IsRoomState, RoomState, StandsRight, atoms_from, beside_atoms, door_atom, rendering, robot_atoms, thing_atoms}
+use Rattle.px_rooms.specs.States.{IsRoomState, RoomState, StandsRight, all_atoms, atoms_from, beside_atoms, door_atom, rendering, robot_atoms, thing_atoms}
 use Rattle.px_rooms.proofs.About.{IsAbout, all-about, thing-about}
 use Rattle.px_rooms.proofs.Telling.{about-same, second_number}
 
@@ -112,10 +112,6 @@ from-once all n (one ∷ things) (here, right) =
 all-by : {X : Type 0} (P : X → Type 0) (xs : List X) → ((x : X) → Contains xs x → P x) → AllByRecursion P xs
 all-by P [] each = tt
 all-by P (x ∷ xs) each = (each x (Contains-first x xs), all-by P xs (λ q has. each q (Contains-later x xs q has)))
-
--- all facts of a state, the robot's first
-abbrev pub all_atoms : RoomState → List Atom
-all_atoms state = robot_atoms state ++ atoms_from 1 state.things
 
 pub rendering-length : (state : RoomState) → IsRoomState state → length (rendering state) ≡ length (all_atoms state)
 rendering-length state is = set-of-once (all_atoms state)

@@ -11,8 +11,11 @@ use px_base::push;
 use px_terms::{ArenaErr, Atom, ClauseArena, Lit, NoMemory, Problem, Schema, Sequence, Term};
 use std::alloc::Global;
 
+/// The number of predicates.
+pub(crate) const PREDICATES: usize = 8;
+
 /// The number of arguments of each predicate.
-const ARITIES: [u8; 8] = [2, 2, 3, 1, 1, 1, 1, 1];
+const ARITIES: [u8; PREDICATES] = [2, 2, 3, 1, 1, 1, 1, 1];
 
 /// Returns the problem of a building: its objects are the robot, with number 0, and the things; its operators are those of the
 /// domain of buildings (`specs/Domain`, after Fikes, Hart and Nilsson 1972), and the limits are the given ones.

@@ -1,8 +1,6 @@
 //! The world of a building.
-ghost use Rattle.std.specs.Prelude.{◌≡◌, ◌⊎◌, ◌↔◌, ◌<◌, ◌≤◌, ◌+◌, ◌++◌, ℕ, List, [], length, Some, All, Contains, false, IsTrue, IsErrOf, IfOk, MatchResult, OnOk, OnErr, slice_get};
-ghost use Rattle.px_terms.specs.declared.atom.Atom.{Atom};
+ghost use Rattle.std.specs.Prelude.{◌≡◌, ◌⊎◌, ◌↔◌, ◌<◌, ◌≤◌, ◌+◌, ℕ, [], ◌∷◌, length, Some, All, Contains, false, IsTrue, IsErrOf, IfOk, MatchResult, OnOk, OnErr, slice_get};
 ghost use Rattle.px_terms.specs.declared.term.Term.TheVariants.{Obj};
-ghost use Rattle.px_terms.specs.AtomSets.{atom_set};
 ghost use Rattle.px_terms.specs.Instances.{IsGround};
 ghost use Rattle.px_terms.specs.Operators.{result_of};
 ghost use Rattle.px_terms.specs.Validity.{IsInstanceOf};
@@ -11,13 +9,13 @@ ghost use Rattle.px_world.specs.Worlds.{IsRefused};
 ghost use Rattle.px_rooms.specs.Changes.{IsAdmitted, IsMoved, acted, facts_edited, instance_of, state_edited};
 ghost use Rattle.px_rooms.specs.Following.{IsMet};
 ghost use Rattle.px_rooms.specs.Looking.{atoms_about, number_first};
-ghost use Rattle.px_rooms.specs.States.{IsBuilding, IsRoomState, atoms_from, building_rules, first_state, rendering, robot_atoms as atoms_of_robot};
+ghost use Rattle.px_rooms.specs.States.{AreAdded, IsBuilding, IsRoomState, all_atoms, atoms_from, building_rules, first_state, of_pred, rendering, robot_atoms as atoms_of_robot};
 
 use crate::action::RoomAction;
 use crate::building::Building;
 use crate::errors::{NoSuchThing, RoomErr};
 use crate::facts::{FewAtoms, ROBOT, in_room, next_to, thing_atoms};
-use crate::problem::problem_of;
+use crate::problem::{PREDICATES, problem_of};
 use crate::robots::Robots;
 use crate::standing::Standing;
 use crate::start::{first_things, robots_of};
@@ -222,6 +220,17 @@ impl RoomWorld {
         }
     }
 
+    /// Adds the facts of the predicate to a model that has room for them, those of smaller objects first.
+    fn add_facts(&self, pred: u32, into: &mut Model)
+        requires room { length (of_pred pred (all_atoms self.now)) ≤ into.old.spare }
+        ensures atoms { AreAdded (of_pred pred (all_atoms self.now)) into.old.atoms into.new.atoms }
+        ensures spare { into.old.spare ≤ into.new.spare + length (of_pred pred (all_atoms self.now)) }
+    {
+        self.known();
+        add_some(self.robot_atoms().as_slice(), pred, into);
+        add_things(&self.things, pred, into);
+    }
+
     /// Does what the action says.
     fn take(&mut self, action: &RoomAction)
         requires state { IsRoomState (acted action.now self.old) }
@@ -288,10 +297,12 @@ impl World for RoomWorld {
         self.has(atom)
     }
 
+    // Predicate by predicate, as the model is ordered: nearly every atom then comes after all that are there.
     fn sense(&self, into: &mut Model) {
         self.known();
-        add_all(self.robot_atoms().as_slice(), into);
-        add_things(&self.things, into);
+        for pred in 0..PREDICATES as u32 {
+            self.add_facts(pred, into);
+        }
     }
 
     /// Takes the action, or refuses it: exactly where an atom of the precondition isn't a fact.
@@ -346,26 +357,42 @@ fn number_at(terms: &[Term], place: usize) -> u32
     }
 }
 
-/// Adds ground atoms to a model that has room for them.
-fn add_all(atoms: &[Atom], into: &mut Model)
-    requires is_ground { All IsGround atoms.now }
-    requires room { length atoms.now ≤ into.old.spare }
-    ensures atoms { (before : List Atom) → into.old.atoms ≡ atom_set before → into.new.atoms ≡ atom_set (before ++ atoms.now) }
-    ensures spare { into.old.spare ≤ into.new.spare + length atoms.now }
+/// Adds a ground atom to a model that has room for it, if it is of the predicate.
+fn add_one(atom: &Atom, pred: u32, into: &mut Model)
+    requires is_ground { IsGround atom.now }
+    requires room { length (of_pred pred (atom.now ∷ [])) ≤ into.old.spare }
+    ensures atoms { AreAdded (of_pred pred (atom.now ∷ [])) into.old.atoms into.new.atoms }
+    ensures spare { into.old.spare ≤ into.new.spare + length (of_pred pred (atom.now ∷ [])) }
 {
-    for atom in atoms {
+    if atom.pred() == pred {
         into.insert_spare(*atom);
     }
 }
 
-/// Adds the facts about the things to a model that has room for them.
-fn add_things(things: &[Standing], into: &mut Model)
+/// Adds those of ground atoms that are of the predicate to a model that has room for them.
+fn add_some(atoms: &[Atom], pred: u32, into: &mut Model)
+    requires is_ground { All IsGround atoms.now }
+    requires room { length (of_pred pred atoms.now) ≤ into.old.spare }
+    ensures atoms { AreAdded (of_pred pred atoms.now) into.old.atoms into.new.atoms }
+    ensures spare { into.old.spare ≤ into.new.spare + length (of_pred pred atoms.now) }
+{
+    for atom in atoms {
+        add_one(atom, pred, into);
+    }
+}
+
+/// Adds the facts of the predicate about the things to a model that has room for them.
+fn add_things(things: &[Standing], pred: u32, into: &mut Model)
     requires few { length things.now < 4294967295 }
-    requires room { length (atoms_from 1 things.now) ≤ into.old.spare }
-    ensures atoms { (before : List Atom) → into.old.atoms ≡ atom_set before → into.new.atoms ≡ atom_set (before ++ atoms_from 1 things.now) }
-    ensures spare { into.old.spare ≤ into.new.spare + length (atoms_from 1 things.now) }
+    requires room { length (of_pred pred (atoms_from 1 things.now)) ≤ into.old.spare }
+    ensures atoms { AreAdded (of_pred pred (atoms_from 1 things.now)) into.old.atoms into.new.atoms }
+    ensures spare { into.old.spare ≤ into.new.spare + length (of_pred pred (atoms_from 1 things.now)) }
 {
     for (place, standing) in things.iter().enumerate() {
-        add_all(thing_atoms(place as u32 + 1, standing).as_slice(), into);
+        add_some(
+            thing_atoms(place as u32 + 1, standing).as_slice(),
+            pred,
+            into,
+        );
     }
 }

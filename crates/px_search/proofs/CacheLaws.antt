@@ -1,13 +1,11 @@
 -- What is kept stays right, and what is found is what was kept.
-use Rattle.std.proofs.Common.{◌≡◌, ◌⊎◌, ℕ, zero, suc, Bool, true, false, List, [], ◌∷◌, refl, sym, ◌∙◌, ap, subst, inl, inr, Some, slice_get, get_or}
+use Rattle.std.proofs.Common.{◌≡◌, ◌⊎◌, ℕ, Bool, List, [], sym, subst, inl, inr, Some, slice_get}
 use Rattle.std.specs.Prelude.{Contains, position}
 use Rattle.std.specs.Bool.{Decides}
 use Rattle.std.proofs.lemmas.Bool.Decides.{Decides-and, Decides-eqb, Decides-like}
-use Rattle.std.proofs.lemmas.List.Quantifiers.{position-Some}
 use Rattle.std.specs.Map.{keys_of}
 use Rattle.indexmap.specs.IndexMap.{insert_entry}
-use Rattle.px_base.specs.ListLaws.{Contains-none, Contains-first, Contains-later, Contains-cases}
-use Rattle.px_ops.specs.KeepLaws.{has_at}
+use Rattle.px_base.specs.ListLaws.{Contains-none}
 use Rattle.px_numbers.specs.Numbers.{Kept, KeepsAll}
 use Rattle.px_numbers.specs.NumberLaws.{model_at-grows}
 use Rattle.px_terms.specs.Operators.{results_of}
@@ -17,6 +15,7 @@ use Rattle.px_search.specs.Caches.{AreResults, IsCache, IsResultAt, IsStepsAt}
 use Rattle.px_search.specs.contracts.cache.PlacePartialEq.TheImpl as place_equality
 use Rattle.px_search.specs.declared.cache.Place.{Place}
 use Rattle.px_search.specs.declared.step.Step.{Step}
+use Rattle.px_search.proofs.Pairs.{pair-inserted, pair-found}
 use Rattle.px_search.proofs.StepLaws.{steps-grow}
 
 abbrev pub place_eq : Place → Place → Bool
@@ -70,41 +69,10 @@ results-remember task kept old new place number are here more other left has = e
   | inr same ↦ subst (λ (one : Place × ℕ). IsResultAt task kept one.0 one.1) (sym same) here
 ]
 
--- ---- inserting
+-- ---- inserting and looking up
 
 pub inserted : {V : Type 0} (entries : List (Place × V)) (place : Place) (value : V) (one : Place × V) → Contains (insert_entry place_eq entries place value) one → Contains entries one ⊎ (one ≡ (place, value))
-inserted {V} [] place value one has = elim (Contains-cases (place, value) [] one has) [
-  | inl is ↦ inr (sym is)
-  | inr later ↦ absurd (Contains-none one later)
-]
-inserted {V} (e ∷ es) place value one has = by (place_eq place e.0) refl (inserted es place value one)
-  where
-    by : (b : Bool) → place_eq place e.0 ≡ b → (Contains (insert_entry place_eq es place value) one → Contains es one ⊎ (one ≡ (place, value))) → Contains (e ∷ es) one ⊎ (one ≡ (place, value))
-    by true is rest =
-        let now : insert_entry place_eq (e ∷ es) place value ≡ (e.0, value) ∷ es = rw is refl in
-        elim (Contains-cases (e.0, value) es one (subst (λ (l : List (Place × V)). Contains l one) now has)) [
-          | inl same ↦ inr (sym same ∙ ap (λ (p : Place). (p, value)) (sym ((place_eq-decides place e.0).0 is)))
-          | inr later ↦ inl (Contains-later e es one later)
-        ]
-    by false is rest =
-        let now : insert_entry place_eq (e ∷ es) place value ≡ e ∷ insert_entry place_eq es place value = rw is refl in
-        elim (Contains-cases e (insert_entry place_eq es place value) one (subst (λ (l : List (Place × V)). Contains l one) now has)) [
-          | inl same ↦ inl (subst (Contains (e ∷ es)) same (Contains-first e es))
-          | inr later ↦ elim (rest later) [
-            | inl before ↦ inl (Contains-later e es one before)
-            | inr new ↦ inr new
-          ]
-        ]
-
--- ---- looking up
-
-keys_at : {V : Type 0} (entries : List (Place × V)) (i : ℕ) (d : Place) (one : Place × V) → slice_get entries i ≡ Some one → get_or (keys_of entries) i d ≡ one.0
-keys_at {V} [] i d one at = absurd (cc)
-keys_at {V} (e ∷ es) zero d one at = let same : e ≡ one = cc in ap (λ (p : Place × V). p.0) same
-keys_at {V} (e ∷ es) (suc i) d one at = keys_at es i d one at
+inserted {V} = pair-inserted place_eq place_eq-decides
 
 pub found_at : {V : Type 0} (entries : List (Place × V)) (place : Place) (i : ℕ) (one : Place × V) → position (place_eq place) (keys_of entries) ≡ Some i → slice_get entries i ≡ Some one → Contains entries (place, one.1)
-found_at {V} entries place i one found at =
-    let p = position-Some (place_eq place) (keys_of entries) i place found in
-    let same : place ≡ one.0 = (place_eq-decides place (get_or (keys_of entries) i place)).0 p.1 ∙ keys_at entries i place one at in
-    subst (λ (q : Place). Contains entries (q, one.1)) (sym same) (has_at entries i one at)
+found_at {V} = pair-found place_eq place_eq-decides

@@ -8,7 +8,9 @@ pub mod FrontierSteps
 pub mod GoingLaws
 pub mod LoopLaws
 pub mod NodeLemmas
+pub mod OfferLaws
 pub mod OriginLemmas
+pub mod Pairs
 pub mod StepLaws
 pub mod Stepping
 pub mod StruckLaws

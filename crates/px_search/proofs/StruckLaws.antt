@@ -26,13 +26,13 @@ use Rattle.px_search.specs.Steps.{IsStepOf, AreStepsOf, is_push_on, unstruck}
 
 -- ---- which pushes are struck out
 
-on_stack : (stack : List Entry) (entry : Entry) → is_push_on stack (Push entry) ≡ true ↔ Contains stack entry
+pub on_stack : (stack : List Entry) (entry : Entry) → is_push_on stack (Push entry) ≡ true ↔ Contains stack entry
 on_stack stack entry = (
   λ h. Contains-from_any (λ x y. (entry_eq-decides x y).0) entry stack h,
   λ h. list_any-from_Contains (decides_equiv entry_eq entry_eq-decides) entry stack h,
 )
 
-not_true : (b : Bool) → not b ≡ true ↔ (¬ (b ≡ true))
+pub not_true : (b : Bool) → not b ≡ true ↔ (¬ (b ≡ true))
 not_true true = (λ h. cc, λ h. absurd (h refl))
 not_true false = (λ h g. cc, λ h. refl)
 

@@ -1,5 +1,5 @@
 -- What a search is asked, as its code has it.
-use Rattle.std.specs.Prelude.{◌≡◌, ◌<◌, ◌≤◌, [], List, All}
+use Rattle.std.specs.Prelude.{◌≡◌, ◌<◌, ◌≤◌, [], List, All, IsTrue}
 use Rattle.px_terms.specs.declared.atom.Atom.{Atom}
 use Rattle.px_terms.specs.declared.problem.Problem.{Problem}
 use Rattle.px_terms.specs.Validity.{IsValid, IsAtomOf}
@@ -7,6 +7,7 @@ use Rattle.px_proof.specs.declared.shape.Tick.{Tick}
 use Rattle.px_table.specs.declared.node.Node.{Node}
 use Rattle.px_diff.specs.Entries.{Obligation}
 use Rattle.px_diff.specs.Questions.{MeetsLimit, Proving}
+use Rattle.px_diff.specs.Models.{IsNeverLimited}
 use Rattle.px_diff.specs.Learned.{AreLearned}
 use Rattle.px_diff.specs.declared.known.Tried.{Tried}
 use Rattle.px_diff.specs.declared.known.Tried.TheVariants.{Answered, Unanswered, Limited}
@@ -23,6 +24,7 @@ pub record IsAskable (asked : Asked) : Type 0 where
   pub goal : All (IsAtomOf asked.problem.now asked.vars) asked.goal.now
   pub few_variables : asked.vars ≤ 12
   pub some_object : 0 < asked.vars → 0 < asked.problem.now.objects
+  pub never_limited : IsTrue asked.is_never_limited → IsNeverLimited asked.problem.now asked.tables.now
 
 -- proving it doesn't meet the limit
 abbrev pub IsProvedBelow : Problem → Obligation → Type 0

@@ -2,5 +2,6 @@ pub mod Asking
 pub mod Caches
 pub mod Going
 pub mod Looping
+pub mod Offers
 pub mod Steps
 pub mod Planned

@@ -14,4 +14,6 @@ pub struct Asked<'a> {
     pub initial: &'a Model,
     pub goal: &'a [Atom],
     pub vars: u32,
+    /// Is it known that no question about an entry meets the limit of shapes, whatever the facts are?
+    pub is_never_limited: bool,
 }

@@ -7,6 +7,7 @@ ghost use Rattle.px_ends.specs.Ends.{IsExhausted, IsFound, IsShapeLimit};
 ghost use Rattle.px_ends.specs.Tasks.{initial_node};
 ghost use Rattle.px_search.specs.Asking.{IsAskable, IsTriedAt, task_for};
 ghost use Rattle.px_search.specs.Caches.{AreResults, IsCache};
+ghost use Rattle.px_search.specs.Offers.{AreOffers};
 ghost use Rattle.px_search.specs.Looping.{Going, IsEnd, IsProgress, Trying};
 ghost use Rattle.px_search.specs.Steps.{AreEarlier, Trace};
 ghost use Rattle.px_search.specs.declared.step.Step.{Step};
@@ -16,6 +17,7 @@ use crate::asked::Asked;
 use crate::cache::Cache;
 use crate::ends::SearchErr;
 use crate::moves::steps_from;
+use crate::offers::Offers;
 use crate::origins::moves_to;
 use crate::progress::Progress;
 use crate::results::Results;
@@ -140,6 +142,7 @@ fn go_through(
     asked: &Asked,
     numbers: &mut Numbers,
     cache: &mut Cache,
+    offers: &mut Offers,
     results: &mut Results,
     nodes: &mut NodeSet,
     origins: &mut Vec<Origin>,
@@ -149,12 +152,13 @@ fn go_through(
     requires going { Going (task_for asked.now) numbers.old nodes.old origins.old.items next [] }
     requires next { next < length nodes.old }
     requires cache { IsCache (task_for asked.now) numbers.old cache.old }
+    requires offers { AreOffers (task_for asked.now) numbers.old offers.old }
     requires results { AreResults (task_for asked.now) numbers.old results.old }
-    ensures gone { IfOk result (IsProgress (task_for asked.now) numbers.new nodes.new origins.new.items (Going (task_for asked.now) numbers.new nodes.new origins.new.items (next + 1) [] × IsCache (task_for asked.now) numbers.new cache.new × AreResults (task_for asked.now) numbers.new results.new)) }
+    ensures gone { IfOk result (IsProgress (task_for asked.now) numbers.new nodes.new origins.new.items (Going (task_for asked.now) numbers.new nodes.new origins.new.items (next + 1) [] × IsCache (task_for asked.now) numbers.new cache.new × AreOffers (task_for asked.now) numbers.new offers.new × AreResults (task_for asked.now) numbers.new results.new)) }
     ensures ends { IfErr result (IsEnd (task_for asked.now)) }
 {
     let key = nodes.node(next);
-    let steps = match steps_from(asked, numbers, cache, key) {
+    let steps = match steps_from(asked, numbers, cache, offers, key) {
         Ok(steps) => steps,
         Err(AskErr::ShapeLimit { formula, shapes }) => {
             return Err(limit_at(asked, numbers, key, formula, shapes));
@@ -186,6 +190,7 @@ fn walk(
     ensures ends { IfErr result (IsEnd (task_for asked.now)) }
 {
     let mut cache = Cache::new(asked.alloc);
+    let mut offers = Offers::new(asked.alloc);
     let mut results = Results::new(asked.alloc);
     let mut next = 0;
     while next < nodes.count() {
@@ -193,6 +198,7 @@ fn walk(
             asked,
             numbers,
             &mut cache,
+            &mut offers,
             &mut results,
             nodes,
             origins,

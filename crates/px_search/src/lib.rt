@@ -20,7 +20,9 @@
 //!
 //! Models, entries, stacks and nodes are numbers (`px_numbers`). What an entry allows in a model doesn't depend on what is below it
 //! on the stack, but for the entries that are there: what is learned of a pair of entry and model is kept (`cache`), unless a
-//! question about it meets the limit of shapes. So is the model that applying the entry leaves (`results`).
+//! question about it meets the limit of shapes. So is the model that applying the entry leaves (`results`). Where no question about an
+//! entry ever meets the limit, what may be pushed for a wanted atom depends only on the deciding facts of the model: that is kept for
+//! each wanted atom and each number of a model's deciding part (`offers`).
 #![tactic(auto)]
 
 mod after;
@@ -30,6 +32,8 @@ mod cache;
 mod effects;
 mod ends;
 mod moves;
+mod offering;
+mod offers;
 mod origins;
 mod picks;
 mod planning;

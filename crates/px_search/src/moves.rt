@@ -1,13 +1,15 @@
 //! The moves that are allowed at a node.
-ghost use Rattle.std.specs.Prelude.{◌≡◌, ◌∷◌, ◌⊎◌, List, [], Some, All, Contains, IfOk, OnOk};
-ghost use Rattle.px_diff.specs.Known.{IsOpenWith};
+ghost use Rattle.std.specs.Prelude.{◌≡◌, ◌∷◌, ◌⊎◌, List, [], Some, take, All, Contains, IfOk, OnOk};
+ghost use Rattle.px_diff.specs.Known.{IsKnownOf, IsOpenWith};
 ghost use Rattle.px_diff.specs.declared.known.Tried.TheVariants.{Unanswered};
 ghost use Rattle.px_table.specs.declared.node.Node.{Node};
-ghost use Rattle.px_diff.specs.Entries.{IsEntry};
+ghost use Rattle.px_diff.specs.Entries.{IsEntry, obligations_of};
 ghost use Rattle.px_diff.specs.Outcomes.{IfLimit};
 ghost use Rattle.px_numbers.specs.Numbers.{IsKeyOf, IsTopOf, KeepsAll};
 ghost use Rattle.px_search.specs.Asking.{IsAskable, IsTriedAt, task_for};
 ghost use Rattle.px_search.specs.Caches.{IsCache, IsTopAt};
+ghost use Rattle.px_search.specs.Offers.{AreOffers};
+ghost use Rattle.px_terms.specs.AtomSets.{IsAtomSet};
 ghost use Rattle.px_search.specs.Going.{IsGoneOn, LimitsNode};
 ghost use Rattle.px_search.specs.declared.cache.Place.{Place};
 ghost use Rattle.px_search.specs.declared.step.Step.{Step};
@@ -15,9 +17,11 @@ ghost use Rattle.px_ends.specs.Tasks.{needs_with};
 
 use crate::asked::Asked;
 use crate::cache::{Cache, Place};
+use crate::offering::pushes_offered;
+use crate::offers::Offers;
 use crate::picks::{numbered, struck};
 use crate::step::Step;
-use px_diff::{AskErr, Known, known_entry, known_formula, relevant};
+use px_diff::{AskErr, Known, known_below, known_entry, known_formula, relevant};
 use px_numbers::{Frame, NodeKey, Numbers, stack_at};
 use px_ops::Model;
 use px_table::Entry;
@@ -32,27 +36,37 @@ pub fn steps_from(
     asked: &Asked,
     numbers: &mut Numbers,
     cache: &mut Cache,
+    offers: &mut Offers,
     key: NodeKey,
 ) -> Result<Vec<Step>, AskErr>
     requires asked { IsAskable asked.now }
     requires node { (node : Node) × IsKeyOf numbers.old key node × All (IsEntry asked.now.problem.now asked.now.tables.now) node.stack × IsTriedAt (task_for asked.now) node Unanswered }
     requires cache { IsCache (task_for asked.now) numbers.old cache.old }
+    requires offers { AreOffers (task_for asked.now) numbers.old offers.old }
     ensures keeps { KeepsAll numbers.old numbers.new }
     ensures cache { OnOk result (IsCache (task_for asked.now) numbers.new cache.new) }
+    ensures offers { OnOk result (AreOffers (task_for asked.now) numbers.new offers.new) }
     ensures steps { IfOk result (λ steps. (node : Node) → IsKeyOf numbers.old key node → IsGoneOn (task_for asked.now) numbers.new node steps.items) }
     ensures limited { IfLimit result (λ formula shapes. (node : Node) → IsKeyOf numbers.old key node → LimitsNode (task_for asked.now) node formula shapes) }
 {
     match numbers.top(key.stack) {
-        None => steps_to_goal(asked, numbers, key),
-        Some(frame) => steps_on(asked, numbers, cache, key, frame),
+        None => steps_to_goal(asked, numbers, offers, key),
+        Some(frame) => steps_on(asked, numbers, cache, offers, key, frame),
     }
 }
 
 /// The moves of a node without a stack, whose goal has no answer.
-fn steps_to_goal(asked: &Asked, numbers: &mut Numbers, key: NodeKey) -> Result<Vec<Step>, AskErr>
+fn steps_to_goal(
+    asked: &Asked,
+    numbers: &mut Numbers,
+    offers: &mut Offers,
+    key: NodeKey,
+) -> Result<Vec<Step>, AskErr>
     requires asked { IsAskable asked.now }
     requires node { (node : Node) × IsKeyOf numbers.old key node × (node.stack ≡ []) × IsTriedAt (task_for asked.now) node Unanswered }
+    requires offers { AreOffers (task_for asked.now) numbers.old offers.old }
     ensures keeps { KeepsAll numbers.old numbers.new }
+    ensures offers { OnOk result (AreOffers (task_for asked.now) numbers.new offers.new) }
     ensures steps { IfOk result (λ steps. (node : Node) → IsKeyOf numbers.old key node → IsGoneOn (task_for asked.now) numbers.new node steps.items) }
     ensures limited { IfLimit result (λ formula shapes. (node : Node) → IsKeyOf numbers.old key node → LimitsNode (task_for asked.now) node formula shapes) }
 {
@@ -62,7 +76,7 @@ fn steps_to_goal(asked: &Asked, numbers: &mut Numbers, key: NodeKey) -> Result<V
         Known::Limited { formula, shapes } => Err(AskErr::ShapeLimit { formula, shapes }),
         Known::Applicable => unreachable!(),
         Known::Closed => Ok(Vec::new(asked.alloc)),
-        Known::Open(gaps) => pushes(asked, numbers, &model, &[], gaps.as_slice()),
+        Known::Open(gaps) => pushes_to_goal(asked, numbers, offers, &model, gaps.as_slice()),
     }
 }
 
@@ -71,14 +85,17 @@ fn steps_on(
     asked: &Asked,
     numbers: &mut Numbers,
     cache: &mut Cache,
+    offers: &mut Offers,
     key: NodeKey,
     frame: Frame,
 ) -> Result<Vec<Step>, AskErr>
     requires asked { IsAskable asked.now }
     requires node { (node : Node) × IsKeyOf numbers.old key node × All (IsEntry asked.now.problem.now asked.now.tables.now) node.stack × IsTopOf numbers.old node.stack (Some frame) }
     requires cache { IsCache (task_for asked.now) numbers.old cache.old }
+    requires offers { AreOffers (task_for asked.now) numbers.old offers.old }
     ensures keeps { KeepsAll numbers.old numbers.new }
     ensures cache { OnOk result (IsCache (task_for asked.now) numbers.new cache.new) }
+    ensures offers { OnOk result (AreOffers (task_for asked.now) numbers.new offers.new) }
     ensures steps { IfOk result (λ steps. (node : Node) → IsKeyOf numbers.old key node → IsGoneOn (task_for asked.now) numbers.new node steps.items) }
     ensures limited { IfLimit result (λ formula shapes. (node : Node) → IsKeyOf numbers.old key node → LimitsNode (task_for asked.now) node formula shapes) }
 {
@@ -91,8 +108,20 @@ fn steps_on(
             let left = struck(asked.alloc, numbers, frame.below, steps.as_slice())?;
             Ok(left)
         }
-        None => steps_anew(asked, numbers, cache, key, frame),
+        None => steps_anew(asked, numbers, cache, offers, key, frame),
     }
+}
+
+/// What is known of the entry in the model.
+fn known_top(asked: &Asked, entry: &Entry, model: &Model) -> Result<Known, NoMemory>
+    requires asked { IsAskable asked.now }
+    requires entry { IsEntry asked.now.problem.now asked.now.tables.now entry.now }
+    ensures { IfOk result (IsKnownOf asked.now.problem.now (obligations_of asked.now.problem.now asked.now.tables.now model.now.atoms entry.now)) }
+{
+    if asked.is_never_limited {
+        return known_below(asked.alloc, asked.problem, asked.tables, entry, model);
+    }
+    known_entry(asked.alloc, asked.problem, asked.tables, entry, model)
 }
 
 /// The moves of a node of which nothing is known yet, with this frame on top. What doesn't depend on the rest of its stack is
@@ -101,14 +130,17 @@ fn steps_anew(
     asked: &Asked,
     numbers: &mut Numbers,
     cache: &mut Cache,
+    offers: &mut Offers,
     key: NodeKey,
     frame: Frame,
 ) -> Result<Vec<Step>, AskErr>
     requires asked { IsAskable asked.now }
     requires node { (node : Node) × IsKeyOf numbers.old key node × All (IsEntry asked.now.problem.now asked.now.tables.now) node.stack × IsTopOf numbers.old node.stack (Some frame) }
     requires cache { IsCache (task_for asked.now) numbers.old cache.old }
+    requires offers { AreOffers (task_for asked.now) numbers.old offers.old }
     ensures keeps { KeepsAll numbers.old numbers.new }
     ensures cache { OnOk result (IsCache (task_for asked.now) numbers.new cache.new) }
+    ensures offers { OnOk result (AreOffers (task_for asked.now) numbers.new offers.new) }
     ensures steps { IfOk result (λ steps. (node : Node) → IsKeyOf numbers.old key node → IsGoneOn (task_for asked.now) numbers.new node steps.items) }
     ensures limited { IfLimit result (λ formula shapes. (node : Node) → IsKeyOf numbers.old key node → LimitsNode (task_for asked.now) node formula shapes) }
 {
@@ -119,7 +151,7 @@ fn steps_anew(
         entry: frame.entry,
     };
     let top = numbers.entry(frame.entry);
-    let known = known_entry(asked.alloc, asked.problem, asked.tables, top, &model)?;
+    let known = known_top(asked, top, &model)?;
     match known {
         Known::Limited { formula, shapes } => Err(AskErr::ShapeLimit { formula, shapes }),
         Known::Closed => {
@@ -139,7 +171,7 @@ fn steps_anew(
                 model: &model,
                 stack: stack.as_slice(),
             };
-            pushes_over(asked, numbers, cache, &here, gaps.as_slice())
+            pushes_over(asked, numbers, cache, offers, &here, gaps.as_slice())
         }
     }
 }
@@ -177,12 +209,64 @@ struct Here<'a> {
     stack: &'a [Entry],
 }
 
+/// The pushes of a node without a stack, with these gaps.
+fn pushes_to_goal(
+    asked: &Asked,
+    numbers: &mut Numbers,
+    offers: &mut Offers,
+    model: &Model,
+    gaps: &[Atom],
+) -> Result<Vec<Step>, AskErr>
+    requires asked { IsAskable asked.now }
+    requires model { IsAtomSet model.now.atoms }
+    requires gaps { IsOpenWith asked.now.problem.now (needs_with (task_for asked.now) model.now.atoms []) gaps.now }
+    requires offers { AreOffers (task_for asked.now) numbers.old offers.old }
+    ensures keeps { KeepsAll numbers.old numbers.new }
+    ensures offers { OnOk result (AreOffers (task_for asked.now) numbers.new offers.new) }
+    ensures steps { IfOk result (λ steps. IsGoneOn (task_for asked.now) numbers.new (record { model = model.now.atoms; stack = [] }) steps.items) }
+    ensures limited { IfLimit result (LimitsNode (task_for asked.now) (record { model = model.now.atoms; stack = [] })) }
+{
+    if asked.is_never_limited {
+        let steps = pushes_offered(asked, numbers, offers, model, 0, gaps)?;
+        Ok(steps)
+    } else {
+        pushes(asked, numbers, model, &[], gaps)
+    }
+}
+
+/// The pushes for the gaps of the top entry, over the entry alone.
+fn pushes_alone(
+    asked: &Asked,
+    numbers: &mut Numbers,
+    offers: &mut Offers,
+    here: &Here,
+    gaps: &[Atom],
+) -> Result<Vec<Step>, AskErr>
+    requires asked { IsAskable asked.now }
+    requires here { IsTopAt numbers.old here.now.place here.now.below here.now.model.now.atoms here.now.stack.now }
+    requires gaps { IsOpenWith asked.now.problem.now (needs_with (task_for asked.now) here.now.model.now.atoms here.now.stack.now) gaps.now }
+    requires offers { AreOffers (task_for asked.now) numbers.old offers.old }
+    ensures keeps { KeepsAll numbers.old numbers.new }
+    ensures offers { OnOk result (AreOffers (task_for asked.now) numbers.new offers.new) }
+    ensures limited { IfLimit result (λ formula shapes. AreOffers (task_for asked.now) numbers.new offers.new) }
+    ensures steps { IfOk result (λ steps. IsGoneOn (task_for asked.now) numbers.new (record { model = here.now.model.now.atoms; stack = take 1 here.now.stack.now }) steps.items) }
+{
+    if asked.is_never_limited {
+        let alone = numbers.pushed(here.place.entry, 0)?;
+        let steps = pushes_offered(asked, numbers, offers, here.model, alone, gaps)?;
+        Ok(steps)
+    } else {
+        pushes(asked, numbers, here.model, &here.stack[..1], gaps)
+    }
+}
+
 /// The pushes for the gaps of the top entry. Those over the entry alone are kept. Where a question about these meets the limit, one about
 /// the node's may still not: an entry on its stack isn't asked about.
 fn pushes_over(
     asked: &Asked,
     numbers: &mut Numbers,
     cache: &mut Cache,
+    offers: &mut Offers,
     here: &Here,
     gaps: &[Atom],
 ) -> Result<Vec<Step>, AskErr>
@@ -190,13 +274,14 @@ fn pushes_over(
     requires here { IsTopAt numbers.old here.now.place here.now.below here.now.model.now.atoms here.now.stack.now }
     requires gaps { IsOpenWith asked.now.problem.now (needs_with (task_for asked.now) here.now.model.now.atoms here.now.stack.now) gaps.now }
     requires cache { IsCache (task_for asked.now) numbers.old cache.old }
+    requires offers { AreOffers (task_for asked.now) numbers.old offers.old }
     ensures keeps { KeepsAll numbers.old numbers.new }
     ensures cache { OnOk result (IsCache (task_for asked.now) numbers.new cache.new) }
+    ensures offers { OnOk result (AreOffers (task_for asked.now) numbers.new offers.new) }
     ensures steps { IfOk result (λ steps. IsGoneOn (task_for asked.now) numbers.new (record { model = here.now.model.now.atoms; stack = here.now.stack.now }) steps.items) }
     ensures limited { IfLimit result (LimitsNode (task_for asked.now) (record { model = here.now.model.now.atoms; stack = here.now.stack.now })) }
 {
-    let alone = &here.stack[..1];
-    match pushes(asked, numbers, here.model, alone, gaps) {
+    match pushes_alone(asked, numbers, offers, here, gaps) {
         Ok(steps) => {
             let kept = Sequence::from_vec(steps);
             let left = struck(asked.alloc, numbers, here.below, kept.as_slice())?;

@@ -32,7 +32,7 @@ pub fn numbered(
 }
 
 /// The step at the place.
-fn step_at(steps: &[Step], place: usize) -> Step
+pub fn step_at(steps: &[Step], place: usize) -> Step
     requires { place < length steps.now }
     ensures { slice_get steps.now place ≡ Some result }
 {

@@ -19,6 +19,7 @@ ghost use Rattle.px_search.specs.Planned.{IsPlanned};
 use crate::asked::Asked;
 use crate::breadth_first::found_by_moves;
 use crate::ends::{Found, SearchErr};
+use px_diff::never_limited;
 use px_ops::Model;
 use px_support::{Support, support_of};
 use px_table::{Move, Table};
@@ -94,13 +95,19 @@ pub fn search(
     ensures always_node_limit { (nodes : List Node) (moves : ℕ) → IsNodeLimit (task_of problem.now tables.now initial.now.atoms goal.now vars) nodes moves → IsErrOf result (SearchErr.NodeLimit nodes moves) ⊎ IsErrOf result SearchErr.NoMemory }
     ensures always_shape_limit { (node : Node) (formula : List Atom) (shapes : List (List Tick)) → IsShapeLimit (task_of problem.now tables.now initial.now.atoms goal.now vars) node formula shapes → ((there : Node) × (kept : List Atom) × (first : List (List Tick)) × IsErrOf result (SearchErr.ShapeLimit there kept first)) ⊎ IsErrOf result SearchErr.NoMemory }
 {
-    let asked = Asked {
-        alloc,
-        problem,
-        tables,
-        initial,
-        goal,
-        vars,
-    };
-    found_plan(&asked)
+    match never_limited(alloc, problem, tables) {
+        Ok(is_never_limited) => {
+            let asked = Asked {
+                alloc,
+                problem,
+                tables,
+                initial,
+                goal,
+                vars,
+                is_never_limited,
+            };
+            found_plan(&asked)
+        }
+        Err(_) => Err(SearchErr::NoMemory),
+    }
 }

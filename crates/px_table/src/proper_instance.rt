@@ -1,5 +1,5 @@
 //! Proper instances of kernels.
-ghost use Rattle.std.specs.Prelude.{◌≡◌, ◌↔◌, ◌<◌, ◌≤◌, ◌+◌, All, IsTrue, length};
+ghost use Rattle.std.specs.Prelude.{◌≡◌, ◌↔◌, ◌<◌, ◌≤◌, ◌+◌, All, Any, IsTrue, length};
 ghost use Rattle.px_terms.specs.Instances.{IsGround};
 ghost use Rattle.px_terms.specs.Operators.{IsDeleted, schema_of as spec_schema_of};
 ghost use Rattle.px_terms.specs.Validity.{IsAtomOf, IsValid};
@@ -11,7 +11,7 @@ use crate::mark::Mark;
 use crate::table::Table;
 use crate::under_objects::{atom_with, instance_with};
 use px_ops::{deletes, schema_of};
-use px_terms::{Atom, OpInst, Problem};
+use px_terms::{Atom, OpInst, Problem, Schema};
 
 /// Is the instance of kernel `i` under the objects of `sigma` proper? It is where no step from `i` on deletes the instance of
 /// a mark between whose column and row it stands: two parameters may have one object, and a step may then delete what a
@@ -72,6 +72,17 @@ pub fn is_kept(problem: &Problem, table: &Table, sigma: &[u32], first: u32, mark
     true
 }
 
+/// Is one of the operator's delete patterns about the predicate?
+fn may_delete(schema: &Schema, pred: u32) -> bool
+    ensures { IsTrue result ↔ Any (λ pattern. pattern.pred ≡ pred) schema.now.del }
+{
+    schema
+        .del
+        .as_slice()
+        .iter()
+        .any(|pattern| pattern.pred() == pred)
+}
+
 /// Does the step's instance delete the atom?
 fn step_deletes(problem: &Problem, table: &Table, sigma: &[u32], step: &OpInst, atom: &Atom) -> bool
     requires problem { IsValid problem.now }
@@ -80,6 +91,9 @@ fn step_deletes(problem: &Problem, table: &Table, sigma: &[u32], step: &OpInst, 
     requires is_ground { IsGround atom.now }
     ensures { IsTrue result ↔ IsDeleted (spec_schema_of problem.now (instance_under sigma.now step.now)) (instance_under sigma.now step.now) atom.now }
 {
+    if !may_delete(schema_of(problem, step), atom.pred()) {
+        return false;
+    }
     let inst = instance_with(sigma, step);
     deletes(schema_of(problem, &inst), &inst, atom)
 }

@@ -39,8 +39,8 @@ returns-then-is_limited c =
     (subst (λ (l : List Atom). IsKnownOf problem (record { formula = l; vars = 0; facts = facts } ∷ []) c.in_ok-row.row) (c.deref.ensures.value ∙ c.in_ok-formula.ensures ∙ ap (initial_atoms table sigma) (add-one place)) c.in_ok-row.ensures)
     c.in_ok-both.ensures (c.is_limited.ensures.0 c.if-is_limited.true)
 
-pub left_of-requires-clause-inst : goal.left_of-requires-clause-inst
-left_of-requires-clause-inst c =
+pub left_in_place-requires-clause-inst : goal.left_in_place-requires-clause-inst
+left_in_place-requires-clause-inst c =
     steps-ground c.args.problem.now c.args.table.now c.args.sigma.now c.loop-place.place c.step_under-step.result c.requires.table c.requires.prefix.count (omega (arith, c.loop-place-test.true, c.requires.prefix.within)) c.step_under-step.ensures
 
 pub loop-place-preserved : goal.loop-place-preserved

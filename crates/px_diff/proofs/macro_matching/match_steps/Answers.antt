@@ -1,29 +1,34 @@
-use Rattle.std.proofs.Common.{◌≡◌, length}
-use Rattle.px_base.specs.ListLaws.{All-at}
-use Rattle.px_question.specs.Answers.{object_terms}
-use Rattle.px_table.specs.Tables.{IsStepOf}
-use Rattle.px_terms.specs.Operators.{adds}
-use Rattle.px_terms.specs.Substitution.{substitute_atom}
-use Rattle.px_terms.specs.declared.atom.Atom.{Atom}
+use Rattle.std.proofs.Common.{◌+◌, List, drop, length, map, subst, arith}
+use Rattle.px_table.specs.Kernels.{instance_under}
+use Rattle.px_terms.specs.Operators.{IsAdded, adds}
 use Rattle.px_terms.specs.declared.instance.OpInst.{OpInst}
 use Rattle.px_diff.specs.Closings.{OneOf}
-use Rattle.px_diff.proofs.Loops.{contains_here}
-use Rattle.px_diff.proofs.MatchLemmas.{matches_first, matches_next, matches_whole}
+use Rattle.px_diff.specs.Parameters.{IsLeftAdd, Matches}
+use Rattle.px_diff.proofs.LeftAdds.{AddedBefore, added-before, added-whole}
+use Rattle.px_diff.proofs.Slices.{rest_is}
+use Rattle.px_diff.proofs.MatchLemmas.{matches_less, matches_none, matches_part}
 use Rattle.px_diff.proofs.macro_matching.match_steps.Goals as goal
 
-pub loop-step-init : goal.loop-step-init
-loop-step-init c = matches_first c.args.problem.now.objects (length c.args.start.now) c.args.start.now (λ (step : OpInst) sigma. OneOf (adds c.args.problem.now step) (λ (add : Atom). substitute_atom (object_terms sigma) add ≡ c.args.wanted.now)) c.args.found.now.items
+pub loop-place-init : goal.loop-place-init
+loop-place-init c = matches_none c.args.problem.now.objects (length c.args.start.now) c.args.start.now (λ sigma. AddedBefore c.args.problem.now c.args.wanted.now sigma c.args.steps.now 0) c.args.found.now.items (λ sigma extends w. omega (arith, w.2))
 
-pub match_step-requires-clause-step : goal.match_step-requires-clause-step
-match_step-requires-clause-step c =
-    All-at (IsStepOf c.args.problem.now (length c.args.start.now)) c.args.steps.now c.step-item.result c.requires.steps (contains_here c.args.steps.now c.loop-step.step-index c.step-item.result c.loop-step-test.true c.step-item.is)
-
-pub loop-step-preserved : goal.loop-step-preserved
-loop-step-preserved c =
-    matches_next c.args.problem.now.objects (length c.args.start.now) c.args.start.now (λ (step : OpInst) sigma. OneOf (adds c.args.problem.now step) (λ (add : Atom). substitute_atom (object_terms sigma) add ≡ c.args.wanted.now)) c.args.steps.now c.loop-step.step-index c.step-item.result
-    c.loop-step-test.true c.step-item.is c.args.found.now.items c.loop-step.found.items c.match_step.new.found.items c.loop-step.invariant c.in_ok-match_step.ensures
+pub loop-place-preserved : goal.loop-place-preserved
+loop-place-preserved c =
+    let problem = c.args.problem.now in
+    let start = c.args.start.now in
+    let steps = c.args.steps.now in
+    let wanted = c.args.wanted.now in
+    let place = c.loop-place.place in
+    let step = c.index-steps-place.result in
+    matches_part problem.objects (length start) start (λ sigma. AddedBefore problem wanted sigma steps place) (λ sigma. OneOf (adds problem step) (IsLeftAdd problem (drop (place + 1) steps) wanted sigma)) (λ sigma. AddedBefore problem wanted sigma steps (place + 1))
+    c.args.found.now.items c.loop-place.found.items c.match_step.new.found.items (λ sigma added. added-before problem wanted sigma steps place step c.index-steps-place.is added) c.loop-place.invariant
+    (subst (λ (later : List OpInst). Matches problem.objects (length start) start (λ sigma. OneOf (adds problem step) (IsLeftAdd problem later wanted sigma)) c.loop-place.found.items c.match_step.new.found.items) (rest_is (place + 1) steps) c.in_ok-match_step.ensures)
 
 pub returns : goal.returns
 returns c =
-    matches_whole c.args.problem.now.objects (length c.args.start.now) c.args.start.now (λ (step : OpInst) sigma. OneOf (adds c.args.problem.now step) (λ (add : Atom). substitute_atom (object_terms sigma) add ≡ c.args.wanted.now)) c.args.steps.now c.loop-step.step-index
-    c.args.found.now.items c.loop-step.found.items c.loop-step-test.false c.loop-step.invariant
+    let problem = c.args.problem.now in
+    let start = c.args.start.now in
+    let steps = c.args.steps.now in
+    let wanted = c.args.wanted.now in
+    matches_less problem.objects (length start) start (λ sigma. AddedBefore problem wanted sigma steps c.loop-place.place) (λ sigma. IsAdded problem (map (instance_under sigma) steps) wanted) c.args.found.now.items c.loop-place.found.items
+    (λ sigma added. added-whole problem wanted sigma steps c.loop-place.place (omega (arith, c.loop-place-test.false)) added) c.loop-place.invariant

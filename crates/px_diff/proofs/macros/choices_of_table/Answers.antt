@@ -5,13 +5,13 @@ use Rattle.px_diff.specs.Bindings.{AreUnbound, IsBinding}
 use Rattle.px_diff.proofs.Describing.{unbound-binding}
 use Rattle.px_diff.proofs.macros.choices_of_table.Goals as goal
 
-pub macro_matches-requires-clause-steps : goal.macro_matches-requires-clause-steps
-macro_matches-requires-clause-steps c =
+pub one_matches-requires-clause-steps : goal.one_matches-requires-clause-steps
+one_matches-requires-clause-steps c =
     let long : length c.as_slice-terms.result.now ≡ c.args.table.now.params = ap length c.as_slice-terms.ensures.value ∙ c.in_ok-made.ensures.count in
     subst (λ (n : ℕ). All (IsStepOf c.args.request.now.problem.now n) c.as_slice-steps.result.now) (sym long) (subst (All (IsStepOf c.args.request.now.problem.now c.args.table.now.params)) (sym c.as_slice-steps.ensures) c.requires.table.in_range.steps)
 
-pub macro_matches-requires-clause-binding : goal.macro_matches-requires-clause-binding
-macro_matches-requires-clause-binding c =
+pub one_matches-requires-clause-binding : goal.one_matches-requires-clause-binding
+one_matches-requires-clause-binding c =
     subst (IsBinding c.args.request.now.problem.now.objects) (sym c.as_slice-terms.ensures.value) (unbound-binding c.args.request.now.problem.now.objects c.args.table.now.params c.in_ok-made.made.items c.in_ok-made.ensures (λ _. omega (arith, c.if-problem-eq0.false)))
 
 pub choices_of_rows-requires-clause-terms : goal.choices_of_rows-requires-clause-terms

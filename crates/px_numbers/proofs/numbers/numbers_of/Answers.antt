@@ -8,12 +8,12 @@ use Rattle.px_numbers.proofs.numbers.numbers_of.Goals as goal
 
 pub returns-in_err-push-clause-once : goal.returns-in_err-push-clause-once
 returns-in_err-push-clause-once c = λ once.
-    keeps-once c.loop-atom.index c.intern.new.self c.atom-item.result c.in_ok-number.number c.in_ok-number.ensures.kept (c.loop-atom.invariant.once once)
+    keeps-once c.loop-atom.index c.number_of.new.index c.atom-item.result c.in_ok-number.number c.in_ok-number.ensures.kept (c.loop-atom.invariant.once once)
 
 pub loop-atom-preserved : goal.loop-atom-preserved
 loop-atom-preserved c =
     let old = c.loop-atom.index in
-    let new = c.intern.new.self in
+    let new = c.number_of.new.index in
     let atom = c.atom-item.result in
     let number = c.in_ok-number.number in
     let i = c.loop-atom.atom-index in

@@ -9,6 +9,7 @@ use Rattle.px_search.specs.declared.step.Step.{Step}
 use Rattle.px_search.specs.Going.{LimitsNode}
 use Rattle.px_search.specs.Looping.{IsProgress, Trying}
 use Rattle.px_search.proofs.CacheLaws.{cache-grows, results-grow}
+use Rattle.px_search.proofs.OfferLaws.{offers-grow}
 use Rattle.px_search.proofs.GoingLaws.{here_of, trying-start}
 use Rattle.px_search.proofs.LoopLaws.{asks_here, limit-of_node, node-done}
 use Rattle.px_search.proofs.breadth_first.go_through.Goals as goal
@@ -35,6 +36,7 @@ loop-turn-init c =
     record {
       trying = trying-start task c.args.numbers.now c.steps_from.new.numbers c.args.nodes.now c.args.origins.now.items c.args.next c.node-key.result c.in-Ok.steps.items c.in-Ok.ensures.keeps c.requires.going c.node-key.ensures c.in-Ok.ensures.steps;
       cached = c.in-Ok.ensures.cache;
+      offers = c.in-Ok.ensures.offers;
       results = results-grow task c.args.numbers.now c.steps_from.new.numbers c.args.results.now c.in-Ok.ensures.keeps c.requires.results;
     }
 
@@ -49,6 +51,7 @@ loop-turn-preserved c =
           ((steps : List Step) (i : ℕ) → Trying task c.loop-turn.numbers c.loop-turn.nodes c.loop-turn.origins.items c.args.next steps i → slice_get steps i ≡ Some c.step_at-step.result → Trying task c.make_move.new.numbers c.make_move.new.nodes c.make_move.new.origins.items c.args.next steps (i + 1)))
           c.in-Unsolved.is c.in_ok-progress.ensures.made c.in-Ok.steps.items c.loop-turn.turn c.loop-turn.invariant.trying c.step_at-step.ensures;
       cached = cache-grows task c.loop-turn.numbers c.make_move.new.numbers c.steps_from.new.cache c.in_ok-progress.ensures.keeps c.loop-turn.invariant.cached;
+      offers = offers-grow task c.loop-turn.numbers c.make_move.new.numbers c.steps_from.new.offers c.in_ok-progress.ensures.keeps c.loop-turn.invariant.offers;
       results = c.in_ok-progress.ensures.results;
     }
 
@@ -56,6 +59,7 @@ pub returns-clause-gone : goal.returns-clause-gone
 returns-clause-gone c = (
   node-done (task_for c.args.asked.now) c.loop-turn.numbers c.loop-turn.nodes c.loop-turn.origins.items c.args.next c.in-Ok.steps.items c.loop-turn.turn c.loop-turn.invariant.trying (omega (arith, c.loop-turn-test.false, c.len-turn-end.ensures)),
   c.loop-turn.invariant.cached,
+  c.loop-turn.invariant.offers,
   c.loop-turn.invariant.results,
 )
 

@@ -19,8 +19,8 @@ use Rattle.px_search.proofs.moves.steps_anew.Goals as goal
 pub entry-top-requires : goal.entry-top-requires
 entry-top-requires c = some_top c.args.numbers.now c.requires.node.0.stack c.args.frame c.requires.node.3
 
-pub known_entry-requires-clause-entry : goal.known_entry-requires-clause-entry
-known_entry-requires-clause-entry c =
+pub known_top-requires-clause-entry : goal.known_top-requires-clause-entry
+known_top-requires-clause-entry c =
     top_entry c.args.numbers.now (IsEntry c.args.asked.now.problem.now c.args.asked.now.tables.now) c.requires.node.0.stack c.args.frame c.entry-top.result.now c.requires.node.2 c.requires.node.3 c.entry-top.ensures
 
 pub returns-in-Limited-clause-limited : goal.returns-in-Limited-clause-limited

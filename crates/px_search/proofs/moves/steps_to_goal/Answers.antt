@@ -43,8 +43,8 @@ returns-in-Closed-clause-steps c =
     (subst (λ (s : List Step). IsGoneOn task kept (record { model = model; stack = [] }) s) (sym c.new.ensures.items)
     (gone-closed task kept (record { model = model; stack = [] }) (subst (IsKnownOf task.problem (goal_from task model ∷ [])) c.in-Closed.is c.in_ok-known.ensures)))
 
-pub pushes-requires-clause-gaps : goal.pushes-requires-clause-gaps
-pushes-requires-clause-gaps c =
+pub pushes_to_goal-requires-clause-gaps : goal.pushes_to_goal-requires-clause-gaps
+pushes_to_goal-requires-clause-gaps c =
     let task = task_for c.args.asked.now in
     let needs = goal_from task c.in_ok-model.model.atoms ∷ [] in
     subst (IsOpenWith task.problem needs) (sym c.as_slice.ensures) (subst (IsKnownOf task.problem needs) c.in-Open.is c.in_ok-known.ensures)
@@ -52,10 +52,10 @@ pushes-requires-clause-gaps c =
 pub returns-clause-steps : goal.returns-clause-steps
 returns-clause-steps c =
     let task = task_for c.args.asked.now in
-    let new = c.pushes.new.numbers in
+    let new = c.pushes_to_goal.new.numbers in
     let n = c.requires.node in
     let model = c.in_ok-model.model.atoms in
-    if_ok (λ steps. IsGoneOn task new (record { model = model; stack = [] }) steps.items) (λ steps. (node : Node) → IsKeyOf c.args.numbers.now c.args.key node → IsGoneOn task new node steps.items) c.pushes.result c.pushes.ensures.steps
+    if_ok (λ steps. IsGoneOn task new (record { model = model; stack = [] }) steps.items) (λ steps. (node : Node) → IsKeyOf c.args.numbers.now c.args.key node → IsGoneOn task new node steps.items) c.pushes_to_goal.result c.pushes_to_goal.ensures.steps
     (λ steps gone. goal-each c.args.numbers.now c.args.key model n.0 n.1 n.2 c.in_ok-model.ensures (λ (node : Node). IsGoneOn task new node steps.items) gone)
 
 pub returns-clause-limited : goal.returns-clause-limited
@@ -63,5 +63,5 @@ returns-clause-limited c =
     let task = task_for c.args.asked.now in
     let n = c.requires.node in
     let model = c.in_ok-model.model.atoms in
-    if_limit (LimitsNode task (record { model = model; stack = [] })) (λ formula shapes. (node : Node) → IsKeyOf c.args.numbers.now c.args.key node → LimitsNode task node formula shapes) c.pushes.result c.pushes.ensures.limited
+    if_limit (LimitsNode task (record { model = model; stack = [] })) (λ formula shapes. (node : Node) → IsKeyOf c.args.numbers.now c.args.key node → LimitsNode task node formula shapes) c.pushes_to_goal.result c.pushes_to_goal.ensures.limited
     (λ formula shapes limits. goal-each c.args.numbers.now c.args.key model n.0 n.1 n.2 c.in_ok-model.ensures (λ (node : Node). LimitsNode task node formula shapes) limits)

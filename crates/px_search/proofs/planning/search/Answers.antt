@@ -12,78 +12,78 @@ use Rattle.px_search.proofs.Answering.{answers_found, answers_exhausted, answers
 use Rattle.px_search.proofs.FewMoves.{few-moves}
 use Rattle.px_search.proofs.planning.search.Goals as goal
 
-pub returns-clause-found : goal.returns-clause-found
-returns-clause-found c =
+pub returns-in-Ok-clause-found : goal.returns-in-Ok-clause-found
+returns-in-Ok-clause-found c =
     let task = task_of c.args.problem.now c.args.tables.now c.args.initial.now.atoms c.args.goal.now c.args.vars in
     each_plan task c.found_plan.result c.found_plan.ensures.planned (λ plan. IsFound task plan.moves) (λ plan is. is.found)
 
-pub returns-clause-few : goal.returns-clause-few
-returns-clause-few c =
+pub returns-in-Ok-clause-few : goal.returns-in-Ok-clause-few
+returns-in-Ok-clause-few c =
     let task = task_of c.args.problem.now c.args.tables.now c.args.initial.now.atoms c.args.goal.now c.args.vars in
     each_plan task c.found_plan.result c.found_plan.ensures.planned (λ plan. length plan.moves < c.args.problem.now.nodes) (λ plan is. few-moves task plan.moves is.found)
 
-pub returns-clause-steps : goal.returns-clause-steps
-returns-clause-steps c =
+pub returns-in-Ok-clause-steps : goal.returns-in-Ok-clause-steps
+returns-in-Ok-clause-steps c =
     let task = task_of c.args.problem.now c.args.tables.now c.args.initial.now.atoms c.args.goal.now c.args.vars in
     each_plan task c.found_plan.result c.found_plan.ensures.planned (λ plan. plan.steps ≡ steps_of c.args.tables.now [] plan.moves) (λ plan is. is.steps)
 
-pub returns-clause-rows : goal.returns-clause-rows
-returns-clause-rows c =
+pub returns-in-Ok-clause-rows : goal.returns-in-Ok-clause-rows
+returns-in-Ok-clause-rows c =
     let task = task_of c.args.problem.now c.args.tables.now c.args.initial.now.atoms c.args.goal.now c.args.vars in
     each_plan task c.found_plan.result c.found_plan.ensures.planned (λ plan. MovesRows task (initial_node task) [] plan.moves (rows_of plan.support.items)) (λ plan is. is.rows)
 
-pub returns-clause-supports : goal.returns-clause-supports
-returns-clause-supports c =
+pub returns-in-Ok-clause-supports : goal.returns-in-Ok-clause-supports
+returns-in-Ok-clause-supports c =
     let task = task_of c.args.problem.now c.args.tables.now c.args.initial.now.atoms c.args.goal.now c.args.vars in
     each_plan task c.found_plan.result c.found_plan.ensures.planned
     (λ plan. Supports c.args.problem.now c.args.initial.now.atoms plan.steps c.args.goal.now c.args.vars (rows_of plan.support.items)) (λ plan is. is.supports)
 
-pub returns-clause-of_problem : goal.returns-clause-of_problem
-returns-clause-of_problem c =
+pub returns-in-Ok-clause-of_problem : goal.returns-in-Ok-clause-of_problem
+returns-in-Ok-clause-of_problem c =
     let task = task_of c.args.problem.now c.args.tables.now c.args.initial.now.atoms c.args.goal.now c.args.vars in
     each_plan task c.found_plan.result c.found_plan.ensures.planned (λ plan. AreOfProblem c.args.problem.now (rows_of plan.support.items)) (λ plan is. is.of_problem)
 
-pub returns-clause-instances : goal.returns-clause-instances
-returns-clause-instances c =
+pub returns-in-Ok-clause-instances : goal.returns-in-Ok-clause-instances
+returns-in-Ok-clause-instances c =
     let task = task_of c.args.problem.now c.args.tables.now c.args.initial.now.atoms c.args.goal.now c.args.vars in
     each_plan task c.found_plan.result c.found_plan.ensures.planned (λ plan. All (IsInstanceOf c.args.problem.now) plan.steps) (λ plan is. is.instances)
 
-pub returns-clause-carries : goal.returns-clause-carries
-returns-clause-carries c =
+pub returns-in-Ok-clause-carries : goal.returns-in-Ok-clause-carries
+returns-in-Ok-clause-carries c =
     let task = task_of c.args.problem.now c.args.tables.now c.args.initial.now.atoms c.args.goal.now c.args.vars in
     each_plan task c.found_plan.result c.found_plan.ensures.planned
     (λ plan. Carries c.args.problem.now c.args.initial.now.atoms plan.steps c.args.vars c.args.goal.now) (λ plan is. is.carries)
 
-pub returns-clause-short : goal.returns-clause-short
-returns-clause-short c =
+pub returns-in-Ok-clause-short : goal.returns-in-Ok-clause-short
+returns-in-Ok-clause-short c =
     let task = task_of c.args.problem.now c.args.tables.now c.args.initial.now.atoms c.args.goal.now c.args.vars in
     each_plan task c.found_plan.result c.found_plan.ensures.planned (λ plan. length plan.steps < 4294967295) (λ plan is. is.short)
 
-pub returns-clause-exhausted : goal.returns-clause-exhausted
-returns-clause-exhausted c = end-exhausted (task_of c.args.problem.now c.args.tables.now c.args.initial.now.atoms c.args.goal.now c.args.vars) c.found_plan.result c.found_plan.ensures.ends
+pub returns-in-Ok-clause-exhausted : goal.returns-in-Ok-clause-exhausted
+returns-in-Ok-clause-exhausted c = end-exhausted (task_of c.args.problem.now c.args.tables.now c.args.initial.now.atoms c.args.goal.now c.args.vars) c.found_plan.result c.found_plan.ensures.ends
 
-pub returns-clause-node_limit : goal.returns-clause-node_limit
-returns-clause-node_limit c = end-limit (task_of c.args.problem.now c.args.tables.now c.args.initial.now.atoms c.args.goal.now c.args.vars) c.found_plan.result c.found_plan.ensures.ends
+pub returns-in-Ok-clause-node_limit : goal.returns-in-Ok-clause-node_limit
+returns-in-Ok-clause-node_limit c = end-limit (task_of c.args.problem.now c.args.tables.now c.args.initial.now.atoms c.args.goal.now c.args.vars) c.found_plan.result c.found_plan.ensures.ends
 
-pub returns-clause-shape_limit : goal.returns-clause-shape_limit
-returns-clause-shape_limit c = end-shape_limit (task_of c.args.problem.now c.args.tables.now c.args.initial.now.atoms c.args.goal.now c.args.vars) c.found_plan.result c.found_plan.ensures.ends
+pub returns-in-Ok-clause-shape_limit : goal.returns-in-Ok-clause-shape_limit
+returns-in-Ok-clause-shape_limit c = end-shape_limit (task_of c.args.problem.now c.args.tables.now c.args.initial.now.atoms c.args.goal.now c.args.vars) c.found_plan.result c.found_plan.ensures.ends
 
-pub returns-clause-always_found : goal.returns-clause-always_found
-returns-clause-always_found c =
+pub returns-in-Ok-clause-always_found : goal.returns-in-Ok-clause-always_found
+returns-in-Ok-clause-always_found c =
     let task = task_of c.args.problem.now c.args.tables.now c.args.initial.now.atoms c.args.goal.now c.args.vars in
     answers_found (λ (plan : Found). plan.moves) task c.found_plan.result (found-in task c.found_plan.result c.found_plan.ensures.planned) c.found_plan.ensures.ends
 
-pub returns-clause-always_exhausted : goal.returns-clause-always_exhausted
-returns-clause-always_exhausted c =
+pub returns-in-Ok-clause-always_exhausted : goal.returns-in-Ok-clause-always_exhausted
+returns-in-Ok-clause-always_exhausted c =
     let task = task_of c.args.problem.now c.args.tables.now c.args.initial.now.atoms c.args.goal.now c.args.vars in
     answers_exhausted (λ (plan : Found). plan.moves) task c.found_plan.result (found-in task c.found_plan.result c.found_plan.ensures.planned) c.found_plan.ensures.ends
 
-pub returns-clause-always_node_limit : goal.returns-clause-always_node_limit
-returns-clause-always_node_limit c =
+pub returns-in-Ok-clause-always_node_limit : goal.returns-in-Ok-clause-always_node_limit
+returns-in-Ok-clause-always_node_limit c =
     let task = task_of c.args.problem.now c.args.tables.now c.args.initial.now.atoms c.args.goal.now c.args.vars in
     answers_limit (λ (plan : Found). plan.moves) task c.found_plan.result (found-in task c.found_plan.result c.found_plan.ensures.planned) c.found_plan.ensures.ends
 
-pub returns-clause-always_shape_limit : goal.returns-clause-always_shape_limit
-returns-clause-always_shape_limit c =
+pub returns-in-Ok-clause-always_shape_limit : goal.returns-in-Ok-clause-always_shape_limit
+returns-in-Ok-clause-always_shape_limit c =
     let task = task_of c.args.problem.now c.args.tables.now c.args.initial.now.atoms c.args.goal.now c.args.vars in
     answers_shape_limit (λ (plan : Found). plan.moves) task c.found_plan.result (found-in task c.found_plan.result c.found_plan.ensures.planned) c.found_plan.ensures.ends

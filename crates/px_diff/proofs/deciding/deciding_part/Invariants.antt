@@ -1,0 +1,10 @@
+use Rattle.std.proofs.Common.{take}
+use Rattle.std.specs.Prelude.{IfSome}
+use Rattle.px_diff.specs.Deciding.{AreDeciding, IsTold}
+use Rattle.px_diff.proofs.deciding.deciding_part.Given as goal
+
+abbrev pub invariant-loop-atom : goal.invariant-loop-atom
+invariant-loop-atom l = record {
+  part : AreDeciding l.problem (take l.atom-index l.facts) l.part.atoms;
+  told : IfSome l.told (IsTold l.problem);
+}
