@@ -45,12 +45,15 @@ mod AddedLemmas
 mod FittingLemmas
 mod GatherLemmas
 mod WholeLemmas
+mod FirstOrder
+mod FirstLemmas
 mod RestLaws
 mod RestOpening
 mod DecidingLaws
 mod DecidingSteps
 mod ModelLaws
 mod PlainLaws
+mod MacroOpen
 mod ShapeCounts
 mod ListBounds
 mod AtomBounds

@@ -41,7 +41,7 @@ first-or-none : {X : Type 0} (P : X → Type 0) (xs : List X) → ((x : X) → P
 first-or-none P [] all each = inr (λ x is. Contains-none x (all x is))
 first-or-none P (x ∷ xs) all each = inl (x, each x (Contains-first x xs))
 
-answer-decided : (s : Setting) (formula : List Atom) → Decided (IsAnswer s formula 0)
+pub answer-decided : (s : Setting) (formula : List Atom) → Decided (IsAnswer s formula 0)
 answer-decided s formula =
     let proofs = listed-proofs (proofs_in s) s.axioms s.objects (finite-proofs s) s.height [] (literals_of formula []) in
     elim (first-or-none (AreProofs (proofs_in s) s.axioms s.objects (finite-proofs s) s.height [] (literals_of formula [])) proofs.items proofs.all proofs.each) [

@@ -31,7 +31,7 @@ use Rattle.px_diff.proofs.Ordered.{sorted_members}
 
 module _ (problem : Problem) (tables : List Table) (wanted : List Atom) (stack : List Entry) (model : List Atom) where
   -- a relevant instance adds a wanted atom
-  operator_adds : (inst : OpInst) → IsRelevant problem tables wanted stack (Op inst) → OneOf wanted (Contains (adds problem inst))
+  pub operator_adds : (inst : OpInst) → IsRelevant problem tables wanted stack (Op inst) → OneOf wanted (Contains (adds problem inst))
   operator_adds inst relevant = (relevant.atom, relevant.is_wanted, elim relevant.added [ inl now ↦ now.0 | inr never ↦ absurd never ])
 
   pub operators_gather : (matches : List PartialInstance) (found : List OpInst) → Covers problem (λ full. OneOf wanted (Contains (adds problem full))) [] matches → Gathers problem tables wanted stack model (IsCovered problem matches) [] found
@@ -49,7 +49,7 @@ module _ (problem : Problem) (tables : List Table) (wanted : List Atom) (stack :
         subst (λ (e : Entry). AreUnlimited problem (obligations_of problem tables model e)) same (gathers.unlimited inst (covers.all inst here.is_entry (operator_adds inst here)) here);
   }
 
-  either : (entry : Entry) → IsOperatorEntry entry ⊎ IsMacroEntry entry
+  pub either : (entry : Entry) → IsOperatorEntry entry ⊎ IsMacroEntry entry
   either (Op inst) = inl (inst, refl)
   either (Macro number prefix sigma) = inr (number, (prefix, (sigma, refl)))
 

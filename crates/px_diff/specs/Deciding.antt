@@ -1,12 +1,11 @@
 -- Which facts decide whether an entry is open. An atom whose predicate some operator adds, and no axiom mentions, never does: it is a
 -- fact, or a gap closes it.
-use Rattle.std.specs.Prelude.{◌≡◌, ◌⊎◌, ◌↔◌, ℕ, List, Any, Contains, IsTrue}
+use Rattle.std.specs.Prelude.{◌≡◌, ◌⊎◌, ◌↔◌, ℕ, List, Any, Contains}
 use Rattle.px_terms.specs.Operators.{IsAddable}
 use Rattle.px_terms.specs.declared.atom.Atom.{Atom}
 use Rattle.px_terms.specs.declared.clause.Clause.{Clause}
 use Rattle.px_terms.specs.declared.clause.Lit.{Lit}
 use Rattle.px_terms.specs.declared.problem.Problem.{Problem}
-use Rattle.px_diff.specs.declared.deciding.Told.{Told}
 
 -- a literal of some axiom is about the predicate
 abbrev pub IsMentioned : List Clause → ℕ → Type 0
@@ -23,7 +22,3 @@ AreDeciding problem facts deciding = (atom : Atom) → Contains deciding atom �
 -- both have the same deciding facts
 abbrev pub DecideAlike : Problem → List Atom → List Atom → Type 0
 DecideAlike problem facts others = (atom : Atom) → IsDeciding problem atom → Contains facts atom ↔ Contains others atom
-
--- whether the atoms of a predicate decide is told rightly
-abbrev pub IsTold : Problem → Told → Type 0
-IsTold problem told = (atom : Atom) → atom.pred ≡ told.pred → IsTrue told.decides ↔ IsDeciding problem atom

@@ -11,6 +11,7 @@ pub mod Deciding
 pub mod Described
 pub mod Entries
 pub mod Few
+pub mod Firsts
 pub mod Forms
 pub mod GapAnswers
 pub mod Gathering
@@ -19,6 +20,7 @@ pub mod Joined
 pub mod Known
 pub mod Learned
 pub mod Listed
+pub mod MacroOpen
 pub mod Macros
 pub mod Models
 pub mod Outcomes
@@ -31,3 +33,4 @@ pub mod Requests
 pub mod Rest
 pub mod RowQuestions
 pub mod Stacks
+pub mod Told

@@ -1,5 +1,5 @@
 -- Gathering the entries that may be pushed, part by part.
-use Rattle.std.specs.Prelude.{◌≡◌, ◌⊎◌, ◌<◌, ◌≤◌, ℕ, Some, List, [], ◌∷◌, length, slice_get, slice_index, Contains}
+use Rattle.std.specs.Prelude.{◌≡◌, ◌⊎◌, ◌<◌, ◌≤◌, ℕ, Some, true, List, [], ◌∷◌, length, slice_get, slice_index, Contains}
 use Rattle.px_table.specs.declared.entry.Entry.{Entry}
 use Rattle.px_table.specs.declared.entry.Entry.TheVariants.{Macro, Op}
 use Rattle.px_table.specs.declared.table.Table.{Table}
@@ -10,6 +10,8 @@ use Rattle.px_terms.specs.declared.term.Term.{Term}
 use Rattle.px_diff.specs.Bindings.{Extends}
 use Rattle.px_diff.specs.Closings.{OneOf}
 use Rattle.px_diff.specs.Entries.{obligations_of}
+use Rattle.px_diff.specs.MacroOpen.{IsToldByFacts}
+use Rattle.px_diff.specs.Models.{IsNeverLimited}
 use Rattle.px_diff.specs.Parameters.{Fits}
 use Rattle.px_diff.specs.RowQuestions.{FitsEach}
 use Rattle.px_diff.specs.Pushes.{IsPushable, IsRelevant}
@@ -58,6 +60,11 @@ pub record IsFrontOf (tables : List Table) (front : Front) : Type 0 where
   pub table : slice_get tables front.number ≡ Some front.table.now
   pub several : 2 ≤ front.count
   pub within : front.count ≤ length front.table.now.steps
+
+-- they are those of a table of the request; where it is said that the facts tell which of its MACROPs are open, they do
+pub record IsFrontFor (request : Request) (front : Front) : Type 0 where
+  pub of_tables : IsFrontOf request.tables.now front
+  pub told : front.is_told ≡ true → IsNeverLimited request.problem.now request.tables.now × IsToldByFacts request.problem.now front.table.now
 
 -- the entry takes so many first steps of the table of that number, with whatever objects
 abbrev pub IsOfFront : ℕ → ℕ → Entry → Type 0

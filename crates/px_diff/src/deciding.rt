@@ -4,7 +4,8 @@ ghost use Rattle.px_terms.specs.AtomSets.{with_atom};
 ghost use Rattle.px_terms.specs.Instances.{IsGround};
 ghost use Rattle.px_terms.specs.Validity.{IsValid};
 ghost use Rattle.px_terms.specs.declared.clause.Lit.{Lit as LitValue};
-ghost use Rattle.px_diff.specs.Deciding.{AreDeciding, IsDeciding, IsMentioned, IsTold};
+ghost use Rattle.px_diff.specs.Deciding.{AreDeciding, IsDeciding, IsMentioned};
+ghost use Rattle.px_diff.specs.Told.{IsTold};
 
 use px_ops::{Model, is_addable};
 use px_terms::{Atom, Lit, NoMemory, Problem};

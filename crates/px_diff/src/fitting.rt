@@ -22,7 +22,31 @@ fn count_fitting(objects: u32, terms: &[Term], choices: &[Sequence<Term>], most:
     count
 }
 
-/// The place of a row with the fewest choices that can fit the terms, among the rows of these numbers. None where there is no number.
+/// Fewer choices than so many are few.
+const FEW: usize = 5;
+
+/// The place of the first row of which few choices can fit the terms, among the rows of these numbers.
+fn with_few(
+    objects: u32,
+    terms: &[Term],
+    rows: &[Sequence<Sequence<Term>>],
+    numbers: &[usize],
+) -> Option<usize>
+    requires long { All (All (λ (choice : List TermValue). length choice ≡ length terms.now)) rows.now }
+    requires numbers { All (λ number. number < length rows.now) numbers.now }
+    ensures { IfSome result (λ place. place < length numbers.now) }
+{
+    for place in 0..numbers.len() {
+        let row = rows[numbers[place]].as_slice();
+        if count_fitting(objects, terms, row, FEW) < FEW {
+            return Some(place);
+        }
+    }
+    None
+}
+
+/// The place of a row with few choices that can fit the terms, or else with the fewest, among the rows of these numbers. None where there
+/// is no number.
 pub fn fewest(
     objects: u32,
     terms: &[Term],
@@ -35,6 +59,9 @@ pub fn fewest(
 {
     if numbers.is_empty() {
         return None;
+    }
+    if let Some(place) = with_few(objects, terms, rows, numbers) {
+        return Some(place);
     }
     let mut least = 0;
     let mut count = usize::MAX;

@@ -9,4 +9,6 @@ pub struct Front<'a> {
     pub table: &'a Table,
     /// How many of its steps there are.
     pub count: u32,
+    /// Do the facts tell which of its MACROPs are open, so that no question is asked about their rows?
+    pub is_told: bool,
 }

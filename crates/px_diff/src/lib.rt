@@ -28,6 +28,10 @@
 //!   same deciding facts allow the same pushes ([`relevance_over_models`]). [`never_limited`] tells by the numbers of shapes that no
 //!   question about any entry can meet the limit, whatever the facts are; [`known_below`] is then `known_entry`, told by the facts where
 //!   they suffice.
+//! - A search that has no room for all that may be pushed asks [`relevant_first`]: where no question about an entry is ever limited, it
+//!   answers the first of what `relevant` answers for an empty stack, in the same order. It may leave off once it has as many as are
+//!   wanted: after a match of an operator where each instance of a later match comes after all those found, after all operators, and
+//!   after a number of first steps of a table. It says whether they are all.
 //! - [`initial_of`], [`step_under`] and [`left_of`] are what a MACROP's needs are made of: the initial facts of a row, a step with
 //!   objects for its parameters, and what it leaves of the facts.
 //! - What `relevant` answers with an empty stack serves every stack: what may be pushed over a stack is its list without the
@@ -42,10 +46,11 @@
 //! The definitions are in `specs/`: `Entries` (what an entry needs, does and adds, and when it is open), `Pushes` (which
 //! entries are relevant, and which may be pushed) and `Questions` (what is asked of a list of needed formulas, and where
 //! that meets the limit), `Known` (what is known of what is needed), `Learned` (which tables entries may come from), `Stacks`
-//! and `AnswerRows` (the laws), `Deciding` and `Models` (what decides, and the law over models). Laws about them for callers are in
-//! `proofs/`: `RowSteps` and `RowTurns` (what a MACROP's rows need, step by step), `Opening` (when an operator's instance is open, and
-//! what is asked about it), `GapLemmas` (the gaps of a formula and their limit, by what one question of gaps tells of it),
-//! `Fewness` (few unfinished gap proofs exclude both limits), `GapLists`, `GapAtoms` and `PartialLemmas`.
+//! and `AnswerRows` (the laws), `Deciding` and `Models` (what decides, and the law over models). `Few`, `Firsts`, `MacroOpen`, `Plain` and
+//! `Told` serve private functions alone. Laws for callers are in `proofs/`: `RowSteps` and `RowTurns` (what a MACROP's rows need, step by
+//! step), `Opening` (when an operator's instance is open, and what is asked about it), `GapLemmas` (the gaps of a formula and their
+//! limit, by what one question of gaps tells of it), `Fewness` (few unfinished gap proofs exclude both limits), `GapLists`,
+//! `GapAtoms` and `PartialLemmas`.
 //!
 //! Internally one question of gaps (`gap_answer`) asks the prover for the gap patterns of a formula, and which of the atoms
 //! that they close have a proof. Atoms that differ by the names of their variables alone are asked once (`forms`), with
@@ -70,7 +75,7 @@
 //! (`parameters`). One question of gaps is asked for each row, from the whole model (`row_questions`). A MACROP's row is proved
 //! from what the steps before it leave of the model, so it has no more shapes than that question, and nothing that the question
 //! doesn't offer. What is provable from the whole model says nothing of it, so nothing is left out for that. The objects that
-//! the rows offer are joined, the row with the fewest choices first (`fitting`), so that tuples of objects aren't listed. Each
+//! the rows offer are joined, a row with few choices first (`fitting`), so that tuples of objects aren't listed. Each
 //! MACROP that comes out is tried by itself, by the calls for one entry, whose questions aren't counted (`macros`).
 //!
 //! Where the question of a row meets the limit, one of the row's own parameters is bound to each object in turn, and each of these
@@ -93,6 +98,12 @@ mod deciding;
 mod differences;
 mod entry_rows;
 mod facts;
+mod first;
+mod first_instances;
+mod first_macros;
+mod firsts;
+#[cfg(test)]
+mod firsts_tests;
 mod fitting;
 mod forms;
 mod front;
@@ -107,6 +118,7 @@ mod laws;
 mod learned;
 mod limiting;
 mod macro_matching;
+mod macro_open;
 #[cfg(test)]
 mod macro_reference;
 mod macro_steps;
@@ -140,6 +152,8 @@ pub use ask_err::AskErr;
 pub use deciding::deciding_part;
 pub use differences::gaps;
 pub use entry_rows::{initial_of, known_entry, left_of, step_under};
+pub use first::First;
+pub use firsts::relevant_first;
 pub use knowing::{known_formula, try_formula};
 pub use known::{Known, Tried};
 pub use laws::{addable_alike, answers_support, relevance_over_models, relevance_over_stacks};

@@ -238,6 +238,7 @@ pub fn push_macros(
                 number,
                 table,
                 count,
+                is_told: false,
             };
             push_prefix(alloc, rt, request, &front, entries, limits);
         }

@@ -1,5 +1,5 @@
 //! MACROPs that may be pushed: the first steps of learned tables (Fikes, Hart and Nilsson 1972).
-ghost use Rattle.std.specs.Prelude.{◌≡◌, ◌↔◌, ◌<◌, ℕ, Some, List, length, slice_get, All, IsTrue, IfSome, IfOk, OnOk};
+ghost use Rattle.std.specs.Prelude.{◌≡◌, ◌↔◌, ◌<◌, ℕ, Some, true, List, length, slice_get, All, IsTrue, IfSome, IfOk, OnOk};
 ghost use Rattle.px_table.specs.declared.entry.Entry.TheVariants.{Macro};
 ghost use Rattle.px_table.specs.Prefixes.{IsMacro};
 ghost use Rattle.px_table.specs.Tables.{IsTable};
@@ -8,7 +8,7 @@ ghost use Rattle.px_terms.specs.declared.term.Term.{Term as TermValue};
 ghost use Rattle.px_diff.specs.Bindings.{IsBinding};
 ghost use Rattle.px_diff.specs.Closings.{OneOf};
 ghost use Rattle.px_diff.specs.Learned.{AreLearned};
-ghost use Rattle.px_diff.specs.Macros.{GathersEntriesFor, IsFrontOf, IsMacroBy, IsMacroEntry, IsMacroFitting, IsMacroLimited, IsMacroTold, IsOfFront, IsOfTable};
+ghost use Rattle.px_diff.specs.Macros.{GathersEntriesFor, IsFrontFor, IsMacroBy, IsMacroEntry, IsMacroFitting, IsMacroLimited, IsMacroTold, IsOfFront, IsOfTable};
 ghost use Rattle.px_diff.specs.Parameters.{IsMatch};
 ghost use Rattle.px_diff.specs.Outcomes.{IfLimit};
 ghost use Rattle.px_diff.specs.Requests.{IsRelevantEntryFor, LimitsFor};
@@ -22,6 +22,7 @@ use crate::fitting::{fewest, numbers_below, without_place};
 use crate::front::Front;
 use crate::known::Known;
 use crate::macro_matching::{macro_matches, one_matches};
+use crate::macro_open::is_open_by_facts;
 use crate::macro_steps::{add_wanted, steps_with};
 use crate::parameters::{first_terms, first_unbound, merged, objects_of};
 use crate::relevance::is_stacked;
@@ -55,7 +56,7 @@ fn is_relevant_macro(
 ) -> Result<bool, NoMemory>
     requires problem { IsValid request.now.problem.now }
     requires tables { AreLearned request.now.problem.now request.now.tables.now }
-    requires front { IsFrontOf request.now.tables.now front.now }
+    requires front { IsFrontFor request.now front.now }
     requires sigma { IsMacro request.now.problem.now front.now.table.now front.now.count sigma.now }
     requires entry { entry.now ≡ Macro front.now.number front.now.count sigma.now }
     ensures { IfOk result (λ yes'. IsTrue yes' ↔ IsRelevantEntryFor request.now entry.now) }
@@ -101,6 +102,41 @@ fn keep_known(
     }
 }
 
+/// Adds the relevant entry of the first steps with these objects where it may be pushed, as the facts tell.
+fn keep_told_by_facts(
+    alloc: Global,
+    found: &mut Vec<Entry>,
+    request: &Request,
+    front: &Front,
+    sigma: &[u32],
+    entry: Entry,
+) -> Result<(), AskErr>
+    requires problem { IsValid request.now.problem.now }
+    requires tables { AreLearned request.now.problem.now request.now.tables.now }
+    requires front { IsFrontFor request.now front.now }
+    requires told { front.now.is_told ≡ true }
+    requires sigma { IsMacro request.now.problem.now front.now.table.now front.now.count sigma.now }
+    requires entry { entry ≡ Macro front.now.number front.now.count sigma.now }
+    requires relevant { IsRelevantEntryFor request.now entry }
+    ensures gathers { OnOk result (GathersEntriesFor request.now (λ other. entry ≡ other) found.old.items found.new.items) }
+    ensures limited { IfLimit result (LimitsFor request.now) }
+{
+    let _facts = request.model.atoms();
+    let is_open = is_open_by_facts(
+        alloc,
+        request.problem,
+        request.tables,
+        front,
+        sigma,
+        request.model,
+    )?;
+    if !is_open {
+        return Ok(());
+    }
+    push(found, entry)?;
+    Ok(())
+}
+
 /// Adds the entry of the first steps with these objects where it is one that may be pushed.
 fn keep_open(
     alloc: Global,
@@ -111,7 +147,7 @@ fn keep_open(
 ) -> Result<(), AskErr>
     requires problem { IsValid request.now.problem.now }
     requires tables { AreLearned request.now.problem.now request.now.tables.now }
-    requires front { IsFrontOf request.now.tables.now front.now }
+    requires front { IsFrontFor request.now front.now }
     ensures gathers { OnOk result (GathersEntriesFor request.now (λ other. Macro front.now.number front.now.count sigma.now ≡ other) found.old.items found.new.items) }
     ensures limited { IfLimit result (LimitsFor request.now) }
 {
@@ -122,6 +158,9 @@ fn keep_open(
     let entry = entry_of(alloc, front, sigma)?;
     if !is_relevant_macro(alloc, request, front, sigma, &entry)? {
         return Ok(());
+    }
+    if front.is_told {
+        return keep_told_by_facts(alloc, found, request, front, sigma, entry);
     }
     keep_known(alloc, found, request, entry)
 }
@@ -137,7 +176,7 @@ fn keep_all(
 ) -> Result<(), AskErr>
     requires problem { IsValid request.now.problem.now }
     requires tables { AreLearned request.now.problem.now request.now.tables.now }
-    requires front { IsFrontOf request.now.tables.now front.now }
+    requires front { IsFrontFor request.now front.now }
     requires binding { IsBinding request.now.problem.now.objects terms.now }
     ensures gathers { OnOk result (GathersEntriesFor request.now (IsMacroBy request.now.problem.now.objects front.now.number front.now.count terms.now) found.old.items found.new.items) }
     ensures limited { IfLimit result (LimitsFor request.now) }
@@ -157,7 +196,7 @@ fn keep_all(
 }
 
 /// Adds those whose objects fit one of the choices of each row. Each call of itself chooses from one of the rows of these numbers,
-/// and has a number less. It takes the row of which the fewest choices fit the terms.
+/// and has a number less. It takes a row of which few choices fit the terms.
 fn keep_by_rows(
     alloc: Global,
     found: &mut Vec<Entry>,
@@ -169,7 +208,7 @@ fn keep_by_rows(
 ) -> Result<(), AskErr>
     requires problem { IsValid request.now.problem.now }
     requires tables { AreLearned request.now.problem.now request.now.tables.now }
-    requires front { IsFrontOf request.now.tables.now front.now }
+    requires front { IsFrontFor request.now front.now }
     requires binding { IsBinding request.now.problem.now.objects terms.now }
     requires rows { All (All (λ (choice : List TermValue). length choice ≡ length terms.now)) rows.now }
     requires numbers { All (λ number. number < length rows.now) numbers.now }
@@ -203,7 +242,7 @@ fn keep_fitting(
 ) -> Result<(), AskErr>
     requires problem { IsValid request.now.problem.now }
     requires tables { AreLearned request.now.problem.now request.now.tables.now }
-    requires front { IsFrontOf request.now.tables.now front.now }
+    requires front { IsFrontFor request.now front.now }
     requires binding { IsBinding request.now.problem.now.objects terms.now }
     requires rows { All (All (λ (choice : List TermValue). length choice ≡ length terms.now)) rows.now }
     ensures gathers { OnOk result (GathersEntriesFor request.now (IsMacroFitting request.now.problem.now.objects front.now.number front.now.count terms.now rows.now) found.old.items found.new.items) }
@@ -223,7 +262,7 @@ fn keep_listed(
 ) -> Result<(), AskErr>
     requires problem { IsValid request.now.problem.now }
     requires tables { AreLearned request.now.problem.now request.now.tables.now }
-    requires front { IsFrontOf request.now.tables.now front.now }
+    requires front { IsFrontFor request.now front.now }
     requires matches { All (IsMatch request.now.problem.now.objects front.now.table.now.params) matches.now }
     ensures gathers { OnOk result (GathersEntriesFor request.now (λ entry. OneOf matches.now (λ (terms : List TermValue). IsMacroBy request.now.problem.now.objects front.now.number front.now.count terms entry)) found.old.items found.new.items) }
     ensures limited { IfLimit result (LimitsFor request.now) }
@@ -245,7 +284,7 @@ fn keep_limited(
 ) -> Result<(), AskErr>
     requires problem { IsValid request.now.problem.now }
     requires tables { AreLearned request.now.problem.now request.now.tables.now }
-    requires front { IsFrontOf request.now.tables.now front.now }
+    requires front { IsFrontFor request.now front.now }
     requires binding { IsBinding request.now.problem.now.objects terms.now }
     requires limited { All (All (λ (choice : List TermValue). length choice ≡ length terms.now)) limited.now }
     ensures gathers { OnOk result (GathersEntriesFor request.now (IsMacroLimited request.now.problem.now.objects front.now.number front.now.count terms.now limited.now) found.old.items found.new.items) }
@@ -277,7 +316,7 @@ fn keep_told(
 ) -> Result<(), AskErr>
     requires problem { IsValid request.now.problem.now }
     requires tables { AreLearned request.now.problem.now request.now.tables.now }
-    requires front { IsFrontOf request.now.tables.now front.now }
+    requires front { IsFrontFor request.now front.now }
     requires binding { IsBinding request.now.problem.now.objects terms.now }
     requires rows { All (All (λ (choice : List TermValue). length choice ≡ length terms.now)) rows.now }
     requires limited { All (All (λ (choice : List TermValue). length choice ≡ length terms.now)) limited.now }
@@ -301,7 +340,7 @@ fn keep_matches(
 ) -> Result<(), AskErr>
     requires problem { IsValid request.now.problem.now }
     requires tables { AreLearned request.now.problem.now request.now.tables.now }
-    requires front { IsFrontOf request.now.tables.now front.now }
+    requires front { IsFrontFor request.now front.now }
     requires matches { All (IsMatch request.now.problem.now.objects front.now.table.now.params) matches.now }
     requires rows { All (All (λ (choice : List TermValue). length choice ≡ front.now.table.now.params)) rows.now }
     requires limited { All (All (λ (choice : List TermValue). length choice ≡ front.now.table.now.params)) limited.now }
@@ -324,7 +363,7 @@ fn keep_matches(
 
 /// Adds those of all entries of the first steps that may be pushed. The rows are what questions about the whole table told, where
 /// no parameter had an object; without them each entry is tried by itself.
-fn gather_front(
+pub fn gather_front(
     alloc: Global,
     found: &mut Vec<Entry>,
     request: &Request,
@@ -333,7 +372,7 @@ fn gather_front(
 ) -> Result<(), AskErr>
     requires problem { IsValid request.now.problem.now }
     requires tables { AreLearned request.now.problem.now request.now.tables.now }
-    requires front { IsFrontOf request.now.tables.now front.now }
+    requires front { IsFrontFor request.now front.now }
     requires rows { IfSome rows.now (AreTableChoices request.now.problem.now request.now.model.now.atoms front.now.table.now) }
     ensures gathers { OnOk result (GathersEntriesFor request.now (IsOfFront front.now.number front.now.count) found.old.items found.new.items) }
     ensures limited { IfLimit result (LimitsFor request.now) }
@@ -360,7 +399,7 @@ fn gather_front(
 
 /// What is known of all rows of the table, where no parameter has an object yet. None where the problem has no object, where the
 /// table has more parameters than a question has variables, and where none of its steps adds a wanted atom.
-fn choices_of_table(
+pub fn choices_of_table(
     asker: &mut Asker,
     request: &Request,
     table: &Table,
@@ -405,6 +444,7 @@ fn gather_table(
             number,
             table,
             count,
+            is_told: false,
         };
         gather_front(asker.alloc, found, request, &front, rows)?;
     }

@@ -2,7 +2,7 @@
 use px_terms::OpInst;
 
 /// An operator instance with variables, numbered from 0, for arguments that aren't known yet.
-#[derive(Clone, Copy)]
+#[derive(Clone, Copy, PartialEq, Eq, PartialOrd, Ord)]
 pub struct PartialInstance {
     /// The instance, over objects and the variables.
     pub inst: OpInst,

@@ -30,7 +30,7 @@ fn are_about_addable(problem: &Problem, lits: &[Lit]) -> bool
 }
 
 /// Does some axiom mention such a predicate?
-fn axioms_mention_addable(problem: &Problem) -> bool
+pub fn axioms_mention_addable(problem: &Problem) -> bool
     ensures { IsTrue result ↔ AxiomsMentionAddable problem.now }
 {
     for number in 0..problem.axioms.count() {

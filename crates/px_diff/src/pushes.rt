@@ -195,7 +195,7 @@ fn gather_rest(
 /// Adds the instances that the partial one stands for and that may be pushed: by one question, about the rest of what it needs
 /// or about all of it, where this answers all of them, else in the same way for each object that its first variable may be.
 /// Each call of itself has a variable less.
-fn gather(
+pub fn gather(
     asker: &mut Asker,
     found: &mut Vec<OpInst>,
     request: &Request,
@@ -262,7 +262,7 @@ fn gather_matches(
 }
 
 /// The entries of the instances.
-fn entries_of(alloc: Global, insts: &[OpInst]) -> Result<Vec<Entry>, NoMemory>
+pub fn entries_of(alloc: Global, insts: &[OpInst]) -> Result<Vec<Entry>, NoMemory>
     ensures { IfOk result (λ entries. entries.items ≡ map Op insts.now) }
 {
     let mut entries = Vec::new(alloc);
@@ -273,7 +273,7 @@ fn entries_of(alloc: Global, insts: &[OpInst]) -> Result<Vec<Entry>, NoMemory>
 }
 
 /// The entries in order, each once.
-fn ordered(mut found: Vec<Entry>) -> Vec<Entry>
+pub fn ordered(mut found: Vec<Entry>) -> Vec<Entry>
     ensures members { (entry : Entry) → Contains result.items entry ↔ Contains found.items entry }
     ensures order { IsStrictlySortedBy order_of result.items }
 {

@@ -72,6 +72,26 @@ either_atom q atom = elim (atom_eq q atom) as (λ t. atom_eq q atom ≡ t → (q
   both : (b : Bool) → b ≡ true → b ≡ false → ⊥
   both b t f = cc
 
+none_has : (q : Atom) → Contains [] q → ⊥
+none_has q (k, below, is) = absurd (omega (arith, below))
+
+has_or_not : (xs : List Atom) (q : Atom) → Contains xs q ⊎ (¬ Contains xs q)
+has_or_not [] q = inr (none_has q)
+has_or_not (x ∷ xs) q = elim (either_atom x q) [
+  | inl same ↦ inl (subst (Contains (x ∷ xs)) same (Contains-first x xs))
+  | inr other ↦ elim (has_or_not xs q) [
+    | inl has ↦ inl (Contains-later x xs q has)
+    | inr hasnt ↦ inr (λ h. elim (Contains-cases x xs q h) [ inl same ↦ other same | inr later ↦ hasnt later ])
+  ]
+]
+
+-- a set within a list that is no longer has all that the list has
+pub as_many : (xs ys : List Atom) → IsAtomSet xs → ((q : Atom) → Contains xs q → Contains ys q) → length xs ≡ length ys → (q : Atom) → Contains ys q → Contains xs q
+as_many xs ys set within same q there = elim (has_or_not xs q) [
+  | inl has ↦ has
+  | inr hasnt ↦ let less = shorter xs ys q set within there hasnt in absurd (omega (arith, less, same))
+]
+
 -- a set has at most one more than without an atom
 without_atom-near : (atom : Atom) (xs : List Atom) → IsAtomSet xs → length xs ≤ length (without_atom atom xs) + 1
 without_atom-near atom xs set =

@@ -9,6 +9,7 @@ pub mod Floors
 pub mod Kernel
 pub mod Moved
 pub mod Passed
+pub mod Proper
 pub mod Room
 pub mod Viewed
 pub mod Fewer

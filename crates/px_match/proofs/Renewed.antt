@@ -23,7 +23,7 @@ use Rattle.px_table.specs.declared.mark.Mark.{Mark}
 use Rattle.px_table.specs.Kernels.{atom_under}
 use Rattle.px_match.specs.Keeping.{AreEmpty, AreKept, AreMatches, ArePut, AreTaken, HasRoom, IsListOf, covers, covers_term, matches}
 use Rattle.px_match.proofs.Viewed.{written_whole}
-use Rattle.px_match.proofs.Fewer.{less_itself, room_put, room_taken, shorter, without_atom-shorter}
+use Rattle.px_match.proofs.Fewer.{as_many, less_itself, room_put, room_taken, shorter, without_atom-shorter}
 
 -- ---- what is kept so far
 
@@ -151,6 +151,14 @@ all_kept new kept new_set kept_set within all =
       λ h. subst (Contains kept) h.2 (all h.0 q h.1),
     ))
 
+-- and so where there are as many
+pub counted : (new kept : List Atom) → IsAtomSet new → IsAtomSet kept → All (Contains new) kept → length kept ≡ length new → kept ≡ new
+counted new kept new_set kept_set within same =
+    same_set atom_cmp atom_cmp-total atom_cmp-same kept new kept_set new_set (λ q. (
+      λ h. All-at (Contains new) kept q within h,
+      λ h. as_many kept new kept_set (λ r there. All-at (Contains new) kept r within there) same q h,
+    ))
+
 pub matches_of : (room : ℕ) (marks : List Mark) (kept : ModelValue) (lists : List ModelValue) (atoms : List Atom) → kept.atoms ≡ atoms → AreKept room marks kept lists → AreMatches marks atoms lists
 matches_of room marks kept lists atoms is are = record { same = are.same; each = λ k l m below. (are.each k l m below).same ∙ ap (matches (get_or marks k m).atom) is }
 
@@ -256,6 +264,13 @@ listed marks atoms lists at mark list found tau are below mark_is list_is found_
     let same : found ≡ matches mark.atom atoms =
     found_is ∙ ap (λ (x : ModelValue). x.atoms) list_is ∙ are.each at list mark below ∙ ap (λ (m : Mark). matches m.atom atoms) (sym mark_is) in
     subst (λ l. Contains l (atom_under tau mark.atom)) (sym same) (matched atoms tau mark.atom has)
+
+-- what is in the list of a mark is among the atoms
+pub from_list : (marks : List Mark) (atoms : List Atom) (lists : List ModelValue) (at : ℕ) (mark : Mark) (list : ModelValue) (atom : Atom) → AreMatches marks atoms lists
+    → at < length marks → list ≡ get_or lists at list → Contains list.atoms atom → Contains atoms atom
+from_list marks atoms lists at mark list atom are below list_is has =
+    let same = ap (λ (x : ModelValue). x.atoms) list_is ∙ are.each at list mark below in
+    ((Contains-filter (covers (get_or marks at mark).atom) atoms atom).0 (subst (λ l. Contains l atom) same has)).0
 
 -- ---- lists without atoms
 

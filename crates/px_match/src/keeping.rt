@@ -2,6 +2,7 @@
 ghost use Rattle.std.specs.Prelude.{◌≡◌, ◌↔◌, ◌<◌, ◌≤◌, ◌+◌, ℕ, List, All, Contains, IsTrue, length, slice_index_or};
 ghost use Rattle.std.specs.Cmp.Lexicographic.{pointwise};
 ghost use Rattle.px_terms.specs.Instances.{IsGround};
+ghost use Rattle.px_terms.specs.Order.{atom_eq, term_eq};
 ghost use Rattle.px_terms.specs.AtomSets.{IsAtomSet, with_atom};
 ghost use Rattle.px_ops.specs.Models.{without_atom};
 ghost use Rattle.px_ops.specs.ModelValue.{ModelValue};
@@ -85,17 +86,43 @@ fn put_into(lists: &mut [Model], marks: &[Mark], atom: &Atom)
     }
 }
 
+/// Are the terms the same?
+fn are_same(terms: &[Term], found: &[Term]) -> bool
+    ensures { result ≡ pointwise term_eq terms.now found.now }
+{
+    if terms.len() != found.len() {
+        return false;
+    }
+    for (at, term) in terms.iter().enumerate() {
+        if *term != found[at] {
+            return false;
+        }
+    }
+    true
+}
+
+/// Are the atoms the same?
+pub fn is_same(one: &Atom, other: &Atom) -> bool
+    ensures { result ≡ atom_eq one.now other.now }
+{
+    one.pred() == other.pred() && are_same(one.args(), other.args())
+}
+
 /// Is the atom in the model? A walk over ascending atoms goes on in the model from the place. Nothing rests on the place: an
 /// atom that the walk doesn't meet is looked up.
 fn meets(model: &Model, atom: &Atom, place: &mut usize) -> bool
     ensures { IsTrue result ↔ Contains model.now.atoms atom.now }
 {
     let atoms = model.atoms();
-    while *place < atoms.len() && atoms[*place] < *atom {
+    while *place < atoms.len() {
+        if is_same(&atoms[*place], atom) {
+            *place += 1;
+            return true;
+        }
+        if atoms[*place] > *atom {
+            return model.holds(atom);
+        }
         *place += 1;
-    }
-    if *place < atoms.len() && atoms[*place] == *atom {
-        return true;
     }
     model.holds(atom)
 }
@@ -121,7 +148,7 @@ fn take_gone(kept: &mut Model, lists: &mut [Model], marks: &[Mark], new: &Model)
     }
 }
 
-/// Puts what came to the kept atoms and their lists.
+/// Puts what came to the kept atoms and their lists, until as many are kept as there are.
 fn put_new(kept: &mut Model, lists: &mut [Model], marks: &[Mark], new: &Model)
     requires set { IsAtomSet kept.old.atoms }
     requires within { All (Contains new.now.atoms) kept.old.atoms }
@@ -131,6 +158,9 @@ fn put_new(kept: &mut Model, lists: &mut [Model], marks: &[Mark], new: &Model)
 {
     let mut place = 0;
     for atom in new.atoms() {
+        if kept.atoms().len() == new.atoms().len() {
+            return;
+        }
         if !meets(kept, atom, &mut place) {
             kept.insert_spare(*atom);
             put_into(lists, marks, atom);

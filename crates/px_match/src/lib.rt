@@ -26,6 +26,10 @@
 //! A matcher keeps the atoms of the last sensing, and for each mark the list of those that it may become. The next sensing takes
 //! away what is gone and adds what has come. That the lists are exactly these is the invariant of the type.
 //!
+//! Kernels with a mark whose list is empty are passed over in one walk over the marks. Whether an instance is proper doesn't depend on
+//! the model, and later kernels are proper where one is: the number from which on they are known to be so for the objects that were found
+//! last is kept, and it is tested anew only below it or for other objects.
+//!
 //! A kernel is matched parameter by parameter, each from the first object up. Objects are passed over that no atom of a
 //! mark's list has there, given the objects before, those with which a step deletes a mark whatever comes later, and those with
 //! which no object is left for a later parameter. Each time this has its reasons, the earlier parameters on whose objects it
@@ -45,6 +49,7 @@ mod filling;
 mod highest;
 mod hints;
 mod keeping;
+mod known;
 mod laws;
 mod lead;
 mod marks;

@@ -9,6 +9,7 @@ ghost use Rattle.px_match.specs.Matching.{IsHighest, NoKernelFits, KernelInstanc
 use crate::highest::highest;
 use crate::hints::{Hints, hints_of};
 use crate::keeping::renew;
+use crate::known::{goal_number, keep_found};
 use crate::match_err::MatchErr;
 use px_base::{NoMemory, Sequence};
 use px_ops::Model;
@@ -34,6 +35,8 @@ pub struct Matcher<'a> {
     cells: Vec<bool>,
     work: Vec<u32>,
     instance: Vec<u32>,
+    /// With the objects of `instance` the kernels from this one on are proper.
+    proper_from: u32,
     /// Is there an instance yet?
     is_found: bool,
 }
@@ -42,6 +45,7 @@ impl<'a> std::marker::Model for Matcher<'a> {
     ghost use Rattle.std.specs.Prelude.{◌≡◌, [], cond, length};
     ghost use Rattle.px_terms.specs.Validity.{IsValid};
     ghost use Rattle.px_table.specs.Tables.{IsTable};
+    ghost use Rattle.px_match.specs.Asking.{AreProperFrom};
     ghost use Rattle.px_match.specs.Keeping.{AreKept};
     ghost use Rattle.px_match.specs.MatcherValue.{MatcherValue};
     ghost use Rattle.std.specs.Coded.{codes};
@@ -53,7 +57,7 @@ impl<'a> std::marker::Model for Matcher<'a> {
 
     ghost view = { λ m. record { problem = m.problem.now; table = m.table.now; bound = m.bound; room = m.room; instance = cond m.is_found m.instance.items [] } };
 
-    ghost invariant = { λ m. IsValid m.problem.now × IsTable m.problem.now m.table.now × (length m.work.items ≡ m.table.now.params) × (length m.instance.items ≡ m.table.now.params) × AreKept m.room m.table.now.marks m.sensed m.lists.items };
+    ghost invariant = { λ m. IsValid m.problem.now × IsTable m.problem.now m.table.now × (length m.work.items ≡ m.table.now.params) × (length m.instance.items ≡ m.table.now.params) × AreKept m.room m.table.now.marks m.sensed m.lists.items × AreProperFrom m.problem.now m.table.now m.instance.items m.proper_from };
 }
 
 /// The first bound parameter that the table hasn't.
@@ -124,6 +128,7 @@ impl<'a> Matcher<'a> {
         let cells = vec![in alloc; false; params * params]?;
         let work = vec![in alloc; 0u32; params]?;
         let instance = vec![in alloc; 0u32; params]?;
+        let proper_from = goal_number(problem, table, &instance);
         Ok(Matcher {
             problem,
             table,
@@ -135,6 +140,7 @@ impl<'a> Matcher<'a> {
             cells,
             work,
             instance,
+            proper_from,
             is_found: false,
         })
     }
@@ -157,6 +163,8 @@ impl<'a> Matcher<'a> {
             self.bound.as_slice(),
             &self.lists,
             &self.hints,
+            &self.instance,
+            self.proper_from,
             &mut self.cells,
             &mut self.work,
             model,
@@ -164,7 +172,14 @@ impl<'a> Matcher<'a> {
         match found {
             None => None,
             Some(number) => {
-                self.instance.copy_from_slice(&self.work);
+                self.proper_from = keep_found(
+                    self.problem,
+                    self.table,
+                    &mut self.instance,
+                    self.proper_from,
+                    &self.work,
+                    number,
+                );
                 self.is_found = true;
                 Some(number)
             }

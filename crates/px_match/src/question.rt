@@ -15,6 +15,9 @@ pub struct Question<'a> {
     pub lists: &'a [Model],
     /// For each place what to look at.
     pub hints: &'a [Hints],
+    /// Objects with which the kernels from `proper_from` on are proper.
+    pub known: &'a [u32],
+    pub proper_from: u32,
     pub number: u32,
     /// How many objects the problem has.
     pub objects: u32,

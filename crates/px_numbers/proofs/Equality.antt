@@ -1,8 +1,7 @@
 -- The `==` of pairs of numbers, and of lists of numbers, is equality.
-use Rattle.std.proofs.Common.{◌≡◌, ℕ, Bool, List, ap}
+use Rattle.std.proofs.Common.{◌≡◌, Bool}
 use Rattle.std.proofs.lemmas.Bool.Decides.{Decides-and, Decides-eqb, Decides-like}
 use Rattle.std.specs.Bool.{Decides}
-use Rattle.std.specs.Cmp.Lexicographic.{pointwise_decides}
 use Rattle.px_numbers.specs.contracts.nodes.NodeKeyPartialEq.TheImpl as node_equality
 use Rattle.px_numbers.specs.contracts.stacks.FramePartialEq.TheImpl as frame_equality
 use Rattle.px_numbers.specs.declared.nodes.NodeKey.{NodeKey}

@@ -1,59 +1,26 @@
 -- The nodes that pairs of numbers stand for are the one list that does so.
-use Rattle.std.proofs.Common.{◌≡◌, ◌↔◌, ℕ, zero, suc, ◌<◌, ◌≤◌, List, [], ◌∷◌, ◌++◌, length, map, take, refl, sym, ◌∙◌, ap, subst, inl, inr, arith, Some, slice_get, Contains}
-use Rattle.std.specs.Prelude.{Option, None}
-use Rattle.std.proofs.lemmas.List.Elements.{Contains-append_left, Contains-append_right, Contains-append_cases}
-use Rattle.px_base.specs.ListLaws.{Contains-none, Contains-first, Contains-later, Contains-one, Contains-cases}
-use Rattle.px_base.specs.SetLaws.{same_set, set_of-is_sorted, set_of-members}
-use Rattle.px_terms.specs.AtomSets.{atom_set}
+use Rattle.std.proofs.Common.{◌≡◌, ℕ, zero, suc, ◌<◌, ◌≤◌, List, [], ◌∷◌, ◌++◌, length, map, take, refl, sym, ◌∙◌, ap, subst, arith, Some, slice_get}
+use Rattle.std.specs.Prelude.{Option}
 use Rattle.px_terms.specs.declared.atom.Atom.{Atom}
-use Rattle.px_terms.specs.Order.{atom_cmp}
-use Rattle.px_terms.specs.OrderLaws.{atom_cmp-total, atom_cmp-same}
 use Rattle.px_table.specs.declared.entry.Entry.{Entry}
 use Rattle.px_table.specs.declared.node.Node.{Node}
 use Rattle.px_numbers.specs.declared.nodes.NodeKey.{NodeKey}
-use Rattle.px_numbers.specs.declared.stacks.Frame.{Frame}
-use Rattle.px_numbers.specs.Numbers.{Kept, AreDescending, IsModelOf, IsModelAt, IsStackAt, IsKeyOf, AllStand}
-use Rattle.px_numbers.specs.NumberLaws.{one_at, tails_stand}
+use Rattle.px_numbers.specs.Numbers.{Kept, AreDescending, AreNumbersOf, IsModelAt, IsStackAt, IsKeyOf, AllStand}
+use Rattle.px_numbers.specs.NumberLaws.{tails_stand}
 use Rattle.px_numbers.specs.Nodewise.{items_of, items_at, atoms_of, below_of, top_of, stack_of, node_of, nodes_of}
-
--- ---- the items at places
-
-pub items_at-from : {X : Type 0} (items : List X) (places : List ℕ) (x : X) → Contains (items_at items places) x → (n : ℕ) × (slice_get items n ≡ Some x) × Contains places n
-unfolding items_at
-items_at-from items [] x has = absurd (Contains-none x has)
-items_at-from {X} items (place ∷ places) x has = elim (Contains-append_cases (items_of (slice_get items place)) (items_at items places) x has) [
-  | inl here ↦ (place, is_it (slice_get items place) here, Contains-first place places)
-  | inr later ↦ let r = items_at-from items places x later in (r.0, r.1, Contains-later place places r.0 r.2)
-]
-  where
-    is_it : (found : Option X) → Contains (items_of found) x → found ≡ Some x
-    is_it None h = absurd (Contains-none x h)
-    is_it (Some y) h = ap Some (Contains-one y x h)
-
-pub items_at-has : {X : Type 0} (items : List X) (places : List ℕ) (x : X) (n : ℕ) → slice_get items n ≡ Some x → Contains places n → Contains (items_at items places) x
-unfolding items_at
-items_at-has items [] x n at has = absurd (Contains-none n has)
-items_at-has {X} items (place ∷ places) x n at has = elim (Contains-cases place places n has) [
-  | inl is ↦ Contains-append_left (items_of (slice_get items place)) (items_at items places) x
-      (subst (λ (found : Option X). Contains (items_of found) x) (sym (ap (slice_get items) is ∙ at)) (Contains-first x []))
-  | inr later ↦ Contains-append_right (items_of (slice_get items place)) (items_at items places) x (items_at-has items places x n at later)
-]
 
 -- ---- a model
 
-pub model_is : (atoms : List Atom) (numbers : List ℕ) (model : List Atom) → IsModelOf atoms numbers model → model ≡ atom_set (items_at atoms numbers)
-model_is atoms numbers model is =
-    same_set atom_cmp atom_cmp-total (λ x y. atom_cmp-same x y) model (atom_set (items_at atoms numbers)) is.is_set (set_of-is_sorted atom_cmp atom_cmp-total atom_cmp-same (items_at atoms numbers))
-    (λ q. (
-      λ has. (members q).1 (let r = is.all q has in items_at-has atoms numbers q r.0 r.1 r.2),
-      λ has. let r = items_at-from atoms numbers q ((members q).0 has) in let there = is.each r.0 r.2 in subst (Contains model) (one_at atoms r.0 there.0 q there.1 r.1) there.2,
-    ))
-  where
-    members : (q : Atom) → Contains (atom_set (items_at atoms numbers)) q ↔ Contains (items_at atoms numbers) q
-    members q = set_of-members atom_cmp atom_cmp-total atom_cmp-same (items_at atoms numbers) q
+pub atoms_are : (atoms : List Atom) (numbers : List ℕ) (model : List Atom) → AreNumbersOf atoms numbers model → model ≡ items_at atoms numbers
+unfolding items_at
+atoms_are atoms [] [] are = refl
+atoms_are atoms [] (atom ∷ model) are = absurd are
+atoms_are atoms (number ∷ numbers) [] are = absurd are
+atoms_are atoms (number ∷ numbers) (atom ∷ model) are =
+    ap (λ (l : List Atom). atom ∷ l) (atoms_are atoms numbers model are.1) ∙ ap (λ (found : Option Atom). items_of found ++ items_at atoms numbers) (sym are.0)
 
 pub model_at-is : (kept : Kept) (number : ℕ) (model : List Atom) → IsModelAt kept number model → model ≡ atoms_of kept.atoms (slice_get kept.lists number)
-model_at-is kept number model (numbers, at, is) = model_is kept.atoms numbers model is ∙ ap (atoms_of kept.atoms) (sym at)
+model_at-is kept number model (numbers, at, is) = atoms_are kept.atoms numbers model is.numbers_are ∙ ap (atoms_of kept.atoms) (sym at)
 
 -- ---- a stack
 

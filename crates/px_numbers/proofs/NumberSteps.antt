@@ -1,28 +1,19 @@
 -- One more thing is kept.
-use Rattle.std.proofs.Common.{◌≡◌, ◌↔◌, ◌⊎◌, ℕ, zero, suc, ◌+◌, ◌-◌, ◌<◌, ◌≤◌, List, [], ◌∷◌, ◌++◌, length, refl, sym, ◌∙◌, ap, subst, inl, inr, arith, Some, slice_get, Contains}
-use Rattle.std.specs.Prelude.{All, true, false, Option, None, Result, Ok, Err, IfOk, OnOk, OnErr, IsTrue, IfSome}
-use Rattle.std.proofs.lemmas.List.Elements.{Contains-append_left, Contains-push, Contains-push_cases}
-use Rattle.px_base.specs.ListLaws.{All-each, Contains-none, Contains-first, Contains-later, Contains-cases}
-use Rattle.px_base.specs.SetLaws.{with_item-members, with_item-sorted}
-use Rattle.std.specs.List.{dedup}
-use Rattle.std.specs.List.Sorted.{IsStrictlySortedBy, IsSorted, IsPermutation}
-use Rattle.std.specs.Cmp.{IsEquivalence, nat_cmp_total, unsigned_ties}
-use Rattle.std.specs.Prelude.{nat_eq}
-use Rattle.std.proofs.lemmas.Bool.Decides.{Decides-eqb}
-use Rattle.std.proofs.lemmas.List.Kept.{IsStrictlySortedBy-dedup, Contains-dedup, Contains-from_dedup}
-use Rattle.std.proofs.lemmas.List.Sorted.{Contains-permutation, IsPermutation-sym}
-use Rattle.px_terms.specs.OrderLaws.{decides_equiv}
-use Rattle.std.specs.Ordering.{nat_cmp}
-use Rattle.px_terms.specs.AtomSets.{IsAtomSet, with_atom}
+use Rattle.std.proofs.Common.{◌≡◌, ◌↔◌, ℕ, zero, suc, ◌+◌, ◌-◌, ◌<◌, ◌≤◌, List, [], ◌∷◌, ◌++◌, length, take, get_or, refl, sym, ◌∙◌, ap, subst, inl, inr, arith, Some, slice_get, Contains}
+use Rattle.std.specs.Prelude.{true, false, None, Result, Ok, Err, IfOk, OnOk, OnErr, IsTrue}
+use Rattle.px_base.specs.ListLaws.{Contains-none, Contains-first, Contains-later, Contains-cases}
+use Rattle.px_base.specs.Sets.{set_of}
+use Rattle.px_base.specs.SetLaws.{set_of-push, set_of-sorted}
+use Rattle.px_terms.specs.AtomSets.{atom_set, with_atom}
 use Rattle.px_terms.specs.declared.atom.Atom.{Atom}
 use Rattle.px_terms.specs.Order.{atom_cmp}
 use Rattle.px_terms.specs.OrderLaws.{atom_cmp-total, atom_cmp-same}
 use Rattle.px_table.specs.declared.entry.Entry.{Entry}
 use Rattle.px_numbers.specs.declared.stacks.Frame.{Frame}
 use Rattle.px_ops.specs.Keeping.{AreOnce, Keeps, KeepsPlaces}
-use Rattle.px_numbers.specs.Numbers.{Kept, AreEachOnce, AreDescending, AreSound, AreNumbersOf, IsModelOf, IsModelAt, IsStackAt, IsTopOf, KeepsAll}
-use Rattle.px_numbers.specs.NumberLaws.{one_at, stack_at-grows}
-use Rattle.px_ops.specs.KeepLaws.{keeps-places, keeps-once, push-cases, place_in, has_at, at_has}
+use Rattle.px_numbers.specs.Numbers.{Kept, AreEachOnce, AreDescending, AreNumbersOf, IsModelOf, IsStackAt, IsTopOf}
+use Rattle.px_numbers.specs.NumberLaws.{one_at, numbers-grow}
+use Rattle.px_ops.specs.KeepLaws.{keeps-places, keeps-once, push-cases, place_in}
 
 pub keeps_same : {X : Type 0} (xs : List X) → KeepsPlaces xs xs
 keeps_same xs k x e = e
@@ -49,66 +40,63 @@ if_ok P Q (Err e) p f = tt
 
 -- ---- the numbers of a list of atoms
 
-pub numbers_none : (atoms : List Atom) → AreNumbersOf atoms [] []
-numbers_none atoms = record {
-  each = λ n has. absurd (Contains-none n has);
-  all = λ atom has. absurd (Contains-none atom has);
-}
+pub numbers_push : (index : List Atom) (numbers : List ℕ) (atoms : List Atom) (atom : Atom) (number : ℕ) → slice_get index number ≡ Some atom → AreNumbersOf index numbers atoms
+    → AreNumbersOf index (numbers ++ number ∷ []) (atoms ++ atom ∷ [])
+numbers_push index [] [] atom number at are = (at, tt)
+numbers_push index [] (x ∷ xs) atom number at are = absurd are
+numbers_push index (n ∷ ns) [] atom number at are = absurd are
+numbers_push index (n ∷ ns) (x ∷ xs) atom number at are = (are.0, numbers_push index ns xs atom number at are.1)
 
 pub numbers_more : (old new : List Atom) (numbers : List ℕ) (atoms : List Atom) (atom : Atom) (number : ℕ) → Keeps old new atom number → AreNumbersOf old numbers atoms
     → AreNumbersOf new (numbers ++ number ∷ []) (atoms ++ atom ∷ [])
 numbers_more old new numbers atoms atom number kept are =
-    let places = keeps-places old new atom number kept in
-    record {
-      each = λ n has. elim (Contains-push_cases numbers number n has) [
-        | inl before ↦ let r = are.each n before in (r.0, places n r.0 r.1, Contains-append_left atoms (atom ∷ []) r.0 r.2)
-        | inr is ↦ (atom, subst (λ (k : ℕ). slice_get new k ≡ Some atom) is kept.here, Contains-push atoms atom)
-      ];
-      all = λ q has. elim (Contains-push_cases atoms atom q has) [
-        | inl before ↦ let r = are.all q before in (r.0, places r.0 q r.1, Contains-append_left numbers (number ∷ []) r.0 r.2)
-        | inr is ↦ (number, kept.here ∙ ap Some is, Contains-push numbers number)
-      ];
-    }
+    numbers_push new numbers atoms atom number kept.here (numbers-grow old new numbers atoms (keeps-places old new atom number kept) are)
 
-pub model_more : (index : List Atom) (numbers : List ℕ) (model : List Atom) (atom : Atom) (number : ℕ) → slice_get index number ≡ Some atom → AreNumbersOf index numbers model
-    → AreNumbersOf index (numbers ++ number ∷ []) (with_atom atom model)
-model_more index numbers model atom number at are =
-    let members : (q : Atom) → Contains (with_atom atom model) q ↔ Contains (atom ∷ model) q = λ q. with_item-members atom_cmp atom_cmp-total (λ x y. atom_cmp-same x y) atom model q in
-    record {
-      each = λ n has. elim (Contains-push_cases numbers number n has) [
-        | inl before ↦ let r = are.each n before in (r.0, r.1, (members r.0).1 (Contains-later atom model r.0 r.2))
-        | inr is ↦ (atom, subst (λ (k : ℕ). slice_get index k ≡ Some atom) is at, (members atom).1 (Contains-first atom model))
-      ];
-      all = λ q has. elim (Contains-cases atom model q ((members q).0 has)) [
-        | inl is ↦ (number, at ∙ ap Some is, Contains-push numbers number)
-        | inr before ↦ let r = are.all q before in (r.0, r.1, Contains-append_left numbers (number ∷ []) r.0 r.2)
-      ];
-    }
+-- each number is that of an atom
+pub number_within : (index : List Atom) (numbers : List ℕ) (model : List Atom) (i : ℕ) → AreNumbersOf index numbers model → i < length numbers → get_or numbers i 0 < length index
+number_within index [] model i are below = absurd (omega (arith, below))
+number_within index (n ∷ ns) [] i are below = absurd are
+number_within index (n ∷ ns) (x ∷ xs) zero are below = place_in index n x are.0
+number_within index (n ∷ ns) (x ∷ xs) (suc i) are below = number_within index ns xs i are.1 (omega (arith, below))
 
-pub set_more : (model : List Atom) (atom : Atom) → IsAtomSet model → IsAtomSet (with_atom atom model)
-set_more model atom is_set = with_item-sorted atom_cmp atom_cmp-total (λ x y. atom_cmp-same x y) atom model is_set
+-- the atom of the next number is the next atom
+pub next_atom : (index : List Atom) (numbers : List ℕ) (model : List Atom) (i : ℕ) (atom : Atom) → AreNumbersOf index numbers model → i < length numbers → slice_get index (get_or numbers i 0) ≡ Some atom
+    → take i model ++ atom ∷ [] ≡ take (suc i) model
+next_atom index [] model i atom are below at = absurd (omega (arith, below))
+next_atom index (n ∷ ns) [] i atom are below at = absurd are
+next_atom index (n ∷ ns) (x ∷ xs) zero atom are below at = ap (λ (a : Atom). a ∷ []) (one_at index n atom x at are.0)
+next_atom index (n ∷ ns) (x ∷ xs) (suc i) atom are below at = ap (λ (l : List Atom). x ∷ l) (next_atom index ns xs i atom are.1 (omega (arith, below)) at)
 
-pub model_from : (atoms : List Atom) (numbers others : List ℕ) (model : List Atom) → IsAtomSet model → AreNumbersOf atoms numbers model → ((n : ℕ) → Contains numbers n ↔ Contains others n)
-    → IsStrictlySortedBy nat_cmp others → IsModelOf atoms others model
-model_from atoms numbers others model is_set are same ascending = record {
-  is_set = is_set;
-  ascending = ascending;
-  each = λ n has. are.each n ((same n).1 has);
-  all = λ atom has. let r = are.all atom has in (r.0, r.1, (same r.0).0 r.2);
-}
+-- there are as many atoms as numbers
+pub all_atoms : (index : List Atom) (numbers : List ℕ) (model : List Atom) (count : ℕ) → AreNumbersOf index numbers model → length numbers ≤ count → take count model ≡ model
+all_atoms index [] [] zero are enough = refl
+all_atoms index [] [] (suc count) are enough = refl
+all_atoms index [] (x ∷ xs) count are enough = absurd are
+all_atoms index (n ∷ ns) [] count are enough = absurd are
+all_atoms index (n ∷ ns) (x ∷ xs) zero are enough = absurd (omega (arith, enough))
+all_atoms index (n ∷ ns) (x ∷ xs) (suc count) are enough = ap (λ (l : List Atom). x ∷ l) (all_atoms index ns xs count are.1 (omega (arith, enough)))
 
-pub numbers_within : (atoms : List Atom) (numbers : List ℕ) (model : List Atom) → IsModelOf atoms numbers model → All (λ n. n < length atoms) numbers
-numbers_within atoms numbers model is = All-each (λ n. n < length atoms) numbers (λ n has. let r = is.each n has in place_in atoms n r.0 r.1)
+-- ---- making a model of its numbers
 
-pub model_again : (kept : Kept) (number : ℕ) (numbers : List ℕ) (model built : List Atom) → slice_get kept.lists number ≡ Some numbers → IsModelAt kept number model → IsAtomSet built
-    → AreNumbersOf kept.atoms numbers built → IsModelAt kept number built
-model_again kept number numbers model built at is is_set are =
-    let same : is.0 ≡ numbers = one_at kept.lists number is.0 numbers is.1 at in
-    (numbers, at, record { is_set = is_set; ascending = subst (IsStrictlySortedBy nat_cmp) same is.2.ascending; each = are.each; all = are.all })
+-- what is built is the set of the first so many atoms of the model
+abbrev pub IsBuilt : List Atom → List ℕ → ℕ → List Atom → Type 0
+IsBuilt index numbers count built = (model : List Atom) → IsModelOf index numbers model → built ≡ atom_set (take count model)
 
-pub if_ok_both : {A E : Type 0} (P Q R : A → Type 0) (result : Result A E) → IfOk result P → IfOk result Q → ((a : A) → P a → Q a → R a) → IfOk result R
-if_ok_both P Q R (Ok a) p q f = f a p q
-if_ok_both P Q R (Err e) p q f = tt
+pub built_none : (index : List Atom) (numbers : List ℕ) (built : List Atom) → built ≡ [] → IsBuilt index numbers 0 built
+unfolding set_of
+built_none index numbers built none model is = none
+
+pub built_more : (index : List Atom) (numbers : List ℕ) (i : ℕ) (old new : List Atom) (atom : Atom) → i < length numbers → slice_get index (get_or numbers i 0) ≡ Some atom → new ≡ with_atom atom old
+    → IsBuilt index numbers i old → IsBuilt index numbers (i + 1) new
+built_more index numbers i old new atom below at put built model is =
+    let more : suc i ≡ i + 1 = omega arith in
+    put ∙ ap (with_atom atom) (built model is) ∙ set_of-push atom_cmp atom_cmp-total (λ x y. atom_cmp-same x y) (take i model) atom
+    ∙ ap atom_set (next_atom index numbers model i atom is.numbers_are below at ∙ ap (λ (n : ℕ). take n model) more)
+
+pub built_all : (index : List Atom) (numbers : List ℕ) (count : ℕ) (built model : List Atom) → length numbers ≤ count → IsBuilt index numbers count built → IsModelOf index numbers model
+    → IsModelOf index numbers built
+built_all index numbers count built model enough all is =
+    subst (IsModelOf index numbers) (sym (all model is ∙ ap atom_set (all_atoms index numbers model count is.numbers_are enough) ∙ set_of-sorted atom_cmp model is.is_set)) is
 
 -- ---- frames
 
@@ -123,11 +111,6 @@ descending_more old new frame number kept below descends = elim kept.change [
       | inl before ↦ descends k other before
       | inr last ↦ subst (λ (f : Frame). f.below ≤ k) last.1 (omega (arith, below, last.0))
     ]
-
-pub result_descending : {E : Type 0} (old new : List Frame) (frame : Frame) (result : Result ℕ E) → IfOk result (Keeps old new frame) → OnErr result (new ≡ old) → frame.below ≤ length old → AreDescending old
-    → AreDescending new
-result_descending old new frame (Ok number) kept same below descends = descending_more old new frame number kept below descends
-result_descending old new frame (Err e) kept same below descends = subst AreDescending (sym same) descends
 
 -- the number of a stack is at most how many frames there are
 pub stack_within : (kept : Kept) (number : ℕ) (stack : List Entry) → IsStackAt kept number stack → number ≤ length kept.frames
@@ -197,20 +180,6 @@ look_none kept stack entry rest looked none entries one is one_at' has =
     by : (left : List Entry) → IsStackAt kept rest left → Contains left one → ⊥
     by [] is_left h = Contains-none one h
     by (top ∷ below) is_left h = omega (arith, none, is_left.2)
-
--- ---- sorted numbers
-
-nat_equality : IsEquivalence nat_eq
-nat_equality = decides_equiv nat_eq Decides-eqb
-
-pub sorted_numbers : (old sorted new : List ℕ) → IsPermutation old sorted → new ≡ dedup nat_eq sorted → (n : ℕ) → Contains old n ↔ Contains new n
-sorted_numbers old sorted new permuted is n = rw is (
-  λ h. Contains-dedup nat_equality (λ x y. (Decides-eqb x y).0) sorted n (Contains-permutation old sorted n permuted h),
-  λ h. Contains-permutation sorted old n (IsPermutation-sym old sorted permuted) (Contains-from_dedup nat_eq sorted n h),
-)
-
-pub ascending_numbers : (sorted new : List ℕ) → IsSorted nat_cmp sorted → new ≡ dedup nat_eq sorted → IsStrictlySortedBy nat_cmp new
-ascending_numbers sorted new ascends is = subst (IsStrictlySortedBy nat_cmp) (sym is) (IsStrictlySortedBy-dedup nat_cmp_total unsigned_ties sorted ascends)
 
 pub some_below : (kept : Kept) (rest : ℕ) (frame : Frame) → ((entries : List Entry) × IsStackAt kept rest entries) → (rest ≡ 0 → ⊥) → slice_get kept.frames (rest - 1) ≡ Some frame
     → (entries : List Entry) × IsStackAt kept frame.below entries

@@ -1,7 +1,6 @@
 -- The node that a pair of numbers stands for.
 use Rattle.std.specs.Prelude.{◌≤◌, ℕ, List, [], ◌∷◌, ◌++◌, Option, None, Some, length, map, slice_get}
 use Rattle.std.proofs.Common.{zero, suc}
-use Rattle.px_terms.specs.AtomSets.{atom_set}
 use Rattle.px_terms.specs.declared.atom.Atom.{Atom}
 use Rattle.px_table.specs.declared.entry.Entry.{Entry}
 use Rattle.px_table.specs.declared.node.Node.{Node}
@@ -19,10 +18,10 @@ unfoldable pub items_at : {X : Type 0} → List X → List ℕ → List X
 items_at items [] = []
 items_at items (place ∷ places) = items_of (slice_get items place) ++ items_at items places
 
--- the set of the atoms of these numbers, if there are any
+-- the atoms of these numbers, if there are any
 abbrev pub atoms_of : List Atom → Option (List ℕ) → List Atom
 atoms_of atoms None = []
-atoms_of atoms (Some numbers) = atom_set (items_at atoms numbers)
+atoms_of atoms (Some numbers) = items_at atoms numbers
 
 -- the number of the stack below
 abbrev pub below_of : Option Frame → ℕ

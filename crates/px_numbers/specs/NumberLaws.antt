@@ -1,20 +1,14 @@
 -- A pair of numbers is one node, a node has one pair, and both stay so when more is kept.
-use Rattle.std.proofs.Common.{◌≡◌, ◌↔◌, ◌⊎◌, ℕ, zero, suc, ◌<◌, ◌≤◌, List, [], ◌∷◌, ◌++◌, length, refl, sym, ◌∙◌, ap, subst, inl, inr, arith, Some, slice_get, Contains}
+use Rattle.std.proofs.Common.{◌≡◌, ℕ, zero, suc, ◌<◌, List, [], ◌∷◌, ◌++◌, length, refl, sym, ◌∙◌, ap, subst, inl, inr, arith, Some, slice_get, Contains}
 use Rattle.std.proofs.lemmas.List.{length-append}
-use Rattle.std.specs.Cmp.{nat_cmp_total}
-use Rattle.std.specs.FinSet.{nat_cmp-IsAntisymmetric}
-use Rattle.std.specs.Ordering.{nat_cmp}
-use Rattle.px_base.specs.SetLaws.{same_set}
 use Rattle.px_terms.specs.declared.atom.Atom.{Atom}
-use Rattle.px_terms.specs.Order.{atom_cmp}
-use Rattle.px_terms.specs.OrderLaws.{atom_cmp-total, atom_cmp-same}
 use Rattle.px_table.specs.declared.entry.Entry.{Entry}
 use Rattle.px_table.specs.declared.node.Node.{Node}
 use Rattle.px_numbers.specs.declared.nodes.NodeKey.{NodeKey}
 use Rattle.px_numbers.specs.declared.stacks.Frame.{Frame}
 use Rattle.px_ops.specs.Keeping.{AreOnce, KeepsPlaces}
 use Rattle.px_ops.specs.KeepLaws.{place_in, has_at, at_has, push-cases}
-use Rattle.px_numbers.specs.Numbers.{Kept, AreEachOnce, IsModelOf, IsModelAt, IsStackAt, IsKeyOf, KeepsAll, AllStand}
+use Rattle.px_numbers.specs.Numbers.{Kept, AreEachOnce, AreNumbersOf, IsModelOf, IsModelAt, IsStackAt, IsKeyOf, KeepsAll, AllStand}
 
 -- ---- places of lists
 
@@ -32,13 +26,14 @@ last_at (y ∷ xs) x = last_at xs x
 
 -- ---- more is kept
 
+pub numbers-grow : (old new : List Atom) (numbers : List ℕ) (model : List Atom) → KeepsPlaces old new → AreNumbersOf old numbers model → AreNumbersOf new numbers model
+numbers-grow old new [] [] keeps are = are
+numbers-grow old new [] (atom ∷ model) keeps are = are
+numbers-grow old new (number ∷ numbers) [] keeps are = are
+numbers-grow old new (number ∷ numbers) (atom ∷ model) keeps are = (keeps number atom are.0, numbers-grow old new numbers model keeps are.1)
+
 model-grows : (old new : List Atom) (numbers : List ℕ) (model : List Atom) → KeepsPlaces old new → IsModelOf old numbers model → IsModelOf new numbers model
-model-grows old new numbers model keeps is = record {
-  is_set = is.is_set;
-  ascending = is.ascending;
-  each = λ n has. let h = is.each n has in (h.0, keeps n h.0 h.1, h.2);
-  all = λ atom has. let h = is.all atom has in (h.0, keeps h.0 atom h.1, h.2);
-}
+model-grows old new numbers model keeps is = record { is_set = is.is_set; numbers_are = numbers-grow old new numbers model keeps is.numbers_are }
 
 pub model_at-grows : (old new : Kept) (number : ℕ) (model : List Atom) → KeepsAll old new → IsModelAt old number model → IsModelAt new number model
 model_at-grows old new number model keeps is = (is.0, keeps.lists number is.0 is.1, model-grows old.atoms new.atoms is.0 model keeps.atoms is.2)
@@ -62,20 +57,21 @@ all_stand-grows old new keys nodes keeps all = record {
 
 -- ---- a pair is one node
 
-same_model : (atoms : List Atom) (numbers : List ℕ) (first second : List Atom) → IsModelOf atoms numbers first → IsModelOf atoms numbers second → first ≡ second
-same_model atoms numbers first second a b =
-    same_set atom_cmp atom_cmp-total (λ x y. atom_cmp-same x y) first second a.is_set b.is_set (λ q. (into first second a b q, into second first b a q))
-  where
-    into : (these those : List Atom) → IsModelOf atoms numbers these → IsModelOf atoms numbers those → (q : Atom) → Contains these q → Contains those q
-    into these those a b q has =
-        let n = a.all q has in
-        let there = b.each n.0 n.2 in
-        subst (Contains those) (one_at atoms n.0 there.0 q there.1 n.1) there.2
+same_atoms : (atoms : List Atom) (numbers : List ℕ) (first second : List Atom) → AreNumbersOf atoms numbers first → AreNumbersOf atoms numbers second → first ≡ second
+same_atoms atoms [] [] [] a b = refl
+same_atoms atoms [] [] (y ∷ ys) a b = absurd b
+same_atoms atoms [] (x ∷ xs) second a b = absurd a
+same_atoms atoms (number ∷ numbers) [] second a b = absurd a
+same_atoms atoms (number ∷ numbers) (x ∷ xs) [] a b = absurd b
+same_atoms atoms (number ∷ numbers) (x ∷ xs) (y ∷ ys) a b =
+    let first : x ≡ y = one_at atoms number x y a.0 b.0 in
+    let rest = same_atoms atoms numbers xs ys a.1 b.1 in
+    λ i. first i ∷ rest i
 
 pub one_model : (kept : Kept) (number : ℕ) (first second : List Atom) → IsModelAt kept number first → IsModelAt kept number second → first ≡ second
 one_model kept number first second a b =
     let same : b.0 ≡ a.0 = one_at kept.lists number b.0 a.0 b.1 a.1 in
-    same_model kept.atoms a.0 first second a.2 (subst (λ (l : List ℕ). IsModelOf kept.atoms l second) same b.2)
+    same_atoms kept.atoms a.0 first second a.2.numbers_are (subst (λ (l : List ℕ). IsModelOf kept.atoms l second) same b.2).numbers_are
 
 pub one_stack : (kept : Kept) (number : ℕ) (first second : List Entry) → IsStackAt kept number first → IsStackAt kept number second → first ≡ second
 one_stack kept number [] [] a b = refl
@@ -96,19 +92,20 @@ one_node kept key first second a b =
 
 -- ---- a node has one pair
 
-same_numbers : (atoms : List Atom) → AreOnce atoms → (first second : List ℕ) (model : List Atom) → IsModelOf atoms first model → IsModelOf atoms second model → first ≡ second
-same_numbers atoms once first second model a b =
-    same_set nat_cmp nat_cmp_total nat_cmp-IsAntisymmetric first second a.ascending b.ascending (λ n. (into first second a b n, into second first b a n))
-  where
-    into : (these those : List ℕ) → IsModelOf atoms these model → IsModelOf atoms those model → (n : ℕ) → Contains these n → Contains those n
-    into these those a b n has =
-        let atom = a.each n has in
-        let there = b.all atom.0 atom.2 in
-        subst (Contains those) (once there.0 n atom.0 there.1 atom.1) there.2
+same_numbers : (atoms : List Atom) → AreOnce atoms → (first second : List ℕ) (model : List Atom) → AreNumbersOf atoms first model → AreNumbersOf atoms second model → first ≡ second
+same_numbers atoms once [] [] [] a b = refl
+same_numbers atoms once [] (n ∷ ns) [] a b = absurd b
+same_numbers atoms once (m ∷ ms) second [] a b = absurd a
+same_numbers atoms once [] second (atom ∷ model) a b = absurd a
+same_numbers atoms once (m ∷ ms) [] (atom ∷ model) a b = absurd b
+same_numbers atoms once (m ∷ ms) (n ∷ ns) (atom ∷ model) a b =
+    let first : m ≡ n = once m n atom a.0 b.0 in
+    let rest = same_numbers atoms once ms ns model a.1 b.1 in
+    λ i. first i ∷ rest i
 
 pub one_model_number : (kept : Kept) → AreEachOnce kept → (first second : ℕ) (model : List Atom) → IsModelAt kept first model → IsModelAt kept second model → first ≡ second
 one_model_number kept once first second model a b =
-    let same : b.0 ≡ a.0 = same_numbers kept.atoms once.atoms b.0 a.0 model b.2 a.2 in
+    let same : b.0 ≡ a.0 = same_numbers kept.atoms once.atoms b.0 a.0 model b.2.numbers_are a.2.numbers_are in
     once.lists first second a.0 a.1 (b.1 ∙ ap Some same)
 
 pub one_stack_number : (kept : Kept) → AreEachOnce kept → (first second : ℕ) (stack : List Entry) → IsStackAt kept first stack → IsStackAt kept second stack → first ≡ second

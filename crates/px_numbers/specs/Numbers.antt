@@ -1,7 +1,5 @@
 -- Which node a pair of numbers is.
-use Rattle.std.specs.Prelude.{◌≡◌, ◌≤◌, ℕ, Option, None, List, [], ◌∷◌, Some, length, slice_get, Contains}
-use Rattle.std.specs.List.Sorted.{IsStrictlySortedBy}
-use Rattle.std.specs.Ordering.{nat_cmp}
+use Rattle.std.specs.Prelude.{◌≡◌, ◌≤◌, ℕ, Option, None, List, [], ◌∷◌, Some, length, slice_get}
 use Rattle.std.proofs.Common.{suc}
 use Rattle.px_terms.specs.AtomSets.{IsAtomSet}
 use Rattle.px_terms.specs.declared.atom.Atom.{Atom}
@@ -33,17 +31,17 @@ pub record AreSound (kept : Kept) : Type 0 where
   pub once : AreEachOnce kept
   pub descending : AreDescending kept.frames
 
--- the numbers are those of these atoms
-pub record AreNumbersOf (atoms : List Atom) (numbers : List ℕ) (model : List Atom) : Type 0 where
-  pub each : (n : ℕ) → Contains numbers n → (atom : Atom) × (slice_get atoms n ≡ Some atom) × Contains model atom
-  pub all : (atom : Atom) → Contains model atom → (n : ℕ) × (slice_get atoms n ≡ Some atom) × Contains numbers n
+-- the numbers are those of these atoms, in their order
+abbrev pub AreNumbersOf : List Atom → List ℕ → List Atom → Type 0
+AreNumbersOf atoms [] [] = Unit {0}
+AreNumbersOf atoms [] (atom ∷ model) = ⊥
+AreNumbersOf atoms (number ∷ numbers) [] = ⊥
+AreNumbersOf atoms (number ∷ numbers) (atom ∷ model) = (slice_get atoms number ≡ Some atom) × AreNumbersOf atoms numbers model
 
--- the numbers are those of the atoms of the model, ascending, each once
+-- a model, and the numbers of its atoms, in their order
 pub record IsModelOf (atoms : List Atom) (numbers : List ℕ) (model : List Atom) : Type 0 where
   pub is_set : IsAtomSet model
-  pub ascending : IsStrictlySortedBy nat_cmp numbers
-  pub each : (n : ℕ) → Contains numbers n → (atom : Atom) × (slice_get atoms n ≡ Some atom) × Contains model atom
-  pub all : (atom : Atom) → Contains model atom → (n : ℕ) × (slice_get atoms n ≡ Some atom) × Contains numbers n
+  pub numbers_are : AreNumbersOf atoms numbers model
 
 -- the model of the number
 abbrev pub IsModelAt : Kept → ℕ → List Atom → Type 0

@@ -5,6 +5,7 @@
 //! - [`Numbers`] keeps atoms, models, entries and stacks. Contracts see it as `Kept`, the list of each kind, by number.
 //!   `model_number`, `entry_number` and `pushed` answer the number of a model, an entry, and a stack with one more entry, and
 //!   keep what is new. `model`, `entry`, `top` and `is_stacked` tell what a number stands for. The empty stack has number 0.
+//! - A model is kept as the list of the numbers of its atoms, in the order of the atoms, so `model` puts each at the end.
 //! - Which model and which stack a number stands for are relations: `IsModelAt`, `IsStackAt`. Numbers stay when more is kept
 //!   (`KeepsAll`), after `NoMemory` too. `sound` hands out what is always true: nothing is kept twice (`AreSound`).
 //! - A [`NodeKey`] is a node as two numbers, those of its model and of its stack (`IsKeyOf`). [`NodeSet`] is the list of

@@ -8,7 +8,7 @@ use px_ops::keep;
 use std::alloc::Global;
 use std::marker::Model;
 
-/// Lists of numbers, each kept once and numbered: of a model, those of its atoms, ascending.
+/// Lists of numbers, each kept once and numbered: of a model, those of its atoms, in their order.
 #[derive(Drop)]
 pub struct NumberLists {
     lists: IndexSet<Sequence<u32>>,

@@ -1,12 +1,9 @@
 //! All that a search keeps by number.
-ghost use Rattle.std.specs.Prelude.{◌≡◌, ◌<◌, ◌≤◌, ◌↔◌, ◌∷◌, List, [], Some, length, slice_get, All, Contains, IsTrue, IfOk, OnErr, OnOk, IfSome, ℕ};
-ghost use Rattle.std.specs.List.Sorted.{IsStrictlySortedBy};
-ghost use Rattle.std.specs.Ordering.{nat_cmp};
-ghost use Rattle.px_terms.specs.AtomSets.{IsAtomSet};
+ghost use Rattle.std.specs.Prelude.{◌≡◌, ◌<◌, ◌↔◌, ◌∷◌, List, [], Some, length, slice_get, All, Contains, IsTrue, IfOk, OnErr, IfSome};
 ghost use Rattle.px_terms.specs.Instances.{IsGround};
 ghost use Rattle.px_table.specs.declared.entry.Entry.{Entry};
 ghost use Rattle.px_ops.specs.Keeping.{AreOnce, Keeps, KeepsPlaces};
-ghost use Rattle.px_numbers.specs.Numbers.{AreNumbersOf, AreSound, IsModelAt, IsStackAt, IsTopOf, KeepsAll};
+ghost use Rattle.px_numbers.specs.Numbers.{AreNumbersOf, AreSound, IsModelAt, IsModelOf, IsStackAt, IsTopOf, KeepsAll};
 
 use crate::entries::EntryIndex;
 use crate::lists::NumberLists;
@@ -75,21 +72,10 @@ fn numbers_of(alloc: Global, index: &mut AtomIndex, atoms: &[Atom]) -> Result<Ve
     Ok(numbers)
 }
 
-/// The numbers ascending, each once.
-fn ordered(mut numbers: Vec<u32>) -> Vec<u32>
-    ensures members { (n : ℕ) → Contains numbers.items n ↔ Contains result.items n }
-    ensures order { IsStrictlySortedBy nat_cmp result.items }
-{
-    numbers.sort_unstable();
-    numbers.dedup();
-    numbers
-}
-
-/// The model of the atoms with these numbers.
+/// The model of the atoms with these numbers. Each atom comes after all before it, so it is put at the end.
 fn model_of(alloc: Global, index: &AtomIndex, numbers: &[u32]) -> Result<Model, NoMemory>
-    requires { All (λ n. n < length index.now) numbers.now }
-    ensures is_set { IfOk result (λ model. IsAtomSet model.atoms) }
-    ensures numbers { IfOk result (λ model. AreNumbersOf index.now numbers.now model.atoms) }
+    requires { (model : List Atom) × IsModelOf index.now numbers.now model }
+    ensures { IfOk result (λ built. IsModelOf index.now numbers.now built.atoms) }
 {
     let mut model = Model::new(alloc);
     for number in numbers {
@@ -127,7 +113,7 @@ impl Numbers {
         ensures keeps { KeepsAll self.old self.new }
         ensures model { IfOk result (λ number. IsModelAt self.new number model.now.atoms) }
     {
-        let numbers = ordered(numbers_of(alloc, &mut self.atoms, model.atoms())?);
+        let numbers = numbers_of(alloc, &mut self.atoms, model.atoms())?;
         self.lists.intern(Sequence::from_vec(numbers))
     }
 

@@ -1,8 +1,8 @@
 -- Adding the facts of a state to a model, predicate by predicate.
-use Rattle.std.specs.Prelude.{◌≡◌, ◌<◌, ◌≤◌, ◌+◌, ◌==◌, ℕ, Bool, true, false, cond, Option, None, Some, nat_lt, List, [], ◌∷◌, ◌++◌, length, take, drop, filter, Contains, slice_index_or}
+use Rattle.std.specs.Prelude.{◌≡◌, ◌<◌, ◌≤◌, ◌+◌, ◌==◌, ℕ, Bool, true, false, cond, Option, None, Some, nat_lt, List, [], ◌∷◌, ◌++◌, length, take, filter, Contains, slice_index_or}
 use Rattle.std.proofs.Common.{zero, suc, refl, sym, ap, ◌∙◌, inl, inr, arith, length-append}
 use Rattle.std.proofs.lemmas.Bool.{ltb-true, ltb-false, eqb-true, eq-eqb, lt-ltb, le-ltb, eqb-false}
-use Rattle.std.proofs.lemmas.List.{append-nil, append_assoc, length-take-le, take_more, take-append-drop}
+use Rattle.std.proofs.lemmas.List.{append-nil, append_assoc, length-take-le, take_more}
 use Rattle.std.proofs.lemmas.List.Elements.{Contains-append_left, Contains-append_right, Contains-append_cases, filter-append}
 use Rattle.px_base.specs.ListLaws.{Contains-filter}
 use Rattle.px_base.specs.Sets.{set_of}
@@ -15,7 +15,8 @@ use Rattle.px_terms.specs.OrderLaws.{atom_cmp-total, atom_cmp-same}
 use Rattle.px_rooms.specs.declared.standing.Standing.{Standing}
 use Rattle.px_rooms.specs.declared.standing.Standing.TheVariants.{Room as a_room, Door as a_door, Box as a_box}
 use Rattle.px_rooms.specs.Domain.{in_room, robot}
-use Rattle.px_rooms.specs.States.{IsRoomState, RoomState, all_atoms, atoms_from, beside_atoms, of_pred, rendering, robot_atoms, thing_atoms}
+use Rattle.px_rooms.specs.Added.{AreAdded, of_pred}
+use Rattle.px_rooms.specs.States.{IsRoomState, RoomState, all_atoms, atoms_from, beside_atoms, rendering, robot_atoms, thing_atoms}
 use Rattle.px_rooms.proofs.Counting.{rendering-length}
 
 -- ---- one atom
@@ -23,15 +24,12 @@ use Rattle.px_rooms.proofs.Counting.{rendering-length}
 pub one-of : (pred : ℕ) (atom : Atom) → (atom.pred == pred) ≡ true → of_pred pred (atom ∷ []) ≡ atom ∷ []
 one-of pred atom is = ap (λ b. cond b (atom ∷ []) []) is
 
-pub none-of : (pred : ℕ) (atom : Atom) → (atom.pred == pred) ≡ false → of_pred pred (atom ∷ []) ≡ []
-none-of pred atom isnt = ap (λ b. cond b (atom ∷ []) []) isnt
-
 pub one-put : (before : List Atom) (pred : ℕ) (atom : Atom) (old new : List Atom) → (atom.pred == pred) ≡ true → old ≡ atom_set before → new ≡ with_atom atom old → new ≡ atom_set (before ++ of_pred pred (atom ∷ []))
 one-put before pred atom old new is was put =
     put ∙ ap (with_atom atom) was ∙ set_of-push atom_cmp atom_cmp-total atom_cmp-same before atom ∙ ap (λ xs. atom_set (before ++ xs)) (sym (one-of pred atom is))
 
-pub none-put : (before : List Atom) (pred : ℕ) (atom : Atom) (old : List Atom) → (atom.pred == pred) ≡ false → old ≡ atom_set before → old ≡ atom_set (before ++ of_pred pred (atom ∷ []))
-none-put before pred atom old isnt was = was ∙ ap atom_set (sym (append-nil before)) ∙ ap (λ xs. atom_set (before ++ xs)) (sym (none-of pred atom isnt))
+pub one-added : (pred : ℕ) (atom : Atom) (old new : List Atom) → (atom.pred == pred) ≡ true → new ≡ with_atom atom old → AreAdded (of_pred pred (atom ∷ [])) old new
+one-added pred atom old new is put = λ before was. one-put before pred atom old new is was put
 
 -- ---- more atoms behind those that are there
 
@@ -43,18 +41,6 @@ more-room done new next total room left is within enough kept = let parts = ap l
 
 pub more-spare : (done new next : List Atom) (room old left : ℕ) → next ≡ done ++ new → room ≤ old + length done → old ≤ left + length new → room ≤ left + length next
 more-spare done new next room old left is kept less = let parts = ap length is in omega (arith, parts, kept, less, length-append done new)
-
--- ---- of a list of atoms
-
-pub list-next : (pred : ℕ) (items : List Atom) (k : ℕ) (item : Atom) → k < length items → item ≡ slice_index_or items k item
-    → of_pred pred (take (k + 1) items) ≡ of_pred pred (take k items) ++ of_pred pred (item ∷ [])
-list-next pred items k item below is =
-    ap (of_pred pred) (take_more items k item below ∙ ap (λ (a : Atom). take k items ++ a ∷ []) (sym is)) ∙ filter-append (λ (a : Atom). a.pred == pred) (take k items) (item ∷ [])
-
-pub list-within : (pred : ℕ) (items : List Atom) (k : ℕ) → length (of_pred pred (take k items)) ≤ length (of_pred pred items)
-list-within pred items k =
-    let parts = ap length (ap (of_pred pred) (sym (take-append-drop k items)) ∙ filter-append (λ (a : Atom). a.pred == pred) (take k items) (drop k items)) in
-    omega (arith, parts, length-append (of_pred pred (take k items)) (of_pred pred (drop k items)))
 
 -- ---- of the things
 

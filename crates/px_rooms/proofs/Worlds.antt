@@ -59,12 +59,6 @@ about-ground : (state : RoomState) (k : ℕ) → AllByRecursion IsGround (atoms_
 about-ground state zero = (ground-two 0 0 state.robot_room, beside-ground 0 state.robot_beside)
 about-ground state (suc k) = of_thing-ground (suc k) (slice_get state.things k)
 
-pub facts-ground : (state : RoomState) (k : ℕ) → All IsGround (atoms_about state k)
-facts-ground state k = All-each IsGround (atoms_about state k) (λ atom has. AllByRecursion-at IsGround (atoms_about state k) atom (about-ground state k) has)
-
-pub thing-facts-ground : (k : ℕ) (one : Standing) → All IsGround (thing_atoms k one)
-thing-facts-ground k one = All-each IsGround (thing_atoms k one) (λ atom has. AllByRecursion-at IsGround (thing_atoms k one) atom (thing-ground k one) has)
-
 pub rendering-ground : (state : RoomState) → All IsGround (rendering state)
 rendering-ground state = All-each IsGround (rendering state)
     (λ atom has. let found = rendering-about state atom has in AllByRecursion-at IsGround (atoms_about state found.0) atom (about-ground state found.0) found.1)

@@ -1,6 +1,7 @@
 pub mod Domain
 pub mod States
 pub mod Looking
+pub mod Added
 pub mod RobotCounts
 pub mod Changes
 pub mod WorkedDomain

@@ -1,5 +1,5 @@
 -- Buildings: their states, and the facts of a state.
-use Rattle.std.specs.Prelude.{◌≡◌, ◌≢◌, ◌<◌, ◌⊎◌, ◌+◌, ◌==◌, ℕ, Bool, true, false, Option, Some, None, List, [], ◌∷◌, ◌++◌, length, filter, All, slice_get, slice_index}
+use Rattle.std.specs.Prelude.{◌≡◌, ◌≢◌, ◌<◌, ◌⊎◌, ◌+◌, ℕ, Bool, true, false, Option, Some, None, List, [], ◌∷◌, ◌++◌, length, All, slice_get, slice_index}
 use Rattle.std.proofs.Common.{zero, suc}
 use Rattle.px_terms.specs.declared.atom.Atom.{Atom}
 use Rattle.px_terms.specs.declared.problem.Problem.{Problem}
@@ -105,14 +105,6 @@ atoms_from k (one ∷ things) = thing_atoms k one ++ atoms_from (k + 1) things
 -- all of a state, the robot's first
 abbrev pub all_atoms : RoomState → List Atom
 all_atoms state = robot_atoms state ++ atoms_from 1 state.things
-
--- those of a predicate
-abbrev pub of_pred : ℕ → List Atom → List Atom
-of_pred pred atoms = filter (λ (a : Atom). a.pred == pred) atoms
-
--- the atoms came to an ascending list, whichever list that one was made of
-abbrev pub AreAdded : List Atom → List Atom → List Atom → Type 0
-AreAdded atoms old new = (before : List Atom) → old ≡ atom_set before → new ≡ atom_set (before ++ atoms)
 
 -- all that is true in the state, ascending
 abbrev pub rendering : RoomState → List Atom

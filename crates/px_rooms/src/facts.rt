@@ -11,8 +11,25 @@ use std::marker::Model;
 /// The robot as an object.
 pub(crate) const ROBOT: Term = Term::Obj(0);
 
+/// The predicate that something is in a room.
+pub(crate) const IN_ROOM: u32 = 0;
+/// The predicate that something is beside something.
+pub(crate) const NEXT_TO: u32 = 1;
+/// The predicate that a door connects two rooms.
+pub(crate) const CONNECTS: u32 = 2;
+/// The predicate that a door is open.
+pub(crate) const OPENED: u32 = 3;
+/// The predicate that a door is closed.
+pub(crate) const CLOSED: u32 = 4;
+/// The predicate that a thing is a room.
+pub(crate) const IS_ROOM: u32 = 5;
+/// The predicate that a thing is a door.
+pub(crate) const IS_DOOR: u32 = 6;
+/// The predicate that a thing is a box.
+pub(crate) const IS_BOX: u32 = 7;
+
 /// The atom of a predicate with these arguments.
-fn atom(pred: u32, args: &[Term]) -> Atom
+pub(crate) fn atom(pred: u32, args: &[Term]) -> Atom
     requires { length args.now ≤ 6 }
     ensures { result ≡ record { pred = pred; args = args.now } }
 {
@@ -26,56 +43,56 @@ fn atom(pred: u32, args: &[Term]) -> Atom
 pub(crate) fn in_room(thing: Term, room: Term) -> Atom
     ensures { result ≡ in_room_of thing room }
 {
-    atom(0, &[thing, room])
+    atom(IN_ROOM, &[thing, room])
 }
 
 /// Something is beside something.
 pub(crate) fn next_to(thing: Term, other: Term) -> Atom
     ensures { result ≡ next_to_of thing other }
 {
-    atom(1, &[thing, other])
+    atom(NEXT_TO, &[thing, other])
 }
 
 /// A door connects a room with another.
 pub(crate) fn connects(door: Term, room: Term, other: Term) -> Atom
     ensures { result ≡ connects_of door room other }
 {
-    atom(2, &[door, room, other])
+    atom(CONNECTS, &[door, room, other])
 }
 
 /// A door is open.
 pub(crate) fn opened(door: Term) -> Atom
     ensures { result ≡ opened_of door }
 {
-    atom(3, &[door])
+    atom(OPENED, &[door])
 }
 
 /// A door is closed.
 pub(crate) fn closed(door: Term) -> Atom
     ensures { result ≡ closed_of door }
 {
-    atom(4, &[door])
+    atom(CLOSED, &[door])
 }
 
 /// A thing is a room.
 pub(crate) fn is_room(thing: Term) -> Atom
     ensures { result ≡ room_of thing }
 {
-    atom(5, &[thing])
+    atom(IS_ROOM, &[thing])
 }
 
 /// A thing is a door.
 pub(crate) fn is_door(thing: Term) -> Atom
     ensures { result ≡ door_of thing }
 {
-    atom(6, &[thing])
+    atom(IS_DOOR, &[thing])
 }
 
 /// A thing is a box.
 pub(crate) fn is_box(thing: Term) -> Atom
     ensures { result ≡ box_of thing }
 {
-    atom(7, &[thing])
+    atom(IS_BOX, &[thing])
 }
 
 /// At most four atoms. Contracts see them as a list.

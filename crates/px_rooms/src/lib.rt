@@ -21,10 +21,12 @@
 //!   all facts.
 //! - Where an atom of a precondition isn't a fact a world may refuse the action ([`refusals_are_allowed`]). Facts are a set of
 //!   atoms over the building's objects and predicates ([`facts_are_atoms`]), ground, and there are few ([`facts_are_few`]).
-//! - The laws are calls that do nothing.
+//! - The laws are calls that do nothing. `specs/Added`, `specs/Looking` and `specs/RobotCounts` serve private functions
+//!   alone.
 #![tactic(auto)]
 
 mod action;
+mod adding;
 #[cfg(test)]
 mod all_states;
 mod building;

@@ -1,17 +1,18 @@
 //! The world of a building.
-ghost use Rattle.std.specs.Prelude.{◌≡◌, ◌⊎◌, ◌↔◌, ◌<◌, ◌≤◌, ◌+◌, ℕ, [], ◌∷◌, length, Some, All, Contains, false, IsTrue, IsErrOf, IfOk, MatchResult, OnOk, OnErr, slice_get};
+ghost use Rattle.std.specs.Prelude.{◌≡◌, ◌⊎◌, ◌↔◌, ◌<◌, ◌≤◌, ◌+◌, ℕ, length, Some, Contains, false, IsTrue, IsErrOf, IfOk, MatchResult, OnOk, OnErr, slice_get};
 ghost use Rattle.px_terms.specs.declared.term.Term.TheVariants.{Obj};
-ghost use Rattle.px_terms.specs.Instances.{IsGround};
 ghost use Rattle.px_terms.specs.Operators.{result_of};
 ghost use Rattle.px_terms.specs.Validity.{IsInstanceOf};
 ghost use Rattle.px_world.specs.declared.edits.RoomEdit.{RoomEdit};
 ghost use Rattle.px_world.specs.Worlds.{IsRefused};
+ghost use Rattle.px_rooms.specs.Added.{AreAdded, of_pred};
 ghost use Rattle.px_rooms.specs.Changes.{IsAdmitted, IsMoved, acted, facts_edited, instance_of, state_edited};
 ghost use Rattle.px_rooms.specs.Following.{IsMet};
 ghost use Rattle.px_rooms.specs.Looking.{atoms_about, number_first};
-ghost use Rattle.px_rooms.specs.States.{AreAdded, IsBuilding, IsRoomState, all_atoms, atoms_from, building_rules, first_state, of_pred, rendering, robot_atoms as atoms_of_robot};
+ghost use Rattle.px_rooms.specs.States.{IsBuilding, IsRoomState, all_atoms, building_rules, first_state, rendering, robot_atoms as atoms_of_robot};
 
 use crate::action::RoomAction;
+use crate::adding::{add_placed, add_things};
 use crate::building::Building;
 use crate::errors::{NoSuchThing, RoomErr};
 use crate::facts::{FewAtoms, ROBOT, in_room, next_to, thing_atoms};
@@ -227,7 +228,8 @@ impl RoomWorld {
         ensures spare { into.old.spare ≤ into.new.spare + length (of_pred pred (all_atoms self.now)) }
     {
         self.known();
-        add_some(self.robot_atoms().as_slice(), pred, into);
+        // The robot is object 0.
+        add_placed(0, self.robot_room, self.robot_beside, pred, into);
         add_things(&self.things, pred, into);
     }
 
@@ -354,45 +356,5 @@ fn number_at(terms: &[Term], place: usize) -> u32
     match terms.get(place) {
         Some(Term::Obj(number)) => *number,
         _ => 0,
-    }
-}
-
-/// Adds a ground atom to a model that has room for it, if it is of the predicate.
-fn add_one(atom: &Atom, pred: u32, into: &mut Model)
-    requires is_ground { IsGround atom.now }
-    requires room { length (of_pred pred (atom.now ∷ [])) ≤ into.old.spare }
-    ensures atoms { AreAdded (of_pred pred (atom.now ∷ [])) into.old.atoms into.new.atoms }
-    ensures spare { into.old.spare ≤ into.new.spare + length (of_pred pred (atom.now ∷ [])) }
-{
-    if atom.pred() == pred {
-        into.insert_spare(*atom);
-    }
-}
-
-/// Adds those of ground atoms that are of the predicate to a model that has room for them.
-fn add_some(atoms: &[Atom], pred: u32, into: &mut Model)
-    requires is_ground { All IsGround atoms.now }
-    requires room { length (of_pred pred atoms.now) ≤ into.old.spare }
-    ensures atoms { AreAdded (of_pred pred atoms.now) into.old.atoms into.new.atoms }
-    ensures spare { into.old.spare ≤ into.new.spare + length (of_pred pred atoms.now) }
-{
-    for atom in atoms {
-        add_one(atom, pred, into);
-    }
-}
-
-/// Adds the facts of the predicate about the things to a model that has room for them.
-fn add_things(things: &[Standing], pred: u32, into: &mut Model)
-    requires few { length things.now < 4294967295 }
-    requires room { length (of_pred pred (atoms_from 1 things.now)) ≤ into.old.spare }
-    ensures atoms { AreAdded (of_pred pred (atoms_from 1 things.now)) into.old.atoms into.new.atoms }
-    ensures spare { into.old.spare ≤ into.new.spare + length (of_pred pred (atoms_from 1 things.now)) }
-{
-    for (place, standing) in things.iter().enumerate() {
-        add_some(
-            thing_atoms(place as u32 + 1, standing).as_slice(),
-            pred,
-            into,
-        );
     }
 }

@@ -14,7 +14,7 @@ use Rattle.px_ends.specs.Tasks.{Task}
 use Rattle.px_search.specs.Caches.{AreResults, IsCache, IsResultAt, IsStepsAt}
 use Rattle.px_search.specs.contracts.cache.PlacePartialEq.TheImpl as place_equality
 use Rattle.px_search.specs.declared.cache.Place.{Place}
-use Rattle.px_search.specs.declared.step.Step.{Step}
+use Rattle.px_search.specs.declared.offer.Offer.{Offer}
 use Rattle.px_search.proofs.Pairs.{pair-inserted, pair-found}
 use Rattle.px_search.proofs.StepLaws.{steps-grow}
 
@@ -27,26 +27,26 @@ place_eq-decides a b =
     (Decides-and _ _ (Decides-eqb a.model b.model) (Decides-eqb a.entry b.entry))
 
 pub cache-start : (task : Task) (kept : Kept) → IsCache task kept []
-cache-start task kept place steps has = absurd (Contains-none (place, steps) has)
+cache-start task kept place offer has = absurd (Contains-none (place, offer) has)
 
-pub steps_at-grows : (task : Task) (old new : Kept) (place : Place) (steps : List Step) → KeepsAll old new → IsStepsAt task old place steps → IsStepsAt task new place steps
-steps_at-grows task old new place steps keeps (model, entry, model_at, entry_at, gone) = (
+pub steps_at-grows : (task : Task) (old new : Kept) (place : Place) (offer : Offer) → KeepsAll old new → IsStepsAt task old place offer → IsStepsAt task new place offer
+steps_at-grows task old new place offer keeps (model, entry, model_at, entry_at, begun) = (
   model,
   entry,
   model_at-grows old new place.model model keeps model_at,
   keeps.entries place.entry entry entry_at,
-  record { moves = gone.moves; are = gone.are; steps_are = steps-grow old new steps gone.moves keeps gone.steps_are; unlimited = gone.unlimited },
+  record { moves = begun.moves; are = begun.are; every = begun.every; steps_are = steps-grow old new offer.steps begun.moves keeps begun.steps_are; unlimited = begun.unlimited },
 )
 
-pub cache-grows : (task : Task) (old new : Kept) (cached : List (Place × List Step)) → KeepsAll old new → IsCache task old cached → IsCache task new cached
-cache-grows task old new cached keeps is place steps has = steps_at-grows task old new place steps keeps (is place steps has)
+pub cache-grows : (task : Task) (old new : Kept) (cached : List (Place × Offer)) → KeepsAll old new → IsCache task old cached → IsCache task new cached
+cache-grows task old new cached keeps is place offer has = steps_at-grows task old new place offer keeps (is place offer has)
 
 -- one more place is known
-pub cache-remember : (task : Task) (kept : Kept) (old new : List (Place × List Step)) (place : Place) (steps : List Step) → IsCache task kept old → IsStepsAt task kept place steps
-    → ((one : Place × List Step) → Contains new one → Contains old one ⊎ (one ≡ (place, steps))) → IsCache task kept new
-cache-remember task kept old new place steps is here more other others has = elim (more (other, others) has) [
+pub cache-remember : (task : Task) (kept : Kept) (old new : List (Place × Offer)) (place : Place) (offer : Offer) → IsCache task kept old → IsStepsAt task kept place offer
+    → ((one : Place × Offer) → Contains new one → Contains old one ⊎ (one ≡ (place, offer))) → IsCache task kept new
+cache-remember task kept old new place offer is here more other others has = elim (more (other, others) has) [
   | inl before ↦ is other others before
-  | inr same ↦ subst (λ (one : Place × List Step). IsStepsAt task kept one.0 one.1) (sym same) here
+  | inr same ↦ subst (λ (one : Place × Offer). IsStepsAt task kept one.0 one.1) (sym same) here
 ]
 
 -- ---- the models that applying entries leaves

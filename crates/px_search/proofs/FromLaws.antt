@@ -1,7 +1,8 @@
 -- From what is known of a node's needs to its moves by numbers.
-use Rattle.std.proofs.Common.{◌≡◌, ◌≢◌, ◌↔◌, ℕ, ◌<◌, ◌≤◌, List, [], ◌∷◌, length, map, take, refl, sym, ◌∙◌, ap, subst, arith, Some, slice_get}
+use Rattle.std.proofs.Common.{◌≡◌, ◌≢◌, ◌↔◌, ◌⊎◌, ℕ, Bool, true, ◌<◌, ◌≤◌, List, [], ◌∷◌, length, map, take, refl, sym, ◌∙◌, ap, subst, arith, Some, slice_get}
 use Rattle.std.specs.Prelude.{Contains, All, None, Result, Ok, Err}
 use Rattle.std.specs.List.Sorted.{IsStrictlySortedBy}
+use Rattle.std.specs.declared.cmp.Ordering.TheVariants.{Less}
 use Rattle.std.proofs.lemmas.List.Elements.{All-head}
 use Rattle.px_terms.specs.declared.atom.Atom.{Atom}
 use Rattle.px_proof.specs.declared.shape.Tick.{Tick}
@@ -27,14 +28,16 @@ use Rattle.px_numbers.specs.NumberLaws.{one_at, one_model, one_stack, model_at-g
 use Rattle.px_ops.specs.KeepLaws.{place_in}
 use Rattle.px_ends.specs.Tasks.{Task, needs_at, needs_with, goal_from}
 use Rattle.px_search.specs.declared.cache.Place.{Place}
+use Rattle.px_search.specs.declared.offer.Offer.{Offer}
 use Rattle.px_search.specs.declared.step.Step.{Step}
 use Rattle.px_search.specs.declared.step.Step.TheVariants as step
 use Rattle.px_search.specs.Asking.{IsTriedAt}
 use Rattle.px_search.specs.Caches.{IsStepsAt, IsTopAt}
-use Rattle.px_search.specs.Going.{IsGoneOn}
+use Rattle.px_search.specs.Going.{IsBegunOn, IsGoneOn}
 use Rattle.px_search.specs.Steps.{AreStepsOf, unstruck}
-use Rattle.px_search.proofs.StruckLaws.{gone-struck}
-use Rattle.px_search.proofs.Stepping.{applicable-unlimited, applicable-moves, closed-unlimited, closed-moves, open-unlimited, open-moves}
+use Rattle.px_search.proofs.BeginningLaws.{all-begun}
+use Rattle.px_search.proofs.StruckLaws.{begun-struck}
+use Rattle.px_search.proofs.Stepping.{applicable-unlimited, applicable-moves, closed-unlimited, closed-moves, open-every, open-first, open-moves, open-unlimited}
 
 -- ---- the top of a stack
 
@@ -86,6 +89,11 @@ pub at_limit : (P Q : List Atom → List (List Tick) → Type 0) (error : AskErr
 at_limit P Q (ShapeLimit formula shapes) p f = f formula shapes p
 at_limit P Q NoMemory p f = tt
 
+-- where all that a node without an answer needs has one, an entry stands on its stack
+pub stacked-applicable : (task : Task) (node : Node) → IsTriedAt task node Unanswered → IsKnownOf task.problem (needs_at task node) Applicable → node.stack ≢ []
+stacked-applicable task node tried known empty =
+    tried.0 (empty, All-head (HasAnswer task.problem) (goal_from task node.model) [] (subst (λ (s : List Entry). IsKnownOf task.problem (needs_with task node.model s) Applicable) empty known).0)
+
 module _ (task : Task) where
   -- ---- the goal
 
@@ -121,6 +129,20 @@ module _ (task : Task) where
     unlimited = open-unlimited task node gaps opens.exact opens.questions.unlimited unlimited;
   }
 
+  pub begun-open : (kept : Kept) (node : Node) (gaps : List Atom) (entries : List Entry) (steps : List Step) (is_all : Bool) → IsOpenWith task.problem (needs_at task node) gaps → IsStrictlySortedBy order_of entries
+      → ((entry : Entry) → Contains entries entry → IsPushable task.problem task.tables gaps node.stack node.model entry)
+      → ((entry : Entry) → IsPushable task.problem task.tables gaps node.stack node.model entry → Contains entries entry ⊎ ((first : Entry) → Contains entries first → order_of first entry ≡ Less))
+      → (is_all ≡ true → (entry : Entry) → IsPushable task.problem task.tables gaps node.stack node.model entry → Contains entries entry)
+      → ((entry : Entry) → IsRelevant task.problem task.tables gaps node.stack entry → AreUnlimited task.problem (obligations_of task.problem task.tables node.model entry)) → AreStepsOf kept steps (map move.Push entries)
+      → IsBegunOn task kept node steps is_all
+  begun-open kept node gaps entries steps is_all opens sorted sound others every unlimited are = record {
+    moves = map move.Push entries;
+    are = open-first task node gaps opens.exact opens.not_applicable entries sorted sound others;
+    every = λ all. open-every task node gaps opens.exact opens.not_applicable entries (every all);
+    steps_are = are;
+    unlimited = open-unlimited task node gaps opens.exact opens.questions.unlimited unlimited;
+  }
+
   -- ---- with an entry on top
 
   module _ (kept : Kept) (place : Place) (below : ℕ) (model : List Atom) (stack : List Entry) (t : IsTopAt kept place below model stack) where
@@ -144,17 +166,20 @@ module _ (task : Task) where
     filled : t.entry ∷ [] ≢ []
     filled e = cc
 
-    pub top-applicable : IsKnownOf task.problem (needs_with task model stack) Applicable → IsGoneOn task kept the_node (step.Apply ∷ []) × IsStepsAt task kept place (step.Apply ∷ [])
-    top-applicable known = (
-      gone-applicable kept the_node stacked known,
-      (model, t.entry, t.model_at, t.entry_at, gone-applicable kept (record { model = model; stack = t.entry ∷ [] }) filled (alone-top Applicable known)),
-    )
+    pub top-applicable : (is_all : Bool) → IsKnownOf task.problem (needs_with task model stack) Applicable
+        → IsBegunOn task kept the_node (step.Apply ∷ []) is_all × IsStepsAt task kept place (record { steps = step.Apply ∷ []; is_all = is_all })
+    top-applicable is_all known =
+        let alone : Node = record { model = model; stack = t.entry ∷ [] } in (
+          all-begun task kept the_node (step.Apply ∷ []) is_all (gone-applicable kept the_node stacked known),
+          (model, t.entry, t.model_at, t.entry_at, all-begun task kept alone (step.Apply ∷ []) is_all (gone-applicable kept alone filled (alone-top Applicable known))),
+        )
 
-    pub top-closed : IsKnownOf task.problem (needs_with task model stack) Closed → IsGoneOn task kept the_node [] × IsStepsAt task kept place []
-    top-closed known = (
-      gone-closed kept the_node known,
-      (model, t.entry, t.model_at, t.entry_at, gone-closed kept (record { model = model; stack = t.entry ∷ [] }) (alone-top Closed known)),
-    )
+    pub top-closed : (is_all : Bool) → IsKnownOf task.problem (needs_with task model stack) Closed → IsBegunOn task kept the_node [] is_all × IsStepsAt task kept place (record { steps = []; is_all = is_all })
+    top-closed is_all known =
+        let alone : Node = record { model = model; stack = t.entry ∷ [] } in (
+          all-begun task kept the_node [] is_all (gone-closed kept the_node known),
+          (model, t.entry, t.model_at, t.entry_at, all-begun task kept alone [] is_all (gone-closed kept alone (alone-top Closed known))),
+        )
 
     pub not_empty : 1 ≤ length stack
     not_empty = subst (λ (s : List Entry). 1 ≤ length s) (sym t.stack_is) (omega arith)
@@ -163,19 +188,21 @@ module _ (task : Task) where
     first-top = ap (λ (s : List Entry). take 1 s) t.stack_is
 
     -- where only pushes over the entry alone are known
-    pub gone-over : (steps left : List Step) → IsGoneOn task kept (record { model = model; stack = t.entry ∷ [] }) steps
-        → ((entries : List Entry) (moves : List Move) → IsStackAt kept below entries → AreStepsOf kept steps moves → AreStepsOf kept left (unstruck entries moves)) → IsGoneOn task kept the_node left
-    gone-over steps left gone struck =
-        subst (λ (s : List Entry). IsGoneOn task kept (record { model = model; stack = s }) left) (sym t.stack_is)
-        (gone-struck task model t.entry t.rest kept steps left gone (struck t.rest gone.moves t.below_at gone.steps_are))
+    pub begun-over : (steps left : List Step) (is_all : Bool) → IsBegunOn task kept (record { model = model; stack = t.entry ∷ [] }) steps is_all
+        → ((entries : List Entry) (moves : List Move) → IsStackAt kept below entries → AreStepsOf kept steps moves → AreStepsOf kept left (unstruck entries moves)) → IsBegunOn task kept the_node left is_all
+    begun-over steps left is_all begun struck =
+        subst (λ (s : List Entry). IsBegunOn task kept (record { model = model; stack = s }) left is_all) (sym t.stack_is)
+        (begun-struck task model t.entry t.rest kept steps left is_all begun (struck t.rest begun.moves t.below_at begun.steps_are))
 
     -- what is kept for the place
-    pub gone-cached : (steps left : List Step) → IsStepsAt task kept place steps
-        → ((entries : List Entry) (moves : List Move) → IsStackAt kept below entries → AreStepsOf kept steps moves → AreStepsOf kept left (unstruck entries moves)) → IsGoneOn task kept the_node left
-    gone-cached steps left (built, entry, built_at, entry_at, gone) struck =
+    pub begun-cached : (offer : Offer) (left : List Step) → IsStepsAt task kept place offer
+        → ((entries : List Entry) (moves : List Move) → IsStackAt kept below entries → AreStepsOf kept offer.steps moves → AreStepsOf kept left (unstruck entries moves)) → IsBegunOn task kept the_node left offer.is_all
+    begun-cached offer left (built, entry, built_at, entry_at, begun) struck =
         let models : built ≡ model = one_model kept place.model built model built_at t.model_at in
         let entries : entry ≡ t.entry = one_at kept.entries place.entry entry t.entry entry_at t.entry_at in
-        gone-over steps left (subst (λ (e : Entry). IsGoneOn task kept (record { model = model; stack = e ∷ [] }) steps) entries (subst (λ (m : List Atom). IsGoneOn task kept (record { model = m; stack = entry ∷ [] }) steps) models gone)) struck
+        begun-over offer.steps left offer.is_all
+        (subst (λ (e : Entry). IsBegunOn task kept (record { model = model; stack = e ∷ [] }) offer.steps offer.is_all) entries
+        (subst (λ (m : List Atom). IsBegunOn task kept (record { model = m; stack = entry ∷ [] }) offer.steps offer.is_all) models begun)) struck
 
 -- the node of a pair, by the numbers of its model and of its top
 pub node-top : (kept : Kept) (key : NodeKey) (frame : Frame) (node : Node) (model : List Atom) (stack : List Entry) → IsKeyOf kept key node → IsTopOf kept node.stack (Some frame) → IsModelAt kept key.model model → stack ≡ node.stack
@@ -227,10 +254,10 @@ module _ (task : Task) (kept : Kept) (key : NodeKey) (frame : Frame) (model : Li
       → IsKnownOf task.problem (needs_with task model stack) known
   read-known entry known given at is same = known-top task kept read-place frame.below model stack read-top entry known at (subst (IsKnownOf task.problem (obligations_of task.problem task.tables model entry)) same is)
 
--- the moves of the node with this frame on top, by what is kept for its place
-pub gone-found : (task : Task) (kept : Kept) (key : NodeKey) (frame : Frame) (steps left : List Step) → IsStepsAt task kept (record { model = key.model; entry = frame.entry }) steps
-    → ((entries : List Entry) (moves : List Move) → IsStackAt kept frame.below entries → AreStepsOf kept steps moves → AreStepsOf kept left (unstruck entries moves))
-    → (one : Node) → IsKeyOf kept key one → IsTopOf kept one.stack (Some frame) → (node : Node) → IsKeyOf kept key node → IsGoneOn task kept node left
-gone-found task kept key frame steps left kept_steps struck one stands top node other =
-    of_node kept key (λ (n : Node). IsGoneOn task kept n left) node one.model one.stack other stands.model (stack_of kept key one node one.stack stands other refl)
-    (gone-cached task kept (record { model = key.model; entry = frame.entry }) frame.below one.model one.stack (top_at kept key.model frame one.model one.stack stands.model top) steps left kept_steps struck)
+-- the first moves of the node with this frame on top, by what is kept for its place
+pub begun-found : (task : Task) (kept : Kept) (key : NodeKey) (frame : Frame) (offer : Offer) (left : List Step) → IsStepsAt task kept (record { model = key.model; entry = frame.entry }) offer
+    → ((entries : List Entry) (moves : List Move) → IsStackAt kept frame.below entries → AreStepsOf kept offer.steps moves → AreStepsOf kept left (unstruck entries moves))
+    → (one : Node) → IsKeyOf kept key one → IsTopOf kept one.stack (Some frame) → (node : Node) → IsKeyOf kept key node → IsBegunOn task kept node left offer.is_all
+begun-found task kept key frame offer left kept_steps struck one stands top node other =
+    of_node kept key (λ (n : Node). IsBegunOn task kept n left offer.is_all) node one.model one.stack other stands.model (stack_of kept key one node one.stack stands other refl)
+    (begun-cached task kept (record { model = key.model; entry = frame.entry }) frame.below one.model one.stack (top_at kept key.model frame one.model one.stack stands.model top) offer left kept_steps struck)

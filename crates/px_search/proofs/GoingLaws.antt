@@ -1,5 +1,5 @@
 -- What the search keeps at each turn, by numbers.
-use Rattle.std.proofs.Common.{◌≡◌, ℕ, zero, suc, ◌+◌, ◌<◌, ◌≤◌, List, [], ◌∷◌, ◌++◌, take, length, get_or, refl, sym, ◌∙◌, ap, subst, inl, inr, arith, Some, slice_get, Contains}
+use Rattle.std.proofs.Common.{◌≡◌, ℕ, Bool, true, zero, suc, ◌+◌, ◌<◌, ◌≤◌, List, [], ◌∷◌, ◌++◌, take, length, get_or, refl, sym, ◌∙◌, ap, subst, inl, inr, arith, Some, slice_get, Contains}
 use Rattle.std.specs.Prelude.{All}
 use Rattle.std.proofs.lemmas.List.{length-append}
 use Rattle.std.proofs.lemmas.List.Elements.{All-tail, All-cons}
@@ -21,7 +21,7 @@ use Rattle.px_search.specs.declared.step.Step.{Step}
 use Rattle.px_search.specs.declared.step.Origin.{Origin}
 use Rattle.px_search.specs.Asking.{IsProvedBelow, IsTriedAt}
 use Rattle.px_ends.specs.Ends.{IsFound, IsExhausted, IsNodeLimit, IsShapeLimit}
-use Rattle.px_search.specs.Going.{IsGoneOn, LimitsNode}
+use Rattle.px_search.specs.Going.{IsBegunOn, LimitsNode}
 use Rattle.px_search.specs.Looping.{Going, Trying, Walking}
 use Rattle.px_ends.specs.Moves.{CanMake, reached}
 use Rattle.px_search.specs.Steps.{IsStepOf, AreEarlier, Trace}
@@ -155,32 +155,32 @@ module _ (task : Task) where
         );
       }
 
-  pub trying-start : (old new : Kept) (keys : List NodeKey) (origins : List Origin) (next : ℕ) (key : NodeKey) (steps : List Step) → KeepsAll old new → Going task old keys origins next [] → slice_get keys next ≡ Some key
-      → ((node : Node) → IsKeyOf old key node → IsGoneOn task new node steps) → Trying task new keys origins next steps 0
-  trying-start old new keys origins next key steps keeps g at gone =
+  pub trying-start : (old new : Kept) (keys : List NodeKey) (origins : List Origin) (next : ℕ) (key : NodeKey) (steps : List Step) (is_all : Bool) → KeepsAll old new → Going task old keys origins next [] → slice_get keys next ≡ Some key
+      → ((node : Node) → IsKeyOf old key node → IsBegunOn task new node steps is_all) → Trying task new keys origins next steps is_all 0
+  trying-start old new keys origins next key steps is_all keeps g at begun =
       let there = node_of_key old keys g.nodes next key g.stand at in
       record {
         key = key;
         key_at = at;
         node = there.0;
         stands = stands-grows old new key there.0 keeps there.2;
-        gone = gone there.0 there.2;
+        begun = begun there.0 there.2;
         going = going-grows old new keys origins next [] keeps g;
       }
 
-  abbrev pub trying-grows : (old new : Kept) (keys : List NodeKey) (origins : List Origin) (next : ℕ) (steps : List Step) (i : ℕ) → KeepsAll old new → Trying task old keys origins next steps i → Trying task new keys origins next steps i
-  trying-grows old new keys origins next steps i keeps t = record {
+  abbrev pub trying-grows : (old new : Kept) (keys : List NodeKey) (origins : List Origin) (next : ℕ) (steps : List Step) (is_all : Bool) (i : ℕ) → KeepsAll old new → Trying task old keys origins next steps is_all i → Trying task new keys origins next steps is_all i
+  trying-grows old new keys origins next steps is_all i keeps t = record {
     key = t.key;
     key_at = t.key_at;
     node = t.node;
     stands = stands-grows old new t.key t.node keeps t.stands;
-    gone = record { moves = t.gone.moves; are = t.gone.are; steps_are = steps-grow old new steps t.gone.moves keeps t.gone.steps_are; unlimited = t.gone.unlimited };
-    going = going-grows old new keys origins next (take i t.gone.moves) keeps t.going;
+    begun = record { moves = t.begun.moves; are = t.begun.are; every = t.begun.every; steps_are = steps-grow old new steps t.begun.moves keeps t.begun.steps_are; unlimited = t.begun.unlimited };
+    going = going-grows old new keys origins next (take i t.begun.moves) keeps t.going;
   }
 
   -- the node is that of the pair at the place
-  pub same_here : (kept : Kept) (keys : List NodeKey) (origins : List Origin) (next : ℕ) (steps : List Step) (i : ℕ) (key : NodeKey) → (t : Trying task kept keys origins next steps i) → slice_get keys next ≡ Some key → IsKeyOf kept key t.node
-  same_here kept keys origins next steps i key t at = subst (λ (k : NodeKey). IsKeyOf kept k t.node) (one_at keys next t.key key t.key_at at) t.stands
+  pub same_here : (kept : Kept) (keys : List NodeKey) (origins : List Origin) (next : ℕ) (steps : List Step) (is_all : Bool) (i : ℕ) (key : NodeKey) → (t : Trying task kept keys origins next steps is_all i) → slice_get keys next ≡ Some key → IsKeyOf kept key t.node
+  same_here kept keys origins next steps is_all i key t at = subst (λ (k : NodeKey). IsKeyOf kept k t.node) (one_at keys next t.key key t.key_at at) t.stands
 
   -- there is room for more, or as many as may be kept
   pub going-room : (kept : Kept) (keys : List NodeKey) (origins : List Origin) (next : ℕ) (tried : List Move) → Going task kept keys origins next tried → length keys ≤ task.problem.nodes
@@ -197,15 +197,15 @@ module _ (task : Task) where
   pub going-exhausted : (kept : Kept) (keys : List NodeKey) (origins : List Origin) (next : ℕ) → Going task kept keys origins next [] → length keys ≤ next → IsExhausted task
   going-exhausted kept keys origins next g all = walk-exhausted task g.found g.nodes next g.walking (omega (arith, g.stand.count, all))
 
-  pub going-next : (kept : Kept) (keys : List NodeKey) (origins : List Origin) (next : ℕ) (steps : List Step) (i : ℕ) (t : Trying task kept keys origins next steps i) → take i t.gone.moves ≡ t.gone.moves → Going task kept keys origins (next + 1) []
-  going-next kept keys origins next steps i t whole =
+  pub going-next : (kept : Kept) (keys : List NodeKey) (origins : List Origin) (next : ℕ) (steps : List Step) (is_all : Bool) (i : ℕ) (t : Trying task kept keys origins next steps is_all i) → take i t.begun.moves ≡ t.begun.moves → is_all ≡ true → Going task kept keys origins (next + 1) []
+  going-next kept keys origins next steps is_all i t whole all =
       let there = node_of_key kept keys t.going.nodes next t.key t.going.stand t.key_at in
       let same : there.0 ≡ t.node = one_node kept t.key there.0 t.node there.2 t.stands in
       record {
         found = t.going.found;
         nodes = t.going.nodes;
-        walking = walking-next task t.going.found t.going.nodes next t.gone.moves t.node (subst (λ (l : List Move). Walking task t.going.found t.going.nodes next l) whole t.going.walking) (there.1 ∙ ap Some same)
-            t.gone.are t.gone.unlimited;
+        walking = walking-next task t.going.found t.going.nodes next t.begun.moves t.node (subst (λ (l : List Move). Walking task t.going.found t.going.nodes next l) whole t.going.walking) (there.1 ∙ ap Some same)
+            (t.begun.every all) t.begun.unlimited;
         stand = t.going.stand;
         trace = t.going.trace;
         earlier = t.going.earlier;
@@ -214,16 +214,16 @@ module _ (task : Task) where
 
   -- ---- a move of the node
 
-  module _ (kept : Kept) (once : AreEachOnce kept) (keys : List NodeKey) (origins : List Origin) (next : ℕ) (steps : List Step) (i : ℕ) (s : Step) (t : Trying task kept keys origins next steps i)
-      (inside : i < length steps) (m : Move) (m_is : m ≡ get_or t.gone.moves i m) (step_is : IsStepOf kept s m) (there : NodeKey) (there_stands : IsKeyOf kept there (after task t.node m)) where
-    abbrev pub g : Going task kept keys origins next (take i t.gone.moves)
+  module _ (kept : Kept) (once : AreEachOnce kept) (keys : List NodeKey) (origins : List Origin) (next : ℕ) (steps : List Step) (is_all : Bool) (i : ℕ) (s : Step) (t : Trying task kept keys origins next steps is_all i)
+      (inside : i < length steps) (m : Move) (m_is : m ≡ get_or t.begun.moves i m) (step_is : IsStepOf kept s m) (there : NodeKey) (there_stands : IsKeyOf kept there (after task t.node m)) where
+    abbrev pub g : Going task kept keys origins next (take i t.begun.moves)
     g = t.going
 
     abbrev pub next_node : Node
     next_node = after task t.node m
 
-    pub moves_inside : i < length t.gone.moves
-    moves_inside = omega (arith, inside, steps-count kept steps t.gone.moves t.gone.steps_are)
+    pub moves_inside : i < length t.begun.moves
+    moves_inside = omega (arith, inside, steps-count kept steps t.begun.moves t.begun.steps_are)
 
     pub node_here : slice_get g.nodes next ≡ Some t.node
     node_here =
@@ -234,13 +234,13 @@ module _ (task : Task) where
     counts = sym g.stand.count
 
     found_counts : length g.found ≡ length origins + 1
-    found_counts = counted task g.found g.nodes next (take i t.gone.moves) g.walking ∙ counts ∙ g.one_more
+    found_counts = counted task g.found g.nodes next (take i t.begun.moves) g.walking ∙ counts ∙ g.one_more
 
     abbrev pub list_here : (p : List Move) × (slice_get g.found next ≡ Some p) × (goes task p ≡ t.node)
-    list_here = here task g.found g.nodes next t.gone.moves i t.node m g.walking node_here t.gone.are moves_inside m_is
+    list_here = here task g.found g.nodes next t.begun.moves i t.node m g.walking node_here t.begun.are moves_inside m_is
 
     abbrev pub more_moves : List Move
-    more_moves = new_list task g.found g.nodes next t.gone.moves i t.node m g.walking node_here t.gone.are moves_inside m_is
+    more_moves = new_list task g.found g.nodes next t.begun.moves i t.node m g.walking node_here t.begun.are moves_inside m_is
 
     abbrev pub more_origins : List Origin
     more_origins = origins ++ record { parent = next; last = s } ∷ []
@@ -263,17 +263,17 @@ module _ (task : Task) where
         let number : length g.found ≡ length more_origins = omega (arith, found_counts, length-append origins (record { parent = next; last = s } ∷ [])) in
         subst (λ (n : ℕ). slice_get (g.found ++ more_moves ∷ []) n ≡ Some more_moves) number (at_end g.found more_moves)
 
-    pub trying-seen : Contains keys there → Trying task kept keys origins next steps (i + 1)
+    pub trying-seen : Contains keys there → Trying task kept keys origins next steps is_all (i + 1)
     trying-seen has = record {
       key = t.key;
       key_at = t.key_at;
       node = t.node;
       stands = t.stands;
-      gone = t.gone;
+      begun = t.begun;
       going = record {
         found = g.found;
         nodes = g.nodes;
-        walking = walking-seen task g.found g.nodes next t.gone.moves i t.node m g.walking node_here t.gone.are moves_inside m_is (seen kept keys g.nodes there next_node g.stand there_stands has);
+        walking = walking-seen task g.found g.nodes next t.begun.moves i t.node m g.walking node_here t.begun.are moves_inside m_is (seen kept keys g.nodes there next_node g.stand there_stands has);
         stand = g.stand;
         trace = g.trace;
         earlier = g.earlier;
@@ -285,17 +285,17 @@ module _ (task : Task) where
       not_seen : Contains g.nodes next_node → ⊥
       not_seen = unseen kept once keys g.nodes there next_node g.stand there_stands fresh
 
-      pub trying-new : length keys < task.problem.nodes → IsTriedAt task next_node Unanswered → Trying task kept (keys ++ there ∷ []) more_origins next steps (i + 1)
+      pub trying-new : length keys < task.problem.nodes → IsTriedAt task next_node Unanswered → Trying task kept (keys ++ there ∷ []) more_origins next steps is_all (i + 1)
       trying-new room tried = record {
         key = t.key;
         key_at = still_there keys (there ∷ []) next t.key t.key_at;
         node = t.node;
         stands = t.stands;
-        gone = t.gone;
+        begun = t.begun;
         going = record {
           found = g.found ++ more_moves ∷ [];
           nodes = g.nodes ++ next_node ∷ [];
-          walking = walking-new task g.found g.nodes next t.gone.moves i t.node m g.walking node_here t.gone.are moves_inside m_is not_seen (omega (arith, counts, room)) tried.0 tried.1;
+          walking = walking-new task g.found g.nodes next t.begun.moves i t.node m g.walking node_here t.begun.are moves_inside m_is not_seen (omega (arith, counts, room)) tried.0 tried.1;
           stand = all_stand-push kept keys g.nodes there next_node g.stand there_stands;
           trace = more_trace;
           earlier = more_earlier;
@@ -308,21 +308,21 @@ module _ (task : Task) where
       going-found moves room tried traced =
           let same : more_moves ≡ moves = one_at (g.found ++ more_moves ∷ []) (length more_origins) more_moves moves last_traced (traced (g.found ++ more_moves ∷ []) more_trace) in
           subst (IsFound task) same
-          (walk-found task g.found g.nodes next t.gone.moves i t.node m g.walking node_here t.gone.are moves_inside m_is not_seen (omega (arith, counts, room)) tried.0 t.gone.unlimited tried.1)
+          (walk-found task g.found g.nodes next t.begun.moves i t.node m g.walking node_here t.begun.are moves_inside m_is not_seen (omega (arith, counts, room)) tried.0 t.begun.unlimited tried.1)
 
       pub going-limit : (formula : List Atom) (shapes : List (List Tick)) → length keys < task.problem.nodes → IsTriedAt task next_node (Limited formula shapes) → IsShapeLimit task next_node formula shapes
       going-limit formula shapes room tried =
-          walk-shape_limit_at_goal task g.found g.nodes next t.gone.moves i t.node m g.walking node_here t.gone.are moves_inside m_is not_seen (omega (arith, counts, room)) tried.0 formula shapes tried.1
+          walk-shape_limit_at_goal task g.found g.nodes next t.begun.moves i t.node m g.walking node_here t.begun.are moves_inside m_is not_seen (omega (arith, counts, room)) tried.0 formula shapes tried.1
 
       pub going-full : (made : List Node) (moves : List Move) → task.problem.nodes ≤ length keys
           → ((nodes : List Node) → AllStand kept (keys ++ there ∷ []) nodes → made ≡ take task.problem.nodes nodes)
           → ((found : List (List Move)) → Trace kept more_origins found → slice_get found (length more_origins) ≡ Some moves) → IsNodeLimit task made (length moves)
       going-full made moves enough all traced =
-          let full : length g.nodes ≡ task.problem.nodes = omega (arith, enough, counts, g.walking.searching.room, counted task g.found g.nodes next (take i t.gone.moves) g.walking) in
+          let full : length g.nodes ≡ task.problem.nodes = omega (arith, enough, counts, g.walking.searching.room, counted task g.found g.nodes next (take i t.begun.moves) g.walking) in
           let same : more_moves ≡ moves = one_at (g.found ++ more_moves ∷ []) (length more_origins) more_moves moves last_traced (traced (g.found ++ more_moves ∷ []) more_trace) in
           let nodes_are : made ≡ g.nodes = all (g.nodes ++ next_node ∷ []) (all_stand-push kept keys g.nodes there next_node g.stand there_stands) ∙ take_kept g.nodes next_node task.problem.nodes (sym full) in
           subst (λ (l : List Node). IsNodeLimit task l (length moves)) (sym nodes_are)
-          (walk-full task g.found g.nodes next t.gone.moves i t.node m g.walking node_here t.gone.are moves_inside m_is not_seen (length moves) full (ap length (sym same)) t.gone.unlimited)
+          (walk-full task g.found g.nodes next t.begun.moves i t.node m g.walking node_here t.begun.are moves_inside m_is not_seen (length moves) full (ap length (sym same)) t.begun.unlimited)
         where
           take_kept : {A : Type 0} (xs : List A) (x : A) (n : ℕ) → n ≡ length xs → take n (xs ++ x ∷ []) ≡ xs
           take_kept [] x n long = rw long refl

@@ -1,4 +1,6 @@
 pub mod Answering
+pub mod BeginningLaws
+pub mod BegunLaws
 pub mod CacheLaws
 pub mod EffectLaws
 pub mod Endings
@@ -6,12 +8,16 @@ pub mod FewMoves
 pub mod FromLaws
 pub mod FrontierSteps
 pub mod GoingLaws
+pub mod JoinLaws
 pub mod LoopLaws
 pub mod NodeLemmas
 pub mod OfferLaws
 pub mod OriginLemmas
 pub mod Pairs
+pub mod SceneLaws
 pub mod StepLaws
 pub mod Stepping
 pub mod StruckLaws
+pub mod TopLaws
 pub mod Walking
+pub mod WholeLaws

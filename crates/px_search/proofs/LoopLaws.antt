@@ -1,5 +1,5 @@
 -- What the search keeps at each turn, from what its calls say.
-use Rattle.std.proofs.Common.{◌≡◌, ℕ, zero, suc, ◌+◌, ◌<◌, ◌≤◌, List, [], ◌∷◌, ◌++◌, take, length, get_or, refl, sym, ap, subst, inl, inr, arith, Some, slice_get, Contains}
+use Rattle.std.proofs.Common.{◌≡◌, ℕ, Bool, true, zero, suc, ◌+◌, ◌<◌, ◌≤◌, List, [], ◌∷◌, ◌++◌, take, length, get_or, refl, sym, ap, subst, inl, inr, arith, Some, slice_get, Contains}
 use Rattle.std.specs.Prelude.{All}
 use Rattle.std.proofs.lemmas.List.{take_all, length-append}
 use Rattle.px_terms.specs.declared.atom.Atom.{Atom}
@@ -72,41 +72,41 @@ module _ (task : Task) where
   -- ---- a move of it
 
   -- the next move was made, and the pair is the node that it leads to
-  pub record Stepped (kept : Kept) (keys : List NodeKey) (origins : List Origin) (next : ℕ) (steps : List Step) (i : ℕ) (s : Step) (there : NodeKey) : Type 0 where
-    pub t : Trying task kept keys origins next steps i
+  pub record Stepped (kept : Kept) (keys : List NodeKey) (origins : List Origin) (next : ℕ) (steps : List Step) (is_all : Bool) (i : ℕ) (s : Step) (there : NodeKey) : Type 0 where
+    pub t : Trying task kept keys origins next steps is_all i
     pub inside : i < length steps
     pub m : Move
-    pub m_is : m ≡ get_or t.gone.moves i m
+    pub m_is : m ≡ get_or t.begun.moves i m
     pub step_is : IsStepOf kept s m
     pub stands : IsKeyOf kept there (after task t.node m)
 
-  pub step_on : (old new : Kept) (keys : List NodeKey) (origins : List Origin) (next : ℕ) (steps : List Step) (i : ℕ) (s : Step) (key there : NodeKey) → Trying task old keys origins next steps i → slice_get keys next ≡ Some key → KeepsAll old new
-      → ((node : Node) (m : Move) → IsKeyOf old key node → IsStepOf old s m → IsKeyOf new there (after task node m)) → slice_get steps i ≡ Some s → Stepped new keys origins next steps i s there
-  step_on old new keys origins next steps i s key there t at keeps makes step_at' =
-      let r = step_move old steps t.gone.moves i s t.gone.steps_are step_at' in
+  pub step_on : (old new : Kept) (keys : List NodeKey) (origins : List Origin) (next : ℕ) (steps : List Step) (is_all : Bool) (i : ℕ) (s : Step) (key there : NodeKey) → Trying task old keys origins next steps is_all i → slice_get keys next ≡ Some key → KeepsAll old new
+      → ((node : Node) (m : Move) → IsKeyOf old key node → IsStepOf old s m → IsKeyOf new there (after task node m)) → slice_get steps i ≡ Some s → Stepped new keys origins next steps is_all i s there
+  step_on old new keys origins next steps is_all i s key there t at keeps makes step_at' =
+      let r = step_move old steps t.begun.moves i s t.begun.steps_are step_at' in
       record {
-        t = trying-grows task old new keys origins next steps i keeps t;
+        t = trying-grows task old new keys origins next steps is_all i keeps t;
         inside = place_in steps i s step_at';
         m = r.0;
         m_is = r.1;
         step_is = step-grows old new s r.0 keeps r.2;
-        stands = makes t.node r.0 (same_here task old keys origins next steps i key t at) r.2;
+        stands = makes t.node r.0 (same_here task old keys origins next steps is_all i key t at) r.2;
       }
 
-  pub asks_step : (kept : Kept) (keys : List NodeKey) (origins : List Origin) (next : ℕ) (steps : List Step) (i : ℕ) (key : NodeKey) → Trying task kept keys origins next steps i → slice_get keys next ≡ Some key
+  pub asks_step : (kept : Kept) (keys : List NodeKey) (origins : List Origin) (next : ℕ) (steps : List Step) (is_all : Bool) (i : ℕ) (key : NodeKey) → Trying task kept keys origins next steps is_all i → slice_get keys next ≡ Some key
       → (node : Node) × IsKeyOf kept key node × All (IsEntry task.problem task.tables) node.stack
-  asks_step kept keys origins next steps i key t at = let h = here_of task kept keys origins next (take i t.gone.moves) key t.going at in (h.node, h.stands, h.entries)
+  asks_step kept keys origins next steps is_all i key t at = let h = here_of task kept keys origins next (take i t.begun.moves) key t.going at in (h.node, h.stands, h.entries)
 
-  module _ (kept : Kept) (once : AreEachOnce kept) (keys new : List NodeKey) (origins : List Origin) (next : ℕ) (steps : List Step) (i : ℕ) (s : Step) (there : NodeKey) (place : ℕ) (st : Stepped kept keys origins next steps i s there)
+  module _ (kept : Kept) (once : AreEachOnce kept) (keys new : List NodeKey) (origins : List Origin) (next : ℕ) (steps : List Step) (is_all : Bool) (i : ℕ) (s : Step) (there : NodeKey) (place : ℕ) (st : Stepped kept keys origins next steps is_all i s there)
       (kept_key : Keeps keys new there place) where
     abbrev origin : Origin
     origin = record { parent = next; last = s }
 
-    pub step-seen : place < length keys → Trying task kept new origins next steps (i + 1)
+    pub step-seen : place < length keys → Trying task kept new origins next steps is_all (i + 1)
     step-seen below =
         let old = kept_old keys new there place kept_key below in
-        subst (λ (l : List NodeKey). Trying task kept l origins next steps (i + 1)) (sym old.1)
-        (trying-seen task kept once keys origins next steps i s st.t st.inside st.m st.m_is st.step_is there st.stands old.0)
+        subst (λ (l : List NodeKey). Trying task kept l origins next steps is_all (i + 1)) (sym old.1)
+        (trying-seen task kept once keys origins next steps is_all i s st.t st.inside st.m st.m_is st.step_is there st.stands old.0)
 
     pub still_here : (key : NodeKey) → slice_get keys next ≡ Some key → slice_get new next ≡ Some key
     still_here key at = elim kept_key.change [
@@ -115,11 +115,11 @@ module _ (task : Task) where
     ]
 
     pub step-earlier : (made : List Origin) → made ≡ origins ++ origin ∷ [] → AreEarlier made
-    step-earlier made is = subst AreEarlier (sym is) (more_earlier task kept once keys origins next steps i s st.t st.inside st.m st.m_is st.step_is there st.stands)
+    step-earlier made is = subst AreEarlier (sym is) (more_earlier task kept once keys origins next steps is_all i s st.t st.inside st.m st.m_is st.step_is there st.stands)
 
     pub step-trace : (made : List Origin) → made ≡ origins ++ origin ∷ [] → (found : List (List Move)) × Trace kept made found
     step-trace made is =
-        subst (λ (l : List Origin). (found : List (List Move)) × Trace kept l found) (sym is) (some_trace task kept once keys origins next steps i s st.t st.inside st.m st.m_is st.step_is there st.stands)
+        subst (λ (l : List Origin). (found : List (List Move)) × Trace kept l found) (sym is) (some_trace task kept once keys origins next steps is_all i s st.t st.inside st.m st.m_is st.step_is there st.stands)
 
     abbrev pub there_stands : (node : Node) × IsKeyOf kept there node
     there_stands = (after task st.t.node st.m, st.stands)
@@ -129,7 +129,7 @@ module _ (task : Task) where
       fresh = kept_new keys new there place kept_key above
 
       pub step-few : length keys ≤ task.problem.nodes
-      step-few = going-room task kept keys origins next (take i st.t.gone.moves) st.t.going
+      step-few = going-room task kept keys origins next (take i st.t.begun.moves) st.t.going
 
       pub step-count : task.problem.nodes ≤ length keys → task.problem.nodes ≤ length new
       step-count enough = omega (arith, enough, ap length fresh.1, length-append keys (there ∷ []))
@@ -140,18 +140,18 @@ module _ (task : Task) where
           (st.t.going.nodes ++ after task st.t.node st.m ∷ [], all_stand-push kept keys st.t.going.nodes there (after task st.t.node st.m) st.t.going.stand st.stands)
 
       pub step-new : (made : List Origin) (tried : Tried) → made ≡ origins ++ origin ∷ [] → length keys < task.problem.nodes → ((node : Node) → IsKeyOf kept there node → IsTriedAt task node tried) → tried ≡ Unanswered
-          → Trying task kept new made next steps (i + 1)
+          → Trying task kept new made next steps is_all (i + 1)
       step-new made tried is room says same =
           let t = subst (IsTriedAt task (after task st.t.node st.m)) same (says (after task st.t.node st.m) st.stands) in
-          subst (λ (l : List NodeKey). Trying task kept l made next steps (i + 1)) (sym fresh.1)
-          (subst (λ (l : List Origin). Trying task kept (keys ++ there ∷ []) l next steps (i + 1)) (sym is)
-          (trying-new task kept once keys origins next steps i s st.t st.inside st.m st.m_is st.step_is there st.stands fresh.0 room t))
+          subst (λ (l : List NodeKey). Trying task kept l made next steps is_all (i + 1)) (sym fresh.1)
+          (subst (λ (l : List Origin). Trying task kept (keys ++ there ∷ []) l next steps is_all (i + 1)) (sym is)
+          (trying-new task kept once keys origins next steps is_all i s st.t st.inside st.m st.m_is st.step_is there st.stands fresh.0 room t))
 
       pub step-found : (made : List Origin) (tried : Tried) (moves : List Move) → made ≡ origins ++ origin ∷ [] → length keys < task.problem.nodes → ((node : Node) → IsKeyOf kept there node → IsTriedAt task node tried) → tried ≡ Answered
           → ((found : List (List Move)) → Trace kept made found → slice_get found (length made) ≡ Some moves) → IsFound task moves
       step-found made tried moves is room says same traced =
           let t = subst (IsTriedAt task (after task st.t.node st.m)) same (says (after task st.t.node st.m) st.stands) in
-          going-found task kept once keys origins next steps i s st.t st.inside st.m st.m_is st.step_is there st.stands fresh.0 moves room t
+          going-found task kept once keys origins next steps is_all i s st.t st.inside st.m st.m_is st.step_is there st.stands fresh.0 moves room t
           (subst (λ (l : List Origin). (found : List (List Move)) → Trace kept l found → slice_get found (length l) ≡ Some moves) is traced)
 
       pub step-reached : (made : List Origin) (tried : Tried) → made ≡ origins ++ origin ∷ [] → length keys < task.problem.nodes → ((node : Node) → IsKeyOf kept there node → IsTriedAt task node tried) → tried ≡ Answered → IsReached task kept made
@@ -165,7 +165,7 @@ module _ (task : Task) where
           → IsShapeLimit task there_stands.0 formula shapes
       step-limit tried formula shapes room says same =
           let t = subst (IsTriedAt task (after task st.t.node st.m)) same (says (after task st.t.node st.m) st.stands) in
-          going-limit task kept once keys origins next steps i s st.t st.inside st.m st.m_is st.step_is there st.stands fresh.0 formula shapes room t
+          going-limit task kept once keys origins next steps is_all i s st.t st.inside st.m st.m_is st.step_is there st.stands fresh.0 formula shapes room t
 
       pub step-full : (made : List Origin) (count : ℕ) → made ≡ origins ++ origin ∷ [] → task.problem.nodes ≤ length keys
           → ((moves : List Move) × (count ≡ length moves) × ((found : List (List Move)) → Trace kept made found → slice_get found (length made) ≡ Some moves)) → IsFull task kept new count
@@ -175,11 +175,11 @@ module _ (task : Task) where
         limit = λ all stand.
             let here : AllStand kept (keys ++ there ∷ []) all = subst (λ (l : List NodeKey). AllStand kept l all) fresh.1 stand in
             subst (λ (n : ℕ). IsNodeLimit task (take task.problem.nodes all) n) (sym count_is)
-            (going-full task kept once keys origins next steps i s st.t st.inside st.m st.m_is st.step_is there st.stands fresh.0 (take task.problem.nodes all) moves enough
+            (going-full task kept once keys origins next steps is_all i s st.t st.inside st.m st.m_is st.step_is there st.stands fresh.0 (take task.problem.nodes all) moves enough
             (λ nodes others. ap (λ (l : List Node). take task.problem.nodes l) (one_list kept (keys ++ there ∷ []) all nodes here others))
             (subst (λ (l : List Origin). (found : List (List Move)) → Trace kept l found → slice_get found (length l) ≡ Some moves) is traced));
       }
 
-  pub node-done : (kept : Kept) (keys : List NodeKey) (origins : List Origin) (next : ℕ) (steps : List Step) (i : ℕ) → Trying task kept keys origins next steps i → length steps ≤ i → Going task kept keys origins (next + 1) []
-  node-done kept keys origins next steps i t all =
-      going-next task kept keys origins next steps i t (take_all i t.gone.moves (omega (arith, all, steps-count kept steps t.gone.moves t.gone.steps_are)))
+  pub node-done : (kept : Kept) (keys : List NodeKey) (origins : List Origin) (next : ℕ) (steps : List Step) (is_all : Bool) (i : ℕ) → Trying task kept keys origins next steps is_all i → length steps ≤ i → is_all ≡ true → Going task kept keys origins (next + 1) []
+  node-done kept keys origins next steps is_all i t all is =
+      going-next task kept keys origins next steps is_all i t (take_all i t.begun.moves (omega (arith, all, steps-count kept steps t.begun.moves t.begun.steps_are))) is

@@ -1,12 +1,13 @@
 -- What is kept of what may be pushed for a wanted atom stays right, and gives the moves of a node.
-use Rattle.std.proofs.Common.{◌≡◌, ◌↔◌, ◌⊎◌, ◌++◌, ℕ, zero, suc, length, Some, slice_get, Bool, true, false, not, List, [], ◌∷◌, map, refl, sym, ap, subst, inl, inr}
-use Rattle.std.specs.Prelude.{Contains, Result, Ok, Err, filter}
+use Rattle.std.proofs.Common.{◌≡◌, ◌↔◌, ◌⊎◌, ◌++◌, ℕ, zero, suc, length, Some, slice_get, Bool, true, false, not, List, [], ◌∷◌, map, refl, sym, ◌∙◌, ap, subst, inl, inr}
+use Rattle.std.specs.Prelude.{All, Contains, IfSome, Option, Result, Ok, Err, filter}
 use Rattle.std.specs.Bool.{Decides}
 use Rattle.std.specs.List.{dedup}
 use Rattle.std.specs.List.Sorted.{IsStrictlySortedBy, IsSorted, IsPermutation}
 use Rattle.std.specs.declared.cmp.Ordering.{Ordering}
+use Rattle.std.specs.declared.cmp.Ordering.TheVariants.{Less}
 use Rattle.std.proofs.lemmas.Bool.Decides.{Decides-and, Decides-eqb, Decides-like}
-use Rattle.std.proofs.lemmas.List.Elements.{Contains-append_left, Contains-append_right, Contains-append_cases}
+use Rattle.std.proofs.lemmas.List.Elements.{All-contains, Contains-append_left, Contains-append_right, Contains-append_cases}
 use Rattle.std.proofs.lemmas.List.Kept.{IsStrictlySortedBy-dedup, IsStrictlySortedBy-filter, Contains-dedup, Contains-from_dedup}
 use Rattle.std.proofs.lemmas.List.Sorted.{Contains-permutation, IsPermutation-sym}
 use Rattle.px_base.specs.ListLaws.{Contains-none, Contains-filter}
@@ -15,7 +16,6 @@ use Rattle.px_terms.specs.declared.atom.Atom.{Atom}
 use Rattle.px_terms.specs.declared.problem.Problem.{Problem}
 use Rattle.px_terms.specs.OrderLaws.{atom_eq-decides, decides_equiv}
 use Rattle.px_terms.specs.Validity.{IsValid}
-use Rattle.px_proof.specs.declared.shape.Tick.{Tick}
 use Rattle.px_table.specs.contracts.entry.EntryOrd.TheImpl.Laws as entry_order
 use Rattle.px_table.specs.declared.entry.Entry.{Entry}
 use Rattle.px_table.specs.declared.entry.Move.{Move}
@@ -31,19 +31,19 @@ use Rattle.px_diff.specs.Outcomes.{IfLimit}
 use Rattle.px_diff.specs.declared.ask_err.AskErr.{AskErr}
 use Rattle.px_diff.specs.declared.ask_err.AskErr.TheVariants.{ShapeLimit, NoMemory}
 use Rattle.px_diff.specs.Pushes.{IsPushable}
-use Rattle.px_diff.specs.Questions.{LimitsRelevant}
-use Rattle.px_diff.specs.Stacks.{RelevanceOverStacks}
+use Rattle.px_diff.specs.Stacks.{AreUnlimitedOver, RelevanceOverStacks}
 use Rattle.px_numbers.specs.Numbers.{Kept, KeepsAll}
 use Rattle.px_numbers.specs.NumberLaws.{model_at-grows, one_model}
 use Rattle.px_ends.specs.Tasks.{Task, needs_with}
-use Rattle.px_search.specs.Going.{IsGoneOn}
-use Rattle.px_search.specs.Offers.{AreOffers, IsOffered, IsOfferAt, IsPartAt}
+use Rattle.px_search.specs.Going.{IsBegunOn}
+use Rattle.px_search.specs.Offers.{AreFirst, AreOffers, AreWhole, IsAlike, IsOffered, IsOfferedWhole, IsOfferAt, IsPartAt}
 use Rattle.px_search.specs.Steps.{AreStepsOf, IsStepOf, is_push_on, unstruck}
 use Rattle.px_search.specs.contracts.offers.WantPartialEq.TheImpl as want_equality
+use Rattle.px_search.specs.declared.offer.Offer.{Offer}
 use Rattle.px_search.specs.declared.offers.Want.{Want}
 use Rattle.px_search.specs.declared.step.Step.{Step}
 use Rattle.px_search.specs.declared.step.Step.TheVariants as step
-use Rattle.px_search.proofs.FromLaws.{gone-open}
+use Rattle.px_search.proofs.FromLaws.{begun-open}
 use Rattle.px_search.proofs.StepLaws.{steps-grow}
 use Rattle.px_search.proofs.StruckLaws.{on_stack, not_true}
 
@@ -60,60 +60,117 @@ want_eq-decides a b =
 -- ---- what is kept
 
 pub offers-start : (task : Task) (kept : Kept) → AreOffers task kept []
-offers-start task kept want steps has = absurd (Contains-none (want, steps) has)
+offers-start task kept want offer has = absurd (Contains-none (want, offer) has)
 
-pub offered-grows : (task : Task) (old new : Kept) (facts wanted : List Atom) (steps : List Step) → KeepsAll old new → IsOffered task old facts wanted steps → IsOffered task new facts wanted steps
-offered-grows task old new facts wanted steps keeps o = record { entries = o.entries; exact = o.exact; ordered = o.ordered; steps_are = steps-grow old new steps (map Push o.entries) keeps o.steps_are }
+pub offered-grows : (task : Task) (old new : Kept) (facts wanted : List Atom) (steps : List Step) (is_all : Bool) → KeepsAll old new → IsOffered task old facts wanted steps is_all → IsOffered task new facts wanted steps is_all
+offered-grows task old new facts wanted steps is_all keeps o = record { entries = o.entries; first = o.first; steps_are = steps-grow old new steps (map Push o.entries) keeps o.steps_are; unlimited = o.unlimited }
 
 pub part-grows : (task : Task) (old new : Kept) (number : ℕ) (facts : List Atom) → KeepsAll old new → IsPartAt task old number facts → IsPartAt task new number facts
-part-grows task old new number facts keeps p = record { is_set = p.is_set; part = p.part; part_at = model_at-grows old new number p.part keeps p.part_at; deciding = p.deciding }
+part-grows task old new number facts keeps p = record { is_set = p.is_set; part = p.part; part_at = model_at-grows old new number p.part keeps p.part_at; alike = p.alike }
 
-pub offers-grow : (task : Task) (old new : Kept) (known : List (Want × List Step)) → KeepsAll old new → AreOffers task old known → AreOffers task new known
-offers-grow task old new known keeps are want steps has =
-    let o = are want steps has in
-    (o.0, model_at-grows old new want.part o.0 keeps o.1, λ facts deciding. offered-grows task old new facts (want.atom ∷ []) steps keeps (o.2 facts deciding))
+pub offers-grow : (task : Task) (old new : Kept) (known : List (Want × Offer)) → KeepsAll old new → AreOffers task old known → AreOffers task new known
+offers-grow task old new known keeps are want offer has =
+    let o = are want offer has in
+    (o.0, model_at-grows old new want.part o.0 keeps o.1, λ facts is_set alike. offered-grows task old new facts (want.atom ∷ []) offer.steps offer.is_all keeps (o.2 facts is_set alike))
 
 -- one more is known
-pub offers-remember : (task : Task) (kept : Kept) (old new : List (Want × List Step)) (want : Want) (steps : List Step) → AreOffers task kept old → IsOfferAt task kept want steps
-    → ((one : Want × List Step) → Contains new one → Contains old one ⊎ (one ≡ (want, steps))) → AreOffers task kept new
-offers-remember task kept old new want steps are here more other others has = elim (more (other, others) has) [
+pub offers-remember : (task : Task) (kept : Kept) (old new : List (Want × Offer)) (want : Want) (offer : Offer) → AreOffers task kept old → IsOfferAt task kept want offer
+    → ((one : Want × Offer) → Contains new one → Contains old one ⊎ (one ≡ (want, offer))) → AreOffers task kept new
+offers-remember task kept old new want offer are here more other others has = elim (more (other, others) has) [
   | inl before ↦ are other others before
-  | inr same ↦ subst (λ (one : Want × List Step). IsOfferAt task kept one.0 one.1) (sym same) here
+  | inr same ↦ subst (λ (one : Want × Offer). IsOfferAt task kept one.0 one.1) (sym same) here
 ]
 
--- what is offered in a model is so in each with the same deciding facts
-pub offered-alike : (task : Task) (kept : Kept) (facts others part wanted : List Atom) (steps : List Step) → RelevanceOverModels → IsValid task.problem → AreLearned task.problem task.tables
-    → AreDeciding task.problem facts part → AreDeciding task.problem others part → IsOffered task kept facts wanted steps → IsOffered task kept others wanted steps
-offered-alike task kept facts others part wanted steps law valid learned deciding deciding' o = record {
-  entries = o.entries;
-  exact = λ entry.
-      let alike = law.pushable task.problem task.tables wanted [] facts others entry comparable in (
-        λ has. alike.0 ((o.exact entry).0 has),
-        λ pushable. (o.exact entry).1 (alike.1 pushable),
-      );
-  ordered = o.ordered;
-  steps_are = o.steps_are;
-}
-  where
-    comparable : AreComparable task.problem task.tables facts others
-    comparable = record {
-      valid = valid;
-      learned = learned;
-      alike = λ atom decides. (
-        λ has. ((deciding' atom).0 ((deciding atom).1 (has, decides))).0,
-        λ has. ((deciding atom).0 ((deciding' atom).1 (has, decides))).0,
-      );
-    }
+-- ---- the part that decides
 
--- what is found in a model may be kept for its deciding part
-pub offer-at : (task : Task) (kept : Kept) (want : Want) (facts : List Atom) (steps : List Step) → RelevanceOverModels → IsValid task.problem → AreLearned task.problem task.tables
-    → IsPartAt task kept want.part facts → IsOffered task kept facts (want.atom ∷ []) steps → IsOfferAt task kept want steps
-offer-at task kept want facts steps law valid learned p o =
-    (p.part, p.part_at, λ others deciding. offered-alike task kept facts others p.part (want.atom ∷ []) steps law valid learned p.deciding deciding o)
+self-deciding : (problem : Problem) (facts part : List Atom) → AreDeciding problem facts part → AreDeciding problem part part
+self-deciding problem facts part deciding = λ atom. (λ has. (has, ((deciding atom).0 has).1), λ both. both.0)
+
+deciding-of : (problem : Problem) (tables : List Table) (facts part : List Atom) → IsAlike problem tables facts part → AreDeciding problem part part → AreDeciding problem facts part
+deciding-of problem tables facts part (inl same) deciding = subst (λ (l : List Atom). AreDeciding problem l part) (sym same) deciding
+deciding-of problem tables facts part (inr both) deciding = both.1
+
+module _ (task : Task) (kept : Kept) (facts others part wanted : List Atom) (steps : List Step) (is_all : Bool) (law : RelevanceOverModels) (valid : IsValid task.problem) (learned : AreLearned task.problem task.tables) where
+  -- what is offered in a model is so in each with the same deciding facts, where no question is ever limited
+  decided-alike : IsNeverLimited task.problem task.tables → IsAtomSet others → AreDeciding task.problem facts part → AreDeciding task.problem others part → IsOffered task kept facts wanted steps is_all
+      → IsOffered task kept others wanted steps is_all
+  decided-alike never is_set deciding deciding' o = record {
+    entries = o.entries;
+    first = record {
+      sound = λ entry has. (alike entry).0 (o.first.sound entry has);
+      ordered = o.first.ordered;
+      others = λ entry pushable. o.first.others entry ((alike entry).1 pushable);
+      every = λ all entry pushable. o.first.every all entry ((alike entry).1 pushable);
+    };
+    steps_are = o.steps_are;
+    unlimited = λ entry relevant. never others is_set entry relevant.is_entry;
+  }
+    where
+      comparable : AreComparable task.problem task.tables facts others
+      comparable = record {
+        valid = valid;
+        learned = learned;
+        alike = λ atom decides. (
+          λ has. ((deciding' atom).0 ((deciding atom).1 (has, decides))).0,
+          λ has. ((deciding atom).0 ((deciding' atom).1 (has, decides))).0,
+        );
+      }
+
+      alike : (entry : Entry) → IsPushable task.problem task.tables wanted [] facts entry ↔ IsPushable task.problem task.tables wanted [] others entry
+      alike entry = law.pushable task.problem task.tables wanted [] facts others entry comparable
+
+  -- what is offered in a model is so in each of which it has that part
+  pub offered-alike : IsAtomSet others → IsAlike task.problem task.tables facts part → IsAlike task.problem task.tables others part → IsOffered task kept facts wanted steps is_all → IsOffered task kept others wanted steps is_all
+  offered-alike is_set (inl here) (inl there) o = subst (λ (l : List Atom). IsOffered task kept l wanted steps is_all) (here ∙ sym there) o
+  offered-alike is_set (inl here) (inr there) o =
+      decided-alike there.0 is_set (deciding-of task.problem task.tables facts part (inl here) (self-deciding task.problem others part there.1)) there.1 o
+  offered-alike is_set (inr here) there o = decided-alike here.0 is_set here.1 (deciding-of task.problem task.tables others part there (self-deciding task.problem facts part here.1)) o
+
+-- what is found in a model may be kept for its part
+pub offer-at : (task : Task) (kept : Kept) (want : Want) (facts : List Atom) (offer : Offer) → RelevanceOverModels → IsValid task.problem → AreLearned task.problem task.tables
+    → IsPartAt task kept want.part facts → IsOffered task kept facts (want.atom ∷ []) offer.steps offer.is_all → IsOfferAt task kept want offer
+offer-at task kept want facts offer law valid learned p o =
+    (p.part, p.part_at, λ others is_set alike. offered-alike task kept facts others p.part (want.atom ∷ []) offer.steps offer.is_all law valid learned is_set p.alike alike o)
 
 -- what is kept for a part serves each model that has it
-pub offered-here : (task : Task) (kept : Kept) (want : Want) (facts : List Atom) (steps : List Step) → IsPartAt task kept want.part facts → IsOfferAt task kept want steps → IsOffered task kept facts (want.atom ∷ []) steps
-offered-here task kept want facts steps p (part, part_at, each) = each facts (subst (AreDeciding task.problem facts) (one_model kept want.part p.part part p.part_at part_at) p.deciding)
+pub offered-here : (task : Task) (kept : Kept) (want : Want) (facts : List Atom) (offer : Offer) → IsPartAt task kept want.part facts → IsOfferAt task kept want offer → IsOffered task kept facts (want.atom ∷ []) offer.steps offer.is_all
+offered-here task kept want facts offer p (part, part_at, each) =
+    each facts p.is_set (subst (IsAlike task.problem task.tables facts) (one_model kept want.part p.part part p.part_at part_at) p.alike)
+
+-- ---- all of them, and the first of them
+
+module _ (task : Task) (facts wanted : List Atom) where
+  pub whole-first : (entries : List Entry) (is_all : Bool) → ((entry : Entry) → Contains entries entry ↔ IsPushable task.problem task.tables wanted [] facts entry) → IsStrictlySortedBy order_of entries
+      → AreFirst task facts wanted entries is_all
+  whole-first entries is_all exact ordered = record {
+    sound = λ entry has. (exact entry).0 has;
+    ordered = ordered;
+    others = λ entry pushable. inl ((exact entry).1 pushable);
+    every = λ all entry pushable. (exact entry).1 pushable;
+  }
+
+  pub first-whole : (entries : List Entry) → AreFirst task facts wanted entries true → AreUnlimitedOver task.problem task.tables wanted facts [] → AreWhole task facts wanted entries
+  first-whole entries first unlimited = record { exact = λ entry. (λ has. first.sound entry has, λ pushable. first.every refl entry pushable); unlimited = unlimited }
+
+  pub offered-whole : (kept : Kept) (steps : List Step) → IsOffered task kept facts wanted steps true ↔ IsOfferedWhole task kept facts wanted steps
+  offered-whole kept steps = (
+    λ o. record { entries = o.entries; whole = first-whole o.entries o.first o.unlimited; ordered = o.first.ordered; steps_are = o.steps_are },
+    λ w. record { entries = w.entries; first = whole-first w.entries true w.whole.exact w.ordered; steps_are = w.steps_are; unlimited = w.whole.unlimited },
+  )
+
+  -- the first of them, where each of the others comes after all that are had
+  pub some-first : (entries : List Entry) (is_all : Bool) → ((entry : Entry) → Contains entries entry → IsPushable task.problem task.tables wanted [] facts entry) → IsStrictlySortedBy order_of entries
+      → (is_all ≡ true → (entry : Entry) → IsPushable task.problem task.tables wanted [] facts entry → Contains entries entry)
+      → ((entry : Entry) → IsPushable task.problem task.tables wanted [] facts entry → Contains entries entry ⊎ All (λ first. order_of first entry ≡ Less) entries) → AreFirst task facts wanted entries is_all
+  some-first entries is_all sound ordered every others = record {
+    sound = sound;
+    ordered = ordered;
+    others = λ entry pushable. elim (others entry pushable) [
+      | inl has ↦ inl has
+      | inr after ↦ inr (λ first has. All-contains (λ (e : Entry). order_of e entry ≡ Less) entries first after has)
+    ];
+    every = every;
+  }
 
 -- ---- several wanted atoms
 
@@ -160,10 +217,33 @@ exact-more problem tables facts ws atom es fs gs before here is entry =
       ]),
     )
 
--- ---- from steps to entries
+pub whole-none : (task : Task) (facts : List Atom) → AreWhole task facts [] []
+whole-none task facts = record {
+  exact = λ entry. (λ has. absurd (Contains-none entry has), λ pushable. absurd (pushable-none task.problem task.tables facts entry pushable));
+  unlimited = λ entry relevant. absurd (Contains-none relevant.atom relevant.is_wanted);
+}
 
-pub never-met : (problem : Problem) (tables : List Table) (facts wanted formula : List Atom) (shapes : List (List Tick)) → IsNeverLimited problem tables → IsAtomSet facts → LimitsRelevant problem tables wanted [] facts formula shapes → ⊥
-never-met problem tables facts wanted formula shapes never is_set l = never facts is_set l.entry l.relevant.is_entry l.question formula shapes l.asked l.met
+-- all those for one more atom
+pub whole-more : (task : Task) (facts ws : List Atom) (atom : Atom) (es fs gs : List Entry) → AreWhole task facts ws es → AreWhole task facts (atom ∷ []) fs → gs ≡ es ++ fs → AreWhole task facts (ws ++ atom ∷ []) gs
+whole-more task facts ws atom es fs gs before here is = record {
+  exact = exact-more task.problem task.tables facts ws atom es fs gs before.exact here.exact is;
+  unlimited = λ entry relevant. elim (Contains-append_cases ws (atom ∷ []) relevant.atom relevant.is_wanted) [
+    | inl left ↦ before.unlimited entry (record { is_entry = relevant.is_entry; fresh = relevant.fresh; atom = relevant.atom; is_wanted = left; added = relevant.added })
+    | inr right ↦ here.unlimited entry (record { is_entry = relevant.is_entry; fresh = relevant.fresh; atom = relevant.atom; is_wanted = right; added = relevant.added })
+  ];
+}
+
+-- in order, each once
+pub whole-offered : (task : Task) (kept : Kept) (facts wanted : List Atom) (entries sorted : List Entry) (steps : List Step) (is_all : Bool) → AreWhole task facts wanted entries
+    → ((entry : Entry) → Contains sorted entry ↔ Contains entries entry) → IsStrictlySortedBy order_of sorted → AreStepsOf kept steps (map Push sorted) → IsOffered task kept facts wanted steps is_all
+whole-offered task kept facts wanted entries sorted steps is_all whole members ordered are = record {
+  entries = sorted;
+  first = whole-first task facts wanted sorted is_all (λ entry. (λ has. (whole.exact entry).0 ((members entry).0 has), λ pushable. (members entry).1 ((whole.exact entry).1 pushable))) ordered;
+  steps_are = are;
+  unlimited = whole.unlimited;
+}
+
+-- ---- from steps to entries
 
 pub apply-pushes : (kept : Kept) (s : Step) (entry : Entry) → s ≡ step.Apply → IsStepOf kept s (Push entry) → ⊥
 apply-pushes kept s entry same is = subst (λ (x : Step). IsStepOf kept x (Push entry)) same is
@@ -223,21 +303,33 @@ off_stack-members stack entries entry =
 pub off_stack-ascend : (stack entries : List Entry) → IsStrictlySortedBy order_of entries → IsStrictlySortedBy order_of (off_stack stack entries)
 off_stack-ascend stack entries ascends = IsStrictlySortedBy-filter order_of (λ e. not (is_push_on stack (Push e))) entries ascends
 
--- what is offered, without what stands on the stack, is the moves of the node
-pub gone-offered : (task : Task) (kept : Kept) (model gaps : List Atom) (stack : List Entry) (steps left : List Step) → RelevanceOverStacks → IsNeverLimited task.problem task.tables → IsAtomSet model
-    → IsOpenWith task.problem (needs_with task model stack) gaps → IsOffered task kept model gaps steps → ((moves : List Move) → AreStepsOf kept steps moves → AreStepsOf kept left (unstruck stack moves))
-    → IsGoneOn task kept (record { model = model; stack = stack }) left
-gone-offered task kept model gaps stack steps left law never is_set opens o struck =
-    gone-open task kept (record { model = model; stack = stack }) gaps (off_stack stack o.entries) left opens
-    (λ entry.
-    let members = off_stack-members stack o.entries entry in
-    let listed = law.listed task.problem task.tables gaps model o.entries o.exact stack entry in
-    (λ has. listed.0 (members.0 has), λ p. members.1 (listed.1 p)))
-    (off_stack-ascend stack o.entries o.ordered) (λ entry relevant. never model is_set entry relevant.is_entry)
+-- what is offered, without what stands on the stack, is the first moves of the node
+pub begun-offered : (task : Task) (kept : Kept) (model gaps : List Atom) (stack : List Entry) (steps left : List Step) (is_all : Bool) → RelevanceOverStacks → IsOpenWith task.problem (needs_with task model stack) gaps
+    → IsOffered task kept model gaps steps is_all → ((moves : List Move) → AreStepsOf kept steps moves → AreStepsOf kept left (unstruck stack moves))
+    → IsBegunOn task kept (record { model = model; stack = stack }) left is_all
+begun-offered task kept model gaps stack steps left is_all law opens o struck =
+    begun-open task kept (record { model = model; stack = stack }) gaps (off_stack stack o.entries) left is_all opens (off_stack-ascend stack o.entries o.first.ordered)
+    (λ entry has. let m = (members entry).0 has in (over entry).1 (o.first.sound entry m.0, m.1))
+    (λ entry pushable.
+    let both = (over entry).0 pushable in
+    elim (o.first.others entry both.0) [
+      | inl has ↦ inl ((members entry).1 (has, both.1))
+      | inr after ↦ inr (λ first has. after first ((members first).0 has).0)
+    ])
+    (λ all entry pushable. let both = (over entry).0 pushable in (members entry).1 (o.first.every all entry both.0, both.1)) (law.unlimited task.problem task.tables gaps model stack o.unlimited)
     (subst (AreStepsOf kept left) (unstruck-pushes stack o.entries) (struck (map Push o.entries) o.steps_are))
+  where
+    members : (entry : Entry) → Contains (off_stack stack o.entries) entry ↔ (Contains o.entries entry × ¬ Contains stack entry)
+    members = off_stack-members stack o.entries
+
+    over : (entry : Entry) → IsPushable task.problem task.tables gaps stack model entry ↔ (IsPushable task.problem task.tables gaps [] model entry × ¬ Contains stack entry)
+    over = law.pushable task.problem task.tables gaps model stack
 
 -- what is so anyway is so at a limit
 pub any_limit : {A P : Type 0} (result : Result A AskErr) → P → IfLimit result (λ formula shapes. P)
 any_limit (Ok answer) p = tt
 any_limit (Err (ShapeLimit formula shapes)) p = p
 any_limit (Err NoMemory) p = tt
+
+pub if_some : {A : Type 0} (P : A → Type 0) (option : Option A) (value : A) → option ≡ Some value → IfSome option P → P value
+if_some {A} P option value is p = subst (λ (o : Option A). IfSome o P) is p

@@ -1,5 +1,5 @@
 -- What is known of a node's needs, and the candidates for its gaps, give its moves and say whether its questions meet the limit.
-use Rattle.std.proofs.Common.{◌≡◌, ◌≢◌, ◌↔◌, ℕ, zero, suc, ◌<◌, List, [], ◌∷◌, map, length, refl, ◌∙◌, ap, subst, inl, inr, arith, get_or}
+use Rattle.std.proofs.Common.{◌≡◌, ◌≢◌, ◌↔◌, ◌⊎◌, ℕ, zero, suc, ◌<◌, List, [], ◌∷◌, map, length, refl, ◌∙◌, ap, subst, inl, inr, arith, get_or}
 use Rattle.std.specs.Prelude.{AllPairs, Contains}
 use Rattle.std.specs.List.Sorted.{IsStrictlySortedBy}
 use Rattle.std.specs.declared.cmp.Ordering.TheVariants.{Less}
@@ -18,7 +18,7 @@ use Rattle.px_diff.specs.Questions.{AreUnlimited, LimitsRelevant}
 use Rattle.px_diff.specs.Known.{LimitsNeeds}
 use Rattle.px_ends.specs.Order.{move_cmp}
 use Rattle.px_ends.specs.Tasks.{Task, needs_at, IsRelevantAt, IsAllowed}
-use Rattle.px_search.specs.Going.{AreMovesOf, IsUnlimitedAt, LimitsNode}
+use Rattle.px_search.specs.Going.{AreFirstOf, AreMovesOf, IsUnlimitedAt, LimitsNode}
 
 pub answered-no_gap : (problem : Problem) (needs : List Obligation) (atom : Atom) → IsApplicable problem needs → IsGapOfNeeds problem needs atom → ⊥
 answered-no_gap problem needs atom all (opens, (k, needed, below, is, gap)) = gap.0 (subst (HasAnswer problem) is (all k needed below))
@@ -139,6 +139,34 @@ module _ (task : Task) (node : Node) where
           λ allowed. in_pushes entries entry ((members entry).1 (record { relevant = (relevant_at entry).0 allowed.0; open_entry = allowed.1 })),
           λ has. let p = (members entry).0 (from_pushes entries entry has) in ((relevant_at entry).1 p.relevant, p.open_entry),
         )
+
+    -- the first of what may be pushed, in order, are the first moves
+    pub open-first : (IsApplicable task.problem needs → ⊥) → (entries : List Entry) → IsStrictlySortedBy order_of entries
+        → ((entry : Entry) → Contains entries entry → IsPushable task.problem task.tables gaps node.stack node.model entry)
+        → ((entry : Entry) → IsPushable task.problem task.tables gaps node.stack node.model entry → Contains entries entry ⊎ ((first : Entry) → Contains entries first → order_of first entry ≡ Less))
+        → AreFirstOf task node (map Push entries)
+    open-first not_applicable entries sorted sound after = record { allowed = λ m has. allowed_here m has; ordered = pushes-ordered entries sorted; others = λ m may. others_here m may }
+      where
+        allowed_here : (m : Move) → Contains (map Push entries) m → IsAllowed task node m
+        allowed_here Apply has = absurd (no_apply entries has)
+        allowed_here (Push entry) has = let p = sound entry (from_pushes entries entry has) in ((relevant_at entry).1 p.relevant, p.open_entry)
+
+        before : (entry : Entry) → ((first : Entry) → Contains entries first → order_of first entry ≡ Less) → (n : Move) → Contains (map Push entries) n → move_cmp n (Push entry) ≡ Less
+        before entry later Apply has = absurd (no_apply entries has)
+        before entry later (Push first) has = later first (from_pushes entries first has)
+
+        others_here : (m : Move) → IsAllowed task node m → Contains (map Push entries) m ⊎ ((n : Move) → Contains (map Push entries) n → move_cmp n m ≡ Less)
+        others_here Apply may = absurd (not_applicable may.1)
+        others_here (Push entry) may = elim (after entry (record { relevant = (relevant_at entry).0 may.0; open_entry = may.1 })) [
+          | inl has ↦ inl (in_pushes entries entry has)
+          | inr later ↦ inr (λ n has. before entry later n has)
+        ]
+
+    -- where they are all that may be pushed, they are all moves
+    pub open-every : (IsApplicable task.problem needs → ⊥) → (entries : List Entry)
+        → ((entry : Entry) → IsPushable task.problem task.tables gaps node.stack node.model entry → Contains entries entry) → (m : Move) → IsAllowed task node m → Contains (map Push entries) m
+    open-every not_applicable entries every Apply may = absurd (not_applicable may.1)
+    open-every not_applicable entries every (Push entry) may = in_pushes entries entry (every entry (record { relevant = (relevant_at entry).0 may.0; open_entry = may.1 }))
 
     -- where a question about what is relevant meets the limit, one of the node does
     pub limits-open : (formula : List Atom) (shapes : List (List Tick)) → LimitsRelevant task.problem task.tables gaps node.stack node.model formula shapes → LimitsNode task node formula shapes

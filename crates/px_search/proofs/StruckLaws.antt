@@ -21,7 +21,7 @@ use Rattle.px_ends.specs.Order.{move_cmp}
 use Rattle.px_ends.specs.Tasks.{Task, IsRelevantAt, IsAllowed, AsksAt}
 use Rattle.px_search.specs.declared.step.Step.{Step}
 use Rattle.px_search.specs.declared.step.Step.TheVariants as step
-use Rattle.px_search.specs.Going.{IsGoneOn}
+use Rattle.px_search.specs.Going.{IsBegunOn}
 use Rattle.px_search.specs.Steps.{IsStepOf, AreStepsOf, is_push_on, unstruck}
 
 -- ---- which pushes are struck out
@@ -144,21 +144,27 @@ module _ (task : Task) (model : List Atom) (entry : Entry) (below : List Entry) 
     λ a. (relevant_here e (λ has. (not_true (is_push_on below (Push e))).0 a.1 ((on_stack below e).1 has)) a.0.0, a.0.1),
   )
 
-  pub gone-struck : (kept : Kept) (steps left : List Step) → (gone : IsGoneOn task kept alone steps) → AreStepsOf kept left (unstruck below gone.moves) → IsGoneOn task kept here left
-  gone-struck kept steps left gone are = record {
-    moves = unstruck below gone.moves;
+  pub begun-struck : (kept : Kept) (steps left : List Step) (is_all : Bool) → (begun : IsBegunOn task kept alone steps is_all) → AreStepsOf kept left (unstruck below begun.moves) → IsBegunOn task kept here left is_all
+  begun-struck kept steps left is_all begun are = record {
+    moves = unstruck below begun.moves;
     are = record {
-      all = λ m.
-          let kept_ones = Contains-filter (λ n. not (is_push_on below n)) gone.moves m in (
-            λ allowed. let a = (allowed_here m).0 allowed in kept_ones.1 ((gone.are.all m).0 a.0, a.1),
-            λ has. let k = kept_ones.0 has in (allowed_here m).1 ((gone.are.all m).1 k.0, k.1),
-          );
-      ordered = AllPairs-filter (λ (m n : Move). move_cmp m n ≡ Less) (λ n. not (is_push_on below n)) gone.moves gone.are.ordered;
+      allowed = λ m has. let k = (kept_ones m).0 has in (allowed_here m).1 (begun.are.allowed m k.0, k.1);
+      ordered = AllPairs-filter (λ (m n : Move). move_cmp m n ≡ Less) (λ n. not (is_push_on below n)) begun.moves begun.are.ordered;
+      others = λ m may.
+          let a = (allowed_here m).0 may in
+          elim (begun.are.others m a.0) [
+            | inl has ↦ inl ((kept_ones m).1 (has, a.1))
+            | inr after ↦ inr (λ n has. after n ((kept_ones n).0 has).0)
+          ];
     };
+    every = λ all m may. let a = (allowed_here m).0 may in (kept_ones m).1 (begun.every all m a.0, a.1);
     steps_are = are;
-    unlimited = λ question asks. gone.unlimited question (asks_alone question asks);
+    unlimited = λ question asks. begun.unlimited question (asks_alone question asks);
   }
     where
+      kept_ones : (m : Move) → Contains (unstruck below begun.moves) m ↔ (Contains begun.moves m × (not (is_push_on below m) ≡ true))
+      kept_ones m = Contains-filter (λ n. not (is_push_on below n)) begun.moves m
+
       asks_alone : (question : Question) → AsksAt task here question → AsksAt task alone question
       asks_alone question (inl needs) = inl needs
       asks_alone question (inr (e, relevant, asks)) = inr (e, relevant_alone e relevant, asks)

@@ -18,7 +18,7 @@ use Rattle.px_ends.specs.Tasks.{Task, initial_node, IsSolved, IsAllowed, after, 
 use Rattle.px_ends.specs.Ends.{AreMoves, node_of, IsFound, IsExhausted, IsNodeLimit, IsShapeLimit}
 use Rattle.px_ends.proofs.Frontier.{Frontier, contains_place, place_of, at_index, place-within, reached-append, order_of}
 use Rattle.px_search.proofs.FrontierSteps.{frontier-start, frontier-skip, frontier-add, frontier-next}
-use Rattle.px_search.specs.Going.{AreMovesOf, IsUnlimitedAt}
+use Rattle.px_search.specs.Going.{AreFirstOf, IsUnlimitedAt}
 use Rattle.px_search.specs.Looping.{Walking}
 use Rattle.px_ends.proofs.MoveLaws.{order, same_move, move_cmp-total}
 use Rattle.px_search.proofs.Endings.{NoLimit, ends-found, ends-node_limit, ends-exhausted, ends-shape_limit, ends-shape_limit_at_goal, ends-found_at_start, ends-shape_limit_at_start}
@@ -104,7 +104,7 @@ module _ (task : Task) where
       (ends-shape_limit task found next tried w.searching here.0 question formula shapes here.1 (subst (λ (x : Node). AsksAt task x question) (sym here.2) asks) met)
 
   module _ (found : List (List Move)) (nodes : List Node) (next : ℕ) (moves : List Move) (i : ℕ) (node : Node) (m : Move) (w : Walking task found nodes next (take i moves)) (at : slice_get nodes next ≡ Some node)
-      (are : AreMovesOf task node moves) (inside : i < length moves) (m_is : m ≡ get_or moves i m) where
+      (are : AreFirstOf task node moves) (inside : i < length moves) (m_is : m ≡ get_or moves i m) where
     pub here : (p : List Move) × (slice_get found next ≡ Some p) × (goes p ≡ node)
     here = here_in found nodes next (take i moves) node w at
 
@@ -115,7 +115,7 @@ module _ (task : Task) where
     at_m = at_index moves i m inside ∙ ap Some (sym m_is)
 
     can : may (goes here.0) m
-    can = subst (λ (x : Node). may x m) (sym here.2) ((are.all m).1 (contains_place moves i m at_m))
+    can = subst (λ (x : Node). may x m) (sym here.2) (are.allowed m (contains_place moves i m at_m))
 
     pair : (k l : ℕ) (a b : Move) → k < l → slice_get moves k ≡ Some a → slice_get moves l ≡ Some b → move_cmp a b ≡ Less
     pair k l a b less at_a at_b =
@@ -129,7 +129,10 @@ module _ (task : Task) where
         never_less m (pair k.0 i m m r.1 r.0 at_m)
 
     least : (n : Move) → may (goes here.0) n → (Contains (take i moves ++ m ∷ []) n → ⊥) → IsBefore (here.0 ++ m ∷ []) (here.0 ++ n ∷ [])
-    least n can_n not_yet = last_before here.0 m n (later (place_of moves n ((are.all n).0 (subst (λ (x : Node). may x n) here.2 can_n))))
+    least n can_n not_yet = last_before here.0 m n (elim (are.others n (subst (λ (x : Node). may x n) here.2 can_n)) [
+      | inl has ↦ later (place_of moves n has)
+      | inr after_all ↦ after_all m (contains_place moves i m at_m)
+    ])
       where
         later : (k : ℕ) × (slice_get moves k ≡ Some n) → move_cmp m n ≡ Less
         later (k, at_k) = elim (order_of k i) [
@@ -234,16 +237,16 @@ module _ (task : Task) where
           (ends-shape_limit_at_goal task found next (take i moves) w.searching here.0 here.1 m (take (i + 1) moves) new_known (omega (arith, same_count, room))
           (subst (λ (x : Node). x.stack ≡ []) (sym new_goes) empty) formula shapes (subst (λ (x : Node). MeetsLimit task.problem (goal_question task x) formula shapes) (sym new_goes) met))
 
-  -- all moves of the node were tried
+  -- all moves that are allowed at the node were tried
   pub walking-next : (found : List (List Move)) (nodes : List Node) (next : ℕ) (moves : List Move) (node : Node) → Walking task found nodes next moves → slice_get nodes next ≡ Some node
-      → AreMovesOf task node moves → IsUnlimitedAt task node → Walking task found nodes (next + 1) []
-  walking-next found nodes next moves node w at are unlimited =
+      → ((m : Move) → IsAllowed task node m → Contains moves m) → IsUnlimitedAt task node → Walking task found nodes (next + 1) []
+  walking-next found nodes next moves node w at every unlimited =
       let here = here_in found nodes next moves node w at in
       let number : suc next ≡ next + 1 = omega arith in
       record {
         searching = record {
           known = subst (λ (k : ℕ). Known found k []) number (frontier-next may next_node IsBefore start order same_move found next moves here.0 w.searching.known here.1
-              (λ m can. (are.all m).0 (subst (λ (x : Node). may x m) here.2 can)));
+              (λ m can. every m (subst (λ (x : Node). may x m) here.2 can)));
           room = w.searching.room;
           unsolved = w.searching.unsolved;
           tested = w.searching.tested;

@@ -6,18 +6,19 @@ use Rattle.px_table.specs.declared.entry.Entry.{Entry}
 use Rattle.px_diff.specs.Entries.{IsEntry, effect_of}
 use Rattle.px_numbers.specs.Numbers.{Kept, IsModelAt, IsStackAt}
 use Rattle.px_ends.specs.Tasks.{Task}
-use Rattle.px_search.specs.Going.{IsGoneOn}
+use Rattle.px_search.specs.Going.{IsBegunOn}
 use Rattle.px_search.specs.declared.cache.Place.{Place}
-use Rattle.px_search.specs.declared.step.Step.{Step}
+use Rattle.px_search.specs.declared.offer.Offer.{Offer}
 
--- the steps are the moves where that entry stands on the stack, alone, in that model
-abbrev pub IsStepsAt : Task → Kept → Place → List Step → Type 0
-IsStepsAt task kept place steps =
-    (model : List Atom) × (entry : Entry) × IsModelAt kept place.model model × (slice_get kept.entries place.entry ≡ Some entry) × IsGoneOn task kept (record { model = model; stack = entry ∷ [] }) steps
+-- the steps are the first moves where that entry stands on the stack, alone, in that model
+abbrev pub IsStepsAt : Task → Kept → Place → Offer → Type 0
+IsStepsAt task kept place offer =
+    (model : List Atom) × (entry : Entry) × IsModelAt kept place.model model × (slice_get kept.entries place.entry ≡ Some entry)
+    × IsBegunOn task kept (record { model = model; stack = entry ∷ [] }) offer.steps offer.is_all
 
 -- all that is kept is so
-abbrev pub IsCache : Task → Kept → List (Place × List Step) → Type 0
-IsCache task kept cached = (place : Place) (steps : List Step) → Contains cached (place, steps) → IsStepsAt task kept place steps
+abbrev pub IsCache : Task → Kept → List (Place × Offer) → Type 0
+IsCache task kept cached = (place : Place) (offer : Offer) → Contains cached (place, offer) → IsStepsAt task kept place offer
 
 -- the stack has the entry of the place on top, over the stack of that number, and the model is that of the place
 pub record IsTopAt (kept : Kept) (place : Place) (below : ℕ) (model : List Atom) (stack : List Entry) : Type 0 where

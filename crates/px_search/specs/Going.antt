@@ -1,5 +1,5 @@
 -- What going through a node gives.
-use Rattle.std.specs.Prelude.{◌≡◌, ◌↔◌, List, AllPairs, Contains}
+use Rattle.std.specs.Prelude.{◌≡◌, ◌↔◌, ◌⊎◌, Bool, true, List, AllPairs, Contains}
 use Rattle.std.specs.declared.cmp.Ordering.TheVariants.{Less}
 use Rattle.px_terms.specs.declared.atom.Atom.{Atom}
 use Rattle.px_proof.specs.declared.shape.Tick.{Tick}
@@ -31,5 +31,19 @@ IsUnlimitedAt task node = (question : Question) → AsksAt task node question �
 pub record IsGoneOn (task : Task) (kept : Kept) (node : Node) (steps : List Step) : Type 0 where
   pub moves : List Move
   pub are : AreMovesOf task node moves
+  pub steps_are : AreStepsOf kept steps moves
+  pub unlimited : IsUnlimitedAt task node
+
+-- the moves are the first of the node's, in order: each of the others comes after all of them
+pub record AreFirstOf (task : Task) (node : Node) (moves : List Move) : Type 0 where
+  pub allowed : (m : Move) → Contains moves m → IsAllowed task node m
+  pub ordered : AllPairs (λ m n. move_cmp m n ≡ Less) moves
+  pub others : (m : Move) → IsAllowed task node m → Contains moves m ⊎ ((n : Move) → Contains moves n → move_cmp n m ≡ Less)
+
+-- the steps are the first moves of the node, in order, all of them where `is_all` is true, and none of its questions meets the limit
+pub record IsBegunOn (task : Task) (kept : Kept) (node : Node) (steps : List Step) (is_all : Bool) : Type 0 where
+  pub moves : List Move
+  pub are : AreFirstOf task node moves
+  pub every : is_all ≡ true → (m : Move) → IsAllowed task node m → Contains moves m
   pub steps_are : AreStepsOf kept steps moves
   pub unlimited : IsUnlimitedAt task node

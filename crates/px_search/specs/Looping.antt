@@ -1,5 +1,5 @@
 -- What a search keeps at each turn, and what it answers.
-use Rattle.std.specs.Prelude.{◌≡◌, ◌+◌, ◌<◌, ◌≤◌, ℕ, List, [], Some, length, map, take, slice_get, Contains}
+use Rattle.std.specs.Prelude.{◌≡◌, ◌+◌, ◌<◌, ◌≤◌, ℕ, Bool, List, [], Some, length, map, take, slice_get, Contains}
 use Rattle.px_terms.specs.declared.atom.Atom.{Atom}
 use Rattle.px_proof.specs.declared.shape.Tick.{Tick}
 use Rattle.px_table.specs.declared.entry.Move.{Move}
@@ -18,7 +18,7 @@ use Rattle.px_search.specs.declared.progress.Progress.{Progress}
 use Rattle.px_search.specs.declared.progress.Progress.TheVariants.{Unsolved, Solved, Full}
 use Rattle.px_search.specs.declared.step.Origin.{Origin}
 use Rattle.px_search.specs.declared.step.Step.{Step}
-use Rattle.px_search.specs.Going.{IsGoneOn}
+use Rattle.px_search.specs.Going.{IsBegunOn}
 use Rattle.px_search.specs.Steps.{AreEarlier, Trace}
 
 -- the question doesn't meet the limit
@@ -49,14 +49,14 @@ pub record Going (task : Task) (kept : Kept) (keys : List NodeKey) (origins : Li
   pub earlier : AreEarlier origins
   pub one_more : length keys ≡ length origins + 1
 
--- so many of these steps, which are the moves of the node after those gone through, were tried
-pub record Trying (task : Task) (kept : Kept) (keys : List NodeKey) (origins : List Origin) (next : ℕ) (steps : List Step) (i : ℕ) : Type 0 where
+-- so many of these steps, which are the first moves of the node after those gone through, were tried
+pub record Trying (task : Task) (kept : Kept) (keys : List NodeKey) (origins : List Origin) (next : ℕ) (steps : List Step) (is_all : Bool) (i : ℕ) : Type 0 where
   pub key : NodeKey
   pub key_at : slice_get keys next ≡ Some key
   pub node : Node
   pub stands : IsKeyOf kept key node
-  pub gone : IsGoneOn task kept node steps
-  pub going : Going task kept keys origins next (take i gone.moves)
+  pub begun : IsBegunOn task kept node steps is_all
+  pub going : Going task kept keys origins next (take i begun.moves)
 
 -- the error is an end of the search, or there was no memory
 abbrev pub IsEnd : Task → SearchErr → Type 0

@@ -1,5 +1,5 @@
 //! The search, breadth first.
-ghost use Rattle.std.specs.Prelude.{◌≡◌, ◌+◌, ◌<◌, ◌≤◌, ◌^◌, ℕ, List, [], length, slice_get, Some, IfOk, IfErr, OnOk};
+ghost use Rattle.std.specs.Prelude.{◌≡◌, ◌+◌, ◌<◌, ◌≤◌, ◌^◌, ℕ, Bool, List, [], length, slice_get, Some, IfOk, IfErr, OnOk};
 ghost use Rattle.px_table.specs.declared.entry.Move.{Move};
 ghost use Rattle.px_table.specs.declared.node.Node.{Node};
 ghost use Rattle.px_numbers.specs.Numbers.{IsKeyOf, KeepsAll};
@@ -8,19 +8,22 @@ ghost use Rattle.px_ends.specs.Tasks.{initial_node};
 ghost use Rattle.px_search.specs.Asking.{IsAskable, IsTriedAt, task_for};
 ghost use Rattle.px_search.specs.Caches.{AreResults, IsCache};
 ghost use Rattle.px_search.specs.Offers.{AreOffers};
+ghost use Rattle.px_search.specs.Scenes.{IsScene};
 ghost use Rattle.px_search.specs.Looping.{Going, IsEnd, IsProgress, Trying};
 ghost use Rattle.px_search.specs.Steps.{AreEarlier, Trace};
 ghost use Rattle.px_search.specs.declared.step.Step.{Step};
 
 use crate::after::after;
+use crate::all_steps::all_steps_from;
 use crate::asked::Asked;
 use crate::cache::Cache;
 use crate::ends::SearchErr;
-use crate::moves::steps_from;
+use crate::moves::begun_from;
 use crate::offers::Offers;
 use crate::origins::moves_to;
 use crate::progress::Progress;
 use crate::results::Results;
+use crate::scene::Scene;
 use crate::step::{Origin, Step};
 use crate::tried::try_node;
 use px_diff::{AskErr, Tried};
@@ -104,11 +107,11 @@ fn make_move(
     step: Step,
 ) -> Result<Progress, SearchErr>
     requires asked { IsAskable asked.now }
-    requires trying { (steps : List Step) × (i : ℕ) × Trying (task_for asked.now) numbers.old nodes.old origins.old.items next steps i × (slice_get steps i ≡ Some step) }
+    requires trying { (steps : List Step) × (is_all : Bool) × (i : ℕ) × Trying (task_for asked.now) numbers.old nodes.old origins.old.items next steps is_all i × (slice_get steps i ≡ Some step) }
     requires results { AreResults (task_for asked.now) numbers.old results.old }
     ensures keeps { KeepsAll numbers.old numbers.new }
     ensures results { OnOk result (AreResults (task_for asked.now) numbers.new results.new) }
-    ensures made { IfOk result (IsProgress (task_for asked.now) numbers.new nodes.new origins.new.items ((steps : List Step) (i : ℕ) → Trying (task_for asked.now) numbers.old nodes.old origins.old.items next steps i → slice_get steps i ≡ Some step → Trying (task_for asked.now) numbers.new nodes.new origins.new.items next steps (i + 1))) }
+    ensures made { IfOk result (IsProgress (task_for asked.now) numbers.new nodes.new origins.new.items ((steps : List Step) (is_all : Bool) (i : ℕ) → Trying (task_for asked.now) numbers.old nodes.old origins.old.items next steps is_all i → slice_get steps i ≡ Some step → Trying (task_for asked.now) numbers.new nodes.new origins.new.items next steps is_all (i + 1))) }
     ensures ends { IfErr result (IsEnd (task_for asked.now)) }
 {
     let key = nodes.node(next);
@@ -137,12 +140,76 @@ fn make_move(
     }
 }
 
-/// Makes all moves from the node at the place `next`, or those up to the first that leads to a solved node or to one without room.
+/// Makes the moves from the node at the place `next`, from the one at the place `from` on, or those up to the first that leads to a
+/// solved node or to one without room.
+fn make_all(
+    asked: &Asked,
+    numbers: &mut Numbers,
+    results: &mut Results,
+    nodes: &mut NodeSet,
+    origins: &mut Vec<Origin>,
+    next: usize,
+    steps: &Vec<Step>,
+    from: usize,
+) -> Result<Progress, SearchErr>
+    requires asked { IsAskable asked.now }
+    requires trying { (is_all : Bool) × Trying (task_for asked.now) numbers.old nodes.old origins.old.items next steps.now.items is_all from }
+    requires from { from ≤ length steps.now.items }
+    requires results { AreResults (task_for asked.now) numbers.old results.old }
+    ensures keeps { KeepsAll numbers.old numbers.new }
+    ensures results { OnOk result (AreResults (task_for asked.now) numbers.new results.new) }
+    ensures made { IfOk result (IsProgress (task_for asked.now) numbers.new nodes.new origins.new.items ((is_all : Bool) → Trying (task_for asked.now) numbers.old nodes.old origins.old.items next steps.now.items is_all from → Trying (task_for asked.now) numbers.new nodes.new origins.new.items next steps.now.items is_all (length steps.now.items))) }
+    ensures ends { IfErr result (IsEnd (task_for asked.now)) }
+{
+    for turn in from..steps.len() {
+        let step = step_at(steps, turn);
+        let progress = make_move(asked, numbers, results, nodes, origins, next, step)?;
+        match progress {
+            Progress::Unsolved => {}
+            Progress::Solved => return Ok(Progress::Solved),
+            Progress::Full { moves } => return Ok(Progress::Full { moves }),
+        }
+    }
+    Ok(Progress::Unsolved)
+}
+
+/// Makes the moves from the node at the place `next` that come after the first ones, which are as many as `from` and were made, or
+/// those up to the first that leads to a solved node or to one without room.
+fn make_others(
+    asked: &Asked,
+    numbers: &mut Numbers,
+    results: &mut Results,
+    nodes: &mut NodeSet,
+    origins: &mut Vec<Origin>,
+    next: usize,
+    from: usize,
+) -> Result<Progress, SearchErr>
+    requires asked { IsAskable asked.now }
+    requires trying { (steps : List Step) × (is_all : Bool) × (from ≡ length steps) × Trying (task_for asked.now) numbers.old nodes.old origins.old.items next steps is_all from }
+    requires results { AreResults (task_for asked.now) numbers.old results.old }
+    ensures keeps { KeepsAll numbers.old numbers.new }
+    ensures results { OnOk result (AreResults (task_for asked.now) numbers.new results.new) }
+    ensures gone { IfOk result (IsProgress (task_for asked.now) numbers.new nodes.new origins.new.items (Going (task_for asked.now) numbers.new nodes.new origins.new.items (next + 1) [])) }
+    ensures ends { IfErr result (IsEnd (task_for asked.now)) }
+{
+    let key = nodes.node(next);
+    let steps = match all_steps_from(asked, numbers, key) {
+        Ok(steps) => steps,
+        Err(AskErr::ShapeLimit { .. }) => unreachable!(),
+        Err(AskErr::NoMemory) => return Err(SearchErr::NoMemory),
+    };
+    let progress = make_all(asked, numbers, results, nodes, origins, next, &steps, from)?;
+    Ok(progress)
+}
+
+/// Makes all moves from the node at the place `next`, or those up to the first that leads to a solved node or to one without room. The
+/// moves after the first ones are asked for only where none of these leads there.
 fn go_through(
     asked: &Asked,
     numbers: &mut Numbers,
     cache: &mut Cache,
     offers: &mut Offers,
+    scene: &mut Scene,
     results: &mut Results,
     nodes: &mut NodeSet,
     origins: &mut Vec<Origin>,
@@ -153,28 +220,40 @@ fn go_through(
     requires next { next < length nodes.old }
     requires cache { IsCache (task_for asked.now) numbers.old cache.old }
     requires offers { AreOffers (task_for asked.now) numbers.old offers.old }
+    requires scene { IsScene (task_for asked.now) numbers.old scene.old }
     requires results { AreResults (task_for asked.now) numbers.old results.old }
-    ensures gone { IfOk result (IsProgress (task_for asked.now) numbers.new nodes.new origins.new.items (Going (task_for asked.now) numbers.new nodes.new origins.new.items (next + 1) [] × IsCache (task_for asked.now) numbers.new cache.new × AreOffers (task_for asked.now) numbers.new offers.new × AreResults (task_for asked.now) numbers.new results.new)) }
+    ensures gone { IfOk result (IsProgress (task_for asked.now) numbers.new nodes.new origins.new.items (Going (task_for asked.now) numbers.new nodes.new origins.new.items (next + 1) [] × IsCache (task_for asked.now) numbers.new cache.new × AreOffers (task_for asked.now) numbers.new offers.new × IsScene (task_for asked.now) numbers.new scene.new × AreResults (task_for asked.now) numbers.new results.new)) }
     ensures ends { IfErr result (IsEnd (task_for asked.now)) }
 {
     let key = nodes.node(next);
-    let steps = match steps_from(asked, numbers, cache, offers, key) {
-        Ok(steps) => steps,
+    let begun = match begun_from(asked, numbers, cache, offers, scene, key) {
+        Ok(begun) => begun,
         Err(AskErr::ShapeLimit { formula, shapes }) => {
             return Err(limit_at(asked, numbers, key, formula, shapes));
         }
         Err(AskErr::NoMemory) => return Err(SearchErr::NoMemory),
     };
-    for turn in 0..steps.len() {
-        let step = step_at(&steps, turn);
-        let progress = make_move(asked, numbers, results, nodes, origins, next, step)?;
-        match progress {
-            Progress::Unsolved => {}
-            Progress::Solved => return Ok(Progress::Solved),
-            Progress::Full { moves } => return Ok(Progress::Full { moves }),
-        }
+    let progress = make_all(
+        asked,
+        numbers,
+        results,
+        nodes,
+        origins,
+        next,
+        &begun.steps,
+        0,
+    )?;
+    match progress {
+        Progress::Unsolved => {}
+        Progress::Solved => return Ok(Progress::Solved),
+        Progress::Full { moves } => return Ok(Progress::Full { moves }),
     }
-    Ok(Progress::Unsolved)
+    if begun.is_all {
+        return Ok(Progress::Unsolved);
+    }
+    let from = begun.steps.len();
+    let others = make_others(asked, numbers, results, nodes, origins, next, from)?;
+    Ok(others)
 }
 
 /// Goes through all nodes, up to the first move that leads to a solved node or to one without room.
@@ -191,6 +270,7 @@ fn walk(
 {
     let mut cache = Cache::new(asked.alloc);
     let mut offers = Offers::new(asked.alloc);
+    let mut scene = Scene::new(asked.alloc);
     let mut results = Results::new(asked.alloc);
     let mut next = 0;
     while next < nodes.count() {
@@ -199,6 +279,7 @@ fn walk(
             numbers,
             &mut cache,
             &mut offers,
+            &mut scene,
             &mut results,
             nodes,
             origins,

@@ -1,10 +1,10 @@
 //! What the search has learned of entries in models.
 ghost use Rattle.std.specs.Prelude.{◌≡◌, ◌∷◌, ◌⊎◌, List, [], Contains, IfSome, OnOk};
-ghost use Rattle.px_search.specs.declared.step.Step.{Step};
+ghost use Rattle.px_search.specs.declared.offer.Offer.{Offer};
 
-use crate::step::Step;
+use crate::offer::Offer;
 use indexmap::IndexMap;
-use px_terms::{NoMemory, Sequence};
+use px_terms::NoMemory;
 use std::alloc::Global;
 use std::marker::Model;
 
@@ -15,18 +15,18 @@ pub struct Place {
     pub entry: u32,
 }
 
-/// For entries in models, the moves that are allowed where the entry stands on the stack alone.
+/// For entries in models, the first moves that are allowed where the entry stands on the stack alone.
 #[derive(Drop)]
 pub struct Cache {
-    known: IndexMap<Place, Sequence<Step>>,
+    known: IndexMap<Place, Offer>,
 }
 
 impl Model for Cache {
     ghost use Rattle.std.specs.Prelude.{List};
     ghost use Rattle.px_search.specs.declared.cache.Place.{Place};
-    ghost use Rattle.px_search.specs.declared.step.Step.{Step};
+    ghost use Rattle.px_search.specs.declared.offer.Offer.{Offer};
 
-    ghost Value = { List (Place × List Step) };
+    ghost Value = { List (Place × Offer) };
 
     ghost view = { λ c. c.known.entries };
 }
@@ -42,12 +42,12 @@ impl Cache {
     }
 
     /// The steps that are kept for the place. (Where it answers None nothing is said: asking again is right.)
-    pub fn find(&self, place: Place) -> Option<&Sequence<Step>>
-        ensures { IfSome result (λ steps. Contains self.now (place, steps.now)) }
+    pub fn find(&self, place: Place) -> Option<&Offer>
+        ensures { IfSome result (λ offer. Contains self.now (place, offer.now)) }
     {
         let index = self.known.get_index_of(&place)?;
         match self.known.get_index(index) {
-            Some((_, steps)) => Some(steps),
+            Some((_, offer)) => Some(offer),
             None => None,
         }
     }
@@ -56,10 +56,10 @@ impl Cache {
     ///
     /// # Errors
     /// `NoMemory` where there is none.
-    pub fn remember(&mut self, place: Place, steps: Sequence<Step>) -> Result<(), NoMemory>
-        ensures { OnOk result ((one : Place × List Step) → Contains self.new one → Contains self.old one ⊎ (one ≡ (place, steps))) }
+    pub fn remember(&mut self, place: Place, offer: Offer) -> Result<(), NoMemory>
+        ensures { OnOk result ((one : Place × Offer) → Contains self.new one → Contains self.old one ⊎ (one ≡ (place, offer))) }
     {
-        self.known.insert(place, steps)?;
+        self.known.insert(place, offer)?;
         Ok(())
     }
 }

@@ -18,20 +18,30 @@
 //!
 //! # Inside
 //!
-//! Models, entries, stacks and nodes are numbers (`px_numbers`). What an entry allows in a model doesn't depend on what is below it
+//! Models, entries, stacks and nodes are numbers (`px_numbers`). The model that is looked at is kept from one node to the next, with the
+//! number of the part of it that decides what may be pushed (`scene`). What an entry allows in a model doesn't depend on what is below it
 //! on the stack, but for the entries that are there: what is learned of a pair of entry and model is kept (`cache`), unless a
-//! question about it meets the limit of shapes. So is the model that applying the entry leaves (`results`). Where no question about an
-//! entry ever meets the limit, what may be pushed for a wanted atom depends only on the deciding facts of the model: that is kept for
-//! each wanted atom and each number of a model's deciding part (`offers`).
+//! question about it meets the limit of shapes. So is the model that applying the entry leaves (`results`). What may be pushed for a
+//! wanted atom is kept too (`offers`, `offering`): for all models with the same deciding facts, where no question about an entry ever
+//! meets the limit, and else for that model. The lists for the wanted atoms of a node are joined by their order (`merging`).
+//!
+//! Where no question ever meets the limit and a node may push more entries than the node limit has room for, only the first of them are
+//! found, and kept (`begun`, `offer`). All are asked for (`all_steps`) where the first were gone through and there is room left.
 #![tactic(auto)]
 
 mod after;
+mod all_steps;
 mod asked;
+mod begun;
 mod breadth_first;
 mod cache;
 mod effects;
 mod ends;
+#[cfg(test)]
+mod learned_tests;
+mod merging;
 mod moves;
+mod offer;
 mod offering;
 mod offers;
 mod origins;
@@ -39,6 +49,7 @@ mod picks;
 mod planning;
 mod progress;
 mod results;
+mod scene;
 mod step;
 #[cfg(test)]
 mod tests;

@@ -1,175 +1,194 @@
-//! The pushes for wanted atoms, where no question about an entry ever meets the limit of shapes.
-ghost use Rattle.std.specs.Prelude.{◌≡◌, ◌↔◌, ◌++◌, ◌∷◌, List, [], length, map, slice_get, Some, Contains, IsTrue, IfOk, OnOk};
-ghost use Rattle.std.specs.List.Sorted.{IsStrictlySortedBy};
+//! The pushes for wanted atoms over the empty stack, and over a node's.
+ghost use Rattle.std.specs.Prelude.{◌≡◌, ◌∷◌, List, [], IfOk, IfSome, OnOk};
 ghost use Rattle.px_terms.specs.AtomSets.{IsAtomSet};
 ghost use Rattle.px_table.specs.declared.entry.Entry.{Entry};
-ghost use Rattle.px_table.specs.declared.entry.Move.TheVariants as move;
-ghost use Rattle.px_table.specs.EntryOrder.{order_of};
 ghost use Rattle.px_diff.specs.Known.{IsOpenWith};
-ghost use Rattle.px_diff.specs.Pushes.{IsPushable};
+ghost use Rattle.px_diff.specs.Outcomes.{IfLimit};
+ghost use Rattle.px_diff.specs.Stacks.{AreUnlimitedOver};
 ghost use Rattle.px_numbers.specs.Numbers.{IsStackAt, KeepsAll};
 ghost use Rattle.px_ends.specs.Tasks.{needs_with};
 ghost use Rattle.px_search.specs.Asking.{IsAskable, task_for};
-ghost use Rattle.px_search.specs.Going.{IsGoneOn};
-ghost use Rattle.px_search.specs.Offers.{AreOffers, IsOffered, IsPartAt};
-ghost use Rattle.px_search.specs.Steps.{AreStepsOf, IsStepOf};
+ghost use Rattle.px_search.specs.Going.{IsBegunOn};
+ghost use Rattle.px_search.specs.Offers.{AreFirst, AreOffers, IsOffered, IsOfferedWhole, IsPartAt};
 
 use crate::asked::Asked;
+use crate::begun::Begun;
+use crate::merging::merged;
+use crate::offer::Offer;
 use crate::offers::{Offers, Want};
-use crate::picks::{numbered, step_at, struck};
+use crate::picks::{numbered, struck};
 use crate::step::Step;
-use px_diff::{AskErr, deciding_part, relevance_over_models, relevance_over_stacks, relevant};
+use px_diff::{
+    AskErr, First, relevance_over_models, relevance_over_stacks, relevant, relevant_first,
+};
 use px_numbers::Numbers;
 use px_ops::Model;
-use px_table::Entry;
 use px_terms::{Atom, NoMemory, Sequence};
 use std::alloc::Global;
 
-/// A copy of the steps.
-fn copy_of(alloc: Global, steps: &[Step]) -> Result<Vec<Step>, NoMemory>
-    ensures { IfOk result (λ copy. copy.items ≡ steps.now) }
+/// A copy of what is kept.
+fn copy_of(alloc: Global, offer: &Offer) -> Result<Begun, NoMemory>
+    ensures steps { IfOk result (λ copy. copy.steps.items ≡ offer.now.steps) }
+    ensures is_all { IfOk result (λ copy. copy.is_all ≡ offer.now.is_all) }
 {
-    let mut copy = Vec::new(alloc);
-    copy.extend_from_slice(steps)?;
-    Ok(copy)
+    let mut steps = Vec::new(alloc);
+    steps.extend_from_slice(offer.steps.as_slice())?;
+    Ok(Begun {
+        steps,
+        is_all: offer.is_all,
+    })
 }
 
-/// The entries that may be pushed for the atom over the empty stack, in order.
-fn entries_for(asked: &Asked, model: &Model, atom: &Atom) -> Result<Vec<Entry>, NoMemory>
+/// All entries that may be pushed for one of the atoms over the empty stack, in order.
+fn all_entries_for(asked: &Asked, model: &Model, wanted: &[Atom]) -> Result<First, AskErr>
     requires asked { IsAskable asked.now }
-    requires never { IsTrue asked.now.is_never_limited }
-    requires model { IsAtomSet model.now.atoms }
-    ensures exact { IfOk result (λ entries. (entry : Entry) → Contains entries.items entry ↔ IsPushable asked.now.problem.now asked.now.tables.now (atom.now ∷ []) [] model.now.atoms entry) }
-    ensures order { IfOk result (λ entries. IsStrictlySortedBy order_of entries.items) }
+    ensures first { IfOk result (λ first. AreFirst (task_for asked.now) model.now.atoms wanted.now first.entries.items first.is_all) }
+    ensures unlimited { IfOk result (λ first. AreUnlimitedOver asked.now.problem.now asked.now.tables.now wanted.now model.now.atoms []) }
 {
-    match relevant(
-        asked.alloc,
-        asked.problem,
-        &[*atom],
-        &[],
-        model,
-        asked.tables,
-    ) {
-        Ok(entries) => Ok(entries),
-        Err(AskErr::ShapeLimit { .. }) => unreachable!(),
-        Err(AskErr::NoMemory) => Err(NoMemory),
+    match relevant(asked.alloc, asked.problem, wanted, &[], model, asked.tables) {
+        Ok(entries) => Ok(First {
+            entries,
+            is_all: true,
+        }),
+        Err(error) => Err(error),
     }
 }
 
-/// The pushes for the atom, which are found and kept.
+/// The first of the entries that may be pushed for one of the atoms over the empty stack, in order: as many as a node may have room for.
+fn entries_for(asked: &Asked, model: &Model, wanted: &[Atom]) -> Result<First, AskErr>
+    requires asked { IsAskable asked.now }
+    requires model { IsAtomSet model.now.atoms }
+    ensures first { IfOk result (λ first. AreFirst (task_for asked.now) model.now.atoms wanted.now first.entries.items first.is_all) }
+    ensures unlimited { IfOk result (λ first. AreUnlimitedOver asked.now.problem.now asked.now.tables.now wanted.now model.now.atoms []) }
+{
+    if asked.is_never_limited {
+        let enough = asked.problem.nodes as usize;
+        let first = relevant_first(
+            asked.alloc,
+            asked.problem,
+            wanted,
+            model,
+            asked.tables,
+            enough,
+        )?;
+        return Ok(first);
+    }
+    all_entries_for(asked, model, wanted)
+}
+
+/// The first pushes for the atom, which are found and kept.
 fn offer_anew(
     asked: &Asked,
     numbers: &mut Numbers,
     offers: &mut Offers,
     model: &Model,
     want: &Want,
-) -> Result<Vec<Step>, NoMemory>
+) -> Result<Begun, AskErr>
     requires asked { IsAskable asked.now }
-    requires never { IsTrue asked.now.is_never_limited }
     requires part { IsPartAt (task_for asked.now) numbers.old want.now.part model.now.atoms }
     requires offers { AreOffers (task_for asked.now) numbers.old offers.old }
     ensures keeps { KeepsAll numbers.old numbers.new }
     ensures offers { OnOk result (AreOffers (task_for asked.now) numbers.new offers.new) }
-    ensures steps { IfOk result (λ steps. IsOffered (task_for asked.now) numbers.new model.now.atoms (want.now.atom ∷ []) steps.items) }
+    ensures limited { IfLimit result (λ formula shapes. AreOffers (task_for asked.now) numbers.new offers.new) }
+    ensures steps { IfOk result (λ begun. IsOffered (task_for asked.now) numbers.new model.now.atoms (want.now.atom ∷ []) begun.steps.items begun.is_all) }
 {
-    let entries = entries_for(asked, model, &want.atom)?;
-    let steps = numbered(asked.alloc, numbers, &entries)?;
+    let first = match entries_for(asked, model, &[want.atom]) {
+        Ok(first) => first,
+        Err(error) => return Err(error),
+    };
+    let steps = numbered(asked.alloc, numbers, &first.entries)?;
     let kept = Sequence::from_slice(asked.alloc, steps.as_slice())?;
-    offers.remember(want, kept)?;
+    let is_all = first.is_all;
+    let offer = Offer {
+        steps: kept,
+        is_all,
+    };
+    offers.remember(want, offer)?;
     relevance_over_models();
-    Ok(steps)
+    Ok(Begun { steps, is_all })
 }
 
-/// The pushes for the atom, which are kept.
+/// The first pushes for the atom, which are kept.
 fn offer(
     asked: &Asked,
     numbers: &mut Numbers,
     offers: &mut Offers,
     model: &Model,
     want: &Want,
-) -> Result<Vec<Step>, NoMemory>
+) -> Result<Begun, AskErr>
     requires asked { IsAskable asked.now }
-    requires never { IsTrue asked.now.is_never_limited }
     requires part { IsPartAt (task_for asked.now) numbers.old want.now.part model.now.atoms }
     requires offers { AreOffers (task_for asked.now) numbers.old offers.old }
     ensures keeps { KeepsAll numbers.old numbers.new }
     ensures offers { OnOk result (AreOffers (task_for asked.now) numbers.new offers.new) }
-    ensures steps { IfOk result (λ steps. IsOffered (task_for asked.now) numbers.new model.now.atoms (want.now.atom ∷ []) steps.items) }
+    ensures limited { IfLimit result (λ formula shapes. AreOffers (task_for asked.now) numbers.new offers.new) }
+    ensures steps { IfOk result (λ begun. IsOffered (task_for asked.now) numbers.new model.now.atoms (want.now.atom ∷ []) begun.steps.items begun.is_all) }
 {
     match offers.find(want) {
-        Some(steps) => {
-            let copy = copy_of(asked.alloc, steps.as_slice())?;
+        Some(offer) => {
+            let copy = copy_of(asked.alloc, offer)?;
             Ok(copy)
         }
         None => offer_anew(asked, numbers, offers, model, want),
     }
 }
 
-/// Puts the entry that the step pushes last.
-fn put_entry(numbers: &Numbers, entries: &mut Vec<Entry>, step: Step) -> Result<(), NoMemory>
-    requires { (entry : Entry) × IsStepOf numbers.now step (move.Push entry) }
-    ensures { OnOk result ((entry : Entry) → IsStepOf numbers.now step (move.Push entry) → entries.new.items ≡ entries.old.items ++ entry ∷ []) }
-{
-    match step {
-        Step::Apply => unreachable!(),
-        Step::Push(number) => {
-            let copy = numbers.entry(number).try_copy()?;
-            entries.push(copy)?;
-            Ok(())
-        }
-    }
-}
-
-/// Puts the entries that the steps push last.
-fn put_entries(numbers: &Numbers, entries: &mut Vec<Entry>, steps: &[Step]) -> Result<(), NoMemory>
-    requires { (pushed : List Entry) × AreStepsOf numbers.now steps.now (map move.Push pushed) }
-    ensures { OnOk result ((pushed : List Entry) → AreStepsOf numbers.now steps.now (map move.Push pushed) → entries.new.items ≡ entries.old.items ++ pushed) }
-{
-    for place in 0..steps.len() {
-        let step = step_at(steps, place);
-        put_entry(numbers, entries, step)?;
-    }
-    Ok(())
-}
-
-/// The entries in order, each once.
-fn ordered(mut entries: Vec<Entry>) -> Vec<Entry>
-    ensures members { (entry : Entry) → Contains result.items entry ↔ Contains entries.items entry }
-    ensures order { IsStrictlySortedBy order_of result.items }
-{
-    entries.sort_unstable();
-    entries.dedup();
-    entries
-}
-
-/// The entries that may be pushed for one of the atoms over the empty stack.
-fn entries_for_all(
+/// All pushes for one of the atoms over the empty stack, in order, by what is kept for each of them; or None where that isn't all, or where
+/// they are many.
+fn offered_each(
     asked: &Asked,
     numbers: &mut Numbers,
     offers: &mut Offers,
     model: &Model,
     part: u32,
     gaps: &[Atom],
-) -> Result<Vec<Entry>, NoMemory>
+) -> Result<Option<Vec<Step>>, AskErr>
     requires asked { IsAskable asked.now }
-    requires never { IsTrue asked.now.is_never_limited }
     requires part { IsPartAt (task_for asked.now) numbers.old part model.now.atoms }
     requires offers { AreOffers (task_for asked.now) numbers.old offers.old }
     ensures keeps { KeepsAll numbers.old numbers.new }
     ensures offers { OnOk result (AreOffers (task_for asked.now) numbers.new offers.new) }
-    ensures exact { IfOk result (λ entries. (entry : Entry) → Contains entries.items entry ↔ IsPushable asked.now.problem.now asked.now.tables.now gaps.now [] model.now.atoms entry) }
+    ensures limited { IfLimit result (λ formula shapes. AreOffers (task_for asked.now) numbers.new offers.new) }
+    ensures whole { IfOk result (λ whole. IfSome whole (λ steps. IsOfferedWhole (task_for asked.now) numbers.new model.now.atoms gaps.now steps.items)) }
 {
-    let mut entries = Vec::new(asked.alloc);
+    let mut steps = Vec::new(asked.alloc);
     for place in 0..gaps.len() {
         let atom = gaps[place];
         let want = Want { part, atom };
-        let steps = offer(asked, numbers, offers, model, &want)?;
-        put_entries(numbers, &mut entries, steps.as_slice())?;
+        let begun = match offer(asked, numbers, offers, model, &want) {
+            Ok(begun) => begun,
+            Err(error) => return Err(error),
+        };
+        if !begun.is_all || steps.len() >= asked.problem.nodes as usize {
+            return Ok(None);
+        }
+        steps = merged(asked.alloc, numbers, &steps, &begun.steps)?;
     }
-    Ok(entries)
+    Ok(Some(steps))
 }
 
-/// The pushes for one of the atoms over the empty stack, in order.
+/// The first pushes for one of the atoms over the empty stack, which are found for all atoms at once, and aren't kept.
+fn offered_together(
+    asked: &Asked,
+    numbers: &mut Numbers,
+    model: &Model,
+    gaps: &[Atom],
+) -> Result<Begun, AskErr>
+    requires asked { IsAskable asked.now }
+    requires model { IsAtomSet model.now.atoms }
+    ensures keeps { KeepsAll numbers.old numbers.new }
+    ensures steps { IfOk result (λ begun. IsOffered (task_for asked.now) numbers.new model.now.atoms gaps.now begun.steps.items begun.is_all) }
+{
+    let first = match entries_for(asked, model, gaps) {
+        Ok(first) => first,
+        Err(error) => return Err(error),
+    };
+    let steps = numbered(asked.alloc, numbers, &first.entries)?;
+    let is_all = first.is_all;
+    Ok(Begun { steps, is_all })
+}
+
+/// The first pushes for one of the atoms over the empty stack, in order.
 fn offered(
     asked: &Asked,
     numbers: &mut Numbers,
@@ -177,14 +196,14 @@ fn offered(
     model: &Model,
     part: u32,
     gaps: &[Atom],
-) -> Result<Vec<Step>, NoMemory>
+) -> Result<Begun, AskErr>
     requires asked { IsAskable asked.now }
-    requires never { IsTrue asked.now.is_never_limited }
     requires part { IsPartAt (task_for asked.now) numbers.old part model.now.atoms }
     requires offers { AreOffers (task_for asked.now) numbers.old offers.old }
     ensures keeps { KeepsAll numbers.old numbers.new }
     ensures offers { OnOk result (AreOffers (task_for asked.now) numbers.new offers.new) }
-    ensures steps { IfOk result (λ steps. IsOffered (task_for asked.now) numbers.new model.now.atoms gaps.now steps.items) }
+    ensures limited { IfLimit result (λ formula shapes. AreOffers (task_for asked.now) numbers.new offers.new) }
+    ensures steps { IfOk result (λ begun. IsOffered (task_for asked.now) numbers.new model.now.atoms gaps.now begun.steps.items begun.is_all) }
 {
     if gaps.len() == 1 {
         let want = Want {
@@ -193,33 +212,48 @@ fn offered(
         };
         return offer(asked, numbers, offers, model, &want);
     }
-    let entries = ordered(entries_for_all(asked, numbers, offers, model, part, gaps)?);
-    let steps = numbered(asked.alloc, numbers, &entries)?;
-    Ok(steps)
+    let each = match offered_each(asked, numbers, offers, model, part, gaps) {
+        Ok(each) => each,
+        Err(error) => return Err(error),
+    };
+    match each {
+        None => offered_together(asked, numbers, model, gaps),
+        Some(steps) => Ok(Begun {
+            steps,
+            is_all: true,
+        }),
+    }
 }
 
-/// The pushes of the node with the stack of this number and these gaps, in order.
+/// The first pushes of the node with the model and the stack of this number, and these gaps, in order.
+///
+/// # Errors
+/// `ShapeLimit` where a question meets the limit about an entry that may be relevant over the empty stack: of the node's own questions
+/// this says nothing. `NoMemory` where there is none.
 pub fn pushes_offered(
     asked: &Asked,
     numbers: &mut Numbers,
     offers: &mut Offers,
     model: &Model,
+    part: u32,
     stack: u32,
     gaps: &[Atom],
-) -> Result<Vec<Step>, NoMemory>
+) -> Result<Begun, AskErr>
     requires asked { IsAskable asked.now }
-    requires never { IsTrue asked.now.is_never_limited }
-    requires model { IsAtomSet model.now.atoms }
+    requires part { IsPartAt (task_for asked.now) numbers.old part model.now.atoms }
     requires stack { (entries : List Entry) × IsStackAt numbers.old stack entries }
     requires offers { AreOffers (task_for asked.now) numbers.old offers.old }
     ensures keeps { KeepsAll numbers.old numbers.new }
     ensures offers { OnOk result (AreOffers (task_for asked.now) numbers.new offers.new) }
-    ensures steps { IfOk result (λ steps. (entries : List Entry) → IsStackAt numbers.old stack entries → IsOpenWith asked.now.problem.now (needs_with (task_for asked.now) model.now.atoms entries) gaps.now → IsGoneOn (task_for asked.now) numbers.new (record { model = model.now.atoms; stack = entries }) steps.items) }
+    ensures limited { IfLimit result (λ formula shapes. AreOffers (task_for asked.now) numbers.new offers.new) }
+    ensures begun { IfOk result (λ begun. (entries : List Entry) → IsStackAt numbers.old stack entries → IsOpenWith asked.now.problem.now (needs_with (task_for asked.now) model.now.atoms entries) gaps.now → IsBegunOn (task_for asked.now) numbers.new (record { model = model.now.atoms; stack = entries }) begun.steps.items begun.is_all) }
 {
-    let deciding = deciding_part(asked.alloc, asked.problem, model)?;
-    let part = numbers.model_number(asked.alloc, &deciding)?;
-    let steps = offered(asked, numbers, offers, model, part, gaps)?;
-    let left = struck(asked.alloc, numbers, stack, steps.as_slice())?;
+    let begun = match offered(asked, numbers, offers, model, part, gaps) {
+        Ok(begun) => begun,
+        Err(error) => return Err(error),
+    };
+    let steps = struck(asked.alloc, numbers, stack, begun.steps.as_slice())?;
+    let is_all = begun.is_all;
     relevance_over_stacks();
-    Ok(left)
+    Ok(Begun { steps, is_all })
 }

@@ -1,33 +1,33 @@
 //! What may be pushed for a wanted atom.
 ghost use Rattle.std.specs.Prelude.{◌≡◌, ◌⊎◌, List, [], Contains, IfSome, OnOk};
 ghost use Rattle.px_search.specs.declared.offers.Want.{Want};
-ghost use Rattle.px_search.specs.declared.step.Step.{Step};
+ghost use Rattle.px_search.specs.declared.offer.Offer.{Offer};
 
-use crate::step::Step;
+use crate::offer::Offer;
 use indexmap::IndexMap;
-use px_terms::{Atom, NoMemory, Sequence};
+use px_terms::{Atom, NoMemory};
 use std::alloc::Global;
 use std::marker::Model;
 
-/// A wanted atom, in the models whose deciding facts are the model of this number.
+/// A wanted atom, in the models of which that of this number is the part that decides (`IsAlike`).
 #[derive(Clone, Copy, PartialEq, Eq, Hash)]
 pub struct Want {
     pub part: u32,
     pub atom: Atom,
 }
 
-/// For wanted atoms, the pushes that are allowed over the empty stack.
+/// For wanted atoms, the first pushes that are allowed over the empty stack.
 #[derive(Drop)]
 pub struct Offers {
-    known: IndexMap<Want, Sequence<Step>>,
+    known: IndexMap<Want, Offer>,
 }
 
 impl Model for Offers {
     ghost use Rattle.std.specs.Prelude.{List};
     ghost use Rattle.px_search.specs.declared.offers.Want.{Want};
-    ghost use Rattle.px_search.specs.declared.step.Step.{Step};
+    ghost use Rattle.px_search.specs.declared.offer.Offer.{Offer};
 
-    ghost Value = { List (Want × List Step) };
+    ghost Value = { List (Want × Offer) };
 
     ghost view = { λ o. o.known.entries };
 }
@@ -43,12 +43,12 @@ impl Offers {
     }
 
     /// The pushes that are kept for the atom. (Where it answers None nothing is said: asking again is right.)
-    pub fn find(&self, want: &Want) -> Option<&Sequence<Step>>
-        ensures { IfSome result (λ steps. Contains self.now (want.now, steps.now)) }
+    pub fn find(&self, want: &Want) -> Option<&Offer>
+        ensures { IfSome result (λ offer. Contains self.now (want.now, offer.now)) }
     {
         let index = self.known.get_index_of(want)?;
         match self.known.get_index(index) {
-            Some((_, steps)) => Some(steps),
+            Some((_, offer)) => Some(offer),
             None => None,
         }
     }
@@ -57,10 +57,10 @@ impl Offers {
     ///
     /// # Errors
     /// `NoMemory` where there is none.
-    pub fn remember(&mut self, want: &Want, steps: Sequence<Step>) -> Result<(), NoMemory>
-        ensures { OnOk result ((one : Want × List Step) → Contains self.new one → Contains self.old one ⊎ (one ≡ (want.now, steps))) }
+    pub fn remember(&mut self, want: &Want, offer: Offer) -> Result<(), NoMemory>
+        ensures { OnOk result ((one : Want × Offer) → Contains self.new one → Contains self.old one ⊎ (one ≡ (want.now, offer))) }
     {
-        self.known.insert(*want, steps)?;
+        self.known.insert(*want, offer)?;
         Ok(())
     }
 }

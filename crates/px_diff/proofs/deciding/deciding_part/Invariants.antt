@@ -1,6 +1,7 @@
 use Rattle.std.proofs.Common.{take}
 use Rattle.std.specs.Prelude.{IfSome}
-use Rattle.px_diff.specs.Deciding.{AreDeciding, IsTold}
+use Rattle.px_diff.specs.Deciding.{AreDeciding}
+use Rattle.px_diff.specs.Told.{IsTold}
 use Rattle.px_diff.proofs.deciding.deciding_part.Given as goal
 
 abbrev pub invariant-loop-atom : goal.invariant-loop-atom

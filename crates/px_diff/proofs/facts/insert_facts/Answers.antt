@@ -1,4 +1,4 @@
-use Rattle.std.proofs.Common.{◌⊎◌, ◌∙◌, List, subst, take}
+use Rattle.std.proofs.Common.{◌⊎◌, ◌∙◌, List, subst}
 use Rattle.std.specs.Prelude.{◌↔◌, Contains}
 use Rattle.std.proofs.lemmas.List.{take_all}
 use Rattle.px_base.specs.ListLaws.{All-at, Contains-none}

@@ -25,17 +25,17 @@ pub returns-then-request-eq0-clause-gathers : goal.returns-then-request-eq0-clau
 returns-then-request-eq0-clause-gathers c =
     let problem = c.args.request.now.problem.now in
     let tables = c.args.request.now.tables.now in
-    let is_table = front-table problem tables c.args.front.now c.requires.tables c.requires.front in
+    let is_table = front-table problem tables c.args.front.now c.requires.tables c.requires.front.of_tables in
     on_ok c.keep_open.result (entries_relevant c.args.request.now.problem.now c.args.request.now.tables.now c.args.request.now.wanted.now c.args.request.now.stack.now c.args.request.now.model.now.atoms (λ (entry : Entry). Macro c.args.front.now.number c.args.front.now.count c.deref.result.now ≡ entry) (IsOfFront c.args.front.now.number c.args.front.now.count) c.args.found.now.items c.keep_open.new.found.items
     (λ entry relevant of. ap (λ (l : List ℕ). Macro c.args.front.now.number c.args.front.now.count l) (c.deref.ensures.value ∙ c.in_ok-sigma.ensures ∙ ap first_values c.as_slice-terms.ensures.value)
-    ∙ of_zeros problem tables c.args.request.now.wanted.now c.args.request.now.stack.now c.args.front.now.number c.args.front.now.count c.args.front.now.table.now c.requires.front.table is_table c.in_ok-start.start.items c.in_ok-start.ensures c.if-request-eq0.true entry relevant of))
+    ∙ of_zeros problem tables c.args.request.now.wanted.now c.args.request.now.stack.now c.args.front.now.number c.args.front.now.count c.args.front.now.table.now c.requires.front.of_tables.table is_table c.in_ok-start.start.items c.in_ok-start.ensures c.if-request-eq0.true entry relevant of))
     c.keep_open.ensures.gathers
 
 pub macro_matches-requires-clause-steps : goal.macro_matches-requires-clause-steps
 macro_matches-requires-clause-steps c =
     let problem = c.args.request.now.problem.now in
     let table = c.args.front.now.table.now in
-    let is_table = front-table problem c.args.request.now.tables.now c.args.front.now c.requires.tables c.requires.front in
+    let is_table = front-table problem c.args.request.now.tables.now c.args.front.now c.requires.tables c.requires.front.of_tables in
     let long : length c.as_slice-terms.result.now ≡ table.params = ap length c.as_slice-terms.ensures.value ∙ c.in_ok-start.ensures.count in
     subst (λ (n : ℕ). All (IsStepOf problem n) (take c.args.front.now.count c.as_slice.result.now)) (sym long)
     (subst (λ (l : List OpInst). All (IsStepOf problem table.params) (take c.args.front.now.count l)) (sym c.as_slice.ensures) (All-take (IsStepOf problem table.params) c.args.front.now.count table.steps is_table.in_range.steps))
@@ -90,13 +90,13 @@ returns-in-Some-clause-gathers c =
     let number = c.args.front.now.number in
     let count = c.args.front.now.count in
     let s = setting_of problem model in
-    let is_table = front-table problem tables c.args.front.now c.requires.tables c.requires.front in
+    let is_table = front-table problem tables c.args.front.now c.requires.tables c.requires.front.of_tables in
     let found = c.in-Some.known in
     let told = some_found (AreTableChoices problem model table) c.args.rows.now found c.in-Some.is c.requires.rows in
-    let known = rows-taken s table told.terms (length table.steps) count found.choices found.limited c.requires.front.within told.known in
+    let known = rows-taken s table told.terms (length table.steps) count found.choices found.limited c.requires.front.of_tables.within told.known in
     let matched = matches-as problem wanted count c.as_slice-terms.result.now c.in_ok-start.start.items c.as_slice.result.now table.steps c.in_ok-made.made.items c.as_slice-terms.ensures.value c.as_slice.ensures c.in_ok-made.ensures in
     on_ok c.keep_matches.result (λ gathers.
-    wide-gather problem tables wanted stack number count table c.requires.front.table is_table model told.set told.terms told.unbound told.some_object (take count found.choices) (take count found.limited) known c.in_ok-start.start.items c.in_ok-start.ensures c.in_ok-made.made.items matched c.args.found.now.items
+    wide-gather problem tables wanted stack number count table c.requires.front.of_tables.table is_table model told.set told.terms told.unbound told.some_object (take count found.choices) (take count found.limited) known c.in_ok-start.start.items c.in_ok-start.ensures c.in_ok-made.made.items matched c.args.found.now.items
     c.keep_matches.new.found.items
     (told-same problem tables wanted stack model number count c.as_slice-matches.result.now c.in_ok-made.made.items c.as_slice-in-Some.result.now found.choices c.as_slice-in-Some-2.result.now found.limited c.args.found.now.items c.keep_matches.new.found.items c.as_slice-matches.ensures.value c.as_slice-in-Some.ensures c.as_slice-in-Some-2.ensures
     gathers)) c.keep_matches.ensures.gathers
@@ -107,8 +107,8 @@ returns-clause-gathers c =
     let tables = c.args.request.now.tables.now in
     let wanted = c.args.request.now.wanted.now in
     let table = c.args.front.now.table.now in
-    let is_table = front-table problem tables c.args.front.now c.requires.tables c.requires.front in
+    let is_table = front-table problem tables c.args.front.now c.requires.tables c.requires.front.of_tables in
     let matched = matches-as problem wanted c.args.front.now.count c.as_slice-terms.result.now c.in_ok-start.start.items c.as_slice.result.now table.steps c.in_ok-made.made.items c.as_slice-terms.ensures.value c.as_slice.ensures c.in_ok-made.ensures in
     on_ok c.keep_listed.result (λ gathers. entries_relevant c.args.request.now.problem.now c.args.request.now.tables.now c.args.request.now.wanted.now c.args.request.now.stack.now c.args.request.now.model.now.atoms (λ (entry : Entry). OneOf c.in_ok-made.made.items (λ (terms : List Term). IsMacroBy problem.objects c.args.front.now.number c.args.front.now.count terms entry)) (IsOfFront c.args.front.now.number c.args.front.now.count) c.args.found.now.items c.keep_listed.new.found.items
-    (of_matches problem tables wanted c.args.request.now.stack.now c.args.front.now.number c.args.front.now.count table c.requires.front.table is_table c.in_ok-start.start.items c.in_ok-start.ensures c.in_ok-made.made.items (omega (arith, c.if-request-eq0.false)) matched)
+    (of_matches problem tables wanted c.args.request.now.stack.now c.args.front.now.number c.args.front.now.count table c.requires.front.of_tables.table is_table c.in_ok-start.start.items c.in_ok-start.ensures c.in_ok-made.made.items (omega (arith, c.if-request-eq0.false)) matched)
     (subst (λ (l : List (List Term)). GathersEntries c.args.request.now.problem.now c.args.request.now.tables.now c.args.request.now.wanted.now c.args.request.now.stack.now c.args.request.now.model.now.atoms (λ (entry : Entry). OneOf l (λ (terms : List Term). IsMacroBy problem.objects c.args.front.now.number c.args.front.now.count terms entry)) c.args.found.now.items c.keep_listed.new.found.items) c.as_slice-matches.ensures.value gathers)) c.keep_listed.ensures.gathers

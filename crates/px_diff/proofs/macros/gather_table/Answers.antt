@@ -21,9 +21,12 @@ choices_of_table-requires-clause-table c = is-table c.args.request.now.problem.n
 
 pub gather_front-requires-clause-front : goal.gather_front-requires-clause-front
 gather_front-requires-clause-front c = record {
-  table = slice_get-read c.args.request.now.tables.now c.args.number c.index-request-number.result c.requires.number;
-  several = omega arith;
-  within = omega (arith, c.loop-count-test.true);
+  of_tables = record {
+    table = slice_get-read c.args.request.now.tables.now c.args.number c.index-request-number.result c.requires.number;
+    several = omega arith;
+    within = omega (arith, c.loop-count-test.true);
+  };
+  told = λ e. absurd (cc);
 }
 
 pub gather_front-requires-clause-rows : goal.gather_front-requires-clause-rows

@@ -9,12 +9,12 @@ use Rattle.px_diff.proofs.Loops.{said_no, said_yes}
 use Rattle.px_diff.proofs.macros.keep_open.Goals as goal
 
 pub is_macro-is_one-requires-clause-table : goal.is_macro-is_one-requires-clause-table
-is_macro-is_one-requires-clause-table c = front-table c.args.request.now.problem.now c.args.request.now.tables.now c.args.front.now c.requires.tables c.requires.front
+is_macro-is_one-requires-clause-table c = front-table c.args.request.now.problem.now c.args.request.now.tables.now c.args.front.now c.requires.tables c.requires.front.of_tables
 
 pub returns-then-not-is_one-clause-gathers : goal.returns-then-not-is_one-clause-gathers
 returns-then-not-is_one-clause-gathers c =
     irrelevant-none c.args.request.now.problem.now c.args.request.now.tables.now c.args.request.now.wanted.now c.args.request.now.stack.now c.args.request.now.model.now.atoms c.args.front.now.number c.args.front.now.count c.args.sigma.now c.args.found.now.items (λ relevant. said_no c.is_macro-is_one.result c.is_macro-is_one.ensures c.if-not-is_one.true
-    (relevant_macro c.args.request.now.problem.now c.args.request.now.tables.now c.args.front.now.number c.args.front.now.count c.args.front.now.table.now c.requires.front.table c.args.sigma.now c.args.request.now.wanted.now c.args.request.now.stack.now relevant))
+    (relevant_macro c.args.request.now.problem.now c.args.request.now.tables.now c.args.front.now.number c.args.front.now.count c.args.front.now.table.now c.requires.front.of_tables.table c.args.sigma.now c.args.request.now.wanted.now c.args.request.now.stack.now relevant))
 
 pub is_relevant_macro-requires-clause-sigma : goal.is_relevant_macro-requires-clause-sigma
 is_relevant_macro-requires-clause-sigma c = said_yes c.is_macro-is_one.result c.is_macro-is_one.ensures c.if-not-is_one.false

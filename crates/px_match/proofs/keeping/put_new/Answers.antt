@@ -1,7 +1,7 @@
-use Rattle.std.proofs.Common.{sym, subst, ◌+◌}
-use Rattle.std.specs.Prelude.{List}
+use Rattle.std.proofs.Common.{sym, ap, subst, ◌+◌, arith}
+use Rattle.std.specs.Prelude.{List, length}
 use Rattle.px_ops.specs.ModelValue.{ModelValue}
-use Rattle.px_match.proofs.Renewed.{IsComing, all_came, coming_put, coming_stays, room_for_it, rooms_for_it, unmet}
+use Rattle.px_match.proofs.Renewed.{IsComing, all_came, coming_put, coming_stays, counted, room_for_it, rooms_for_it, unmet}
 use Rattle.px_match.proofs.keeping.put_new.Goals as goal
 use Rattle.px_match.proofs.keeping.put_new.Goals.{then-not-meets, else-not-meets}
 
@@ -33,3 +33,8 @@ pub returns-clause-atoms : goal.returns-clause-atoms
 returns-clause-atoms c =
     all_came c.args.new.now.atoms c.args.marks.now c.args.kept.now c.args.lists.now c.loop-atom.atom-index c.loop-atom.kept c.loop-atom.lists c.atoms-atom-items.result.now c.loop-atom.invariant
     c.atoms-atom-items.ensures.model.ascending c.atoms-atom-items.ensures.value c.loop-atom-test.false
+
+pub returns-then-atoms-clause-atoms : goal.returns-then-atoms-clause-atoms
+returns-then-atoms-clause-atoms c =
+    counted c.args.new.now.atoms c.loop-atom.kept.atoms c.atoms-atom-items.ensures.model.ascending c.loop-atom.invariant.set c.loop-atom.invariant.within
+    (omega (arith, c.if-atoms.true, ap length c.atoms.ensures.value, ap length c.atoms-in-loop-atom.ensures.value))

@@ -1,22 +1,18 @@
-use Rattle.std.proofs.Common.{◌≡◌, ◌+◌, ◌++◌, ℕ, List, [], ◌∷◌, take, subst, sym, ap, ◌∙◌, slice_index_or}
-use Rattle.std.proofs.lemmas.List.{take_more}
-use Rattle.px_terms.specs.declared.atom.Atom.{Atom}
-use Rattle.px_terms.specs.AtomSets.{IsAtomSet, with_atom}
-use Rattle.px_numbers.specs.Numbers.{AreNumbersOf}
-use Rattle.px_numbers.proofs.NumberSteps.{model_more, set_more}
+use Rattle.std.proofs.Common.{arith}
+use Rattle.px_numbers.proofs.NumberSteps.{number_within, built_none, built_more, built_all}
 use Rattle.px_numbers.proofs.numbers.model_of.Goals as goal
+
+pub loop-number-init : goal.loop-number-init
+loop-number-init c = built_none c.args.index.now c.args.numbers.now c.new-model.result.atoms c.new-model.ensures
+
+pub atom-atom-requires : goal.atom-atom-requires
+atom-atom-requires c = number_within c.args.index.now c.args.numbers.now c.requires.0 c.loop-number.number-index c.requires.1.numbers_are c.loop-number-test.true
 
 pub loop-number-preserved : goal.loop-number-preserved
 loop-number-preserved c =
-    let index = c.args.index.now in
-    let model = c.loop-number.model.atoms in
-    let atom = c.atom-atom.result in
-    let i = c.loop-number.number-index in
-    let number = slice_index_or c.args.numbers.now i 0 in
-    let put : c.insert.new.self.atoms ≡ with_atom atom model = c.in_ok-insert.ensures.ok in
-    record {
-      is_set = subst IsAtomSet (sym put) (set_more model atom c.loop-number.invariant.is_set);
-      numbers = subst (λ (l : List ℕ). AreNumbersOf index l c.insert.new.self.atoms) (sym (take_more c.args.numbers.now i 0 c.loop-number-test.true))
-          (subst (λ (l : List Atom). AreNumbersOf index (take i c.args.numbers.now ++ number ∷ []) l) (sym put)
-          (model_more index (take i c.args.numbers.now) model atom number c.atom-atom.ensures.atom c.loop-number.invariant.numbers));
-    }
+    built_more c.args.index.now c.args.numbers.now c.loop-number.number-index c.loop-number.model.atoms c.insert.new.self.atoms c.atom-atom.result c.loop-number-test.true c.atom-atom.ensures.atom
+    c.in_ok-insert.ensures.ok c.loop-number.invariant
+
+pub returns : goal.returns
+returns c =
+    built_all c.args.index.now c.args.numbers.now c.loop-number.number-index c.loop-number.model.atoms c.requires.0 (omega (arith, c.loop-number-test.false)) c.loop-number.invariant c.requires.1

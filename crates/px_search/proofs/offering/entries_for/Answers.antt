@@ -1,15 +1,14 @@
-use Rattle.std.proofs.Common.{◌∷◌, [], subst}
-use Rattle.px_diff.specs.Outcomes.{AtLimit}
-use Rattle.px_diff.specs.Questions.{LimitsRelevant}
-use Rattle.px_diff.specs.declared.ask_err.AskErr.{AskErr}
-use Rattle.px_search.proofs.OfferLaws.{never-met}
+use Rattle.px_search.specs.Asking.{task_for}
+use Rattle.px_search.proofs.OfferLaws.{some-first}
 use Rattle.px_search.proofs.offering.entries_for.Goals as goal
 
-pub unreachable-requires : goal.unreachable-requires
-unreachable-requires c =
-    let problem = c.args.asked.now.problem.now in
-    let tables = c.args.asked.now.tables.now in
-    let facts = c.args.model.now.atoms in
-    let wanted = c.args.atom.now ∷ [] in
-    never-met problem tables facts wanted c.in-Err-ShapeLimit.field-0-0 c.in-Err-ShapeLimit.field-0-1 (c.requires.asked.never_limited c.requires.never) c.requires.model
-    (subst (λ (e : AskErr). AtLimit e (LimitsRelevant problem tables wanted [] facts)) c.in-Err-ShapeLimit.field-0-is c.in-Err-ShapeLimit.ensures.limited)
+pub relevant_first-requires-clause-never : goal.relevant_first-requires-clause-never
+relevant_first-requires-clause-never c = c.requires.asked.never_limited c.if-asked.true
+
+pub returns-then-asked-clause-first : goal.returns-then-asked-clause-first
+returns-then-asked-clause-first c =
+    let had = c.in_ok-first.ensures in
+    some-first (task_for c.args.asked.now) c.args.model.now.atoms c.args.wanted.now c.in_ok-first.first.entries.items c.in_ok-first.first.is_all had.sound had.order had.all had.others
+
+pub returns-then-asked-clause-unlimited : goal.returns-then-asked-clause-unlimited
+returns-then-asked-clause-unlimited c = λ entry relevant. c.requires.asked.never_limited c.if-asked.true c.args.model.now.atoms c.requires.model entry relevant.is_entry

@@ -1,4 +1,4 @@
-use Rattle.std.proofs.Common.{◌∙◌, ◌∷◌, [], List, sym, subst}
+use Rattle.std.proofs.Common.{◌∷◌, [], Bool, List, sym, subst}
 use Rattle.px_search.specs.Asking.{task_for}
 use Rattle.px_search.specs.Offers.{IsOffered}
 use Rattle.px_search.specs.declared.step.Step.{Step}
@@ -10,6 +10,9 @@ returns-in_ok-copy-in-Some-clause-steps c =
     let task = task_for c.args.asked.now in
     let kept = c.args.numbers.now in
     let facts = c.args.model.now.atoms in
-    let steps = c.in-Some.steps.now in
-    subst (λ (s : List Step). IsOffered task kept facts (c.args.want.now.atom ∷ []) s) (sym (c.in_ok-copy-in-Some.ensures ∙ c.as_slice.ensures))
-    (offered-here task kept c.args.want.now facts steps c.requires.part (c.requires.offers c.args.want.now steps c.in-Some.ensures))
+    let want = c.args.want.now in
+    let offer = c.in-Some.offer.now in
+    let copy = c.in_ok-copy-in-Some.copy in
+    subst (λ (b : Bool). IsOffered task kept facts (want.atom ∷ []) copy.steps.items b) (sym c.in_ok-copy-in-Some.ensures.is_all)
+    (subst (λ (s : List Step). IsOffered task kept facts (want.atom ∷ []) s offer.is_all) (sym c.in_ok-copy-in-Some.ensures.steps)
+    (offered-here task kept want facts offer c.requires.part (c.requires.offers want offer c.in-Some.ensures)))

@@ -1,4 +1,4 @@
-use Rattle.std.proofs.Common.{◌≡◌, ℕ, List, subst}
+use Rattle.std.proofs.Common.{subst}
 use Rattle.std.specs.Prelude.{IfOk}
 use Rattle.px_table.specs.EntryOrder.{entry_eq}
 use Rattle.px_table.specs.EntryLaws.{entry_eq-decides}

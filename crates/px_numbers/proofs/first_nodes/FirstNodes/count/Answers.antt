@@ -1,4 +1,4 @@
-use Rattle.std.proofs.Common.{◌≡◌, ◌∙◌, List, ap, length, sym}
+use Rattle.std.proofs.Common.{◌∙◌, List, ap, length, sym}
 use Rattle.px_table.specs.declared.node.Node.{Node}
 use Rattle.px_numbers.specs.Nodewise.{node_of}
 use Rattle.px_numbers.proofs.NodewiseLaws.{length-take_map}

@@ -1,4 +1,4 @@
-use Rattle.std.proofs.Common.{◌≡◌, ℕ, List, subst}
+use Rattle.std.proofs.Common.{subst}
 use Rattle.std.specs.Prelude.{IfOk}
 use Rattle.px_numbers.proofs.Equality.{node_eq, node_eq-decides}
 use Rattle.px_ops.specs.Keeping.{Keeps}

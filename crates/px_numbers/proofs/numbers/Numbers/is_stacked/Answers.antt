@@ -1,8 +1,6 @@
-use Rattle.std.proofs.Common.{◌≡◌, ◌-◌, ◌<◌, ◌↔◌, ℕ, List, Some, length, slice_get, subst, sym, refl, arith}
-use Rattle.std.specs.Prelude.{Contains}
-use Rattle.px_table.specs.declared.entry.Entry.{Entry}
-use Rattle.px_numbers.specs.Numbers.{Kept, AreEachOnce, IsStackAt}
-use Rattle.px_numbers.proofs.NumberSteps.{IsLookedFor, stack_split, look_on, look_found, look_none, some_below, said_true, said_false}
+use Rattle.std.proofs.Common.{◌≡◌, ◌-◌, ◌<◌, Some, length, slice_get, subst, sym, arith}
+use Rattle.px_numbers.specs.Numbers.{Kept, AreEachOnce}
+use Rattle.px_numbers.proofs.NumberSteps.{stack_split, look_on, look_found, look_none, some_below, said_true, said_false}
 use Rattle.px_numbers.proofs.numbers.Numbers.is_stacked.Goals as goal
 
 pub frame-frame-requires : goal.frame-frame-requires

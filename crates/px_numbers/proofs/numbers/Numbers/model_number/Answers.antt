@@ -1,9 +1,8 @@
-use Rattle.std.proofs.Common.{◌≡◌, ℕ, List, subst, sym}
-use Rattle.std.specs.Prelude.{IfOk}
+use Rattle.std.proofs.Common.{ℕ, List, subst}
 use Rattle.px_ops.specs.Keeping.{Keeps}
 use Rattle.px_terms.specs.declared.atom.Atom.{Atom}
 use Rattle.px_numbers.specs.Numbers.{Kept, KeepsAll, IsModelAt, AreNumbersOf}
-use Rattle.px_numbers.proofs.NumberSteps.{keeps_same, result_places, result_once, if_ok, model_from}
+use Rattle.px_numbers.proofs.NumberSteps.{keeps_same, result_places, result_once, if_ok}
 use Rattle.px_numbers.proofs.numbers.Numbers.model_number.Goals as goal
 
 pub invariant_of-self-2 : goal.invariant_of-self-2
@@ -32,7 +31,10 @@ returns-clause-model c =
     let new : Kept = record { atoms = c.numbers_of.new.index; lists = c.intern.new.self; entries = c.self.inside.entries; frames = c.self.inside.stacks } in
     if_ok (Keeps c.self.inside.lists c.intern.new.self c.from_vec.result) (λ number. IsModelAt new number c.args.model.now.atoms) c.intern.result c.intern.ensures.kept
     (λ number kept. (
-      c.ordered-numbers.result.items,
+      c.in_ok-numbers.numbers.items,
       (subst (λ (l : List ℕ). Keeps c.self.inside.lists c.intern.new.self l number) c.from_vec.ensures kept).here,
-      model_from new.atoms c.in_ok-numbers_of.field-0.items c.ordered-numbers.result.items c.args.model.now.atoms c.atoms.ensures.model.ascending (subst (λ (l : List Atom). AreNumbersOf new.atoms c.in_ok-numbers_of.field-0.items l) c.atoms.ensures.value c.in_ok-numbers_of.ensures.numbers) c.ordered-numbers.ensures.members c.ordered-numbers.ensures.order,
+      record {
+        is_set = c.atoms.ensures.model.ascending;
+        numbers_are = subst (λ (l : List Atom). AreNumbersOf new.atoms c.in_ok-numbers.numbers.items l) c.atoms.ensures.value c.in_ok-numbers.ensures.numbers;
+      },
     ))

@@ -1,6 +1,6 @@
-use Rattle.std.proofs.Common.{◌≡◌, ◌+◌, ◌≤◌, ℕ, suc, List, length, subst, sym, refl, arith}
+use Rattle.std.proofs.Common.{◌≤◌, length, subst, sym, arith}
 use Rattle.px_numbers.specs.declared.stacks.Frame.{Frame}
-use Rattle.px_numbers.specs.Numbers.{Kept, KeepsAll, IsStackAt}
+use Rattle.px_numbers.specs.Numbers.{Kept, KeepsAll}
 use Rattle.px_numbers.specs.NumberLaws.{stack_at-grows}
 use Rattle.px_ops.specs.KeepLaws.{keeps-places, keeps-once}
 use Rattle.px_numbers.proofs.NumberSteps.{keeps_same, stack_within, descending_more}

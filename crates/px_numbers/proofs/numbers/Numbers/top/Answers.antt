@@ -1,4 +1,4 @@
-use Rattle.std.proofs.Common.{◌≡◌, ◌-◌, ◌<◌, length, subst, sym, ap, arith}
+use Rattle.std.proofs.Common.{◌-◌, ◌<◌, length, subst, sym, arith}
 use Rattle.px_numbers.specs.Numbers.{Kept}
 use Rattle.px_numbers.proofs.NumberSteps.{stack_split}
 use Rattle.px_numbers.proofs.numbers.Numbers.top.Goals as goal

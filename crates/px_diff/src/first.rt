@@ -1,0 +1,10 @@
+//! The first of the entries that may be pushed.
+use px_table::Entry;
+
+/// The first of the entries that may be pushed, in order, each once.
+#[derive(Drop)]
+pub struct First {
+    pub entries: Vec<Entry>,
+    /// Are they all that may be pushed? `false` says nothing.
+    pub is_all: bool,
+}

@@ -1,0 +1,120 @@
+//! The first of the instances of operators that may be pushed.
+ghost use Rattle.std.specs.Prelude.{◌↔◌, All, Contains, IfOk, IsTrue, MatchBool};
+ghost use Rattle.px_terms.specs.declared.instance.OpInst.{OpInst as InstanceValue};
+ghost use Rattle.px_terms.specs.Validity.{IsValid};
+ghost use Rattle.px_diff.specs.Bounds.{AreBounds};
+ghost use Rattle.px_diff.specs.Firsts.{BringsFirstInstances, ComeBefore, IsAtMost};
+ghost use Rattle.px_diff.specs.Instances.{IsCovered, IsPartialInstance, StandsFor};
+ghost use Rattle.px_diff.specs.Outcomes.{IfLimit};
+ghost use Rattle.px_diff.specs.Requests.{GathersFor, LimitsFor};
+
+use crate::ask_err::AskErr;
+use crate::asker::Asker;
+use crate::bounds::Bounds;
+use crate::instances::filled;
+use crate::partial::PartialInstance;
+use crate::pushes::gather;
+use crate::request::Request;
+use px_terms::{OpInst, Problem};
+
+/// The least of the instances that the partial one stands for: object 0 for each variable.
+fn least_of(problem: &Problem, partial: &PartialInstance) -> OpInst
+    requires partial { IsPartialInstance problem.now partial.now }
+    ensures { (full : InstanceValue) → StandsFor problem.now partial.now full → IsAtMost result full }
+{
+    let _objects = problem.objects;
+    filled(partial, &[0; 8][..partial.vars as usize])
+}
+
+/// The lesser of the two.
+fn lesser(first: OpInst, second: OpInst) -> OpInst
+    ensures first { IsAtMost result first }
+    ensures second { IsAtMost result second }
+{
+    if first < second { first } else { second }
+}
+
+/// The least of the instance and of all that the partial ones stand for.
+fn least_of_all(problem: &Problem, inst: OpInst, partials: &[PartialInstance]) -> OpInst
+    requires partials { All (IsPartialInstance problem.now) partials.now }
+    ensures inst { IsAtMost result inst }
+    ensures partials { (full : InstanceValue) → IsCovered problem.now partials.now full → IsAtMost result full }
+{
+    let mut least = inst;
+    for partial in partials {
+        least = lesser(least, least_of(problem, partial));
+    }
+    least
+}
+
+/// Do all of the instances come before the other one?
+fn come_before(insts: &[OpInst], other: &OpInst) -> bool
+    ensures { IsTrue result → ComeBefore insts.now other.now }
+{
+    insts.iter().all(|inst| inst < other)
+}
+
+/// Do all of the instances come before each that one of the partial ones stands for?
+fn come_before_all(problem: &Problem, insts: &[OpInst], later: &[PartialInstance]) -> bool
+    requires later { All (IsPartialInstance problem.now) later.now }
+    ensures { IsTrue result → (full : InstanceValue) → IsCovered problem.now later.now full → ComeBefore insts.now full }
+{
+    if later.is_empty() {
+        return true;
+    }
+    let first = least_of(problem, &later[0]);
+    let least = least_of_all(problem, first, later);
+    come_before(insts, &least)
+}
+
+/// Puts the instances in order, each once.
+fn order(found: &mut Vec<OpInst>)
+    ensures { (inst : InstanceValue) → Contains found.new.items inst ↔ Contains found.old.items inst }
+{
+    found.sort_unstable();
+    found.dedup();
+}
+
+/// Are there enough instances, and do all come before each that one of the partial ones stands for? They are in order then,
+/// each once.
+fn can_leave_off(
+    found: &mut Vec<OpInst>,
+    problem: &Problem,
+    later: &[PartialInstance],
+    enough: usize,
+) -> bool
+    requires later { All (IsPartialInstance problem.now) later.now }
+    ensures members { (inst : InstanceValue) → Contains found.new.items inst ↔ Contains found.old.items inst }
+    ensures after { IsTrue result → (full : InstanceValue) → IsCovered problem.now later.now full → ComeBefore found.new.items full }
+{
+    if found.len() < enough || !come_before_all(problem, found, later) {
+        return false;
+    }
+    order(found);
+    found.len() >= enough && come_before_all(problem, found, later)
+}
+
+/// Adds the instances that the matches stand for and that may be pushed, match by match. It leaves off where there are enough, and
+/// each that a later match stands for comes after them. Does it get to the end?
+pub fn gather_first(
+    asker: &mut Asker,
+    found: &mut Vec<OpInst>,
+    request: &Request,
+    bounds: &Bounds,
+    matches: &[PartialInstance],
+    enough: usize,
+) -> Result<bool, AskErr>
+    requires problem { IsValid request.now.problem.now }
+    requires bounds { AreBounds request.now.problem.now request.now.problem.now.height bounds.now.table }
+    requires matches { All (IsPartialInstance request.now.problem.now) matches.now }
+    ensures gathers { IfOk result (λ is_all. MatchBool is_all (GathersFor request.now (IsCovered request.now.problem.now matches.now) found.old.items found.new.items) (BringsFirstInstances request.now (IsCovered request.now.problem.now matches.now) found.old.items found.new.items)) }
+    ensures limited { IfLimit result (LimitsFor request.now) }
+{
+    for place in 0..matches.len() {
+        if can_leave_off(found, request.problem, &matches[place..], enough) {
+            return Ok(false);
+        }
+        gather(asker, found, request, bounds, &matches[place])?;
+    }
+    Ok(true)
+}

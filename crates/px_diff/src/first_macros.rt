@@ -1,0 +1,102 @@
+//! The first of the MACROPs that may be pushed, after the instances of operators.
+ghost use Rattle.std.specs.Prelude.{◌<◌, All, IfOk, IsTrue, MatchBool, length};
+ghost use Rattle.px_terms.specs.Validity.{IsValid};
+ghost use Rattle.px_diff.specs.Firsts.{BringsFirstEntries, IsBeforeFront, IsOfTableFrom};
+ghost use Rattle.px_diff.specs.Learned.{AreLearned};
+ghost use Rattle.px_diff.specs.Macros.{GathersEntriesFor, IsMacroEntry, IsOfTable};
+ghost use Rattle.px_diff.specs.Models.{IsNeverLimited};
+ghost use Rattle.px_diff.specs.Outcomes.{IfLimit};
+ghost use Rattle.px_diff.specs.Requests.{LimitsFor};
+
+use crate::ask_err::AskErr;
+use crate::asker::Asker;
+use crate::front::Front;
+use crate::macro_open::is_told_by_facts;
+use crate::macros::{choices_of_table, gather_front};
+use crate::request::Request;
+use px_table::Entry;
+
+/// Does the entry come before so many first steps of the table of this number, whatever their objects are?
+fn is_before_front(entry: &Entry, number: u32, count: u32) -> bool
+    ensures { IsTrue result → IsBeforeFront number count entry.now }
+{
+    match entry {
+        Entry::Op(_) => true,
+        Entry::Macro {
+            number: other,
+            prefix,
+            sigma: _,
+        } => *other < number || (*other == number && *prefix < count),
+    }
+}
+
+/// Are there enough entries, and do all come before so many first steps of the table of this number?
+fn can_leave_off(found: &[Entry], number: u32, count: u32, enough: usize) -> bool
+    ensures { IsTrue result → All (IsBeforeFront number count) found.now }
+{
+    found.len() >= enough
+        && found
+            .iter()
+            .all(|entry| is_before_front(entry, number, count))
+}
+
+/// Adds those of the table's entries that may be pushed, by the number of steps. It leaves off where there are enough, and
+/// those of more steps come after them. Does it get to the end?
+fn gather_first_table(
+    asker: &mut Asker,
+    found: &mut Vec<Entry>,
+    request: &Request,
+    number: u32,
+    enough: usize,
+) -> Result<bool, AskErr>
+    requires problem { IsValid request.now.problem.now }
+    requires tables { AreLearned request.now.problem.now request.now.tables.now }
+    requires number { number < length request.now.tables.now }
+    requires never { IsNeverLimited request.now.problem.now request.now.tables.now }
+    ensures gathers { IfOk result (λ is_all. MatchBool is_all (GathersEntriesFor request.now (IsOfTable number) found.old.items found.new.items) (BringsFirstEntries request.now (IsOfTableFrom number) found.old.items found.new.items)) }
+    ensures limited { IfLimit result (LimitsFor request.now) }
+{
+    if can_leave_off(found, number, 0, enough) {
+        return Ok(false);
+    }
+    let table = &request.tables[number as usize];
+    let made = choices_of_table(asker, request, table)?;
+    let rows = &made;
+    let is_told = is_told_by_facts(request.problem, table);
+    let steps = table.steps.len() as u32;
+    for count in 2..steps + 1 {
+        if can_leave_off(found, number, count, enough) {
+            return Ok(false);
+        }
+        let front = Front {
+            number,
+            table,
+            count,
+            is_told,
+        };
+        gather_front(asker.alloc, found, request, &front, rows)?;
+    }
+    Ok(true)
+}
+
+/// Adds the MACROPs that may be pushed for the request, table by table. It leaves off where there are enough, and the others come
+/// after them. Does it get to the end?
+pub fn gather_first_tables(
+    asker: &mut Asker,
+    found: &mut Vec<Entry>,
+    request: &Request,
+    enough: usize,
+) -> Result<bool, AskErr>
+    requires problem { IsValid request.now.problem.now }
+    requires tables { AreLearned request.now.problem.now request.now.tables.now }
+    requires never { IsNeverLimited request.now.problem.now request.now.tables.now }
+    ensures gathers { IfOk result (λ is_all. MatchBool is_all (GathersEntriesFor request.now IsMacroEntry found.old.items found.new.items) (BringsFirstEntries request.now IsMacroEntry found.old.items found.new.items)) }
+    ensures limited { IfLimit result (LimitsFor request.now) }
+{
+    for number in 0..request.tables.len() as u32 {
+        if !gather_first_table(asker, found, request, number, enough)? {
+            return Ok(false);
+        }
+    }
+    Ok(true)
+}

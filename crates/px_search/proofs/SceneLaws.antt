@@ -1,0 +1,32 @@
+-- What is kept of the model that is looked at stays right.
+use Rattle.std.proofs.Common.{◌≡◌, ℕ, Option, None, Some, sym, subst}
+use Rattle.std.specs.Prelude.{IfSome}
+use Rattle.px_numbers.specs.Numbers.{Kept, KeepsAll}
+use Rattle.px_numbers.specs.NumberLaws.{model_at-grows}
+use Rattle.px_ends.specs.Tasks.{Task}
+use Rattle.px_search.specs.Scenes.{IsScene, IsSceneAt}
+use Rattle.px_search.specs.declared.scene.Scene.{Scene}
+use Rattle.px_search.proofs.OfferLaws.{part-grows}
+
+module _ (task : Task) where
+  pub scene_at-grows : (old new : Kept) (number : ℕ) (scene : Scene) → KeepsAll old new → IsSceneAt task old number scene → IsSceneAt task new number scene
+  scene_at-grows old new number scene keeps is =
+      record { model_at = model_at-grows old new number scene.model.atoms keeps is.model_at; part_at = part-grows task old new scene.part scene.model.atoms keeps is.part_at }
+
+  pub scene-grows : (old new : Kept) (scene : Scene) → KeepsAll old new → IsScene task old scene → IsScene task new scene
+  scene-grows old new scene keeps is = by scene.number is
+    where
+      by : (number : Option ℕ) → IfSome number (λ n. IsSceneAt task old n scene) → IfSome number (λ n. IsSceneAt task new n scene)
+      by None known = known
+      by (Some n) known = scene_at-grows old new n scene keeps known
+
+  -- no model was looked at yet
+  pub scene-start : (kept : Kept) (scene : Scene) → scene.number ≡ None → IsScene task kept scene
+  scene-start kept scene none = subst (λ (number : Option ℕ). IfSome number (λ n. IsSceneAt task kept n scene)) (sym none) tt
+
+  -- the model with this number is looked at
+  pub scene-here : (kept : Kept) (number : ℕ) (scene : Scene) → scene.number ≡ Some number → IsScene task kept scene → IsSceneAt task kept number scene
+  scene-here kept number scene here is = subst (λ (looked : Option ℕ). IfSome looked (λ n. IsSceneAt task kept n scene)) here is
+
+  pub scene-of : (kept : Kept) (number : ℕ) (scene : Scene) → scene.number ≡ Some number → IsSceneAt task kept number scene → IsScene task kept scene
+  scene-of kept number scene here is = subst (λ (looked : Option ℕ). IfSome looked (λ n. IsSceneAt task kept n scene)) (sym here) is
