@@ -62,7 +62,7 @@ impl<T: Copy> Sequence<T> {
     /// A sequence of copies of the items.
     ///
     /// # Errors
-    /// `NoMemory` where there is none for the copies.
+    /// `NoMemory` where there is no memory for the copies.
     pub fn from_slice(alloc: Global, items: &[T]) -> Result<Sequence<T>, NoMemory>
         ensures { IfOk result (λ copy. copy ≡ items.now) }
     {
@@ -74,7 +74,7 @@ impl<T: Copy> Sequence<T> {
     /// A sequence of the same items, in memory of the same allocator.
     ///
     /// # Errors
-    /// `NoMemory` where there is none for the copy.
+    /// `NoMemory` where there is no memory for the copy.
     pub fn try_copy(&self) -> Result<Sequence<T>, NoMemory>
         ensures { IfOk result (λ copy. copy ≡ self.now) }
     {

@@ -165,7 +165,7 @@ fn agree_of(alloc: Global, seed: u64, tally: &mut Tally) -> Result<(), NoMemory>
     compare_bound(alloc, &mut dice, tally, &problem, &table)
 }
 
-/// Asks about the tables of so many seeds.
+/// Asks about the tables of `count` seeds.
 pub fn agree(alloc: Global, from: u64, count: u32) -> Result<Tally, NoMemory> {
     let mut tally = Tally::new();
     for seed in 0..count {

@@ -1,4 +1,5 @@
 //! Numbers that look random.
+// Alike: `roll` of px_rooms' `drawing`, which belongs to tests: these lend nothing to other crates.
 ghost use Rattle.std.specs.Prelude.{◌<◌, ◌≤◌};
 
 /// Numbers that look random, and are the same for the same seed.

@@ -12,7 +12,7 @@ use px_terms::{
 };
 use std::alloc::Global;
 
-/// What terms are made of: so many variables, so many objects, and the wild card or not.
+/// What terms are made of: this many variables and objects, and the wild card or not.
 #[derive(Clone, Copy)]
 pub struct Letters {
     pub vars: u32,
@@ -46,7 +46,7 @@ fn draw_atom(dice: &mut Dice, letters: Letters) -> Atom
     }
 }
 
-/// So many atoms at most.
+/// Draws `most` atoms at most.
 fn draw_atoms(
     alloc: Global,
     dice: &mut Dice,
@@ -110,7 +110,7 @@ fn draw_schema(alloc: Global, dice: &mut Dice, op: u32, objects: u32) -> Result<
     })
 }
 
-/// A problem of so many objects and three operators.
+/// Draws a problem of this number of objects and three operators.
 pub fn draw_problem(alloc: Global, dice: &mut Dice, objects: u32) -> Result<Problem, NoMemory>
     requires { 1 ≤ objects }
     ensures { IfOk result (λ problem. problem.objects ≡ objects) }
@@ -184,7 +184,7 @@ fn put_given(given: &mut Vec<Leaf>, column: u32, atoms: &[Atom]) -> Result<(), N
     Ok(())
 }
 
-/// So many terms.
+/// Draws `count` terms.
 fn draw_terms(
     alloc: Global,
     dice: &mut Dice,

@@ -12,7 +12,7 @@
 //! - `steps`: a table of 64 steps over 500 facts.
 //! - `sensings`: the same, and a hundred sensings more, before each of which one atom changes. The answer is how many of these find
 //!   a kernel.
-//! - `agree FROM COUNT`: the matcher beside a plain one that tries all lists of objects in order, over so many small random tables
+//! - `agree FROM COUNT`: the matcher beside a plain one that tries all lists of objects in order, over COUNT small random tables
 //!   from that seed on, each with twelve models. The answer is how often both said the same, and how often there was a kernel.
 //! - `agree NAME`: the same over one table of `cases`, with all its atoms, after each of them went, and after each came back:
 //!   `merged` (a parameter twice in a mark, and in several), `wild` (a step that deletes by the wild card), `objects` (objects in
@@ -59,7 +59,7 @@ fn found(alloc: Global, scene: &Scene) -> Option<u32> {
     }
 }
 
-/// What comes of the walk to object 64, and of so many changes if they are asked for.
+/// What comes of the walk to object 64, and of the changes if they are asked for.
 fn walked(alloc: Global, are_changes: bool) -> Result<Option<u32>, NoMemory> {
     let problem = problem_of(alloc, 500)?;
     let table = walk(alloc)?;

@@ -15,43 +15,36 @@ fn object_of(term: Term, objects: &[u32]) -> Option<u32> {
     }
 }
 
+/// Is that the object that the term is under the objects for the parameters?
+fn is_object_of(term: Term, there: Term, objects: &[u32]) -> bool {
+    match object_of(term, objects) {
+        Some(object) => there == Term::Obj(object),
+        None => false,
+    }
+}
+
 /// Does the mark become the atom?
 fn becomes(mark: &Atom, atom: &Atom, objects: &[u32]) -> bool {
     let found = atom.args();
-    if mark.pred() != atom.pred() || mark.args().len() != found.len() {
-        return false;
-    }
-    for (at, term) in mark.args().iter().enumerate() {
-        match object_of(*term, objects) {
-            None => return false,
-            Some(object) => {
-                if found[at] != Term::Obj(object) {
-                    return false;
-                }
-            }
-        }
-    }
-    true
+    mark.pred() == atom.pred()
+        && mark.args().len() == found.len()
+        && mark
+            .args()
+            .iter()
+            .zip(found)
+            .all(|(term, there)| is_object_of(*term, *there, objects))
 }
 
 /// Does the mark become one of the atoms?
 fn is_true(mark: &Atom, objects: &[u32], atoms: &[Atom]) -> bool {
-    for atom in atoms {
-        if becomes(mark, atom, objects) {
-            return true;
-        }
-    }
-    false
+    atoms.iter().any(|atom| becomes(mark, atom, objects))
 }
 
 /// Are all marks of the kernel true?
 fn holds(table: &Table, number: u32, objects: &[u32], atoms: &[Atom]) -> bool {
-    for mark in table.marks.as_slice() {
-        if number <= mark.row && mark.column < number && !is_true(&mark.atom, objects, atoms) {
-            return false;
-        }
-    }
-    true
+    table.marks.as_slice().iter().all(|mark| {
+        mark.row < number || number <= mark.column || is_true(&mark.atom, objects, atoms)
+    })
 }
 
 /// Does the term of a delete pattern stand for the object, with the step's arguments for the operator's parameters?
@@ -69,27 +62,23 @@ fn stands_for(pattern: Term, args: &[Term], object: Option<u32>, objects: &[u32]
 /// Does the pattern of the step stand for the mark?
 fn covers(pattern: &Atom, step: &OpInst, mark: &Atom, objects: &[u32]) -> bool {
     let terms = mark.args();
-    if pattern.pred() != mark.pred() || pattern.args().len() != terms.len() {
-        return false;
-    }
-    for (at, term) in pattern.args().iter().enumerate() {
-        if !stands_for(*term, step.args(), object_of(terms[at], objects), objects) {
-            return false;
-        }
-    }
-    true
+    pattern.pred() == mark.pred()
+        && pattern.args().len() == terms.len()
+        && pattern.args().iter().zip(terms).all(|(term, there)| {
+            stands_for(*term, step.args(), object_of(*there, objects), objects)
+        })
 }
 
 /// Does the step delete the mark?
 fn deletes(problem: &Problem, step: &OpInst, mark: &Atom, objects: &[u32]) -> bool {
-    if let Some(schema) = problem.schemas.as_slice().get(step.op() as usize) {
-        for pattern in schema.del.as_slice() {
-            if covers(pattern, step, mark, objects) {
-                return true;
-            }
-        }
+    match problem.schemas.as_slice().get(step.op() as usize) {
+        Some(schema) => schema
+            .del
+            .as_slice()
+            .iter()
+            .any(|pattern| covers(pattern, step, mark, objects)),
+        None => false,
     }
-    false
 }
 
 /// Does no step from the one of that number on delete the mark between its column and its row?
@@ -106,12 +95,10 @@ fn is_kept(problem: &Problem, table: &Table, number: u32, mark: &Mark, objects: 
 
 /// Is the instance of the kernel proper?
 fn is_proper(problem: &Problem, table: &Table, number: u32, objects: &[u32]) -> bool {
-    for mark in table.marks.as_slice() {
-        if !is_kept(problem, table, number, mark, objects) {
-            return false;
-        }
-    }
-    true
+    let marks = table.marks.as_slice();
+    marks
+        .iter()
+        .all(|mark| is_kept(problem, table, number, mark, objects))
 }
 
 /// Have the bound parameters, counted from 1, their objects?

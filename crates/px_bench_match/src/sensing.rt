@@ -1,4 +1,4 @@
-//! What a matcher finds in models of so many atoms at most.
+//! What a matcher finds in models of at most a thousand atoms.
 ghost use Rattle.std.specs.Prelude.{◌≡◌, ◌≤◌};
 
 use crate::walking::{change, next};

@@ -103,7 +103,7 @@ fn lose(alloc: Global) -> Result<Schema, NoMemory> {
     })
 }
 
-/// So many objects, these relations and these operators.
+/// Returns the problem of this number of objects, these relations and these operators.
 pub fn problem_of(alloc: Global, objects: u32) -> Result<Problem, NoMemory> {
     let mut schemas = Vec::new(alloc);
     schemas.push(spoil(alloc)?)?;
@@ -128,7 +128,7 @@ pub fn change(model: &mut Model, atom: Atom) -> Result<(), NoMemory> {
     Ok(())
 }
 
-/// Each of so many objects is followed by the next one.
+/// Each of `count` objects is followed by the next one.
 pub fn links(alloc: Global, count: u32) -> Result<Model, NoMemory> {
     let mut model = Model::new(alloc);
     for here in 1..count {

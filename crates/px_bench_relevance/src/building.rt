@@ -39,28 +39,45 @@ pub fn atom(pred: u32, args: &[Term]) -> Atom
     }
 }
 
-pub fn sequence_of(alloc: Global, atoms: &[Atom]) -> Result<Sequence<Atom>, NoMemory> {
-    let mut list = Vec::new(alloc);
-    list.extend_from_slice(atoms)?;
-    Ok(Sequence::from_vec(list))
-}
-
-/// The operator of that number, with four parameters: a box, a door, the room before it and the one behind it.
-fn schema_of(
+// As in `px_rooms`, which has it for its own operators, with a contract.
+/// Returns the operator of that number.
+pub fn schema_of(
     alloc: Global,
     op: u32,
+    params: u32,
     pre: &[Atom],
     del: &[Atom],
     add: &[Atom],
 ) -> Result<Schema, NoMemory> {
     Ok(Schema {
         op,
-        params: 4,
-        pre: sequence_of(alloc, pre)?,
-        del: sequence_of(alloc, del)?,
-        add: sequence_of(alloc, add)?,
+        params,
+        pre: Sequence::from_slice(alloc, pre)?,
+        del: Sequence::from_slice(alloc, del)?,
+        add: Sequence::from_slice(alloc, add)?,
     })
 }
+
+/// Returns the problem of these objects, predicates, axioms and operators, with limits that no benchmark meets.
+pub fn problem_of(
+    alloc: Global,
+    objects: u32,
+    arities: &[u8],
+    axioms: ClauseArena,
+    schemas: Vec<Schema>,
+) -> Result<Problem, NoMemory> {
+    Ok(Problem {
+        objects,
+        arities: Sequence::from_slice(alloc, arities)?,
+        axioms,
+        schemas: Sequence::from_vec(schemas),
+        height: 4,
+        nodes: 10000,
+        shapes: 10000,
+    })
+}
+
+// The parameters of both operators are a box, a door, the room before it and the one behind it.
 
 /// Pushing a box through an open door that it stands at.
 fn push_through(alloc: Global, op: u32) -> Result<Schema, NoMemory> {
@@ -78,7 +95,7 @@ fn push_through(alloc: Global, op: u32) -> Result<Schema, NoMemory> {
         atom(NEXTTO, &[B, Term::Any]),
     ];
     let add = [atom(INROOM, &[ROBOT, Y]), atom(INROOM, &[B, Y])];
-    schema_of(alloc, op, &pre, &del, &add)
+    schema_of(alloc, op, 4, &pre, &del, &add)
 }
 
 /// Pushing a box to a door.
@@ -91,24 +108,20 @@ fn push_to_door(alloc: Global, op: u32) -> Result<Schema, NoMemory> {
     ];
     let del = [atom(NEXTTO, &[B, Term::Any])];
     let add = [atom(NEXTTO, &[B, D])];
-    schema_of(alloc, op, &pre, &del, &add)
+    schema_of(alloc, op, 4, &pre, &del, &add)
 }
 
 pub fn building(alloc: Global) -> Result<Problem, NoMemory> {
-    let mut arities = Vec::new(alloc);
-    arities.extend_from_slice(&[2, 3, 1, 1, 1, 1, 2])?;
     let mut schemas = Vec::new(alloc);
     schemas.push(push_through(alloc, 0)?)?;
     schemas.push(push_to_door(alloc, 1)?)?;
-    Ok(Problem {
-        objects: 200,
-        arities: Sequence::from_vec(arities),
-        axioms: ClauseArena::new(alloc),
-        schemas: Sequence::from_vec(schemas),
-        height: 4,
-        nodes: 10000,
-        shapes: 10000,
-    })
+    problem_of(
+        alloc,
+        200,
+        &[2, 3, 1, 1, 1, 1, 2],
+        ClauseArena::new(alloc),
+        schemas,
+    )
 }
 
 pub fn insert(model: &mut Model, pred: u32, numbers: &[u32]) -> Result<(), NoMemory> {

@@ -2,7 +2,7 @@
 //! from one room to the next, and has a key; the last door has two. A learned table has the robot go through twelve doors.
 ghost use Rattle.std.specs.Prelude.{◌≤◌, length};
 
-use crate::building::{atom, insert, sequence_of};
+use crate::building::{atom, insert, problem_of, schema_of};
 use px_base::Sequence;
 use px_ops::Model;
 use px_proof::{Leaf, Proof};
@@ -43,29 +43,19 @@ fn pass(alloc: Global) -> Result<Schema, NoMemory> {
         atom(CONNECTS, &[door, from, to]),
         atom(KEY, &[key, door]),
     ];
-    Ok(Schema {
-        op: 0,
-        params: 4,
-        pre: sequence_of(alloc, &pre)?,
-        del: sequence_of(alloc, &[robot_in(Term::Any)])?,
-        add: sequence_of(alloc, &[robot_in(to)])?,
-    })
+    schema_of(alloc, 0, 4, &pre, &[robot_in(Term::Any)], &[robot_in(to)])
 }
 
 pub fn corridor(alloc: Global) -> Result<Problem, NoMemory> {
-    let mut arities = Vec::new(alloc);
-    arities.extend_from_slice(&[2, 3, 2, 1, 2])?;
     let mut schemas = Vec::new(alloc);
     schemas.push(pass(alloc)?)?;
-    Ok(Problem {
-        objects: 200,
-        arities: Sequence::from_vec(arities),
-        axioms: ClauseArena::new(alloc),
-        schemas: Sequence::from_vec(schemas),
-        height: 4,
-        nodes: 10000,
-        shapes: 10000,
-    })
+    problem_of(
+        alloc,
+        200,
+        &[2, 3, 2, 1, 2],
+        ClauseArena::new(alloc),
+        schemas,
+    )
 }
 
 /// 800 facts: 66 each of the rooms, of the doors and of their keys, one more key, the robot's, and 600 of what is seen.
@@ -160,7 +150,7 @@ pub fn long_way(alloc: Global) -> Result<Table, NoMemory> {
     Ok(Table {
         params: 39,
         steps: Sequence::from_vec(steps),
-        goal: sequence_of(alloc, &goal)?,
+        goal: Sequence::from_slice(alloc, &goal)?,
         goal_vars: 0,
         marks: Sequence::from_vec(marks),
         proofs: Sequence::from_vec(rows),

@@ -18,7 +18,9 @@ mod standing;
 
 use building::{atom, building, facts};
 use corridor::{corridor, corridor_facts, in_first_room, long_way};
-use px_diff::{AskErr, are_learned, gaps, relevant_measured};
+use px_diff::relevant_measured;
+use px_entries::are_learned;
+use px_gaps::{AskErr, gaps};
 use px_ops::Model;
 use px_prover::{ProveErr, prove};
 use px_table::Table;

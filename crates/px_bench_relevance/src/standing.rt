@@ -1,7 +1,6 @@
 //! What stands on what. An operator puts one thing on another, a second one does so where the lower thing stands on a third
 //! one, and an axiom says that standing on is transitive.
-use crate::building::{atom, sequence_of};
-use px_base::Sequence;
+use crate::building::{atom, problem_of, schema_of};
 use px_terms::{Atom, ClauseArena, Lit, NoMemory, Problem, Schema, Term, are_plain_below};
 use std::alloc::Global;
 
@@ -45,29 +44,13 @@ fn transitive(alloc: Global) -> Result<ClauseArena, NoMemory> {
 
 /// The operator of that number, which puts one thing on another.
 fn put_on(alloc: Global, op: u32, params: u32, pre: &[Atom]) -> Result<Schema, NoMemory> {
-    Ok(Schema {
-        op,
-        params,
-        pre: sequence_of(alloc, pre)?,
-        del: sequence_of(alloc, &[])?,
-        add: sequence_of(alloc, &[atom(ON, &[X, Y])])?,
-    })
+    schema_of(alloc, op, params, pre, &[], &[atom(ON, &[X, Y])])
 }
 
-/// The problem, over so many things.
+/// Returns the problem of this number of things.
 pub fn standing(alloc: Global, objects: u32) -> Result<Problem, NoMemory> {
-    let mut arities = Vec::new(alloc);
-    arities.extend_from_slice(&[2])?;
     let mut schemas = Vec::new(alloc);
     schemas.push(put_on(alloc, 0, 2, &[])?)?;
     schemas.push(put_on(alloc, 1, 3, &[atom(ON, &[Y, Z])])?)?;
-    Ok(Problem {
-        objects,
-        arities: Sequence::from_vec(arities),
-        axioms: transitive(alloc)?,
-        schemas: Sequence::from_vec(schemas),
-        height: 4,
-        nodes: 10000,
-        shapes: 10000,
-    })
+    problem_of(alloc, objects, &[2], transitive(alloc)?, schemas)
 }

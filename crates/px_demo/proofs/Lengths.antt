@@ -1,12 +1,12 @@
 -- How long the script is at most.
-use Rattle.std.proofs.Common.{◌≡◌, ℕ, ◌+◌, ◌-◌, ◌*◌, ◌<◌, ◌≤◌, zero, suc, List, [], ◌∷◌, ◌++◌, codes, length, map, leb-true, sym, subst, arith, length-append}
+use Rattle.std.proofs.Common.{◌≡◌, ℕ, ◌+◌, ◌-◌, ◌*◌, ◌≤◌, zero, suc, List, [], ◌∷◌, ◌++◌, codes, length, map, leb-true, sym, subst, arith, length-append}
 use Rattle.std.specs.Prelude.{nat_le, nat_lt}
 use Rattle.std.specs.Fmt.{decimal}
 use Rattle.std.specs.List.{flat_map, range_with_len}
 use Rattle.std.proofs.lemmas.Bool.{cond_both}
 use Rattle.std.proofs.lemmas.Fmt.{length-decimal-le}
 use Rattle.px_demo.specs.Errands.{distance, number_after, room_after, target, turned_back}
-use Rattle.px_demo.specs.Script.{Line, building_lines, demo_script, door_line, errand_lines, errands, learn_line, line_text, plan_line, room_line, run_line, text_of, things_lines}
+use Rattle.px_demo.specs.Script.{Line, building_lines, demo_script, door_line, errand_lines, errands, learn_line, line_text, plan_line, room_line, run_line, text_of}
 use Rattle.px_demo.proofs.Texts.{doors-text, rooms-text, text-append, things-text, start-text, building-text}
 
 -- ---- where the robot is sent is a room
@@ -16,7 +16,8 @@ IsLow n = n ≤ 12
 
 low-back : (rooms here far : ℕ) → rooms ≤ 12 → here ≤ 12 → IsLow (turned_back rooms here far)
 low-back rooms here far few low = cond_both (nat_lt far here) _ _ IsLow (λ is. omega (arith, low))
-    (λ is. cond_both (nat_le (here + 1) rooms) _ _ IsLow (λ on. let below = leb-true (here + 1) rooms on in omega (arith, below, few)) (λ off. omega (arith, low)))
+    (λ is. cond_both (nat_le (here + 1) rooms) _ _ IsLow (λ on. let below = leb-true (here + 1) rooms on in omega (arith, below, few))
+    (λ off. omega (arith, low)))
 
 low-target : (rooms here far : ℕ) → rooms ≤ 12 → here ≤ 12 → IsLow (target rooms here far)
 low-target rooms here far few low = cond_both (nat_le (here + far) rooms) _ _ IsLow
@@ -66,26 +67,6 @@ door-short i below =
     let size = line-short (door_line i) in
     omega (arith, digits, more, size)
 
-plan-short : (j room : ℕ) → j ≤ 13 → room ≤ 13 → length (line_text (plan_line j room)) ≤ 50
-plan-short j room below there =
-    let digits = two-digits j below in
-    let more = two-digits room there in
-    let size = line-short (plan_line j room) in
-    let ends = length-append (decimal room) (codes ")") in
-    omega (arith, digits, more, size, ends)
-
-learn-short : (j : ℕ) → j ≤ 13 → length (line_text (learn_line j)) ≤ 50
-learn-short j below =
-    let digits = two-digits j below in
-    let size = line-short (learn_line j) in
-    omega (arith, digits, size)
-
-run-short : (j : ℕ) → j ≤ 13 → length (line_text (run_line j)) ≤ 50
-run-short j below =
-    let digits = two-digits j below in
-    let size = line-short (run_line j) in
-    omega (arith, digits, size)
-
 -- ---- lists of lines
 
 lines-short : (f : ℕ → Line) → ((i : ℕ) → i ≤ 12 → length (line_text (f i)) ≤ 50) → (first count : ℕ) → first + count ≤ 13
@@ -99,13 +80,16 @@ lines-short f each first (suc count) within =
 
 errand-short : (j room : ℕ) → j ≤ 12 → room ≤ 12 → length (text_of (errand_lines j room)) ≤ 150
 errand-short j room below there =
-    let plan = plan-short j room (omega (arith, below)) (omega (arith, there)) in
-    let learn = learn-short j (omega (arith, below)) in
-    let run = run-short j (omega (arith, below)) in
+    let digits = two-digits j (omega (arith, below)) in
+    let more = two-digits room (omega (arith, there)) in
+    let closed = length-append (decimal room) (codes ")") in
+    let plan = line-short (plan_line j room) in
+    let learn = line-short (learn_line j) in
+    let run = line-short (run_line j) in
     let first = length-append (line_text (plan_line j room)) (text_of (learn_line j ∷ run_line j ∷ [])) in
     let second = length-append (line_text (learn_line j)) (text_of (run_line j ∷ [])) in
     let third = length-append (line_text (run_line j)) [] in
-    omega (arith, plan, learn, run, first, second, third)
+    omega (arith, digits, more, closed, plan, learn, run, first, second, third)
 
 errands-short : (rooms seed first count : ℕ) → rooms ≤ 12 → first + count ≤ 13
     → length (text_of (flat_map (λ (j : ℕ). errand_lines j (room_after rooms seed j)) (range_with_len first count))) ≤ count * 150

@@ -7,7 +7,8 @@ number-step seed i number is =
     let e : i + 1 ≡ suc i = omega arith in
     ap next_number is ∙ sym (ap (number_after seed) e)
 
-pub room-step : (rooms seed i : ℕ) (number here far : ℕ) → number ≡ number_after seed (i + 1) → here ≡ room_after rooms seed i → far ≡ distance number
+pub room-step : (rooms seed i : ℕ) (number here far : ℕ) → number ≡ number_after seed (i + 1) → here ≡ room_after rooms seed i
+    → far ≡ distance number
     → target rooms here far ≡ room_after rooms seed (i + 1)
 room-step rooms seed i number here far number_is here_is far_is =
     let e : i + 1 ≡ suc i = omega arith in

@@ -31,7 +31,8 @@ first-line f i n within =
 
 -- the lines of the first of numbers in a row
 pub first-lines : (g : ℕ → List Line) (i n : ℕ) → i < n
-    → text_of (flat_map g (range_with_len (i + 1) (n - i))) ≡ text_of (g (i + 1)) ++ text_of (flat_map g (range_with_len (i + 1 + 1) (n - (i + 1))))
+    → text_of (flat_map g (range_with_len (i + 1) (n - i))) ≡ text_of (g (i + 1))
+    ++ text_of (flat_map g (range_with_len (i + 1 + 1) (n - (i + 1))))
 first-lines g i n within =
     let e : n - i ≡ suc (n - (i + 1)) = omega arith in
     ap (λ (k : ℕ). text_of (flat_map g (range_with_len (i + 1) k))) e
@@ -51,12 +52,15 @@ start-text = text_of ((codes "building" ∷ []) ∷ [])
 
 pub building-text : (rooms : ℕ) → text_of (building_lines rooms) ≡ start-text ++ (rooms-text rooms ++ (doors-text rooms ++ things-text))
 building-text rooms =
-    text-append ((codes "building" ∷ []) ∷ []) (map room_line (range_with_len 1 rooms) ++ (map door_line (range_with_len 1 (rooms - 1)) ++ things_lines))
-    ∙ ap (λ (t : List ℕ). start-text ++ t) (text-append (map room_line (range_with_len 1 rooms)) (map door_line (range_with_len 1 (rooms - 1)) ++ things_lines)
+    text-append ((codes "building" ∷ []) ∷ [])
+    (map room_line (range_with_len 1 rooms) ++ (map door_line (range_with_len 1 (rooms - 1)) ++ things_lines))
+    ∙ ap (λ (t : List ℕ). start-text ++ t)
+    (text-append (map room_line (range_with_len 1 rooms)) (map door_line (range_with_len 1 (rooms - 1)) ++ things_lines)
     ∙ ap (λ (t : List ℕ). rooms-text rooms ++ t) (text-append (map door_line (range_with_len 1 (rooms - 1))) things_lines))
 
 -- the building's text, part after part
-pub building-grows : (rooms : ℕ) (old t1 t2 t3 t4 : List ℕ) → t1 ≡ old ++ start-text → t2 ≡ t1 ++ rooms-text rooms → t3 ≡ t2 ++ doors-text rooms
+pub building-grows : (rooms : ℕ) (old t1 t2 t3 t4 : List ℕ) → t1 ≡ old ++ start-text → t2 ≡ t1 ++ rooms-text rooms
+    → t3 ≡ t2 ++ doors-text rooms
     → t4 ≡ t3 ++ things-text → t4 ≡ old ++ text_of (building_lines rooms)
 building-grows rooms old t1 t2 t3 t4 p1 p2 p3 p4 =
     joined old t1 t4 (start-text) (rooms-text rooms ++ (doors-text rooms ++ things-text)) p1
@@ -64,13 +68,17 @@ building-grows rooms old t1 t2 t3 t4 p1 p2 p3 p4 =
     ∙ ap (λ (t : List ℕ). old ++ t) (sym (building-text rooms))
 
 -- three lines, one after the other
-pub three-grow : (a b c : Line) (old t1 t2 t3 : List ℕ) → t1 ≡ old ++ text_of (a ∷ []) → t2 ≡ t1 ++ text_of (b ∷ []) → t3 ≡ t2 ++ text_of (c ∷ [])
+pub three-grow : (a b c : Line) (old t1 t2 t3 : List ℕ) → t1 ≡ old ++ text_of (a ∷ []) → t2 ≡ t1 ++ text_of (b ∷ [])
+    → t3 ≡ t2 ++ text_of (c ∷ [])
     → t3 ≡ old ++ text_of (a ∷ b ∷ c ∷ [])
 three-grow a b c old t1 t2 t3 p1 p2 p3 =
-    joined old t1 t3 (text_of (a ∷ [])) (text_of (b ∷ []) ++ text_of (c ∷ [])) p1 (joined t1 t2 t3 (text_of (b ∷ [])) (text_of (c ∷ [])) p2 p3)
-    ∙ ap (λ (t : List ℕ). old ++ t) (sym (text-append (a ∷ []) (b ∷ c ∷ []) ∙ ap (λ (t : List ℕ). text_of (a ∷ []) ++ t) (text-append (b ∷ []) (c ∷ []))))
+    joined old t1 t3 (text_of (a ∷ [])) (text_of (b ∷ []) ++ text_of (c ∷ [])) p1
+    (joined t1 t2 t3 (text_of (b ∷ [])) (text_of (c ∷ [])) p2 p3)
+    ∙ ap (λ (t : List ℕ). old ++ t)
+    (sym (text-append (a ∷ []) (b ∷ c ∷ []) ∙ ap (λ (t : List ℕ). text_of (a ∷ []) ++ t) (text-append (b ∷ []) (c ∷ []))))
 
-pub script_text : (rooms seed : ℕ) (one text : List ℕ) → one ≡ text_of (building_lines rooms) → text ≡ one ++ text_of (errands rooms seed) → text ≡ demo_script rooms seed
+pub script_text : (rooms seed : ℕ) (one text : List ℕ) → one ≡ text_of (building_lines rooms) → text ≡ one ++ text_of (errands rooms seed)
+    → text ≡ demo_script rooms seed
 script_text rooms seed one text building grown =
     grown ∙ ap (λ (t : List ℕ). t ++ text_of (errands rooms seed)) building ∙ sym (text-append (building_lines rooms) (errands rooms seed))
 
@@ -83,5 +91,7 @@ end-in-line one between other closing feed =
     ∙ ap (λ (t : List ℕ). between ++ t) (ap (λ (t : List ℕ). t ++ feed) (append-nil (other ++ closing)) ∙ append_assoc other closing feed))
 
 -- the line that asks for a plan, without its brackets
-pub plan-text : (j room : ℕ) → text_of (plan_line j room ∷ []) ≡ codes "plan G" ++ (decimal j ++ (codes " INROOM(ROBOT,R" ++ (decimal room ++ codes ")\n")))
-plan-text j room = ap (λ (t : List ℕ). codes "plan G" ++ t) (end-in-line (decimal j) (codes " INROOM(ROBOT,R") (decimal room) (codes ")") (codes "\n"))
+pub plan-text : (j room : ℕ) → text_of (plan_line j room ∷ []) ≡ codes "plan G"
+    ++ (decimal j ++ (codes " INROOM(ROBOT,R" ++ (decimal room ++ codes ")\n")))
+plan-text j room = ap (λ (t : List ℕ). codes "plan G" ++ t)
+    (end-in-line (decimal j) (codes " INROOM(ROBOT,R") (decimal room) (codes ")") (codes "\n"))

@@ -4,7 +4,7 @@ use Rattle.std.specs.Prelude.{◌+◌, ◌-◌, ◌*◌, ◌/◌, ◌%◌, ℕ, 
 abbrev pub next_number : ℕ → ℕ
 next_number s = (s * 1103515245 + 12345) % 2147483648
 
--- the number after so many steps from the seed
+-- the number of an errand: each follows from the one before, and the first from the seed
 abbrev pub number_after : ℕ → ℕ → ℕ
 number_after seed zero = seed
 number_after seed (suc errand) = next_number (number_after seed errand)
@@ -13,17 +13,17 @@ number_after seed (suc errand) = next_number (number_after seed errand)
 abbrev pub distance : ℕ → ℕ
 distance s = 1 + ((s / 65536) % 2)
 
--- where there is no way so far on from room `here`: so far back, else one on, else one back
+-- where there is no room `far` rooms on from `here`: `far` rooms back, else one on, else one back
 abbrev pub turned_back : ℕ → ℕ → ℕ → ℕ
 turned_back rooms here far =
     if nat_lt far here then here - far else (if nat_le (here + 1) rooms then here + 1 else here - 1)
 
--- from room `here` of so many: so far on where there is a room, else turned back
+-- from room `here`: `far` rooms on where there is such a room, else turned back
 abbrev pub target : ℕ → ℕ → ℕ → ℕ
 target rooms here far =
     if nat_le (here + far) rooms then here + far else turned_back rooms here far
 
--- the room where the robot is after so many errands: at first it is in room 1, and each errand's number tells how far it goes
+-- the room where the robot is after an errand: at first it is in room 1, and each errand's number tells how far it goes
 abbrev pub room_after : ℕ → ℕ → ℕ → ℕ
 room_after rooms seed zero = 1
 room_after rooms seed (suc errand) = target rooms (room_after rooms seed errand) (distance (number_after seed (suc errand)))

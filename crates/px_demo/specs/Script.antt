@@ -29,7 +29,7 @@ door_line i = codes "door" ∷ (codes "D" ++ decimal i) ∷ (codes "R" ++ decima
 abbrev pub things_lines : List Line
 things_lines = (codes "box" ∷ codes "B1" ∷ codes "R2" ∷ []) ∷ (codes "robot" ∷ codes "R1" ∷ []) ∷ (codes "end" ∷ []) ∷ []
 
--- so many rooms in a row, a door between each two neighbours, and the things
+-- the rooms in a row, a door between each two neighbours, and the things
 abbrev pub building_lines : ℕ → List Line
 building_lines rooms =
     (codes "building" ∷ []) ∷ (map room_line (range_with_len 1 rooms) ++ (map door_line (range_with_len 1 (rooms - 1)) ++ things_lines))

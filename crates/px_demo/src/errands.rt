@@ -2,7 +2,7 @@
 ghost use Rattle.std.specs.Prelude.{◌≡◌, ◌≤◌, ◌<◌};
 ghost use Rattle.px_demo.specs.Errands.{distance, next_number, target};
 
-/// The number that follows.
+/// Returns the number that follows.
 pub(crate) fn next_number(number: u64) -> u64
     requires { number < 2147483648 }
     ensures next { result ≡ next_number number }
@@ -11,7 +11,7 @@ pub(crate) fn next_number(number: u64) -> u64
     (number * 1_103_515_245 + 12_345) % 2_147_483_648
 }
 
-/// One room or two.
+/// Returns how many rooms an errand goes on: one or two.
 pub(crate) fn distance(number: u64) -> u32
     ensures distance { result ≡ distance number }
     ensures near { (1 ≤ result) × (result ≤ 2) }
@@ -19,7 +19,7 @@ pub(crate) fn distance(number: u64) -> u32
     if number / 65_536 % 2 == 0 { 1 } else { 2 }
 }
 
-/// The room that is so far on from room `here`; where there is none, so far back, else one on, else one back.
+/// Returns the room that is `far` rooms on from `here`. Where there is no such room, it is `far` rooms back, else one on, else one back.
 pub(crate) fn target(rooms: u32, here: u32, far: u32) -> u32
     requires rooms { (2 ≤ rooms) × (rooms ≤ 12) }
     requires here { (1 ≤ here) × (here ≤ rooms) }

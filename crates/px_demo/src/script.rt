@@ -8,10 +8,10 @@ use px_base::NoMemory;
 use std::alloc::{AllocError, Global};
 use std::fmt::Write;
 
-/// The script of the demo with so many rooms, for a seed.
+/// Returns the script of the demo with this number of rooms, for a seed.
 ///
 /// # Errors
-/// `NoMemory` where there is none for the text.
+/// `NoMemory` where there is no memory for the text.
 #[tactic(auto, using(crate::proofs::Texts::script_text))]
 pub fn demo_script(alloc: Global, rooms: u32, seed: u32) -> Result<Vec<u8>, NoMemory>
     requires rooms { (3 ≤ rooms) × (rooms ≤ 12) }
@@ -50,7 +50,7 @@ fn push_things(text: &mut String) -> Result<(), AllocError>
     text.push_str("box B1 R2\nrobot R1\nend\n")
 }
 
-/// Appends the lines of so many rooms.
+/// Appends the lines of the first `count` rooms.
 fn push_rooms(text: &mut String, count: u32) -> Result<(), AllocError>
     requires { count ≤ 12 }
     ensures { OnOk result (string_bytes text.new ≡ string_bytes text.old ++ text_of (map room_line (range_with_len 1 count))) }
@@ -68,7 +68,7 @@ fn push_room(text: &mut String, room: u32) -> Result<(), AllocError>
     write!(text, "room R{room}\n")
 }
 
-/// Appends the lines of so many doors.
+/// Appends the lines of the first `count` doors.
 fn push_doors(text: &mut String, count: u32) -> Result<(), AllocError>
     requires { count ≤ 12 }
     ensures { OnOk result (string_bytes text.new ≡ string_bytes text.old ++ text_of (map door_line (range_with_len 1 count))) }

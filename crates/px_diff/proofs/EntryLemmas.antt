@@ -1,7 +1,6 @@
 -- Gathering the entries that may be pushed, part by part.
 use Rattle.std.proofs.Common.{◌≡◌, ◌∙◌, ◌⊎◌, ℕ, Some, List, [], ◌∷◌, ◌++◌, take, slice_get, ap, sym, subst, inl, inr}
-use Rattle.std.specs.Prelude.{unwrap_or}
-use Rattle.px_base.specs.ListLaws.{All-at, All-each}
+use Rattle.std.specs.Prelude.{◌↔◌, Contains}
 use Rattle.px_proof.specs.declared.shape.Tick.{Tick}
 use Rattle.px_terms.specs.declared.atom.Atom.{Atom}
 use Rattle.px_terms.specs.declared.problem.Problem.{Problem}
@@ -10,13 +9,14 @@ use Rattle.px_table.specs.declared.entry.Entry.TheVariants.{Macro}
 use Rattle.px_table.specs.declared.table.Table.{Table}
 use Rattle.px_table.specs.Kernels.{steps_under}
 use Rattle.px_table.specs.Prefixes.{IsMacro}
-use Rattle.px_diff.specs.Entries.{HasAnswer, HasGap, IsApplicable, IsEntry, IsOpen, Obligation, effect_of, obligations_of, row_needs, table_at}
-use Rattle.px_diff.proofs.RowTurns.{in_turn, row_obligations}
-use Rattle.px_diff.specs.Known.{LimitsNeeds}
+use Rattle.px_entries.specs.Entries.{IsEntry, effect_of, obligations_of, row_needs}
+use Rattle.px_gaps.specs.Needs.{IsOpen}
+use Rattle.px_entries.proofs.RowTurns.{in_turn, row_obligations, table_is}
+use Rattle.px_gaps.specs.Known.{LimitsNeeds}
 use Rattle.px_diff.specs.Macros.{GathersEntries}
-use Rattle.px_diff.specs.Pushes.{IsPushable, IsRelevant}
-use Rattle.px_diff.specs.Questions.{AreUnlimited, LimitsRelevant}
-use Rattle.px_diff.proofs.Loops.{Contains-pushed}
+use Rattle.px_diff.specs.Pushes.{IsPushable, IsRelevant, LimitsRelevant}
+use Rattle.px_gaps.specs.Questions.{AreUnlimited}
+use Rattle.px_base.proofs.Loops.{Contains-pushed}
 
 module _ (problem : Problem) (tables : List Table) (wanted : List Atom) (stack : List Entry) (model : List Atom) where
   abbrev pub Gathering : (Entry → Type 0) → List Entry → List Entry → Type 0
@@ -29,6 +29,24 @@ module _ (problem : Problem) (tables : List Table) (wanted : List Atom) (stack :
   pub entries_relevant : (V W : Entry → Type 0) (old new : List Entry) → ((entry : Entry) → IsRelevant problem tables wanted stack entry → W entry → V entry) → Gathering V old new → Gathering W old new
   entries_relevant V W old new f g = record { kept = g.kept; only = g.only; all = λ entry w p. g.all entry (f entry p.relevant w) p; unlimited = λ entry w r. g.unlimited entry (f entry r w) r }
 
+  -- the same entries in another order
+  pub entries_reordered : (V : Entry → Type 0) (old made new : List Entry) → ((entry : Entry) → Contains new entry ↔ Contains made entry) → Gathering V old made → Gathering V old new
+  entries_reordered V old made new members g = record {
+    kept = λ entry there. (members entry).1 (g.kept entry there);
+    only = λ entry there. g.only entry ((members entry).0 there);
+    all = λ entry v p. (members entry).1 (g.all entry v p);
+    unlimited = g.unlimited;
+  }
+
+  -- what was there before in another order
+  pub entries_since : (V : Entry → Type 0) (old made new : List Entry) → ((entry : Entry) → Contains made entry ↔ Contains old entry) → Gathering V made new → Gathering V old new
+  entries_since V old made new members g = record {
+    kept = λ entry there. g.kept entry ((members entry).1 there);
+    only = λ entry there. elim (g.only entry there) [ inl before ↦ inl ((members entry).0 before) | inr p ↦ inr p ];
+    all = g.all;
+    unlimited = g.unlimited;
+  }
+
   -- one more part
   pub entries_part : (V U W : Entry → Type 0) (old made new : List Entry) → ((entry : Entry) → W entry → V entry ⊎ U entry) → Gathering V old made → Gathering U made new → Gathering W old new
   entries_part V U W old made new f g h = record {
@@ -39,7 +57,7 @@ module _ (problem : Problem) (tables : List Table) (wanted : List Atom) (stack :
   }
 
   -- a part that has nothing relevant
-  pub entries_none : (W : Entry → Type 0) (found : List Entry) → ((entry : Entry) → IsRelevant problem tables wanted stack entry → W entry → ⊥) → Gathering W found found
+  pub entries_none : (W : Entry → Type 0) (found : List Entry) → ((entry : Entry) → IsRelevant problem tables wanted stack entry → ¬ W entry) → Gathering W found found
   entries_none W found never = record {
     kept = λ entry there. there;
     only = λ entry there. inl there;
@@ -61,7 +79,7 @@ module _ (problem : Problem) (tables : List Table) (wanted : List Atom) (stack :
   })
 
   -- and one that isn't open
-  pub entries_closed : (one : Entry) (found : List Entry) → (IsOpen problem (obligations_of problem tables model one) → ⊥) → AreUnlimited problem (obligations_of problem tables model one) → Gathering (λ other. one ≡ other) found found
+  pub entries_closed : (one : Entry) (found : List Entry) → (¬ IsOpen problem (obligations_of problem tables model one)) → AreUnlimited problem (obligations_of problem tables model one) → Gathering (λ other. one ≡ other) found found
   entries_closed one found closed unlimited = record {
     kept = λ entry there. there;
     only = λ entry there. inl there;
@@ -69,19 +87,12 @@ module _ (problem : Problem) (tables : List Table) (wanted : List Atom) (stack :
     unlimited = λ entry same r. subst (λ (e : Entry). AreUnlimited problem (obligations_of problem tables model e)) same unlimited;
   }
 
--- what can be applied is open
-pub open_applicable : (problem : Problem) (needs : List Obligation) → IsApplicable problem needs → IsOpen problem needs
-open_applicable problem needs applicable = All-each (λ (needed : Obligation). HasAnswer problem needed ⊎ ((gap : Atom) × HasGap problem needed gap)) needs (λ needed has. inl (All-at (HasAnswer problem) needs needed applicable has))
-
 -- what meets the limit for what an entry needs does so for the request
 pub limits_entry : (problem : Problem) (tables : List Table) (wanted : List Atom) (stack : List Entry) (model : List Atom) (entry : Entry) (formula : List Atom) (shapes : List (List Tick)) → IsRelevant problem tables wanted stack entry
     → LimitsNeeds problem (obligations_of problem tables model entry) formula shapes → LimitsRelevant problem tables wanted stack model formula shapes
 limits_entry problem tables wanted stack model entry formula shapes relevant limits = record { entry = entry; relevant = relevant; question = limits.question; asked = limits.asked; met = limits.met }
 
 -- ---- MACROPs
-
-pub table_is : (tables : List Table) (number : ℕ) (table : Table) → slice_get tables number ≡ Some table → table_at tables number ≡ table
-table_is tables number table at = ap (λ o. unwrap_or o (record { params = 0; steps = []; goal = []; goal_vars = 0; marks = []; proofs = [] })) at
 
 module _ (problem : Problem) (tables : List Table) (number prefix : ℕ) (table : Table) (at : slice_get tables number ≡ Some table) (sigma : List ℕ) where
   pub effect_is : effect_of tables (Macro number prefix sigma) ≡ take prefix (steps_under table sigma)

@@ -6,6 +6,7 @@ use Rattle.std.proofs.lemmas.List.Elements.{Contains-append_cases}
 use Rattle.std.specs.declared.cmp.Ordering.TheVariants.{Less}
 use Rattle.std.specs.List.Sorted.{IsPermutation}
 use Rattle.std.proofs.lemmas.List.Sorted.{Contains-permutation, IsPermutation-sym}
+use Rattle.px_base.specs.Answers.{both_answers}
 use Rattle.px_base.specs.ListLaws.{All-at, All-each, Contains-none}
 use Rattle.px_proof.specs.PlaceLaws.{Contains-mapped}
 use Rattle.px_table.specs.EntryOrder.{order_of}
@@ -19,22 +20,20 @@ use Rattle.px_terms.specs.Order.{instance_cmp}
 use Rattle.px_terms.specs.declared.atom.Atom.{Atom}
 use Rattle.px_terms.specs.declared.instance.OpInst.{OpInst}
 use Rattle.px_terms.specs.declared.problem.Problem.{Problem}
-use Rattle.px_diff.specs.Closings.{OneOf}
-use Rattle.px_diff.specs.Firsts.{AreFirst, BringsFirst, ComeBefore, IsBeforeFront, IsOfTableFrom}
+use Rattle.px_gaps.specs.Closings.{OneOf}
+use Rattle.px_diff.specs.Firsts.{AreEnough, AreFirst, BringsFirst, ComeBefore, IsBeforeFront, IsOfTableFrom}
 use Rattle.px_diff.specs.Gathering.{Gathers}
-use Rattle.px_diff.specs.Instances.{Covers, IsCovered, IsPartialInstance, StandsFor}
+use Rattle.px_entries.specs.Instances.{Covers, IsCovered, IsPartialInstance, StandsFor}
 use Rattle.px_diff.specs.Macros.{GathersEntries, IsMacroEntry, IsOperatorEntry}
-use Rattle.px_diff.specs.Models.{IsNeverLimited}
-use Rattle.px_diff.specs.Pushes.{IsPushable}
-use Rattle.px_diff.specs.Questions.{LimitsRelevant}
+use Rattle.px_entries.specs.Unlimited.{IsNeverLimited}
+use Rattle.px_diff.specs.Pushes.{IsPushable, LimitsRelevant}
 use Rattle.px_diff.specs.declared.request.Request.{Request}
-use Rattle.px_diff.specs.declared.partial.PartialInstance.{PartialInstance}
-use Rattle.px_diff.proofs.Covering.{Contains-from_mapped}
-use Rattle.px_diff.proofs.EntryLemmas.{entries_none}
-use Rattle.px_diff.proofs.FirstOrder.{before_front-order}
+use Rattle.px_entries.specs.declared.partial.PartialInstance.{PartialInstance}
+use Rattle.px_diff.proofs.FirstOrder.{before_front-order, enough-entries}
 use Rattle.px_diff.proofs.GatherLemmas.{IsEarlier, IsShorter}
-use Rattle.px_diff.proofs.Grows.{one_none}
+use Rattle.px_gaps.proofs.Grows.{one_none}
 use Rattle.px_diff.proofs.WholeLemmas.{either, operator_adds, operators_gather, whole-exact}
+use Rattle.px_table.specs.KernelLaws.{Contains-from_map}
 
 part-of : {X : Type 0} (n : ℕ) (xs : List X) (x : X) → Contains xs x → Contains (take n xs) x ⊎ Contains (drop n xs) x
 part-of n xs x has = Contains-append_cases (take n xs) (drop n xs) x (subst (λ l. Contains l x) (sym (take-append-drop n xs)) has)
@@ -44,6 +43,10 @@ match-yes P Q b is h = subst (λ (x : Bool). MatchBool x P Q) is h
 
 pub match-no : (P Q : Type 0) (b : Bool) → b ≡ false → MatchBool b P Q → Q
 match-no P Q b is h = subst (λ (x : Bool). MatchBool x P Q) is h
+
+pub not-all : (b : Bool) → not b ≡ true → b ≡ false
+not-all true is = absurd (cc)
+not-all false is = refl
 
 below-or-from : (m n : ℕ) → (m < n) ⊎ (n ≤ m)
 below-or-from m n = grind arith
@@ -57,7 +60,7 @@ covers-permuted problem W made new permuted c = record {
   all = λ full is w. let one = c.all full is w in (one.0, Contains-permutation made new one.0 permuted one.1, one.2);
 }
 
-module _ (problem : Problem) (tables : List Table) (wanted : List Atom) (stack : List Entry) (model : List Atom) where
+module _ (problem : Problem) (tables : List Table) (wanted : List Atom) (stack : List Entry) (model : List Atom) (enough : ℕ) where
   abbrev Pushable : Entry → Type 0
   Pushable = IsPushable problem tables wanted stack model
 
@@ -65,32 +68,24 @@ module _ (problem : Problem) (tables : List Table) (wanted : List Atom) (stack :
   GathersInsts = Gathers problem tables wanted stack model
 
   abbrev BringsInsts : (OpInst → Type 0) → List OpInst → List OpInst → Type 0
-  BringsInsts = BringsFirst instance_cmp (λ inst. Pushable (Op inst))
+  BringsInsts = BringsFirst instance_cmp (λ inst. Pushable (Op inst)) enough
 
   abbrev Brings : (Entry → Type 0) → List Entry → List Entry → Type 0
-  Brings = BringsFirst order_of Pushable
+  Brings = BringsFirst order_of Pushable enough
 
   -- ---- instances of operators
 
-  -- the same instances in another order
-  pub gathers-members : (V : OpInst → Type 0) (old made new : List OpInst) → ((inst : OpInst) → Contains new inst ↔ Contains made inst) → GathersInsts V old made → GathersInsts V old new
-  gathers-members V old made new members g = record {
-    kept = λ inst there. (members inst).1 (g.kept inst there);
-    only = λ inst there. g.only inst ((members inst).0 there);
-    all = λ inst v p. (members inst).1 (g.all inst v p);
-    unlimited = g.unlimited;
-  }
-
   -- those of the first matches are gathered, and those of the others come after them
   pub left-off : (matches : List PartialInstance) (place : ℕ) (old new : List OpInst) → GathersInsts (IsCovered problem (take place matches)) old new → ((full : OpInst) → IsCovered problem (drop place matches) full → ComeBefore new full)
-      → BringsInsts (IsCovered problem matches) old new
-  left-off matches place old new g after = record {
+      → AreEnough instance_cmp enough new → BringsInsts (IsCovered problem matches) old new
+  left-off matches place old new g after are_enough = record {
     kept = g.kept;
     only = g.only;
     others = λ inst (partial, has, stands) p. elim (part-of place matches partial has) [
       | inl before ↦ inl (g.all inst (partial, before, stands) p)
       | inr later ↦ inr (after inst (partial, later, stands))
     ];
+    are_enough = are_enough;
   }
 
   pub operators-brought : (matches : List PartialInstance) (found : List OpInst) → Covers problem (λ full. OneOf wanted (Contains (adds problem full))) [] matches → BringsInsts (IsCovered problem matches) [] found
@@ -98,9 +93,10 @@ module _ (problem : Problem) (tables : List Table) (wanted : List Atom) (stack :
   operators-brought matches found covers b = record {
     kept = λ entry there. absurd (Contains-none entry there);
     only = λ entry there.
-        let from = Contains-from_mapped Op found entry there in
+        let from = Contains-from_map Op found entry there in
         elim (b.only from.0 from.1) [ inl never ↦ absurd (Contains-none from.0 never) | inr p ↦ inr (subst Pushable from.2 p) ];
     others = λ entry u p. others entry p;
+    are_enough = enough-entries enough found b.are_enough;
   }
     where
       Answer : Entry → Type 0
@@ -108,7 +104,7 @@ module _ (problem : Problem) (tables : List Table) (wanted : List Atom) (stack :
 
       after-all : (entry : Entry) → ((inst : OpInst) → Contains found inst → order_of (Op inst) entry ≡ Less) → All (λ earlier. order_of earlier entry ≡ Less) (map Op found)
       after-all entry each = All-each (λ (earlier : Entry). order_of earlier entry ≡ Less) (map Op found) (λ earlier there.
-          let from = Contains-from_mapped Op found earlier there in
+          let from = Contains-from_map Op found earlier there in
           subst (λ (e : Entry). order_of e entry ≡ Less) from.2 (each from.0 from.1))
 
       others : (entry : Entry) → Pushable entry → Answer entry
@@ -131,17 +127,14 @@ module _ (problem : Problem) (tables : List Table) (wanted : List Atom) (stack :
 
   -- ---- first steps
 
-  -- no number of steps is below 0
-  pub shorter-zero : (number : ℕ) (found : List Entry) → GathersEntries problem tables wanted stack model (IsShorter problem tables wanted stack model number 0) found found
-  shorter-zero number found = entries_none problem tables wanted stack model (IsShorter problem tables wanted stack model number 0) found (λ entry relevant (prefix, less, of). omega (arith, less))
-
   after-front : (number count n prefix : ℕ) (sigma : List ℕ) (entry : Entry) (found : List Entry) → Macro n prefix sigma ≡ entry → All (IsBeforeFront number count) found → (number < n) ⊎ ((number ≡ n) × (count ≤ prefix)) → All (λ earlier. order_of earlier entry ≡ Less) found
   after-front number count n prefix sigma entry found same before from = All-each (λ (earlier : Entry). order_of earlier entry ≡ Less) found (λ earlier has.
       subst (λ (e : Entry). order_of earlier e ≡ Less) same (before_front-order number count n prefix sigma earlier (All-at (IsBeforeFront number count) found earlier before has) from))
 
   -- fewer first steps are gathered, and all that is there comes before so many
-  pub fronts-left : (number count : ℕ) (old new : List Entry) → GathersEntries problem tables wanted stack model (IsShorter problem tables wanted stack model number count) old new → All (IsBeforeFront number count) new → Brings (IsOfTableFrom number) old new
-  fronts-left number count old new g before = record {
+  pub fronts-left : (number count : ℕ) (old new : List Entry) → GathersEntries problem tables wanted stack model (IsShorter problem tables wanted stack model number count) old new → All (IsBeforeFront number count) new
+      → AreEnough order_of enough new → Brings (IsOfTableFrom number) old new
+  fronts-left number count old new g before are_enough = record {
     kept = g.kept;
     only = g.only;
     others = λ entry (n, from, (prefix, (sigma, same))) p. elim (below-or-from number n) [
@@ -153,6 +146,7 @@ module _ (problem : Problem) (tables : List Table) (wanted : List Atom) (stack :
             | inr more ↦ inr (after-front number count n prefix sigma entry new same before (inr (level, more)))
           ]
     ];
+    are_enough = are_enough;
   }
 
   -- earlier tables are gathered, and then some of this one
@@ -164,6 +158,7 @@ module _ (problem : Problem) (tables : List Table) (wanted : List Atom) (stack :
       | inl earlier ↦ inl (b.kept entry (g.all entry (n, earlier, of) p))
       | inr from ↦ b.others entry (n, from, of) p
     ];
+    are_enough = b.are_enough;
   }
 
   -- ---- all
@@ -177,13 +172,14 @@ module _ (problem : Problem) (tables : List Table) (wanted : List Atom) (stack :
       | inl operator ↦ inl (b.kept entry (g.all entry operator p))
       | inr steps ↦ b.others entry steps p
     ];
+    are_enough = b.are_enough;
   }
 
 -- where no question about an entry is ever limited, none about a relevant one meets the limit
-pub never-met : (problem : Problem) (tables : List Table) (facts wanted formula : List Atom) (shapes : List (List Tick)) → IsNeverLimited problem tables → IsAtomSet facts → LimitsRelevant problem tables wanted [] facts formula shapes → ⊥
+pub never-met : (problem : Problem) (tables : List Table) (facts wanted formula : List Atom) (shapes : List (List Tick)) → IsNeverLimited problem tables → IsAtomSet facts → ¬ LimitsRelevant problem tables wanted [] facts formula shapes
 never-met problem tables facts wanted formula shapes never is_set l = never facts is_set l.entry l.relevant.is_entry l.question formula shapes l.asked l.met
 
-module _ (request : Request) where
+module _ (request : Request) (enough : ℕ) where
   abbrev IsFor : Entry → Type 0
   IsFor = IsPushable request.problem.now request.tables.now request.wanted.now request.stack.now request.model.now.atoms
 
@@ -191,36 +187,39 @@ module _ (request : Request) where
   GathersFor = GathersEntries request.problem.now request.tables.now request.wanted.now request.stack.now request.model.now.atoms
 
   abbrev BringsFor : (Entry → Type 0) → List Entry → List Entry → Type 0
-  BringsFor = BringsFirst order_of IsFor
+  BringsFor = BringsFirst order_of IsFor enough
 
-  first-brought : (entries : List Entry) → BringsFor (λ entry. Unit {0}) [] entries → AreFirst request false entries
+  first-brought : (entries : List Entry) → BringsFor (λ entry. Unit {0}) [] entries → AreFirst request enough false entries
   first-brought entries b = record {
     sound = λ entry there. elim (b.only entry there) [ inl never ↦ absurd (Contains-none entry never) | inr p ↦ p ];
     all = λ is entry p. absurd (cc);
     others = λ entry p. b.others entry tt p;
+    are_enough = λ part. b.are_enough;
   }
 
   -- some operators
-  pub first-operators : (b : Bool) (entries : List Entry) → not b ≡ true → MatchBool b (GathersFor IsOperatorEntry [] entries) (BringsFor (λ entry. Unit {0}) [] entries) → AreFirst request b entries
+  pub first-operators : (b : Bool) (entries : List Entry) → not b ≡ true → MatchBool b (GathersFor IsOperatorEntry [] entries) (BringsFor (λ entry. Unit {0}) [] entries) → AreFirst request enough b entries
   first-operators true entries is h = absurd (cc)
   first-operators false entries is h = first-brought entries h
 
   -- all operators, and MACROPs
-  pub first-macros : (every b : Bool) (made new : List Entry) → not every ≡ false → MatchBool every (GathersFor IsOperatorEntry [] made) (BringsFor (λ entry. Unit {0}) [] made) → MatchBool b (GathersFor IsMacroEntry made new) (BringsFor IsMacroEntry made new) → AreFirst request b new
+  pub first-macros : (every b : Bool) (made new : List Entry) → not every ≡ false → MatchBool every (GathersFor IsOperatorEntry [] made) (BringsFor (λ entry. Unit {0}) [] made) → MatchBool b (GathersFor IsMacroEntry made new) (BringsFor IsMacroEntry made new) → AreFirst request enough b new
   first-macros false b made new is h k = absurd (cc)
   first-macros true true made new is h k =
       let exact = whole-exact request.problem.now request.tables.now request.wanted.now request.stack.now request.model.now.atoms made new h k in record {
         sound = λ entry there. (exact entry).0 there;
         all = λ yes' entry p. (exact entry).1 p;
         others = λ entry p. inl ((exact entry).1 p);
+        are_enough = λ part. absurd (cc);
       }
-  first-macros true false made new is h k = first-brought new (macros-brought request.problem.now request.tables.now request.wanted.now request.stack.now request.model.now.atoms made new h k)
+  first-macros true false made new is h k = first-brought new (macros-brought request.problem.now request.tables.now request.wanted.now request.stack.now request.model.now.atoms enough made new h k)
 
-  -- the same entries in another order
-  pub first-ordered : (b : Bool) (made new : List Entry) → ((entry : Entry) → Contains new entry ↔ Contains made entry) → AreFirst request b made → AreFirst request b new
-  first-ordered b made new members f = record {
+  -- all of them in another order
+  pub first-ordered : (b : Bool) (made new : List Entry) → b ≡ true → ((entry : Entry) → Contains new entry ↔ Contains made entry) → AreFirst request enough b made → AreFirst request enough b new
+  first-ordered b made new are_all members f = record {
     sound = λ entry there. f.sound entry ((members entry).0 there);
     all = λ is entry p. (members entry).1 (f.all is entry p);
+    are_enough = λ part. both_answers b part are_all;
     others = λ entry p. elim (f.others entry p) [
       | inl there ↦ inl ((members entry).1 there)
       | inr later ↦ inr (All-each (λ (kept : Entry). order_of kept entry ≡ Less) new (λ kept has. All-at (λ (kept : Entry). order_of kept entry ≡ Less) made kept later ((members kept).0 has)))

@@ -1,8 +1,11 @@
 -- The order of instances and of entries, where only the first are gathered.
 use Rattle.std.proofs.Common.{◌≡◌, ◌∙◌, ◌⊎◌, ◌<◌, ◌≤◌, ℕ, zero, suc, true, false, List, [], ◌∷◌, length, map, take, get_or, refl, sym, ap, subst, inl, inr, arith}
 use Rattle.std.specs.Prelude.{All, slice_index_or}
+use Rattle.std.proofs.lemmas.List.Kept.{IsStrictlySortedBy-dedup}
 use Rattle.std.proofs.lemmas.List.Elements.{All-cons, All-head, All-nil, All-tail, All-take}
-use Rattle.std.proofs.lemmas.List.{length-take-le}
+use Rattle.std.proofs.lemmas.List.{length-map, length-take-le}
+use Rattle.std.specs.List.{AllByRecursion, dedup}
+use Rattle.std.specs.List.Sorted.{IsSorted, IsStrictlySortedBy}
 use Rattle.std.specs.Cmp.{alike_right, nat_cmp_is, nat_cmp_total, tied_itself, upto}
 use Rattle.std.specs.Cmp.Lexicographic.{slice_cmp}
 use Rattle.std.specs.Ordering.{is_gt, is_lt, nat_cmp, ordering_reverse, ordering_then}
@@ -11,8 +14,8 @@ use Rattle.std.specs.declared.cmp.Ordering.TheVariants.{Less, Equal, Greater}
 use Rattle.px_base.specs.ListLaws.{All-at, All-each}
 use Rattle.px_terms.specs.contracts.term.TermOrd.TheImpl.Laws as term_order
 use Rattle.px_terms.specs.Language.{substitute}
-use Rattle.px_terms.specs.Order.{instance_cmp, term_cmp}
-use Rattle.px_terms.specs.OrderLaws.{instance_cmp-total}
+use Rattle.px_terms.specs.Order.{instance_cmp, instance_eq, term_cmp}
+use Rattle.px_terms.specs.OrderLaws.{instance_cmp-matches_eq, instance_cmp-total}
 use Rattle.px_terms.specs.Substitution.{substitute_instance}
 use Rattle.px_terms.specs.Validity.{IsTermOf}
 use Rattle.px_terms.specs.declared.instance.OpInst.{OpInst}
@@ -23,10 +26,10 @@ use Rattle.px_question.specs.Answers.{object_terms}
 use Rattle.px_table.specs.EntryOrder.{order_of}
 use Rattle.px_table.specs.declared.entry.Entry.{Entry}
 use Rattle.px_table.specs.declared.entry.Entry.TheVariants.{Macro, Op}
-use Rattle.px_diff.specs.Firsts.{ComeBefore, IsAtMost, IsBeforeFront}
-use Rattle.px_diff.specs.Instances.{IsPartialInstance, StandsFor}
-use Rattle.px_diff.specs.declared.partial.PartialInstance.{PartialInstance}
-use Rattle.px_diff.proofs.PartialLemmas.{object_at}
+use Rattle.px_diff.specs.Firsts.{AreEnough, ComeBefore, IsAtMost, IsBeforeFront}
+use Rattle.px_entries.specs.Instances.{IsPartialInstance, StandsFor}
+use Rattle.px_entries.specs.declared.partial.PartialInstance.{PartialInstance}
+use Rattle.px_entries.proofs.PartialLemmas.{object_at}
 
 -- ---- the least instance
 
@@ -125,6 +128,24 @@ lesser-first a b is = less-not_after (instance_cmp a b) is
 
 pub lesser-second : (a b : OpInst) → is_lt (instance_cmp a b) ≡ false → IsAtMost b a
 lesser-second a b is = ap is_gt (instance_cmp-total.antisymm b a) ∙ turned-not_after (instance_cmp a b) is
+
+-- ---- in order, each once
+
+pub instances-ascend : (sorted new : List OpInst) → IsSorted instance_cmp sorted → new ≡ dedup instance_eq sorted → IsStrictlySortedBy instance_cmp new
+instances-ascend sorted new ascends is = subst (IsStrictlySortedBy instance_cmp) (sym is) (IsStrictlySortedBy-dedup instance_cmp-total instance_cmp-matches_eq sorted ascends)
+
+entries-ascend : (insts : List OpInst) → IsStrictlySortedBy instance_cmp insts → IsStrictlySortedBy order_of (map Op insts)
+unfolding IsStrictlySortedBy
+entries-ascend [] ascend = ascend
+entries-ascend (inst ∷ insts) ascend = (below insts ascend.0, entries-ascend insts ascend.1)
+  where
+    below : (others : List OpInst) → AllByRecursion (λ other. instance_cmp inst other ≡ Less) others → AllByRecursion (λ entry. order_of (Op inst) entry ≡ Less) (map Op others)
+    below [] all = all
+    below (other ∷ others) all = (all.0, below others all.1)
+
+-- the entries of enough instances are enough
+pub enough-entries : (enough : ℕ) (insts : List OpInst) → AreEnough instance_cmp enough insts → AreEnough order_of enough (map Op insts)
+enough-entries enough insts are = record { ordered = entries-ascend insts are.ordered; many = omega (arith, are.many, length-map insts Op) }
 
 -- ---- entries before first steps
 

@@ -10,13 +10,13 @@ use Rattle.px_table.specs.declared.table.Table.{Table}
 use Rattle.px_terms.specs.declared.atom.Atom.{Atom}
 use Rattle.px_terms.specs.declared.problem.Problem.{Problem}
 use Rattle.px_terms.specs.declared.term.Term.{Term}
-use Rattle.px_diff.specs.Bindings.{Extends}
-use Rattle.px_diff.specs.Closings.{OneOf}
+use Rattle.px_gaps.specs.Bindings.{Extends}
+use Rattle.px_gaps.specs.Closings.{OneOf}
 use Rattle.px_diff.specs.Macros.{GathersEntries, IsMacroAmong, IsMacroBy, IsMacroFitting}
-use Rattle.px_diff.specs.Parameters.{Fits}
+use Rattle.px_entries.specs.Parameters.{Fits}
 use Rattle.px_diff.specs.RowQuestions.{FitsEach}
 use Rattle.px_diff.proofs.EntryLemmas.{entries_less, entries_none, entries_part}
-use Rattle.px_diff.proofs.Grows.{one_next}
+use Rattle.px_gaps.proofs.Grows.{one_next}
 
 -- ---- numbers but one
 
@@ -35,7 +35,7 @@ some_found P found one is h = subst (λ (o : Option _). IfSome o P) is h
 pub fits_found : {A : Type 0} (P : A → Type 0) (found : Option A) (one : A) → found ≡ Some one → IsSomeAnd found P → P one
 fits_found P found one is h = subst (λ (o : Option _). IsSomeAnd o P) is h
 
-pub fits_none : {A : Type 0} (P : A → Type 0) (found : Option A) → found ≡ None → IsSomeAnd found P → ⊥
+pub fits_none : {A : Type 0} (P : A → Type 0) (found : Option A) → found ≡ None → ¬ IsSomeAnd found P
 fits_none P found is h = subst (λ (o : Option _). IsSomeAnd o P) is h
 
 -- objects that extend the terms and fit the choice extend both
@@ -44,7 +44,7 @@ Joins limit terms choice both = (sigma : List ℕ) → Extends limit terms sigma
 
 -- none do both
 abbrev pub NeverJoins : ℕ → List Term → List Term → Type 0
-NeverJoins limit terms choice = (sigma : List ℕ) → Extends limit terms sigma → Fits choice sigma → ⊥
+NeverJoins limit terms choice = (sigma : List ℕ) → Extends limit terms sigma → ¬ Fits choice sigma
 
 -- ---- parts
 

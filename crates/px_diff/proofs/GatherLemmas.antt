@@ -21,31 +21,36 @@ use Rattle.px_terms.specs.declared.problem.Problem.{Problem}
 use Rattle.px_terms.specs.declared.term.Term.{Term}
 use Rattle.px_terms.specs.declared.term.Term.TheVariants.{Obj, Var}
 use Rattle.px_terms.specs.Language.{IsObject}
-use Rattle.px_diff.specs.Bindings.{AreUnbound, Extends, first_values}
-use Rattle.px_diff.specs.Closings.{OneOf}
-use Rattle.px_diff.specs.Entries.{IsEntry, IsOpen, obligations_of}
-use Rattle.px_diff.specs.Learned.{AreLearned}
-use Rattle.px_diff.specs.Macros.{GathersEntries, IsFrontOf, IsMacroBefore, IsMacroBy, IsMacroEntry, IsMacroTold, IsOfFront, IsOfTable}
-use Rattle.px_diff.specs.Parameters.{AreFirstTerms, Matches}
+use Rattle.px_gaps.specs.Bindings.{AreUnbound, Extends, first_values}
+use Rattle.px_gaps.specs.Closings.{OneOf}
+use Rattle.px_entries.specs.Entries.{IsEntry, obligations_of}
+use Rattle.px_gaps.specs.Needs.{IsOpen}
+use Rattle.px_entries.specs.Learned.{AreLearned}
+use Rattle.px_diff.specs.Macros.{GathersEntries, IsFront, IsMacroBefore, IsMacroBy, IsMacroEntry, IsMacroTold, IsOfFront, IsOfTable}
+use Rattle.px_entries.specs.Parameters.{AreFirstTerms, Matches}
 use Rattle.px_diff.specs.Pushes.{IsPushable, IsRelevant}
-use Rattle.px_diff.specs.Questions.{AreUnlimited}
+use Rattle.px_gaps.specs.Questions.{AreUnlimited}
 use Rattle.px_diff.specs.RowQuestions.{AreRowsKnown, FitsEach, FitsOne, IsInstanceKnown}
 use Rattle.px_diff.specs.declared.front.Front.{Front}
 use Rattle.px_diff.proofs.EntryLemmas.{entries_less, entries_none, entries_part, entries_relevant, needs_are, relevant_macro}
-use Rattle.px_diff.proofs.Grows.{one_next, one_none}
-use Rattle.px_diff.proofs.Loops.{level_or_below}
+use Rattle.px_gaps.proofs.Grows.{one_next, one_none}
+use Rattle.px_base.proofs.Loops.{level_or_below}
 use Rattle.px_diff.proofs.MacroLemmas.{front-range, macro_before-all, macro_before-next, macro_before-none, of_matches}
-use Rattle.px_diff.proofs.ParameterLemmas.{closed-values, first-extends}
+use Rattle.px_entries.proofs.ParameterLemmas.{closed-values, first-extends}
 use Rattle.px_diff.proofs.PrefixLemmas.{rows-fit, rows-unlimited}
 use Rattle.px_diff.proofs.RowSplitting.{limited_or_known}
+use Rattle.px_proof.specs.PlaceLaws.{slice_get-read}
 
 -- ---- tables and choices
 
 pub learned-table : (problem : Problem) (tables : List Table) (number : ℕ) (table : Table) → AreLearned problem tables → slice_get tables number ≡ Some table → IsTable problem table
 learned-table problem tables number table learned at = All-at (IsTable problem) tables table learned.each (Contains-at tables number table at)
 
-pub front-table : (problem : Problem) (tables : List Table) (front : Front) → AreLearned problem tables → IsFrontOf tables front → IsTable problem front.table.now
-front-table problem tables front learned is = learned-table problem tables front.number front.table.now learned is.table
+pub learned-at : (problem : Problem) (tables : List Table) (number : ℕ) (d : Table) → AreLearned problem tables → number < length tables → IsTable problem (get_or tables number d)
+learned-at problem tables number d learned within = learned-table problem tables number (get_or tables number d) learned (slice_get-read tables number d within)
+
+pub front-table : (front : Front) → IsFront front → IsTable front.request.problem.now front.table.now
+front-table front is = learned-table front.request.problem.now front.request.tables.now front.number front.table.now is.tables is.table
 
 -- ---- parts
 
@@ -91,7 +96,7 @@ module _ (problem : Problem) (tables : List Table) (wanted : List Atom) (stack :
     matched-all matches i old new end gathered = subst (λ (l : List X). Gathered (IsMatched l) old new) (take_all i matches end) gathered
 
   -- an entry that is none, or isn't relevant
-  pub irrelevant-none : (sigma : List ℕ) (found : List Entry) → (IsRelevant problem tables wanted stack (Macro number prefix sigma) → ⊥) → Gathered (λ other. Macro number prefix sigma ≡ other) found found
+  pub irrelevant-none : (sigma : List ℕ) (found : List Entry) → (¬ IsRelevant problem tables wanted stack (Macro number prefix sigma)) → Gathered (λ other. Macro number prefix sigma ≡ other) found found
   irrelevant-none sigma found never = entries_none problem tables wanted stack model (λ other. Macro number prefix sigma ≡ other) found (λ entry relevant same. never (subst (IsRelevant problem tables wanted stack) (sym same) relevant))
 
 -- ---- what is wanted of the first steps
@@ -188,6 +193,10 @@ module _ (problem : Problem) (tables : List Table) (wanted : List Atom) (stack :
   earlier-next number old made new first second =
       entries_part problem tables wanted stack model (IsEarlier number) (IsOfTable number) (IsEarlier (number + 1)) old made new
       (λ entry (table, less, of). elim (level_or_below table number less) [ inl before ↦ inl (table, before, of) | inr level ↦ inr (subst (λ (n : ℕ). IsOfTable n entry) level of) ]) first second
+
+  -- no number of steps is below 0
+  pub shorter-zero : (number : ℕ) (found : List Entry) → GathersEntries problem tables wanted stack model (IsShorter number 0) found found
+  shorter-zero number found = entries_none problem tables wanted stack model (IsShorter number 0) found (λ entry relevant (prefix, less, of). omega (arith, less))
 
   pub shorter-none : (number : ℕ) (table : Table) (found : List Entry) → slice_get tables number ≡ Some table → IsTable problem table → GathersEntries problem tables wanted stack model (IsShorter number 2) found found
   shorter-none number table found at is_table = entries_none problem tables wanted stack model (IsShorter number 2) found (λ entry relevant (prefix, less, of).

@@ -1,21 +1,30 @@
 -- Gathering the instances that may be pushed, part by part.
-use Rattle.std.proofs.Common.{◌≡◌, ◌⊎◌, zero, suc, List, [], ◌∷◌, ◌++◌, refl, sym, subst, inl, inr, arith}
-use Rattle.std.specs.Prelude.{Any, Contains}
-use Rattle.px_diff.proofs.Loops.{Contains-pushed}
+use Rattle.std.proofs.Common.{◌≡◌, ◌⊎◌, List, [], ◌∷◌, ◌++◌, sym, subst, inl, inr}
+use Rattle.std.specs.Prelude.{◌↔◌, Contains}
+use Rattle.px_base.proofs.Loops.{Contains-pushed}
 use Rattle.px_terms.specs.declared.atom.Atom.{Atom}
 use Rattle.px_terms.specs.declared.instance.OpInst.{OpInst}
 use Rattle.px_terms.specs.declared.problem.Problem.{Problem}
 use Rattle.px_table.specs.declared.entry.Entry.{Entry}
 use Rattle.px_table.specs.declared.table.Table.{Table}
 use Rattle.px_table.specs.declared.entry.Entry.TheVariants.{Op}
-use Rattle.px_diff.specs.Entries.{obligations_of}
+use Rattle.px_entries.specs.Entries.{obligations_of}
 use Rattle.px_diff.specs.Gathering.{Gathers}
 use Rattle.px_diff.specs.Pushes.{IsPushable}
-use Rattle.px_diff.specs.Questions.{AreUnlimited}
+use Rattle.px_gaps.specs.Questions.{AreUnlimited}
 
 module _ (problem : Problem) (tables : List Table) (wanted : List Atom) (stack : List Entry) (model : List Atom) where
   pub gathers_less : (V W : OpInst → Type 0) (old new : List OpInst) → ((inst : OpInst) → W inst → V inst) → Gathers problem tables wanted stack model V old new → Gathers problem tables wanted stack model W old new
   gathers_less V W old new f g = record { kept = g.kept; only = g.only; all = λ inst w p. g.all inst (f inst w) p; unlimited = λ inst w r. g.unlimited inst (f inst w) r }
+
+  -- the same instances in another order
+  pub gathers_reordered : (V : OpInst → Type 0) (old made new : List OpInst) → ((inst : OpInst) → Contains new inst ↔ Contains made inst) → Gathers problem tables wanted stack model V old made → Gathers problem tables wanted stack model V old new
+  gathers_reordered V old made new members g = record {
+    kept = λ inst there. (members inst).1 (g.kept inst there);
+    only = λ inst there. g.only inst ((members inst).0 there);
+    all = λ inst v p. (members inst).1 (g.all inst v p);
+    unlimited = g.unlimited;
+  }
 
   -- one more part
   pub gathers_part : (V U W : OpInst → Type 0) (old made new : List OpInst) → ((inst : OpInst) → W inst → V inst ⊎ U inst) → Gathers problem tables wanted stack model V old made → Gathers problem tables wanted stack model U made new → Gathers problem tables wanted stack model W old new
@@ -34,12 +43,3 @@ module _ (problem : Problem) (tables : List Table) (wanted : List Atom) (stack :
     all = λ other is p. subst (λ (l : List OpInst). Contains l other) (sym put) ((Contains-pushed old inst other).1 (inr is));
     unlimited = λ other is relevant. subst (λ (i : OpInst). AreUnlimited problem (obligations_of problem tables model (Op i))) is unlimited;
   }
-
--- ---- lists of one
-
-pub any_one : {X : Type 0} (P : X → Type 0) (x : X) → P x → Any P (x ∷ [])
-any_one P x p = (0, x, omega arith, refl, p)
-
-pub one_any : {X : Type 0} (P : X → Type 0) (x : X) → Any P (x ∷ []) → P x
-one_any P x (zero, y, below, is, p) = subst P (sym is) p
-one_any P x (suc k, y, below, is, p) = absurd (omega (arith, below))

@@ -19,17 +19,17 @@ use Rattle.px_terms.specs.declared.instance.OpInst.{OpInst}
 use Rattle.px_terms.specs.declared.problem.Problem.{Problem}
 use Rattle.px_terms.specs.declared.term.Term.{Term}
 use Rattle.px_terms.specs.declared.term.Term.TheVariants.{Obj, Var, Any as Wild}
-use Rattle.px_diff.specs.Bindings.{Extends, IsPlain, first_values}
-use Rattle.px_diff.specs.Closings.{OneOf}
+use Rattle.px_gaps.specs.Bindings.{Extends, IsPlain, first_values}
+use Rattle.px_gaps.specs.Closings.{OneOf}
 use Rattle.px_diff.specs.Macros.{IsMacroBefore, IsMacroBy, IsOfFront}
-use Rattle.px_diff.specs.Parameters.{AreFirstTerms, Matches}
+use Rattle.px_entries.specs.Parameters.{AreFirstTerms, Matches}
 use Rattle.px_diff.specs.Pushes.{IsRelevant}
-use Rattle.px_diff.proofs.Choosing.{bound-extends, term-at}
-use Rattle.px_diff.proofs.Describing.{atom-plain}
-use Rattle.px_diff.proofs.Covering.{Contains-from_mapped}
+use Rattle.px_gaps.proofs.Choosing.{bound-extends, term-at}
+use Rattle.px_gaps.proofs.Describing.{atom-plain}
 use Rattle.px_diff.proofs.EntryLemmas.{effect_is, macro_entry, relevant_macro}
-use Rattle.px_diff.proofs.Loops.{level_or_below}
-use Rattle.px_diff.proofs.ParameterLemmas.{first-extends, zero-values}
+use Rattle.px_base.proofs.Loops.{level_or_below}
+use Rattle.px_entries.proofs.ParameterLemmas.{first-extends, zero-values}
+use Rattle.px_table.specs.KernelLaws.{Contains-from_map}
 
 -- ---- the objects of one parameter, one after the other
 
@@ -46,7 +46,7 @@ module _ (limit number prefix : ℕ) (terms : List Term) (v : ℕ) (is_open : sl
       let below : slice_index w.0 v < limit = w.1.below v 0 (omega (arith, within, w.1.count)) in
       (w.0, w.1, omega (arith, below, past), w.2)
 
-  pub macro_before-none : (entry : Entry) → IsMacroBefore limit number prefix terms v 0 entry → ⊥
+  pub macro_before-none : (entry : Entry) → ¬ IsMacroBefore limit number prefix terms v 0 entry
   macro_before-none entry w = omega (arith, w.2)
 
 -- ---- the instances of the first steps
@@ -74,13 +74,13 @@ module _ (problem : Problem) (table : Table) (prefix : ℕ) (sigma : List ℕ) (
         op = step.op;
         count = length-map inst.args (substitute (map Obj sigma)) ∙ step.count;
         objects = All-each (IsTermOf problem 0) (map (substitute (map Obj sigma)) inst.args) (λ t there.
-            let from = Contains-from_mapped (substitute (map Obj sigma)) inst.args t there in
+            let from = Contains-from_map (substitute (map Obj sigma)) inst.args t there in
             subst (IsTermOf problem 0) from.2 (term-instance inst has from.0 (All-at (IsTermOf problem table.params) inst.args from.0 step.terms from.1) from.1));
       }
 
   pub prefix-instances : All (IsInstanceOf problem) (take prefix (steps_under table sigma))
   prefix-instances = subst (All (IsInstanceOf problem)) (sym (take-map (instance_under sigma) prefix table.steps)) (All-each (IsInstanceOf problem) (map (instance_under sigma) (take prefix table.steps)) (λ inst there.
-      let from = Contains-from_mapped (instance_under sigma) (take prefix table.steps) inst there in
+      let from = Contains-from_map (instance_under sigma) (take prefix table.steps) inst there in
       subst (IsInstanceOf problem) from.2 (step-instance from.0 from.1)))
 
 -- the marks' atoms have parameters for variables
@@ -92,7 +92,7 @@ marks-plain problem table terms is_table long = All-each (λ (mark : Mark). IsPl
 
 module _ (problem : Problem) (tables : List Table) (wanted : List Atom) (stack : List Entry) (number prefix : ℕ) (table : Table) (at : slice_get tables number ≡ Some table) (is_table : IsTable problem table) where
   -- a MACROP is relevant where it isn't on the stack and its steps add a wanted atom
-  pub relevance_macro : (sigma : List ℕ) → IsMacro problem table prefix sigma → (Contains stack (Macro number prefix sigma) → ⊥) → OneOf wanted (IsAdded problem (take prefix (steps_under table sigma))) → IsRelevant problem tables wanted stack (Macro number prefix sigma)
+  pub relevance_macro : (sigma : List ℕ) → IsMacro problem table prefix sigma → (¬ Contains stack (Macro number prefix sigma)) → OneOf wanted (IsAdded problem (take prefix (steps_under table sigma))) → IsRelevant problem tables wanted stack (Macro number prefix sigma)
   relevance_macro sigma is fresh one = record {
     is_entry = macro_entry problem tables number prefix table at sigma is;
     fresh = fresh;

@@ -3,13 +3,12 @@
 use Rattle.std.proofs.Common.{◌≡◌, ◌∙◌, ◌⊎◌, ◌+◌, ◌-◌, ◌<◌, ◌≤◌, ◌&&◌, ℕ, Bool, true, false, List, [], ◌∷◌, length, take, refl, ap, sym, subst, inl, inr, arith}
 use Rattle.std.specs.List.{list_any, range_with_len}
 use Rattle.std.specs.Prelude.{◌==◌, ◌↔◌, All, Any, Contains, IfOk, IfSome, MatchBool, Option, Result, Some, filter, not, slice_get}
-use Rattle.std.proofs.Math.Nat.{max-le, le-max_left}
-use Rattle.std.proofs.lemmas.List.Elements.{All-cons, All-head, All-map, All-nil, All-tail, All-take}
+use Rattle.std.proofs.lemmas.List.Elements.{All-cons, All-map, All-nil, All-take}
 use Rattle.std.proofs.lemmas.List.Folds.{Any-from_list_any}
 use Rattle.std.proofs.lemmas.List.FromFn.{get_or-range_with_len, length-range_with_len}
-use Rattle.px_base.specs.ListLaws.{All-at, All-each, Contains-filter, Contains-first, Contains-none}
+use Rattle.px_base.specs.ListLaws.{All-at, All-each, Contains-filter}
 use Rattle.px_terms.specs.AtomSets.{IsAtomSet}
-use Rattle.px_terms.specs.Instances.{IsGround, is_instance}
+use Rattle.px_terms.specs.Instances.{is_instance}
 use Rattle.px_terms.specs.Operators.{IsAddable, deletes, schema_of}
 use Rattle.px_terms.specs.Substitution.{substitute_atom}
 use Rattle.px_terms.specs.Validity.{IsAtomOf, IsValid}
@@ -18,16 +17,11 @@ use Rattle.px_terms.specs.declared.atom.Atom.{Atom}
 use Rattle.px_terms.specs.declared.instance.OpInst.{OpInst}
 use Rattle.px_terms.specs.declared.problem.Problem.{Problem}
 use Rattle.px_terms.specs.declared.problem.Schema.{Schema}
-use Rattle.px_proof.specs.Derivation.{Derivation, Derivations, none, also, greatest_height, height}
+use Rattle.px_proof.specs.Derivation.{height}
 use Rattle.px_proof.specs.Literals.{positive_of}
 use Rattle.px_proof.specs.PlaceLaws.{Contains-mapped}
-use Rattle.px_proof.specs.Proves.{Proves, ProvesEach}
-use Rattle.px_question.specs.Answers.{IsAnswer, literals_of}
-use Rattle.px_question.specs.Gaps.{gaps_in}
-use Rattle.px_question.specs.Settings.{Setting, proofs_in, setting_of}
+use Rattle.px_question.specs.Settings.{Setting, setting_of}
 use Rattle.px_question.proofs.FewerFactsLaws.{fewer_facts-have_no_more}
-use Rattle.px_question.proofs.Listed.{Decided}
-use Rattle.px_question.proofs.ListedProofs.{AreProofs, finite-gaps, finite-proofs, listed-proofs}
 use Rattle.px_table.specs.KernelLaws.{Contains-from_map}
 use Rattle.px_table.specs.Kernels.{atom_under, instance_under, steps_under}
 use Rattle.px_table.specs.Prefixes.{IsMacro}
@@ -35,27 +29,23 @@ use Rattle.px_table.specs.Tables.{IsTable}
 use Rattle.px_table.specs.declared.entry.Entry.TheVariants.{Macro}
 use Rattle.px_table.specs.declared.mark.Mark.{Mark}
 use Rattle.px_table.specs.declared.table.Table.{Table}
-use Rattle.px_diff.specs.Deciding.{DecideAlike, IsDeciding, IsMentioned}
-use Rattle.px_diff.specs.Entries.{HasAnswer, IsOpen, Obligation, initial_atoms, left_after, obligations_of, row_needs}
-use Rattle.px_diff.specs.MacroOpen.{DeletesAddable, IsSettledMark, IsToldByFacts}
-use Rattle.px_diff.specs.Models.{IsNeverLimited}
-use Rattle.px_diff.specs.Plain.{AxiomsMentionAddable, IsSettled}
-use Rattle.px_diff.specs.Questions.{AreUnlimited, FindingGaps, Proving, Question}
-use Rattle.px_diff.proofs.AddableLaws.{addable-alike}
-use Rattle.px_diff.proofs.DecidingLaws.{all-regapped, concluded-mentioned}
-use Rattle.px_diff.proofs.EntryLemmas.{table_is}
-use Rattle.px_diff.proofs.FactLemmas.{any-of, ground-same}
-use Rattle.px_diff.proofs.GapAtoms.{literals-are}
-use Rattle.px_diff.proofs.GapLists.{list_by}
-use Rattle.px_diff.proofs.Gathered.{one_any}
-use Rattle.px_diff.proofs.LeftSteps.{ok_map}
-use Rattle.px_diff.proofs.Loops.{some_map}
-use Rattle.px_diff.proofs.ModelLaws.{IsOpenOne, answer-decided, row-early}
-use Rattle.px_diff.proofs.PlainLaws.{match-as, plain-closed}
-use Rattle.px_diff.proofs.RestLaws.{closed-by}
-use Rattle.px_diff.proofs.RestOpening.{gaps-open}
-use Rattle.px_diff.proofs.RowLemmas.{no_objects}
-use Rattle.px_diff.proofs.RowSteps.{initial-are_of, steps-count}
+use Rattle.px_entries.specs.Deciding.{DecideAlike, IsDeciding}
+use Rattle.px_entries.specs.Entries.{initial_atoms, left_after, obligations_of, row_needs}
+use Rattle.px_gaps.specs.Needs.{HasAnswer, IsOpen, Obligation}
+use Rattle.px_diff.specs.MacroOpen.{DeletesAddable, IsSettledMark, FactsSuffice}
+use Rattle.px_entries.specs.Unlimited.{IsNeverLimited}
+use Rattle.px_entries.specs.Plain.{AxiomsMentionAddable, IsSettled}
+use Rattle.px_gaps.specs.Questions.{AreUnlimited, FindingGaps, Proving, Question}
+use Rattle.px_entries.proofs.DecidingLaws.{all-regapped}
+use Rattle.px_entries.proofs.RowTurns.{table_is}
+use Rattle.px_gaps.proofs.GapAtoms.{literals-are}
+use Rattle.px_gaps.proofs.Singles.{one_any}
+use Rattle.px_base.proofs.Loops.{ok_map, some_map}
+use Rattle.px_diff.proofs.ModelLaws.{IsOpenOne, answer-decided}
+use Rattle.px_entries.proofs.RowSteps.{row-early, initial-are_of, steps-count}
+use Rattle.px_entries.proofs.PlainLaws.{all-made, match-as, mentioned-fixed, plain-closed}
+use Rattle.px_entries.proofs.OpenNeeds.{gaps-open}
+use Rattle.px_gaps.proofs.Grows.{of-any}
 
 -- ---- what steps delete
 
@@ -71,7 +61,7 @@ deleted-addable problem step atom all is =
     let same : atom.pred ≡ one.1.pred = same-pred atom.pred one.1.pred _ one.4 in
     addable-by problem one.1 atom (sym same) (All-at (IsAddable problem) (schema_of problem step).del one.1 all (one.0, one.2, one.3))
 
-not-so : (b : Bool) → (b ≡ true → ⊥) → not b ≡ true
+not-so : (b : Bool) → (¬ (b ≡ true)) → not b ≡ true
 not-so true never = absurd (never refl)
 not-so false never = refl
 
@@ -92,56 +82,8 @@ module _ (problem : Problem) (valid : IsValid problem) (apart : ¬ AxiomsMention
   abbrev s : Setting
   s = setting_of problem model
 
-  mentioned-fixed : (atom : Atom) → IsMentioned problem.axioms atom.pred → ¬ IsAddable problem atom
-  mentioned-fixed atom (number, clause, within, at, (place, other, inside, there, same)) addable =
-      apart (number, clause, within, at, (place, other, inside, there, addable-by problem atom other.atom (sym same) addable))
-
   deciding-fixed : (atom : Atom) → IsDeciding problem atom → ¬ IsAddable problem atom
-  deciding-fixed atom decides = elim decides [ inl fixed ↦ fixed | inr mentioned ↦ mentioned-fixed atom mentioned ]
-
-  -- an operator adds it or none does
-  addable-or : (q : Atom) → IsAddable problem q ⊎ (¬ IsAddable problem q)
-  addable-or q = elim ((finite-gaps s).gaps q) [
-    | inl addable ↦ inl ((addable-alike problem model q).1 addable)
-    | inr never ↦ inr (λ addable. never ((addable-alike problem model q).0 addable))
-  ]
-
-  -- a settled atom has a gap proof
-  abbrev Made : Atom → Type 0
-  Made q = (d : Derivation) × Proves (gaps_in s) problem.axioms [] (positive_of (substitute_atom [] q)) d × (height d ≤ problem.height)
-
-  made-added : (q : Atom) → IsGround q → IsAddable problem q → Made q
-  made-added q closed addable =
-      let own = closed-by problem model [] q closed (addable, λ concluded. mentioned-fixed q (concluded-mentioned problem.axioms q.pred concluded) addable) in (
-        own.0,
-        subst (λ (a : Atom). Proves (gaps_in s) problem.axioms [] (positive_of a) own.0) (sym (ground-same [] q closed)) own.1,
-        subst (λ (n : ℕ). n ≤ problem.height) (sym own.2) valid.height.0,
-      )
-
-  made-proved : (q : Atom) (ds : Derivations) → ProvesEach (gaps_in s) problem.axioms [] (literals_of (q ∷ []) []) ds → greatest_height ds ≤ problem.height → Made q
-  made-proved q none each low = absurd each
-  made-proved q (also d none) each low = (d, each.0, omega (arith, low, le-max_left (height d) 0))
-  made-proved q (also d (also e es)) each low = absurd each.1
-
-  made : (q : Atom) → IsGround q → IsSettled problem model q → Made q
-  made q closed settled = elim (addable-or q) [
-    | inl addable ↦ made-added q closed addable
-    | inr fixed ↦
-        let answer = settled fixed in
-        let list = list_by s (q ∷ []) 0 answer.0 answer.1 (proofs_in s) (gaps_in s) (record { choices = λ t h. h; facts = λ leaf h. h; opens = λ h. h }) (λ atom has h. absurd h) answer.2 in
-        made-proved q answer.1 (subst (λ (objects : List ℕ). ProvesEach (gaps_in s) problem.axioms [] (literals_of (q ∷ []) objects) answer.1) (no_objects answer.0 list.count) list.proved) list.low
-  ]
-
-  abbrev AllMade : List Atom → Type 0
-  AllMade formula = (ds : Derivations) × ProvesEach (gaps_in s) problem.axioms [] (literals_of formula []) ds × (greatest_height ds ≤ problem.height)
-
-  put-made : (q : Atom) (qs : List Atom) → Made q → AllMade qs → AllMade (q ∷ qs)
-  put-made q qs (d, proved, low) (ds, each, lows) = (also d ds, (proved, each), max-le low lows)
-
-  all-made : (formula : List Atom) → All IsGround formula → All (IsSettled problem model) formula → AllMade formula
-  all-made [] closed settled = (none, tt, omega arith)
-  all-made (q ∷ qs) closed settled =
-      put-made q qs (made q (All-head IsGround q qs closed) (All-head (IsSettled problem model) q qs settled)) (all-made qs (All-tail IsGround q qs closed) (All-tail (IsSettled problem model) q qs settled))
+  deciding-fixed atom decides = elim decides [ inl fixed ↦ fixed | inr mentioned ↦ mentioned-fixed problem model apart (positive_of atom) mentioned ]
 
   module _ (steps : List OpInst) (deletes_addable : All (DeletesAddable problem) steps) where
     abbrev left : List Atom
@@ -168,7 +110,7 @@ module _ (problem : Problem) (valid : IsValid problem) (apart : ¬ AxiomsMention
       -- where all of its atoms are settled in the whole model, a formula is open from what is left
       settled-open : All (IsSettled problem model) formula → IsOpenOne problem needed
       settled-open settled =
-          let all = all-made formula (λ k d below. atom_of-is_ground problem _ (of k d below)) settled in
+          let all = all-made problem model apart valid.height.0 formula (λ k d below. atom_of-is_ground problem _ (of k d below)) settled in
           let literals = literals-are problem valid model formula 0 [] of refl (λ k d below. absurd (omega (arith, below))) in
           let there = all-regapped problem model left left-alike [] formula (λ k d below. atom_of-is_ground problem _ (literals k d below)) all.0 all.1 in
           gaps-open problem needed (answer-decided (setting_of problem left) formula) [] there.0
@@ -205,7 +147,7 @@ test-row mark row e = grind (arith, e)
 test-initial : (mark : Mark) (row : ℕ) → ((mark.row == row) && (mark.column == 0)) ≡ true → mark.column ≡ 0
 test-initial mark row e = grind (arith, e)
 
-module _ (problem : Problem) (valid : IsValid problem) (table : Table) (is : IsTable problem table) (prefix : ℕ) (sigma : List ℕ) (m : IsMacro problem table prefix sigma) (told : IsToldByFacts problem table) (model : List Atom) where
+module _ (problem : Problem) (valid : IsValid problem) (table : Table) (is : IsTable problem table) (prefix : ℕ) (sigma : List ℕ) (m : IsMacro problem table prefix sigma) (told : FactsSuffice problem table) (model : List Atom) where
   abbrev steps : List OpInst
   steps = take prefix (steps_under table sigma)
 
@@ -252,7 +194,7 @@ module _ (problem : Problem) (valid : IsValid problem) (table : Table) (is : IsT
 
   module _ (unlimited : AreUnlimited problem needs) where
     one-unlimited : (needed : Obligation) → Contains needs needed → AreUnlimited problem (needed ∷ [])
-    one-unlimited needed has question formula shapes asks = unlimited question formula shapes (any-of (IsAskedOf question) needs needed has (one_any (IsAskedOf question) needed asks))
+    one-unlimited needed has question formula shapes asks = unlimited question formula shapes (of-any (IsAskedOf question) needs needed has (one_any (IsAskedOf question) needed asks))
 
     -- where all rows are open, each mark is settled
     open-settled : IsOpen problem needs → All Settled table.marks
@@ -273,7 +215,7 @@ module _ (problem : Problem) (valid : IsValid problem) (table : Table) (is : IsT
 
 -- a MACROP is open exactly where each mark is settled
 pub macro-told : (problem : Problem) (valid : IsValid problem) (tables : List Table) (number : ℕ) (table : Table) → slice_get tables number ≡ Some table → (is : IsTable problem table) (prefix : ℕ) (sigma : List ℕ) → IsMacro problem table prefix sigma
-    → IsToldByFacts problem table → IsNeverLimited problem tables → (model : List Atom) → IsAtomSet model
+    → FactsSuffice problem table → IsNeverLimited problem tables → (model : List Atom) → IsAtomSet model
     → All (IsSettledMark problem model prefix sigma) table.marks ↔ IsOpen problem (obligations_of problem tables model (Macro number prefix sigma))
 macro-told problem valid tables number table at is prefix sigma m told never model ascends =
     let same : obligations_of problem tables model (Macro number prefix sigma) ≡ row_needs problem table sigma model (take prefix (steps_under table sigma)) =
@@ -286,5 +228,5 @@ macro-told problem valid tables number table at is prefix sigma m told never mod
 -- a test tells the same of what is said in other words
 pub told-as : {E P Q : Type 0} (result : Result (Option Bool) E) → P ↔ Q → IfOk result (λ found. IfSome found (λ (b : Bool). MatchBool b P (¬ P))) → IfOk result (λ found. IfSome found (λ (b : Bool). MatchBool b Q (¬ Q)))
 told-as {E} {P} {Q} result is =
-    ok_map (λ (found : Option Bool). IfSome found (λ (b : Bool). MatchBool b P (¬ P))) (λ (found : Option Bool). IfSome found (λ (b : Bool). MatchBool b Q (¬ Q))) result
-    (λ found. some_map (λ (b : Bool). MatchBool b P (¬ P)) (λ (b : Bool). MatchBool b Q (¬ Q)) found (λ b. match-as {P = P} {Q = Q} b is))
+    ok_map (λ (found : Option Bool). IfSome found (λ (b : Bool). MatchBool b P (¬ P))) (λ (found : Option Bool). IfSome found (λ (b : Bool). MatchBool b Q (¬ Q)))
+    (λ found. some_map (λ (b : Bool). MatchBool b P (¬ P)) (λ (b : Bool). MatchBool b Q (¬ Q)) found (λ b. match-as {P = P} {Q = Q} b is)) result

@@ -1,8 +1,7 @@
 -- In models with the same deciding facts the same entries are open, and the same may be pushed.
-use Rattle.std.proofs.Common.{◌≡◌, ◌∙◌, ◌⊎◌, ◌+◌, ◌-◌, ◌<◌, ◌≤◌, ℕ, List, [], ◌∷◌, length, take, map, refl, sym, subst, inl, inr, arith}
+use Rattle.std.proofs.Common.{◌⊎◌, ◌-◌, ◌≤◌, ℕ, List, [], ◌∷◌, length, take, map, refl, sym, subst, inl, inr, arith}
 use Rattle.std.specs.List.{list_any, range_with_len}
 use Rattle.std.specs.Prelude.{All, Contains, not}
-use Rattle.std.proofs.lemmas.List.FromFn.{get_or-range_with_len, length-range_with_len}
 use Rattle.px_base.specs.ListLaws.{All-at, All-each, Contains-filter, Contains-first, Contains-none}
 use Rattle.px_terms.specs.Operators.{deletes, precondition}
 use Rattle.px_terms.specs.Validity.{IsAtomOf, IsValid}
@@ -23,17 +22,17 @@ use Rattle.px_table.specs.KernelLaws.{Contains-from_map}
 use Rattle.px_table.specs.Kernels.{steps_under}
 use Rattle.px_table.specs.Prefixes.{IsMacro}
 use Rattle.px_table.specs.Tables.{IsTable}
-use Rattle.px_diff.specs.Deciding.{DecideAlike}
-use Rattle.px_diff.specs.Entries.{HasAnswer, HasGap, IsEntry, IsOpen, Obligation, initial_atoms, left_after, obligations_of, row_needs, table_at}
-use Rattle.px_diff.specs.Learned.{AreLearned}
+use Rattle.px_entries.specs.Deciding.{DecideAlike}
+use Rattle.px_entries.specs.Entries.{IsEntry, initial_atoms, left_after, obligations_of, row_needs, table_at}
+use Rattle.px_gaps.specs.Needs.{HasAnswer, HasGap, IsOpen, Obligation}
+use Rattle.px_entries.specs.Learned.{AreLearned}
 use Rattle.px_diff.specs.Models.{RelevanceOverModels}
-use Rattle.px_diff.proofs.DecidingLaws.{all-regapped}
-use Rattle.px_diff.proofs.EntryLemmas.{table_is}
-use Rattle.px_diff.proofs.GapAtoms.{literals-are}
-use Rattle.px_diff.proofs.Opening.{one_open, open_one}
-use Rattle.px_diff.proofs.RestOpening.{gaps-open, open-gaps}
-use Rattle.px_diff.proofs.RowLemmas.{no_objects}
-use Rattle.px_diff.proofs.RowSteps.{initial-are_of, steps-count}
+use Rattle.px_entries.proofs.DecidingLaws.{all-regapped}
+use Rattle.px_entries.proofs.RowTurns.{table_is}
+use Rattle.px_gaps.proofs.GapAtoms.{literals-are}
+use Rattle.px_entries.proofs.OpenNeeds.{one_open, open_one, gaps-open, open-gaps}
+use Rattle.px_entries.proofs.RowSteps.{initial-are_of, steps-count, row-early}
+use Rattle.std.proofs.lemmas.List.{nil_from_length}
 
 -- ---- a formula without variables has an answer or none
 
@@ -47,17 +46,10 @@ answer-decided s formula =
     elim (first-or-none (AreProofs (proofs_in s) s.axioms s.objects (finite-proofs s) s.height [] (literals_of formula [])) proofs.items proofs.all proofs.each) [
       | inl one ↦ inl ([], one.0, record { count = refl; below = λ k d within. absurd (omega (arith, within)); proved = one.1.0; low = one.1.1 })
       | inr never ↦ inr (λ answer. never answer.1 (
-        subst (λ (objects : List ℕ). ProvesEach (proofs_in s) s.axioms [] (literals_of formula objects) answer.1) (no_objects answer.0 answer.2.count) answer.2.proved,
+        subst (λ (objects : List ℕ). ProvesEach (proofs_in s) s.axioms [] (literals_of formula objects) answer.1) (nil_from_length answer.0 answer.2.count) answer.2.proved,
         answer.2.low,
       ))
     ]
-
--- a row's number is at most how many there are
-pub row-early : (count row : ℕ) → Contains (range_with_len 1 count) row → row ≤ count
-row-early count row has =
-    let below : has.0 < count = subst (λ (n : ℕ). has.0 < n) (length-range_with_len 1 count) has.1 in
-    let is : row ≡ 1 + has.0 = sym has.2 ∙ get_or-range_with_len 1 count has.0 row below in
-    omega (arith, below, is)
 
 -- ---- one formula
 

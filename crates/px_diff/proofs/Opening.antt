@@ -1,7 +1,7 @@
 -- What the gap lists of a partial instance say of the instances that it stands for.
-use Rattle.std.proofs.Common.{◌≡◌, ◌⊎◌, ◌∙◌, ℕ, List, [], ◌∷◌, length, refl, sym, ap, subst, inl, inr, arith}
+use Rattle.std.proofs.Common.{◌≡◌, ◌⊎◌, ◌∙◌, ℕ, List, [], ◌∷◌, refl, sym, ap, subst, inl, inr, arith}
 use Rattle.std.specs.Prelude.{◌↔◌, ◌<◌, All, Any, Contains}
-use Rattle.std.proofs.lemmas.List.Elements.{All-cons, All-head, All-nil}
+use Rattle.std.proofs.lemmas.List.Elements.{All-nil}
 use Rattle.px_base.specs.ListLaws.{All-each, Contains-cases, Contains-first, Contains-later, Contains-none}
 use Rattle.px_terms.specs.declared.atom.Atom.{Atom}
 use Rattle.px_terms.specs.declared.instance.OpInst.{OpInst}
@@ -19,48 +19,22 @@ use Rattle.px_question.specs.Settings.{Setting, loose_gaps_in, proofs_in, settin
 use Rattle.px_table.specs.declared.entry.Entry.{Entry}
 use Rattle.px_table.specs.declared.table.Table.{Table}
 use Rattle.px_table.specs.declared.entry.Entry.TheVariants.{Op}
-use Rattle.px_diff.specs.Closings.{IsChosenIn, IsClosedIn, OneOf}
-use Rattle.px_diff.specs.Entries.{Obligation, HasAnswer, HasGap, IsOpen}
+use Rattle.px_gaps.specs.Closings.{IsChosenIn, IsClosedIn, OneOf}
+use Rattle.px_gaps.specs.Needs.{Obligation, HasAnswer, HasGap, IsOpen}
 use Rattle.px_diff.specs.Gathering.{AreObjectsFor, Gathers, IsOpenIn, instance_by}
-use Rattle.px_diff.specs.Instances.{Fills, IsPartialInstance, StandsFor}
-use Rattle.px_diff.specs.Listed.{AreListed}
-use Rattle.px_diff.specs.Pushes.{IsRelevant}
-use Rattle.px_diff.specs.Questions.{Proving, FindingGaps, LimitsRelevant, MeetsLimit, AreUnlimited}
-use Rattle.px_diff.specs.declared.partial.PartialInstance.{PartialInstance}
-use Rattle.px_diff.proofs.Fewness.{few-none, partial-loose}
+use Rattle.px_entries.specs.Instances.{Fills, IsPartialInstance, StandsFor}
+use Rattle.px_gaps.specs.Listed.{AreListed}
+use Rattle.px_diff.specs.Pushes.{IsRelevant, LimitsRelevant}
+use Rattle.px_gaps.specs.Questions.{Proving, FindingGaps, AreUnlimited}
+use Rattle.px_entries.specs.declared.partial.PartialInstance.{PartialInstance}
 use Rattle.px_diff.proofs.SameInstance.{same_or_not}
-use Rattle.px_diff.proofs.Gathered.{any_one, one_any}
-use Rattle.px_diff.proofs.GapLists.{answer_listed, gap_listed, list_of, list_of-members, listed_answer, listed_gap, loose_listed}
-use Rattle.px_diff.proofs.PartialLemmas.{same_needs}
-
-no_objects : (objects : List ℕ) → length objects ≡ 0 → [] ≡ objects
-no_objects [] count = refl
-no_objects (n ∷ objects) count = absurd (omega (arith, count))
-
-abbrev pub needed_by : Problem → List Atom → OpInst → Obligation
-needed_by problem model inst = record { formula = precondition problem inst; vars = 0; facts = model }
-
--- what the instance needs is open where it has an answer or a gap
-pub open_one : (problem : Problem) (model : List Atom) (inst : OpInst) → HasAnswer problem (needed_by problem model inst) ⊎ ((gap : Atom) × HasGap problem (needed_by problem model inst) gap) → IsOpen problem (needed_by problem model inst ∷ [])
-open_one problem model inst h = All-cons (λ (needed : Obligation). HasAnswer problem needed ⊎ ((gap : Atom) × HasGap problem needed gap)) (needed_by problem model inst) [] h (All-nil (λ (needed : Obligation). HasAnswer problem needed ⊎ ((gap : Atom) × HasGap problem needed gap)))
-
-pub one_open : (problem : Problem) (model : List Atom) (inst : OpInst) → IsOpen problem (needed_by problem model inst ∷ []) → HasAnswer problem (needed_by problem model inst) ⊎ ((gap : Atom) × HasGap problem (needed_by problem model inst) gap)
-one_open problem model inst all = All-head (λ (needed : Obligation). HasAnswer problem needed ⊎ ((gap : Atom) × HasGap problem needed gap)) (needed_by problem model inst) [] all
-
--- the questions about an instance: proving what it needs, or finding the gaps where it has no answer
-pub unlimited_one : (problem : Problem) (model : List Atom) (inst : OpInst)
-    → ((shapes : List (List Tick)) → IsLimited (setting_of problem model) (precondition problem inst) 0 shapes → ⊥)
-    → ((formula : List Atom) (shapes : List (List Tick)) → (HasAnswer problem (needed_by problem model inst) → ⊥) → MeetsGapLimit (setting_of problem model) (precondition problem inst) 0 formula shapes → ⊥)
-    → AreUnlimited problem (needed_by problem model inst ∷ [])
-unlimited_one problem model inst proving finding question formula shapes asks met =
-    elim (one_any (λ (needed : Obligation). (question ≡ Proving needed) ⊎ ((HasAnswer problem needed → ⊥) × (question ≡ FindingGaps needed))) (needed_by problem model inst) asks) [
-      | inl is ↦ proving shapes (subst (λ q. MeetsLimit problem q formula shapes) is met).1
-      | inr is ↦ finding formula shapes is.0 (subst (λ q. MeetsLimit problem q formula shapes) is.1 met)
-    ]
-
--- where it has an answer, and proving it doesn't meet the limit, no question about it does
-pub answered_unlimited : (problem : Problem) (model : List Atom) (inst : OpInst) → HasAnswer problem (needed_by problem model inst) → ((shapes : List (List Tick)) → IsLimited (setting_of problem model) (precondition problem inst) 0 shapes → ⊥) → AreUnlimited problem (needed_by problem model inst ∷ [])
-answered_unlimited problem model inst answer proving = unlimited_one problem model inst proving (λ formula shapes none met. none answer)
+use Rattle.px_gaps.proofs.Singles.{any_one}
+use Rattle.px_gaps.proofs.GapLists.{answer_listed, gap_listed, list_of, list_of-members, listed_answer, listed_gap, loose_listed, partial-loose}
+use Rattle.px_entries.proofs.PartialLemmas.{same_needs}
+use Rattle.px_question.specs.FewerShapes.{few_firsts}
+use Rattle.std.proofs.lemmas.List.{nil_from_length}
+use Rattle.px_gaps.proofs.Grows.{some-item}
+use Rattle.px_entries.proofs.OpenNeeds.{needed_by, open_one, one_open, unlimited_one}
 
 -- a question about a relevant instance that meets the limit: proving it, or finding its gaps
 pub limits_proving : (problem : Problem) (tables : List Table) (wanted : List Atom) (stack : List Entry) (model : List Atom) (inst : OpInst) (kept : List Atom) (shapes : List (List Tick)) → IsRelevant problem tables wanted stack (Op inst) → kept ≡ precondition problem inst
@@ -69,17 +43,17 @@ limits_proving problem tables wanted stack model inst kept shapes relevant is li
   entry = Op inst;
   relevant = relevant;
   question = Proving (needed_by problem model inst);
-  asked = any_one (λ (needed : Obligation). (Proving (needed_by problem model inst) ≡ Proving needed) ⊎ ((HasAnswer problem needed → ⊥) × (Proving (needed_by problem model inst) ≡ FindingGaps needed))) (needed_by problem model inst) (inl refl);
+  asked = any_one (λ (needed : Obligation). (Proving (needed_by problem model inst) ≡ Proving needed) ⊎ ((¬ HasAnswer problem needed) × (Proving (needed_by problem model inst) ≡ FindingGaps needed))) (needed_by problem model inst) (inl refl);
   met = (is, limited);
 }
 
-pub limits_finding : (problem : Problem) (tables : List Table) (wanted : List Atom) (stack : List Entry) (model : List Atom) (inst : OpInst) (kept : List Atom) (shapes : List (List Tick)) → IsRelevant problem tables wanted stack (Op inst) → (HasAnswer problem (needed_by problem model inst) → ⊥)
+pub limits_finding : (problem : Problem) (tables : List Table) (wanted : List Atom) (stack : List Entry) (model : List Atom) (inst : OpInst) (kept : List Atom) (shapes : List (List Tick)) → IsRelevant problem tables wanted stack (Op inst) → (¬ HasAnswer problem (needed_by problem model inst))
     → MeetsGapLimit (setting_of problem model) (precondition problem inst) 0 kept shapes → LimitsRelevant problem tables wanted stack model kept shapes
 limits_finding problem tables wanted stack model inst kept shapes relevant none met = record {
   entry = Op inst;
   relevant = relevant;
   question = FindingGaps (needed_by problem model inst);
-  asked = any_one (λ (needed : Obligation). (FindingGaps (needed_by problem model inst) ≡ Proving needed) ⊎ ((HasAnswer problem needed → ⊥) × (FindingGaps (needed_by problem model inst) ≡ FindingGaps needed))) (needed_by problem model inst) (inr (none, refl));
+  asked = any_one (λ (needed : Obligation). (FindingGaps (needed_by problem model inst) ≡ Proving needed) ⊎ ((¬ HasAnswer problem needed) × (FindingGaps (needed_by problem model inst) ≡ FindingGaps needed))) (needed_by problem model inst) (inr (none, refl));
   met = met;
 }
 
@@ -88,7 +62,7 @@ abbrev pub IsAnsweredIn : PartialInstance → List GapList → OpInst → Type 0
 IsAnsweredIn partial lists inst = OneOf lists (λ list. (list.gaps ≡ []) × (instance_by partial list.objects ≡ inst))
 
 -- it has one or it hasn't
-pub answered-or : (partial : PartialInstance) (lists : List GapList) (inst : OpInst) → IsAnsweredIn partial lists inst ⊎ (IsAnsweredIn partial lists inst → ⊥)
+pub answered-or : (partial : PartialInstance) (lists : List GapList) (inst : OpInst) → IsAnsweredIn partial lists inst ⊎ (¬ IsAnsweredIn partial lists inst)
 answered-or partial [] inst = inr (λ one. Contains-none one.0 one.1)
 answered-or partial (list ∷ lists) inst = elim (answered-or partial lists inst) [
   | inl later ↦ inl (later.0, Contains-later list lists later.0 later.1, later.2)
@@ -101,12 +75,32 @@ answered-or partial (list ∷ lists) inst = elim (answered-or partial lists inst
   ]
 ]
   where
-    here : (gaps : List Atom) (objects : List ℕ) → ((gaps ≡ []) × (instance_by partial objects ≡ inst)) ⊎ ((gaps ≡ []) × (instance_by partial objects ≡ inst) → ⊥)
+    here : (gaps : List Atom) (objects : List ℕ) → ((gaps ≡ []) × (instance_by partial objects ≡ inst)) ⊎ (¬ ((gaps ≡ []) × (instance_by partial objects ≡ inst)))
     here [] objects = elim (same_or_not (instance_by partial objects) inst) [ inl same ↦ inl (refl, same) | inr other ↦ inr (λ both. other both.1) ]
     here (atom ∷ gaps) objects = inr (λ both. filled atom gaps both.0)
       where
-        filled : (atom : Atom) (gaps : List Atom) → atom ∷ gaps ≡ [] → ⊥
+        filled : (atom : Atom) (gaps : List Atom) → ¬ (atom ∷ gaps ≡ [])
         filled atom gaps e = cc
+
+-- where the lists tell which instances are open, the relevant ones among these are gathered
+pub gathered-by : (problem : Problem) (model : List Atom) (partial : PartialInstance) (lists : List GapList) (provable : List Atom) (tables : List Table) (wanted : List Atom) (stack : List Entry)
+    → ((list : GapList) → Contains lists list → (¬ Any (Contains provable) list.gaps) → IsOpen problem (needed_by problem model (instance_by partial list.objects) ∷ []))
+    → ((full : OpInst) (objects : List ℕ) → Fills problem partial full objects → IsOpen problem (needed_by problem model full ∷ []) → IsOpenIn partial lists provable full)
+    → ((inst : OpInst) → StandsFor problem partial inst → IsRelevant problem tables wanted stack (Op inst) → AreUnlimited problem (needed_by problem model inst ∷ []))
+    → (old new : List OpInst) → ((inst : OpInst) → Contains new inst ↔ (Contains old inst ⊎ (IsOpenIn partial lists provable inst × IsRelevant problem tables wanted stack (Op inst))))
+    → Gathers problem tables wanted stack model (StandsFor problem partial) old new
+gathered-by problem model partial lists provable tables wanted stack open-only open-all unlimited old new are = record {
+  kept = λ inst there. (are inst).1 (inl there);
+  only = λ inst there. elim ((are inst).0 there) [
+    | inl before ↦ inl before
+    | inr one ↦ inr (record {
+      relevant = one.1;
+      open_entry = subst (λ (i : OpInst). IsOpen problem (needed_by problem model i ∷ [])) one.0.2.0 (open-only one.0.0 one.0.1 one.0.2.1);
+    })
+  ];
+  all = λ inst stands pushable. (are inst).1 (inr (open-all inst stands.0 stands.1 pushable.open_entry, pushable.relevant));
+  unlimited = unlimited;
+}
 
 module _ (problem : Problem) (valid : IsValid problem) (model : List Atom) (partial : PartialInstance) (form : IsPartialInstance problem partial) where
   abbrev s : Setting
@@ -127,7 +121,7 @@ module _ (problem : Problem) (valid : IsValid problem) (model : List Atom) (part
   list_open rules full objects none ds fills list = record {
     count = fills.count;
     below = fills.below;
-    proved = subst (λ l. ProvesEach rules problem.axioms [] l ds) (ap (literals_of (precondition problem full)) (sym (no_objects none list.count)) ∙ sym (literals-same full objects fills)) list.proved;
+    proved = subst (λ l. ProvesEach rules problem.axioms [] l ds) (ap (literals_of (precondition problem full)) (nil_from_length none list.count) ∙ sym (literals-same full objects fills)) list.proved;
     low = list.low;
   }
 
@@ -148,31 +142,27 @@ module _ (problem : Problem) (valid : IsValid problem) (model : List Atom) (part
         let r = listed_answer s (precondition problem partial.inst) partial.vars lists listed.all list has empty in
         subst (λ (i : OpInst). HasAnswer problem (needed_by problem model i)) same ([], r.0, list_full (proofs_in s) (instance_by partial list.objects) list.objects r.0 (list-fills list has) r.1)
 
-    not-proof-limited : (full : OpInst) (objects : List ℕ) (shapes : List (List Tick)) → Fills problem partial full objects → IsLimited s (precondition problem full) 0 shapes → ⊥
+    not-proof-limited : (full : OpInst) (objects : List ℕ) (shapes : List (List Tick)) → Fills problem partial full objects → ¬ IsLimited s (precondition problem full) 0 shapes
     not-proof-limited full objects shapes fills limited =
-        few-none (IsPartialShape (loose_gaps_in s) s (precondition problem partial.inst) partial.vars) (IsPartialShape (proofs_in s) s (precondition problem full) 0) s.limit shapes listed.few
+        few_firsts (IsPartialShape (loose_gaps_in s) s (precondition problem partial.inst) partial.vars) (IsPartialShape (proofs_in s) s (precondition problem full) 0) s.limit shapes listed.few
         (λ shape partly. shape_open full objects shape fills (partial-loose s (precondition problem full) 0 shape partly)) limited.count limited.kept
 
-    not-gap-limited : (full : OpInst) (objects : List ℕ) (shapes : List (List Tick)) → Fills problem partial full objects → IsGapLimited s (precondition problem full) 0 shapes → ⊥
+    not-gap-limited : (full : OpInst) (objects : List ℕ) (shapes : List (List Tick)) → Fills problem partial full objects → ¬ IsGapLimited s (precondition problem full) 0 shapes
     not-gap-limited full objects shapes fills limited =
-        few-none (IsPartialShape (loose_gaps_in s) s (precondition problem partial.inst) partial.vars) (IsPartialShape (loose_gaps_in s) s (precondition problem full) 0) s.limit shapes listed.few
+        few_firsts (IsPartialShape (loose_gaps_in s) s (precondition problem partial.inst) partial.vars) (IsPartialShape (loose_gaps_in s) s (precondition problem full) 0) s.limit shapes listed.few
         (λ shape partly. shape_open full objects shape fills partly) limited.count limited.kept
 
-    module _ (provable : List Atom) (none_provable : (list : GapList) → Contains lists list → (Any (Contains provable) list.gaps → ⊥) ↔ ((atom : Atom) → Contains list.gaps atom → IsProvable s atom → ⊥)) where
-      gap-of : (list : GapList) → Contains lists list → (IsAnsweredIn partial lists (instance_by partial list.objects) → ⊥) → ((atom : Atom) → Contains list.gaps atom → IsProvable s atom → ⊥)
+    module _ (provable : List Atom) (none_provable : (list : GapList) → Contains lists list → (¬ Any (Contains provable) list.gaps) ↔ ((atom : Atom) → Contains list.gaps atom → ¬ IsProvable s atom)) where
+      gap-of : (list : GapList) → Contains lists list → (¬ IsAnsweredIn partial lists (instance_by partial list.objects)) → ((atom : Atom) → Contains list.gaps atom → ¬ IsProvable s atom)
           → (gap : Atom) × HasGap problem (needed_by problem model (instance_by partial list.objects)) gap
       gap-of list has unanswered none =
           let r = listed_gap s (precondition problem partial.inst) partial.vars lists listed.all list has none in
           let inst = instance_by partial list.objects in
-          let gap = first-gap list.gaps (λ empty. unanswered (list, has, (empty, refl))) in
+          let gap = some-item list.gaps (λ empty. unanswered (list, has, (empty, refl))) in
           (gap.0, (λ answer. unanswered (answer-in inst list.objects (list-fills list has) answer), ([], r.0, list_full (gaps_in s) inst list.objects r.0 (list-fills list has) r.1, r.2 gap.0 gap.1)))
-        where
-          first-gap : (gaps : List Atom) → (gaps ≡ [] → ⊥) → (gap : Atom) × Contains gaps gap
-          first-gap [] some = absurd (some refl)
-          first-gap (gap ∷ gaps) some = (gap, Contains-first gap gaps)
 
       -- the instance of a list that closes nothing provable is open
-      open-only : (list : GapList) → Contains lists list → (Any (Contains provable) list.gaps → ⊥) → IsOpen problem (needed_by problem model (instance_by partial list.objects) ∷ [])
+      open-only : (list : GapList) → Contains lists list → (¬ Any (Contains provable) list.gaps) → IsOpen problem (needed_by problem model (instance_by partial list.objects) ∷ [])
       open-only list has none =
           let inst = instance_by partial list.objects in
           open_one problem model inst (elim (answered-or partial lists inst) [
@@ -192,33 +182,23 @@ module _ (problem : Problem) (valid : IsValid problem) (model : List Atom) (part
             (list_of objects ds, r.0, (fills.same, (none_provable (list_of objects ds) r.0).1 r.1))
       ]
         where
-          nothing : (gaps : List Atom) → gaps ≡ [] → Any (Contains provable) gaps → ⊥
+          nothing : (gaps : List Atom) → gaps ≡ [] → ¬ Any (Contains provable) gaps
           nothing [] empty any = omega (arith, any.2)
           nothing (atom ∷ gaps) empty any = absurd (cc)
 
-      module _ (tables : List Table) (wanted : List Atom) (stack : List Entry) (unlimited : (atom : Atom) (shapes : List (List Tick)) → IsClosedIn lists atom → IsLimited s (atom ∷ []) 0 shapes → ⊥) where
+      module _ (tables : List Table) (wanted : List Atom) (stack : List Entry) (unlimited : (atom : Atom) (shapes : List (List Tick)) → IsClosedIn lists atom → ¬ IsLimited s (atom ∷ []) 0 shapes) where
         pub all-gathered : (old new : List OpInst) → ((inst : OpInst) → Contains new inst ↔ (Contains old inst ⊎ (IsOpenIn partial lists provable inst × IsRelevant problem tables wanted stack (Op inst))))
             → Gathers problem tables wanted stack model (StandsFor problem partial) old new
-        all-gathered old new are = record {
-          kept = λ inst there. (are inst).1 (inl there);
-          only = λ inst there. elim ((are inst).0 there) [
-            | inl before ↦ inl before
-            | inr one ↦ inr (record {
-              relevant = one.1;
-              open_entry = subst (λ (i : OpInst). IsOpen problem (needed_by problem model i ∷ [])) one.0.2.0 (open-only one.0.0 one.0.1 one.0.2.1);
-            })
-          ];
-          all = λ inst stands pushable. (are inst).1 (inr (open-all inst stands.0 stands.1 pushable.open_entry, pushable.relevant));
-          unlimited = λ inst stands relevant. unlimited_one problem model inst (λ shapes limited. not-proof-limited inst stands.0 shapes stands.1 limited)
-              (λ formula shapes none met. elim met [
-                | inl whole ↦ not-gap-limited inst stands.0 shapes stands.1 whole.1
-                | inr one ↦
-                    let atom = one.0 in
-                    let ds = one.2.1 in
-                    let listed_one = loose_listed s (precondition problem partial.inst) partial.vars lists listed.all stands.0 ds (list_open (loose_gaps_in s) inst stands.0 one.2.0 ds stands.1 one.2.2) in
-                    unlimited atom shapes (list_of stands.0 ds, listed_one, (list_of-members stands.0 ds atom).1 one.2.3) (subst (λ (l : List Atom). IsLimited s l 0 shapes) one.1 one.3)
-              ]);
-        }
+        all-gathered = gathered-by problem model partial lists provable tables wanted stack open-only open-all (λ inst stands relevant. unlimited_one problem model inst
+            (λ shapes limited. not-proof-limited inst stands.0 shapes stands.1 limited)
+            (λ formula shapes none met. elim met [
+              | inl whole ↦ not-gap-limited inst stands.0 shapes stands.1 whole.1
+              | inr one ↦
+                  let atom = one.0 in
+                  let ds = one.2.1 in
+                  let listed_one = loose_listed s (precondition problem partial.inst) partial.vars lists listed.all stands.0 ds (list_open (loose_gaps_in s) inst stands.0 one.2.0 ds stands.1 one.2.2) in
+                  unlimited atom shapes (list_of stands.0 ds, listed_one, (list_of-members stands.0 ds atom).1 one.2.3) (subst (λ (l : List Atom). IsLimited s l 0 shapes) one.1 one.3)
+            ]))
 
 -- ---- from choices of objects to instances
 

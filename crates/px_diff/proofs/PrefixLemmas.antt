@@ -14,12 +14,13 @@ use Rattle.px_terms.specs.declared.atom.Atom.{Atom}
 use Rattle.px_terms.specs.declared.instance.OpInst.{OpInst}
 use Rattle.px_terms.specs.declared.problem.Problem.{Problem}
 use Rattle.px_terms.specs.declared.term.Term.{Term}
-use Rattle.px_diff.specs.Entries.{HasAnswer, HasGap, IsOpen, Obligation, initial_atoms}
-use Rattle.px_diff.specs.Questions.{AreUnlimited, FindingGaps, MeetsLimit, Proving}
+use Rattle.px_entries.specs.Entries.{initial_atoms}
+use Rattle.px_gaps.specs.Needs.{HasAnswer, HasGap, IsOpen, Obligation}
+use Rattle.px_gaps.specs.Questions.{AreUnlimited, FindingGaps, MeetsLimit, Proving}
 use Rattle.px_diff.specs.RowQuestions.{FitsEach, FitsOne, IsInstanceKnown}
-use Rattle.px_diff.proofs.Describing.{any-of}
-use Rattle.px_diff.proofs.RowTurns.{row_obligations}
+use Rattle.px_entries.proofs.RowTurns.{row_obligations}
 use Rattle.px_diff.proofs.RowLemmas.{answer-fits, finding-unlimited, gap-fits, proving-unlimited}
+use Rattle.px_gaps.proofs.Grows.{any-of}
 
 -- what is needed for a row, from some of the model's atoms
 pub record IsRowOf (table : Table) (sigma : List ℕ) (model : List Atom) (row : ℕ) (needed : Obligation) : Type 0 where
@@ -90,7 +91,7 @@ module _ (problem : Problem) (table : Table) (sigma : List ℕ) (model : List At
 
     pub rows-unlimited : AreUnlimited problem (row_obligations problem table sigma model 1 (take prefix (steps_under table sigma)))
     rows-unlimited question formula shapes asks met =
-        let one = any-of (λ (needed : Obligation). (question ≡ Proving needed) ⊎ ((HasAnswer problem needed → ⊥) × (question ≡ FindingGaps needed))) needs asks in
+        let one = any-of (λ (needed : Obligation). (question ≡ Proving needed) ⊎ ((¬ HasAnswer problem needed) × (question ≡ FindingGaps needed))) needs asks in
         let part = part-row (take prefix (steps_under table sigma)) 1 model all-among set one.0 one.1 in
         let row = row-known part.0 part.1 (omega (arith, part.2, steps_long)) in
         let choices = get_or rows (part.0 - 1) [] in

@@ -1,15 +1,12 @@
 -- What the gap lists of the rest of what a partial instance needs say of the instances that it stands for.
-use Rattle.std.proofs.Common.{◌≡◌, ◌∙◌, ◌⊎◌, ℕ, List, [], ◌∷◌, map, refl, sym, ap, subst, inl, inr}
+use Rattle.std.proofs.Common.{◌∙◌, ◌⊎◌, ℕ, List, [], ◌∷◌, map, refl, sym, ap, subst, inl, inr}
 use Rattle.std.specs.Prelude.{◌↔◌, Any, Contains}
-use Rattle.px_base.specs.ListLaws.{Contains-first, Contains-none}
 use Rattle.px_terms.specs.AtomSets.{IsAtomSet}
 use Rattle.px_terms.specs.Operators.{precondition, schema_of}
-use Rattle.px_terms.specs.Substitution.{substitute_atom}
 use Rattle.px_terms.specs.Validity.{IsValid}
 use Rattle.px_terms.specs.declared.atom.Atom.{Atom}
 use Rattle.px_terms.specs.declared.instance.OpInst.{OpInst}
 use Rattle.px_terms.specs.declared.problem.Problem.{Problem}
-use Rattle.px_terms.specs.declared.term.Term.{Term}
 use Rattle.px_proof.specs.declared.shape.Tick.{Tick}
 use Rattle.px_proof.specs.Derivation.{Derivations}
 use Rattle.px_question.specs.declared.gap_list.GapList.{GapList}
@@ -21,54 +18,28 @@ use Rattle.px_question.specs.Settings.{Setting, loose_gaps_in, proofs_in, settin
 use Rattle.px_table.specs.declared.entry.Entry.{Entry}
 use Rattle.px_table.specs.declared.table.Table.{Table}
 use Rattle.px_table.specs.declared.entry.Entry.TheVariants.{Op}
-use Rattle.px_diff.specs.Bounds.{HasFewShapes}
-use Rattle.px_diff.specs.Closings.{IsClosedIn}
-use Rattle.px_diff.specs.Entries.{HasAnswer, HasGap, IsOpen, Obligation}
+use Rattle.px_gaps.specs.Bounds.{HasFewShapes}
+use Rattle.px_gaps.specs.Closings.{IsClosedIn}
+use Rattle.px_gaps.specs.Needs.{HasAnswer, IsOpen}
 use Rattle.px_diff.specs.Gathering.{Gathers, IsOpenIn, instance_by}
-use Rattle.px_diff.specs.Instances.{Fills, IsPartialInstance, StandsFor}
+use Rattle.px_entries.specs.Instances.{Fills, IsPartialInstance, StandsFor}
 use Rattle.px_diff.specs.Pushes.{IsRelevant}
-use Rattle.px_diff.specs.Rest.{IsRest}
-use Rattle.px_diff.specs.declared.partial.PartialInstance.{PartialInstance}
-use Rattle.px_diff.proofs.FactLemmas.{few-shapes}
-use Rattle.px_diff.proofs.Fewness.{few-gaps, few-proofs}
-use Rattle.px_diff.proofs.GapLists.{answer_listed, gap_listed, list_by, list_of, list_of-members, listed_answer, listed_gap, loose_listed}
-use Rattle.px_diff.proofs.Opening.{answered-or, list_full, list_open, needed_by, one_open, open_one, unlimited_one}
-use Rattle.px_diff.proofs.PartialLemmas.{needs-are}
-use Rattle.px_diff.proofs.RestLaws.{IsFreeGround, list-less, list-more, list-or-none}
-
--- a list has an element, or none
-some-or-none : (atoms : List Atom) → ((atom : Atom) × Contains atoms atom) ⊎ ((atom : Atom) → Contains atoms atom → ⊥)
-some-or-none [] = inr (λ atom has. Contains-none atom has)
-some-or-none (atom ∷ atoms) = inl (atom, Contains-first atom atoms)
+use Rattle.px_entries.specs.Rest.{IsRest}
+use Rattle.px_entries.specs.declared.partial.PartialInstance.{PartialInstance}
+use Rattle.px_gaps.proofs.FactLemmas.{few-shapes}
+use Rattle.px_gaps.proofs.GapLists.{answer_listed, gap_listed, list_of, list_of-members, listed_answer, listed_gap, loose_listed}
+use Rattle.px_diff.proofs.Opening.{answered-or, gathered-by, list_full, list_open}
+use Rattle.px_entries.proofs.OpenNeeds.{needed_by, one_open, open_one, unlimited_one, gaps-open, open-gaps}
+use Rattle.px_entries.proofs.PartialLemmas.{needs-are}
+use Rattle.px_entries.proofs.RestLaws.{IsFreeGround, list-less, list-more, list-or-none}
+use Rattle.px_gaps.proofs.Substituting.{preds-same}
+use Rattle.px_question.proofs.DeterminedLaws.{few_or_limited}
 
 -- proving an atom without variables whose predicate no axiom concludes doesn't meet the limit
-free-unlimited : (problem : Problem) (model : List Atom) → IsValid problem → (atom : Atom) (shapes : List (List Tick)) → IsFreeGround problem atom → IsLimited (setting_of problem model) (atom ∷ []) 0 shapes → ⊥
+free-unlimited : (problem : Problem) (model : List Atom) → IsValid problem → (atom : Atom) (shapes : List (List Tick)) → IsFreeGround problem atom → ¬ IsLimited (setting_of problem model) (atom ∷ []) 0 shapes
 free-unlimited problem model valid atom shapes free limited =
     few_firsts (IsPartialShape (proofs_in (setting_of problem model)) (setting_of problem model) (atom ∷ []) 0) (IsPartialShape (proofs_in (setting_of problem model)) (setting_of problem model) (atom ∷ []) 0)
     problem.shapes shapes (few-shapes (setting_of problem model) atom free.0 valid.shapes.0) (λ shape h. h) limited.count limited.kept
-
--- what is needed has an answer or a gap where it has a list of gap proofs, if it is known whether it has an answer
-pub gaps-open : (problem : Problem) (needed : Obligation) → HasAnswer problem needed ⊎ (¬ HasAnswer problem needed) → (objects : List ℕ) (ds : Derivations)
-    → IsList (gaps_in (setting_of problem needed.facts)) (setting_of problem needed.facts) needed.formula needed.vars objects ds → HasAnswer problem needed ⊎ ((gap : Atom) × HasGap problem needed gap)
-gaps-open problem needed known objects ds list = elim known [
-  | inl answer ↦ inl answer
-  | inr unanswered ↦ elim (some-or-none (all_gaps_of ds)) [
-    | inl some ↦ inr (some.0, (unanswered, (objects, ds, list, some.1)))
-    | inr never ↦
-        let s = setting_of problem needed.facts in
-        inl (objects, ds, list_by s needed.formula needed.vars objects ds (gaps_in s) (proofs_in s) (record { choices = λ t h. h; facts = λ leaf h. h; opens = λ h. h }) (λ atom has h. absurd (never atom has)) list)
-  ]
-]
-
--- and what has an answer or a gap has such a list
-pub open-gaps : (problem : Problem) (needed : Obligation) → HasAnswer problem needed ⊎ ((gap : Atom) × HasGap problem needed gap)
-    → (objects : List ℕ) × (ds : Derivations) × IsList (gaps_in (setting_of problem needed.facts)) (setting_of problem needed.facts) needed.formula needed.vars objects ds
-open-gaps problem needed is_open = elim is_open [
-  | inl answer ↦
-      let s = setting_of problem needed.facts in
-      (answer.0, answer.1, list_by s needed.formula needed.vars answer.0 answer.1 (proofs_in s) (gaps_in s) (record { choices = λ t h. h; facts = λ leaf h. h; opens = λ h. h }) (λ atom has h. absurd h) answer.2)
-  | inr gap ↦ (gap.1.1.0, gap.1.1.1, gap.1.1.2)
-]
 
 -- so it is with what an instance needs
 open-from : (problem : Problem) (model : List Atom) (inst : OpInst) → HasAnswer problem (needed_by problem model inst) ⊎ (¬ HasAnswer problem (needed_by problem model inst))
@@ -84,10 +55,6 @@ pub stands-by : (problem : Problem) (model formula : List Atom) (partial : Parti
     → (list : GapList) → Contains lists list → Fills problem partial (instance_by partial list.objects) list.objects
 stands-by problem model formula partial lists listed list has = let known = ((listed.members list).0 has).0 in record { count = known.1.count; below = known.1.below; same = refl }
 
-pub preds-same : (args : List Term) (atoms : List Atom) → map (λ (atom : Atom). atom.pred) (map (substitute_atom args) atoms) ≡ map (λ (atom : Atom). atom.pred) atoms
-preds-same args [] = refl
-preds-same args (atom ∷ atoms) = ap (λ (l : List ℕ). atom.pred ∷ l) (preds-same args atoms)
-
 module _ (problem : Problem) (valid : IsValid problem) (model : List Atom) (partial : PartialInstance) (form : IsPartialInstance problem partial) (rest : List Atom) (is : IsRest problem (precondition problem partial.inst) rest)
     (lists : List GapList) (listed : AreGapLists (setting_of problem model) rest partial.vars lists) where
   abbrev s : Setting
@@ -97,7 +64,7 @@ module _ (problem : Problem) (valid : IsValid problem) (model : List Atom) (part
   list-stands list has = stands-by problem model rest partial lists listed list has
 
   -- it has an answer or none
-  answered : (full : OpInst) (objects : List ℕ) → Fills problem partial full objects → HasAnswer problem (needed_by problem model full) ⊎ (HasAnswer problem (needed_by problem model full) → ⊥)
+  answered : (full : OpInst) (objects : List ℕ) → Fills problem partial full objects → HasAnswer problem (needed_by problem model full) ⊎ (¬ HasAnswer problem (needed_by problem model full))
   answered full objects fills = elim (answered-or partial lists full) [
     | inl one ↦
         let list = one.0 in
@@ -114,9 +81,9 @@ module _ (problem : Problem) (valid : IsValid problem) (model : List Atom) (part
         never (r.0, r.1, (r.3, ap (instance_by partial) r.2 ∙ fills.same)))
   ]
 
-  module _ (provable : List Atom) (none_provable : (list : GapList) → Contains lists list → (Any (Contains provable) list.gaps → ⊥) ↔ ((atom : Atom) → Contains list.gaps atom → IsProvable s atom → ⊥)) where
+  module _ (provable : List Atom) (none_provable : (list : GapList) → Contains lists list → (¬ Any (Contains provable) list.gaps) ↔ ((atom : Atom) → Contains list.gaps atom → ¬ IsProvable s atom)) where
     -- the instance of a list that closes nothing provable is open
-    open-only : (list : GapList) → Contains lists list → (Any (Contains provable) list.gaps → ⊥) → IsOpen problem (needed_by problem model (instance_by partial list.objects) ∷ [])
+    open-only : (list : GapList) → Contains lists list → (¬ Any (Contains provable) list.gaps) → IsOpen problem (needed_by problem model (instance_by partial list.objects) ∷ [])
     open-only list has none =
         let inst = instance_by partial list.objects in
         let r = listed_gap s rest partial.vars lists listed list has ((none_provable list has).0 none) in
@@ -132,14 +99,14 @@ module _ (problem : Problem) (valid : IsValid problem) (model : List Atom) (part
         (list_of objects less.0, r.0, (fills.same, (none_provable (list_of objects less.0) r.0).1 r.1))
 
     module _ (tables : List Table) (wanted : List Atom) (stack : List Entry) (ascends : IsAtomSet model) (few : HasFewShapes problem (map (λ (atom : Atom). atom.pred) (precondition problem partial.inst)))
-        (unlimited : (atom : Atom) (shapes : List (List Tick)) → IsClosedIn lists atom → IsLimited s (atom ∷ []) 0 shapes → ⊥) where
+        (unlimited : (atom : Atom) (shapes : List (List Tick)) → IsClosedIn lists atom → ¬ IsLimited s (atom ∷ []) 0 shapes) where
       few-of : (full : OpInst) (objects : List ℕ) → Fills problem partial full objects → AreFewGapShapes s (precondition problem full) 0
       few-of full objects fills = few.few model ascends (precondition problem full)
           (preds-same full.args (schema_of problem full).pre ∙ ap (λ (i : OpInst). map (λ (atom : Atom). atom.pred) (schema_of problem i).pre) (sym fills.same) ∙ sym (preds-same partial.inst.args (schema_of problem partial.inst).pre))
 
       -- proving what a gap closes doesn't meet the limit
       gap-unlimited : (full : OpInst) (objects none : List ℕ) → Fills problem partial full objects → (es : Derivations) → IsList (loose_gaps_in s) s (precondition problem full) 0 none es → (atom : Atom) → Contains (all_gaps_of es) atom
-          → (shapes : List (List Tick)) → IsLimited s (atom ∷ []) 0 shapes → ⊥
+          → (shapes : List (List Tick)) → ¬ IsLimited s (atom ∷ []) 0 shapes
       gap-unlimited full objects none fills es list atom has shapes limited =
           let less = list-less problem valid model (precondition problem partial.inst) partial.vars (needs-are problem partial valid form) rest is (loose_gaps_in s) objects es (list_open problem valid model partial form (loose_gaps_in s) full objects none es fills list) in
           elim (less.2 atom has) [
@@ -149,19 +116,9 @@ module _ (problem : Problem) (valid : IsValid problem) (model : List Atom) (part
 
       pub rest-gathered : (old new : List OpInst) → ((inst : OpInst) → Contains new inst ↔ (Contains old inst ⊎ (IsOpenIn partial lists provable inst × IsRelevant problem tables wanted stack (Op inst))))
           → Gathers problem tables wanted stack model (StandsFor problem partial) old new
-      rest-gathered old new are = record {
-        kept = λ inst there. (are inst).1 (inl there);
-        only = λ inst there. elim ((are inst).0 there) [
-          | inl before ↦ inl before
-          | inr one ↦ inr (record {
-            relevant = one.1;
-            open_entry = subst (λ (i : OpInst). IsOpen problem (needed_by problem model i ∷ [])) one.0.2.0 (open-only one.0.0 one.0.1 one.0.2.1);
-          })
-        ];
-        all = λ inst stands pushable. (are inst).1 (inr (open-all inst stands.0 stands.1 pushable.open_entry, pushable.relevant));
-        unlimited = λ inst stands relevant. unlimited_one problem model inst (λ shapes limited. few-proofs s (precondition problem inst) 0 shapes (few-of inst stands.0 stands.1) limited)
-            (λ formula shapes none met. elim met [
-              | inl whole ↦ few-gaps s (precondition problem inst) 0 shapes (few-of inst stands.0 stands.1) whole.1
-              | inr one ↦ gap-unlimited inst stands.0 one.2.0 stands.1 one.2.1 one.2.2 one.0 one.2.3 shapes (subst (λ (l : List Atom). IsLimited s l 0 shapes) one.1 one.3)
-            ]);
-      }
+      rest-gathered = gathered-by problem model partial lists provable tables wanted stack open-only open-all (λ inst stands relevant. unlimited_one problem model inst
+          (λ shapes limited. few_or_limited.proofs_with_gaps s (precondition problem inst) 0 shapes (few-of inst stands.0 stands.1) limited)
+          (λ formula shapes none met. elim met [
+            | inl whole ↦ few_or_limited.gap_proofs s (precondition problem inst) 0 shapes (few-of inst stands.0 stands.1) whole.1
+            | inr one ↦ gap-unlimited inst stands.0 one.2.0 stands.1 one.2.1 one.2.2 one.0 one.2.3 shapes (subst (λ (l : List Atom). IsLimited s l 0 shapes) one.1 one.3)
+          ]))

@@ -1,5 +1,5 @@
 -- What the patterns of a row say of the objects that its lists of loose gap proofs have.
-use Rattle.std.proofs.Common.{◌≡◌, ◌∙◌, ◌<◌, ℕ, zero, suc, Some, List, [], ◌∷◌, length, map, slice_get, get_or, refl, ap, sym, subst, arith}
+use Rattle.std.proofs.Common.{◌≡◌, ◌∙◌, ℕ, zero, suc, Some, List, [], ◌∷◌, length, map, slice_get, get_or, refl, ap, sym, subst, arith}
 use Rattle.std.specs.Prelude.{◌↔◌, ◌==◌, ◌&&◌, All, Contains, filter, slice_index}
 use Rattle.std.proofs.lemmas.List.{length-map}
 use Rattle.std.proofs.lemmas.List.Elements.{All-filter, All-map}
@@ -24,18 +24,19 @@ use Rattle.px_terms.specs.declared.atom.Atom.{Atom}
 use Rattle.px_terms.specs.declared.problem.Problem.{Problem}
 use Rattle.px_terms.specs.declared.term.Term.{Term}
 use Rattle.px_terms.specs.declared.term.Term.TheVariants.{Obj, Var, Any}
-use Rattle.px_diff.specs.Bindings.{Extends, IsBinding, IsPlain, IsSlot}
-use Rattle.px_diff.specs.Closings.{OneOf}
-use Rattle.px_diff.specs.Entries.{initial_atoms}
-use Rattle.px_diff.specs.Forms.{form_by}
-use Rattle.px_diff.specs.Parameters.{Fits}
-use Rattle.px_diff.specs.RowQuestions.{AreInstancesKnown, FitsOne, IsRowAnswer, row_formula}
-use Rattle.px_diff.proofs.Describing.{forms-closed}
-use Rattle.px_diff.proofs.GapLemmas.{closed-are}
-use Rattle.px_diff.proofs.GapLists.{loose_is}
-use Rattle.px_diff.proofs.PartialLemmas.{atom_in}
+use Rattle.px_gaps.specs.Bindings.{Extends, IsBinding, IsPlain}
+use Rattle.px_gaps.specs.Closings.{OneOf}
+use Rattle.px_entries.specs.Entries.{initial_atoms}
+use Rattle.px_gaps.specs.Forms.{form_by}
+use Rattle.px_entries.specs.Parameters.{Fits, row_formula}
+use Rattle.px_diff.specs.RowQuestions.{AreInstancesKnown, FitsOne, IsRowAnswer}
+use Rattle.px_gaps.proofs.Describing.{forms-closed}
+use Rattle.px_gaps.proofs.GapLemmas.{closed-are}
+use Rattle.px_gaps.proofs.GapLists.{loose_is}
+use Rattle.px_gaps.proofs.Substituting.{atom_in}
 use Rattle.px_diff.proofs.RowLemmas.{few-full, list-wide, row-same}
-use Rattle.px_diff.proofs.RowSteps.{marks-variables}
+use Rattle.px_entries.proofs.RowSteps.{marks-variables}
+use Rattle.px_gaps.proofs.Proving.{slot-of}
 
 -- ---- the atoms that patterns close
 
@@ -97,11 +98,6 @@ module _ (s : Setting) (table : Table) (terms : List Term) (binding : IsBinding 
 -- ---- the formula of a row
 
 -- a term that is an object, or the parameter itself, is one of the problem over the parameters
-slot-term : (problem : Problem) (count v : ℕ) (t : Term) → v < count → IsSlot problem.objects v t → IsTermOf problem count t
-slot-term problem count v (Obj n) within slot = slot
-slot-term problem count v (Var w) within slot = subst (λ (k : ℕ). k < count) slot within
-slot-term problem count v Any within slot = absurd slot
-
 module _ (problem : Problem) (table : Table) (terms : List Term) (is_table : IsTable problem table) (long : length terms ≡ table.params) where
   pub row-variables : All (λ (mark : Mark). All (IsVariableBelow (length terms)) mark.atom.args) table.marks
   row-variables =
@@ -110,7 +106,7 @@ module _ (problem : Problem) (table : Table) (terms : List Term) (is_table : IsT
       subst (λ (n : ℕ). All (λ (mark : Mark). All (IsVariableBelow n) mark.atom.args) table.marks) same (marks-variables problem table objects is_table (same ∙ long))
 
   terms-of : IsBinding problem.objects terms → All (IsTermOf problem table.params) terms
-  terms-of binding k d within = slot-term problem table.params k (get_or terms k d) (omega (arith, within, long)) (binding.each k (get_or terms k d) (slice_get-read terms k d within))
+  terms-of binding k d within = slot-of problem table.params k (get_or terms k d) (omega (arith, within, long)) (binding.each k (get_or terms k d) (slice_get-read terms k d within))
 
   pub row-formula-of : IsBinding problem.objects terms → (row : ℕ) → All (IsAtomOf problem table.params) (row_formula table terms row)
   row-formula-of binding row =

@@ -21,12 +21,14 @@ use Rattle.px_question.specs.Settings.{Setting, loose_gaps_in, proofs_in}
 use Rattle.px_table.specs.declared.mark.Mark.{Mark}
 use Rattle.px_table.specs.declared.table.Table.{Table}
 use Rattle.px_table.specs.Kernels.{atom_under}
-use Rattle.px_diff.specs.Bindings.{Extends, IsBinding, IsPlain}
-use Rattle.px_diff.specs.Entries.{initial_atoms}
-use Rattle.px_diff.specs.RowQuestions.{FitsOne, IsInstanceKnown, row_formula}
-use Rattle.px_diff.proofs.Choosing.{atom-under, term-at}
-use Rattle.px_diff.proofs.Fewness.{few-gaps, few-proofs}
-use Rattle.px_diff.proofs.GapLists.{list_by}
+use Rattle.px_gaps.specs.Bindings.{Extends, IsBinding, IsPlain}
+use Rattle.px_entries.specs.Entries.{initial_atoms}
+use Rattle.px_diff.specs.RowQuestions.{FitsOne, IsInstanceKnown}
+use Rattle.px_entries.specs.Parameters.{row_formula}
+use Rattle.px_gaps.proofs.Choosing.{atom-under, term-at}
+use Rattle.px_gaps.proofs.GapLists.{list_by}
+use Rattle.px_question.proofs.DeterminedLaws.{few_or_limited}
+use Rattle.std.proofs.lemmas.List.{nil_from_length}
 
 -- ---- gaps stay where leaves name other places
 
@@ -48,16 +50,12 @@ mutual
 abbrev in_row : ℕ → Mark → Bool
 in_row row mark = (mark.row == row) && (mark.column == 0)
 
-pub no_objects : (objects : List ℕ) → length objects ≡ 0 → objects ≡ []
-no_objects [] count = refl
-no_objects (n ∷ objects) count = absurd (omega (arith, count))
-
 module _ (s : Setting) (vars : ℕ) (wide full : List Atom) (sigma : List ℕ) (count : length sigma ≡ vars) (below : All (λ n. n < s.objects) sigma) (same : literals_of wide sigma ≡ literals_of full []) where
   pub list-wide : (rules : Rules) (nothing : List ℕ) (ds : Derivations) → IsList rules s full 0 nothing ds → IsList rules s wide vars sigma ds
   list-wide rules nothing ds list = record {
     count = count;
     below = below;
-    proved = subst (λ l. ProvesEach rules s.axioms [] l ds) (ap (literals_of full) (no_objects nothing list.count) ∙ sym same) list.proved;
+    proved = subst (λ l. ProvesEach rules s.axioms [] l ds) (ap (literals_of full) (nil_from_length nothing list.count) ∙ sym same) list.proved;
     low = list.low;
   }
 
@@ -99,8 +97,8 @@ module _ (limit : ℕ) (terms : List Term) (binding : IsBinding limit terms) (si
 -- ---- from fewer facts
 
 module _ (s : Setting) (fewer : List Atom) (among : All (Contains s.facts) fewer) (set : IsAtomSet fewer) where
-  atom-unlimited : (atom : Atom) (shapes : List (List Tick)) → AreFewGapShapes s (atom ∷ []) 0 → IsLimited (with_facts s fewer) (atom ∷ []) 0 shapes → ⊥
-  atom-unlimited atom shapes few = few-proofs (with_facts s fewer) (atom ∷ []) 0 shapes (fewer_facts-have_no_more.gap_shapes s fewer (atom ∷ []) 0 among set few)
+  atom-unlimited : (atom : Atom) (shapes : List (List Tick)) → AreFewGapShapes s (atom ∷ []) 0 → ¬ IsLimited (with_facts s fewer) (atom ∷ []) 0 shapes
+  atom-unlimited atom shapes few = few_or_limited.proofs_with_gaps (with_facts s fewer) (atom ∷ []) 0 shapes (fewer_facts-have_no_more.gap_shapes s fewer (atom ∷ []) 0 among set few)
 
   loose-more : (formula : List Atom) (objects : List ℕ) (ds : Derivations) → IsList (loose_gaps_in (with_facts s fewer)) (with_facts s fewer) formula 0 objects ds → IsList (loose_gaps_in s) s formula 0 objects (all_placed_in s.facts ds)
   loose-more formula objects ds list = fewer_facts-have_no_more.gap_proofs s fewer formula 0 objects ds among list
@@ -109,11 +107,11 @@ module _ (s : Setting) (fewer : List Atom) (among : All (Contains s.facts) fewer
     few-here : AreFewGapShapes (with_facts s fewer) (initial_atoms table sigma row) 0
     few-here = fewer_facts-have_no_more.gap_shapes s fewer (initial_atoms table sigma row) 0 among set known.few
 
-    pub proving-unlimited : (shapes : List (List Tick)) → IsLimited (with_facts s fewer) (initial_atoms table sigma row) 0 shapes → ⊥
-    proving-unlimited shapes = few-proofs (with_facts s fewer) (initial_atoms table sigma row) 0 shapes few-here
+    pub proving-unlimited : (shapes : List (List Tick)) → ¬ IsLimited (with_facts s fewer) (initial_atoms table sigma row) 0 shapes
+    proving-unlimited shapes = few_or_limited.proofs_with_gaps (with_facts s fewer) (initial_atoms table sigma row) 0 shapes few-here
 
-    pub finding-unlimited : (kept : List Atom) (shapes : List (List Tick)) → MeetsGapLimit (with_facts s fewer) (initial_atoms table sigma row) 0 kept shapes → ⊥
-    finding-unlimited kept shapes (inl whole) = few-gaps (with_facts s fewer) (initial_atoms table sigma row) 0 shapes few-here whole.1
+    pub finding-unlimited : (kept : List Atom) (shapes : List (List Tick)) → ¬ MeetsGapLimit (with_facts s fewer) (initial_atoms table sigma row) 0 kept shapes
+    finding-unlimited kept shapes (inl whole) = few_or_limited.gap_proofs (with_facts s fewer) (initial_atoms table sigma row) 0 shapes few-here whole.1
     finding-unlimited kept shapes (inr (atom, alone, loose, limited)) =
         let more = loose-more (initial_atoms table sigma row) loose.0 loose.1 loose.2 in
         let closes : Contains (all_gaps_of (all_placed_in s.facts loose.1)) atom = subst (λ (l : List Atom). Contains l atom) (sym (all_placed-gaps s.facts loose.1)) loose.3 in

@@ -8,13 +8,13 @@ use Rattle.px_question.specs.Settings.{Setting}
 use Rattle.px_table.specs.declared.table.Table.{Table}
 use Rattle.px_terms.specs.declared.term.Term.{Term}
 use Rattle.px_terms.specs.declared.term.Term.TheVariants.{Obj, Var}
-use Rattle.px_diff.specs.Bindings.{Extends}
-use Rattle.px_diff.specs.Closings.{OneOf}
-use Rattle.px_diff.specs.Parameters.{Fits}
+use Rattle.px_gaps.specs.Bindings.{Extends}
+use Rattle.px_gaps.specs.Closings.{OneOf}
+use Rattle.px_entries.specs.Parameters.{Fits}
 use Rattle.px_diff.specs.RowQuestions.{AreAskedOf, AreInstancesKnown, AreRowsKnown, FitsOne, IsInstanceKnown, IsRowKnown, Widens}
-use Rattle.px_diff.proofs.Choosing.{bound-extends}
-use Rattle.px_diff.proofs.Loops.{contains_here, level_or_below}
-use Rattle.px_diff.proofs.ParameterLemmas.{extends-fits, pushed-all, pushed-kept, pushed-last}
+use Rattle.px_gaps.proofs.Choosing.{bound-extends}
+use Rattle.px_base.proofs.Loops.{contains_here, level_or_below}
+use Rattle.px_entries.proofs.ParameterLemmas.{extends-fits, pushed-all, pushed-kept, pushed-last}
 
 -- ---- lists of terms that grow
 

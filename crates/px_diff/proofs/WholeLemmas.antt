@@ -17,17 +17,17 @@ use Rattle.px_terms.specs.Operators.{adds}
 use Rattle.px_terms.specs.declared.atom.Atom.{Atom}
 use Rattle.px_terms.specs.declared.instance.OpInst.{OpInst}
 use Rattle.px_terms.specs.declared.problem.Problem.{Problem}
-use Rattle.px_diff.specs.Closings.{OneOf}
-use Rattle.px_diff.specs.Entries.{obligations_of}
+use Rattle.px_gaps.specs.Closings.{OneOf}
+use Rattle.px_entries.specs.Entries.{obligations_of}
 use Rattle.px_diff.specs.Gathering.{Gathers}
-use Rattle.px_diff.specs.Instances.{Covers, IsCovered}
+use Rattle.px_entries.specs.Instances.{Covers, IsCovered}
 use Rattle.px_diff.specs.Macros.{GathersEntries, IsMacroEntry, IsOperatorEntry}
 use Rattle.px_diff.specs.Pushes.{IsPushable, IsRelevant}
-use Rattle.px_diff.specs.Questions.{AreUnlimited}
-use Rattle.px_diff.specs.declared.partial.PartialInstance.{PartialInstance}
-use Rattle.px_diff.proofs.Covering.{Contains-from_mapped}
+use Rattle.px_gaps.specs.Questions.{AreUnlimited}
+use Rattle.px_entries.specs.declared.partial.PartialInstance.{PartialInstance}
 use Rattle.px_diff.proofs.EntryLemmas.{entries_part}
-use Rattle.px_diff.proofs.Ordered.{sorted_members}
+use Rattle.px_gaps.proofs.Ordered.{sorted_members}
+use Rattle.px_table.specs.KernelLaws.{Contains-from_map}
 
 module _ (problem : Problem) (tables : List Table) (wanted : List Atom) (stack : List Entry) (model : List Atom) where
   -- a relevant instance adds a wanted atom
@@ -39,7 +39,7 @@ module _ (problem : Problem) (tables : List Table) (wanted : List Atom) (stack :
   operators_gather matches found covers gathers = record {
     kept = λ entry there. absurd (Contains-none entry there);
     only = λ entry there.
-        let from = Contains-from_mapped Op found entry there in
+        let from = Contains-from_map Op found entry there in
         elim (gathers.only from.0 from.1) [ inl never ↦ absurd (Contains-none from.0 never) | inr p ↦ inr (subst (IsPushable problem tables wanted stack model) from.2 p) ];
     all = λ entry (inst, same) p.
         let here = subst (IsPushable problem tables wanted stack model) (sym same) p in

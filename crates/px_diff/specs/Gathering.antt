@@ -9,11 +9,11 @@ use Rattle.px_table.specs.declared.entry.Entry.{Entry}
 use Rattle.px_table.specs.declared.table.Table.{Table}
 use Rattle.px_table.specs.declared.entry.Entry.TheVariants.{Op}
 use Rattle.px_terms.specs.Substitution.{substitute_instance}
-use Rattle.px_diff.specs.Closings.{OneOf}
-use Rattle.px_diff.specs.Entries.{obligations_of}
+use Rattle.px_gaps.specs.Closings.{OneOf}
+use Rattle.px_entries.specs.Entries.{obligations_of}
 use Rattle.px_diff.specs.Pushes.{IsRelevant, IsPushable}
-use Rattle.px_diff.specs.Questions.{AreUnlimited}
-use Rattle.px_diff.specs.declared.partial.PartialInstance.{PartialInstance}
+use Rattle.px_gaps.specs.Questions.{AreUnlimited}
+use Rattle.px_entries.specs.declared.partial.PartialInstance.{PartialInstance}
 
 -- The new list has what the old one had, and beside that only what may be pushed, among it all of the part. No question about a
 -- relevant instance of the part meets the limit.

@@ -8,14 +8,14 @@ use Rattle.px_terms.specs.Operators.{IsAddable, schema_of}
 use Rattle.px_terms.specs.declared.atom.Atom.{Atom}
 use Rattle.px_terms.specs.declared.instance.OpInst.{OpInst}
 use Rattle.px_terms.specs.declared.problem.Problem.{Problem}
-use Rattle.px_diff.specs.Plain.{AxiomsMentionAddable, IsSettled}
+use Rattle.px_entries.specs.Plain.{AxiomsMentionAddable, IsSettled}
 
 -- the step deletes only atoms whose predicates some operator adds
 abbrev pub DeletesAddable : Problem → OpInst → Type 0
 DeletesAddable problem step = All (IsAddable problem) (schema_of problem step).del
 
 -- no axiom mentions a predicate that some operator adds, and the table's steps delete only atoms of such predicates
-pub record IsToldByFacts (problem : Problem) (table : Table) : Type 0 where
+pub record FactsSuffice (problem : Problem) (table : Table) : Type 0 where
   pub apart : ¬ AxiomsMentionAddable problem
   pub deletes : All (DeletesAddable problem) table.steps
 

@@ -3,19 +3,21 @@ use Rattle.std.specs.Prelude.{◌≡◌, ◌⊎◌, ◌<◌, ◌≤◌, ℕ, Som
 use Rattle.px_table.specs.declared.entry.Entry.{Entry}
 use Rattle.px_table.specs.declared.entry.Entry.TheVariants.{Macro, Op}
 use Rattle.px_table.specs.declared.table.Table.{Table}
+use Rattle.px_terms.specs.Validity.{IsValid}
 use Rattle.px_terms.specs.declared.atom.Atom.{Atom}
 use Rattle.px_terms.specs.declared.instance.OpInst.{OpInst}
 use Rattle.px_terms.specs.declared.problem.Problem.{Problem}
 use Rattle.px_terms.specs.declared.term.Term.{Term}
-use Rattle.px_diff.specs.Bindings.{Extends}
-use Rattle.px_diff.specs.Closings.{OneOf}
-use Rattle.px_diff.specs.Entries.{obligations_of}
-use Rattle.px_diff.specs.MacroOpen.{IsToldByFacts}
-use Rattle.px_diff.specs.Models.{IsNeverLimited}
-use Rattle.px_diff.specs.Parameters.{Fits}
+use Rattle.px_gaps.specs.Bindings.{Extends}
+use Rattle.px_gaps.specs.Closings.{OneOf}
+use Rattle.px_entries.specs.Entries.{obligations_of}
+use Rattle.px_entries.specs.Learned.{AreLearned}
+use Rattle.px_diff.specs.MacroOpen.{FactsSuffice}
+use Rattle.px_entries.specs.Unlimited.{IsNeverLimited}
+use Rattle.px_entries.specs.Parameters.{Fits}
 use Rattle.px_diff.specs.RowQuestions.{FitsEach}
 use Rattle.px_diff.specs.Pushes.{IsPushable, IsRelevant}
-use Rattle.px_diff.specs.Questions.{AreUnlimited}
+use Rattle.px_gaps.specs.Questions.{AreUnlimited}
 use Rattle.px_diff.specs.declared.front.Front.{Front}
 use Rattle.px_diff.specs.declared.request.Request.{Request}
 
@@ -30,7 +32,7 @@ pub record GathersEntries (problem : Problem) (tables : List Table) (wanted : Li
 abbrev pub GathersEntriesFor : Request → (Entry → Type 0) → List Entry → List Entry → Type 0
 GathersEntriesFor request = GathersEntries request.problem.now request.tables.now request.wanted.now request.stack.now request.model.now.atoms
 
--- so many steps of the table of that number, with objects that extend the terms
+-- `prefix` steps of the table of that number, with objects that extend the terms
 abbrev pub IsMacroBy : ℕ → ℕ → ℕ → List Term → Entry → Type 0
 IsMacroBy limit number prefix terms entry = (sigma : List ℕ) × Extends limit terms sigma × (Macro number prefix sigma ≡ entry)
 
@@ -38,7 +40,7 @@ IsMacroBy limit number prefix terms entry = (sigma : List ℕ) × Extends limit 
 abbrev pub IsMacroBefore : ℕ → ℕ → ℕ → List Term → ℕ → ℕ → Entry → Type 0
 IsMacroBefore limit number prefix terms v object entry = (sigma : List ℕ) × Extends limit terms sigma × (slice_index sigma v < object) × (Macro number prefix sigma ≡ entry)
 
--- so many steps of the table of that number, with objects that extend the terms and fit one of the choices of each row
+-- `prefix` steps of the table of that number, with objects that extend the terms and fit one of the choices of each row
 abbrev pub IsMacroFitting : ℕ → ℕ → ℕ → List Term → List (List (List Term)) → Entry → Type 0
 IsMacroFitting limit number prefix terms rows entry = (sigma : List ℕ) × Extends limit terms sigma × FitsEach rows sigma × (Macro number prefix sigma ≡ entry)
 
@@ -50,23 +52,21 @@ IsMacroLimited limit number prefix terms limited entry = OneOf limited (λ (row 
 abbrev pub IsMacroTold : ℕ → ℕ → ℕ → List (List (List Term)) → List (List (List Term)) → List Term → Entry → Type 0
 IsMacroTold limit number prefix rows limited terms entry = IsMacroLimited limit number prefix terms limited entry ⊎ IsMacroFitting limit number prefix terms rows entry
 
--- so many steps with objects that extend the terms, and fit one of these choices and one of the choices of each row
+-- `prefix` steps with objects that extend the terms, and fit one of these choices and one of the choices of each row
 abbrev pub IsMacroAmong : ℕ → ℕ → ℕ → List Term → List (List Term) → List (List (List Term)) → Entry → Type 0
 IsMacroAmong limit number prefix terms choices rows entry =
     (sigma : List ℕ) × Extends limit terms sigma × OneOf choices (λ (choice : List Term). Fits choice sigma) × FitsEach rows sigma × (Macro number prefix sigma ≡ entry)
 
--- two or more of the first steps of the table of that number
-pub record IsFrontOf (tables : List Table) (front : Front) : Type 0 where
-  pub table : slice_get tables front.number ≡ Some front.table.now
+-- two or more of the first steps of the table of that number, which is learned; where it is said that the facts suffice, they do
+pub record IsFront (front : Front) : Type 0 where
+  pub problem : IsValid front.request.problem.now
+  pub tables : AreLearned front.request.problem.now front.request.tables.now
+  pub table : slice_get front.request.tables.now front.number ≡ Some front.table.now
   pub several : 2 ≤ front.count
   pub within : front.count ≤ length front.table.now.steps
+  pub suffice : front.facts_suffice ≡ true → IsNeverLimited front.request.problem.now front.request.tables.now × FactsSuffice front.request.problem.now front.table.now
 
--- they are those of a table of the request; where it is said that the facts tell which of its MACROPs are open, they do
-pub record IsFrontFor (request : Request) (front : Front) : Type 0 where
-  pub of_tables : IsFrontOf request.tables.now front
-  pub told : front.is_told ≡ true → IsNeverLimited request.problem.now request.tables.now × IsToldByFacts request.problem.now front.table.now
-
--- the entry takes so many first steps of the table of that number, with whatever objects
+-- the entry takes `prefix` first steps of the table of that number, with whatever objects
 abbrev pub IsOfFront : ℕ → ℕ → Entry → Type 0
 IsOfFront number prefix entry = (sigma : List ℕ) × (Macro number prefix sigma ≡ entry)
 

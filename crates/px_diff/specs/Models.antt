@@ -1,20 +1,15 @@
 -- What may be pushed in a world model may be pushed in each that has the same deciding facts.
 use Rattle.std.specs.Prelude.{◌↔◌, List}
-use Rattle.px_terms.specs.AtomSets.{IsAtomSet}
 use Rattle.px_terms.specs.Validity.{IsValid}
 use Rattle.px_terms.specs.declared.atom.Atom.{Atom}
 use Rattle.px_terms.specs.declared.problem.Problem.{Problem}
 use Rattle.px_table.specs.declared.entry.Entry.{Entry}
 use Rattle.px_table.specs.declared.table.Table.{Table}
-use Rattle.px_diff.specs.Deciding.{DecideAlike}
-use Rattle.px_diff.specs.Entries.{IsEntry, IsOpen, obligations_of}
-use Rattle.px_diff.specs.Learned.{AreLearned}
+use Rattle.px_entries.specs.Deciding.{DecideAlike}
+use Rattle.px_entries.specs.Entries.{IsEntry, obligations_of}
+use Rattle.px_gaps.specs.Needs.{IsOpen}
+use Rattle.px_entries.specs.Learned.{AreLearned}
 use Rattle.px_diff.specs.Pushes.{IsPushable}
-use Rattle.px_diff.specs.Questions.{AreUnlimited}
-
--- whatever the facts are, no question about an entry meets the limit
-abbrev pub IsNeverLimited : Problem → List Table → Type 0
-IsNeverLimited problem tables = (facts : List Atom) → IsAtomSet facts → (entry : Entry) → IsEntry problem tables entry → AreUnlimited problem (obligations_of problem tables facts entry)
 
 -- what is compared: both sets of facts have the same deciding ones
 pub record AreComparable (problem : Problem) (tables : List Table) (facts others : List Atom) : Type 0 where

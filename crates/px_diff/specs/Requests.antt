@@ -5,10 +5,10 @@ use Rattle.px_terms.specs.declared.instance.OpInst.{OpInst}
 use Rattle.px_proof.specs.declared.shape.Tick.{Tick}
 use Rattle.px_table.specs.declared.entry.Entry.{Entry}
 use Rattle.px_table.specs.declared.entry.Entry.TheVariants.{Op}
-use Rattle.px_diff.specs.Entries.{obligations_of}
+use Rattle.px_entries.specs.Entries.{obligations_of}
 use Rattle.px_diff.specs.Gathering.{Gathers}
-use Rattle.px_diff.specs.Pushes.{IsPushable, IsRelevant}
-use Rattle.px_diff.specs.Questions.{AreBelow, AreUnlimited, LimitsRelevant}
+use Rattle.px_diff.specs.Pushes.{IsPushable, IsRelevant, LimitsRelevant}
+use Rattle.px_gaps.specs.Questions.{AreBelow, AreUnlimited}
 use Rattle.px_diff.specs.declared.request.Request.{Request}
 
 -- the instance is relevant for it

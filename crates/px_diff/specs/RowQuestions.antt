@@ -1,27 +1,23 @@
 -- What questions of gaps tell of a row of a table, where some of its parameters have objects.
-use Rattle.std.specs.Prelude.{◌≡◌, ◌⊎◌, ◌<◌, ◌==◌, ◌&&◌, ◌+◌, ℕ, List, [], ◌∷◌, length, map, filter, get_or, All}
+use Rattle.std.specs.Prelude.{◌≡◌, ◌⊎◌, ◌<◌, ◌≤◌, ◌+◌, ℕ, List, [], ◌∷◌, length, get_or, All}
 use Rattle.px_prover.specs.PatternLists.{lists_of}
 use Rattle.px_prover.specs.Patterns.{AreGapPatterns}
 use Rattle.px_prover.specs.declared.pattern.GapPattern.{GapPattern}
 use Rattle.px_question.specs.Gaps.{IsGapList, IsLooseGap}
 use Rattle.px_question.specs.Limits.{AreFewGapShapes}
 use Rattle.px_question.specs.Settings.{Setting, setting_of}
-use Rattle.px_table.specs.declared.mark.Mark.{Mark}
+use Rattle.px_table.specs.Tables.{IsTable}
 use Rattle.px_table.specs.declared.table.Table.{Table}
 use Rattle.px_terms.specs.AtomSets.{IsAtomSet}
-use Rattle.px_terms.specs.Substitution.{substitute_atom}
+use Rattle.px_terms.specs.Validity.{IsValid}
 use Rattle.px_terms.specs.declared.atom.Atom.{Atom}
 use Rattle.px_terms.specs.declared.problem.Problem.{Problem}
 use Rattle.px_terms.specs.declared.term.Term.{Term}
-use Rattle.px_diff.specs.Closings.{IsClosedIn, OneOf}
-use Rattle.px_diff.specs.Bindings.{AreUnbound, Extends}
-use Rattle.px_diff.specs.Entries.{initial_atoms}
-use Rattle.px_diff.specs.Parameters.{Fits}
+use Rattle.px_gaps.specs.Closings.{IsClosedIn, OneOf}
+use Rattle.px_gaps.specs.Bindings.{AreUnbound, Extends, IsBinding}
+use Rattle.px_entries.specs.Entries.{initial_atoms}
+use Rattle.px_entries.specs.Parameters.{Fits}
 use Rattle.px_diff.specs.declared.row_choices.TableChoices.{TableChoices}
-
--- the atoms of the row's marks that come from the initial model, with these terms for the parameters
-abbrev pub row_formula : Table → List Term → ℕ → List Atom
-row_formula table terms row = map (λ (mark : Mark). substitute_atom terms mark.atom) (filter (λ (mark : Mark). (mark.row == row) && (mark.column == 0)) table.marks)
 
 -- All patterns of the formula, which has fewer unfinished gap proofs than the limit, by their shapes; and so has each atom that they
 -- close.
@@ -29,6 +25,14 @@ pub record IsRowAnswer (s : Setting) (formula : List Atom) (vars : ℕ) (pattern
   pub all : AreGapPatterns s formula vars patterns
   pub few : AreFewGapShapes s formula vars
   pub atoms : (atom : Atom) → IsClosedIn (lists_of s.objects patterns) atom → AreFewGapShapes s (atom ∷ []) 0
+
+-- the table's rows can be asked with these terms for its parameters, which are few enough for a question
+pub record CanAskRows (problem : Problem) (table : Table) (terms : List Term) : Type 0 where
+  pub valid : IsValid problem
+  pub is_table : IsTable problem table
+  pub long : length terms ≡ table.params
+  pub binding : IsBinding problem.objects terms
+  pub few : table.params ≤ 4096
 
 -- the objects fit one of the choices
 abbrev pub FitsOne : List (List Term) → List ℕ → Type 0

@@ -5,10 +5,10 @@ use Rattle.px_terms.specs.declared.problem.Problem.{Problem}
 use Rattle.px_proof.specs.declared.shape.Tick.{Tick}
 use Rattle.px_table.specs.declared.entry.Entry.{Entry}
 use Rattle.px_table.specs.declared.table.Table.{Table}
-use Rattle.px_diff.specs.Entries.{obligations_of}
-use Rattle.px_diff.specs.Known.{LimitsNeeds}
-use Rattle.px_diff.specs.Pushes.{IsRelevant, IsPushable}
-use Rattle.px_diff.specs.Questions.{AreBelow, AreUnlimited, LimitsRelevant}
+use Rattle.px_entries.specs.Entries.{obligations_of}
+use Rattle.px_gaps.specs.Known.{LimitsNeeds}
+use Rattle.px_diff.specs.Pushes.{IsRelevant, IsPushable, LimitsRelevant}
+use Rattle.px_gaps.specs.Questions.{AreBelow, AreUnlimited}
 
 -- no question about an entry that is relevant over the stack meets the limit
 abbrev pub AreUnlimitedOver : Problem → List Table → List Atom → List Atom → List Entry → Type 0

@@ -1,20 +1,19 @@
 //! The first of the instances of operators that may be pushed.
 ghost use Rattle.std.specs.Prelude.{◌↔◌, All, Contains, IfOk, IsTrue, MatchBool};
+ghost use Rattle.std.specs.List.Sorted.{IsStrictlySortedBy};
+ghost use Rattle.px_terms.specs.Order.{instance_cmp};
 ghost use Rattle.px_terms.specs.declared.instance.OpInst.{OpInst as InstanceValue};
 ghost use Rattle.px_terms.specs.Validity.{IsValid};
-ghost use Rattle.px_diff.specs.Bounds.{AreBounds};
-ghost use Rattle.px_diff.specs.Firsts.{BringsFirstInstances, ComeBefore, IsAtMost};
-ghost use Rattle.px_diff.specs.Instances.{IsCovered, IsPartialInstance, StandsFor};
-ghost use Rattle.px_diff.specs.Outcomes.{IfLimit};
+ghost use Rattle.px_gaps.specs.Bounds.{AreBounds};
+ghost use Rattle.px_diff.specs.Firsts.{AreEnough, BringsFirstInstances, ComeBefore, IsAtMost};
+ghost use Rattle.px_entries.specs.Instances.{IsCovered, IsPartialInstance, StandsFor};
+ghost use Rattle.px_gaps.specs.Outcomes.{IfLimit};
 ghost use Rattle.px_diff.specs.Requests.{GathersFor, LimitsFor};
 
-use crate::ask_err::AskErr;
-use crate::asker::Asker;
-use crate::bounds::Bounds;
-use crate::instances::filled;
-use crate::partial::PartialInstance;
 use crate::pushes::gather;
 use crate::request::Request;
+use px_entries::{PartialInstance, filled};
+use px_gaps::{AskErr, Asker, Bounds};
 use px_terms::{OpInst, Problem};
 
 /// The least of the instances that the partial one stands for: object 0 for each variable.
@@ -69,7 +68,8 @@ fn come_before_all(problem: &Problem, insts: &[OpInst], later: &[PartialInstance
 
 /// Puts the instances in order, each once.
 fn order(found: &mut Vec<OpInst>)
-    ensures { (inst : InstanceValue) → Contains found.new.items inst ↔ Contains found.old.items inst }
+    ensures members { (inst : InstanceValue) → Contains found.new.items inst ↔ Contains found.old.items inst }
+    ensures ordered { IsStrictlySortedBy instance_cmp found.new.items }
 {
     found.sort_unstable();
     found.dedup();
@@ -85,6 +85,7 @@ fn can_leave_off(
 ) -> bool
     requires later { All (IsPartialInstance problem.now) later.now }
     ensures members { (inst : InstanceValue) → Contains found.new.items inst ↔ Contains found.old.items inst }
+    ensures enough { IsTrue result → AreEnough instance_cmp enough found.new.items }
     ensures after { IsTrue result → (full : InstanceValue) → IsCovered problem.now later.now full → ComeBefore found.new.items full }
 {
     if found.len() < enough || !come_before_all(problem, found, later) {
@@ -107,7 +108,7 @@ pub fn gather_first(
     requires problem { IsValid request.now.problem.now }
     requires bounds { AreBounds request.now.problem.now request.now.problem.now.height bounds.now.table }
     requires matches { All (IsPartialInstance request.now.problem.now) matches.now }
-    ensures gathers { IfOk result (λ is_all. MatchBool is_all (GathersFor request.now (IsCovered request.now.problem.now matches.now) found.old.items found.new.items) (BringsFirstInstances request.now (IsCovered request.now.problem.now matches.now) found.old.items found.new.items)) }
+    ensures gathers { IfOk result (λ is_all. MatchBool is_all (GathersFor request.now (IsCovered request.now.problem.now matches.now) found.old.items found.new.items) (BringsFirstInstances request.now enough (IsCovered request.now.problem.now matches.now) found.old.items found.new.items)) }
     ensures limited { IfLimit result (LimitsFor request.now) }
 {
     for place in 0..matches.len() {

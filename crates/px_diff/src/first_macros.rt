@@ -1,22 +1,24 @@
 //! The first of the MACROPs that may be pushed, after the instances of operators.
-ghost use Rattle.std.specs.Prelude.{◌<◌, All, IfOk, IsTrue, MatchBool, length};
+ghost use Rattle.std.specs.Prelude.{◌<◌, ◌↔◌, All, Contains, IfOk, IsTrue, MatchBool, length};
+ghost use Rattle.px_table.specs.EntryOrder.{order_of};
+ghost use Rattle.px_table.specs.declared.entry.Entry.{Entry as EntryValue};
 ghost use Rattle.px_terms.specs.Validity.{IsValid};
-ghost use Rattle.px_diff.specs.Firsts.{BringsFirstEntries, IsBeforeFront, IsOfTableFrom};
-ghost use Rattle.px_diff.specs.Learned.{AreLearned};
+ghost use Rattle.px_diff.specs.Firsts.{AreEnough, BringsFirstEntries, IsBeforeFront, IsOfTableFrom};
+ghost use Rattle.px_entries.specs.Learned.{AreLearned};
 ghost use Rattle.px_diff.specs.Macros.{GathersEntriesFor, IsMacroEntry, IsOfTable};
-ghost use Rattle.px_diff.specs.Models.{IsNeverLimited};
-ghost use Rattle.px_diff.specs.Outcomes.{IfLimit};
+ghost use Rattle.px_entries.specs.Unlimited.{IsNeverLimited};
+ghost use Rattle.px_gaps.specs.Outcomes.{IfLimit};
 ghost use Rattle.px_diff.specs.Requests.{LimitsFor};
 
-use crate::ask_err::AskErr;
-use crate::asker::Asker;
 use crate::front::Front;
-use crate::macro_open::is_told_by_facts;
+use crate::macro_open::facts_suffice;
 use crate::macros::{choices_of_table, gather_front};
+use crate::pushes::order;
 use crate::request::Request;
+use px_gaps::{AskErr, Asker};
 use px_table::Entry;
 
-/// Does the entry come before so many first steps of the table of this number, whatever their objects are?
+/// Does the entry come before this many first steps of the table of this number, whatever their objects are?
 fn is_before_front(entry: &Entry, number: u32, count: u32) -> bool
     ensures { IsTrue result → IsBeforeFront number count entry.now }
 {
@@ -30,16 +32,30 @@ fn is_before_front(entry: &Entry, number: u32, count: u32) -> bool
     }
 }
 
-/// Are there enough entries, and do all come before so many first steps of the table of this number?
-fn can_leave_off(found: &[Entry], number: u32, count: u32, enough: usize) -> bool
-    ensures { IsTrue result → All (IsBeforeFront number count) found.now }
+/// Do all entries?
+fn are_before_front(entries: &[Entry], number: u32, count: u32) -> bool
+    ensures { IsTrue result → All (IsBeforeFront number count) entries.now }
 {
-    found.len() >= enough
-        && found
-            .iter()
-            .all(|entry| is_before_front(entry, number, count))
+    entries
+        .iter()
+        .all(|entry| is_before_front(entry, number, count))
 }
 
+/// Are there enough entries, and do all come before this many first steps of the table of this number? They are in order then, each
+/// once.
+fn can_leave_off(found: &mut Vec<Entry>, number: u32, count: u32, enough: usize) -> bool
+    ensures members { (entry : EntryValue) → Contains found.new.items entry ↔ Contains found.old.items entry }
+    ensures enough { IsTrue result → AreEnough order_of enough found.new.items }
+    ensures before { IsTrue result → All (IsBeforeFront number count) found.new.items }
+{
+    if found.len() < enough || !are_before_front(found, number, count) {
+        return false;
+    }
+    order(found);
+    found.len() >= enough && are_before_front(found, number, count)
+}
+
+// Alike: `gather_table` of `macros` goes through the same first steps, and through all of them.
 /// Adds those of the table's entries that may be pushed, by the number of steps. It leaves off where there are enough, and
 /// those of more steps come after them. Does it get to the end?
 fn gather_first_table(
@@ -53,7 +69,7 @@ fn gather_first_table(
     requires tables { AreLearned request.now.problem.now request.now.tables.now }
     requires number { number < length request.now.tables.now }
     requires never { IsNeverLimited request.now.problem.now request.now.tables.now }
-    ensures gathers { IfOk result (λ is_all. MatchBool is_all (GathersEntriesFor request.now (IsOfTable number) found.old.items found.new.items) (BringsFirstEntries request.now (IsOfTableFrom number) found.old.items found.new.items)) }
+    ensures gathers { IfOk result (λ is_all. MatchBool is_all (GathersEntriesFor request.now (IsOfTable number) found.old.items found.new.items) (BringsFirstEntries request.now enough (IsOfTableFrom number) found.old.items found.new.items)) }
     ensures limited { IfLimit result (LimitsFor request.now) }
 {
     if can_leave_off(found, number, 0, enough) {
@@ -62,19 +78,21 @@ fn gather_first_table(
     let table = &request.tables[number as usize];
     let made = choices_of_table(asker, request, table)?;
     let rows = &made;
-    let is_told = is_told_by_facts(request.problem, table);
+    let suffice = facts_suffice(request.problem, table);
     let steps = table.steps.len() as u32;
     for count in 2..steps + 1 {
         if can_leave_off(found, number, count, enough) {
             return Ok(false);
         }
         let front = Front {
+            alloc: asker.alloc,
+            request: *request,
             number,
             table,
             count,
-            is_told,
+            facts_suffice: suffice,
         };
-        gather_front(asker.alloc, found, request, &front, rows)?;
+        gather_front(found, &front, rows)?;
     }
     Ok(true)
 }
@@ -90,7 +108,7 @@ pub fn gather_first_tables(
     requires problem { IsValid request.now.problem.now }
     requires tables { AreLearned request.now.problem.now request.now.tables.now }
     requires never { IsNeverLimited request.now.problem.now request.now.tables.now }
-    ensures gathers { IfOk result (λ is_all. MatchBool is_all (GathersEntriesFor request.now IsMacroEntry found.old.items found.new.items) (BringsFirstEntries request.now IsMacroEntry found.old.items found.new.items)) }
+    ensures gathers { IfOk result (λ is_all. MatchBool is_all (GathersEntriesFor request.now IsMacroEntry found.old.items found.new.items) (BringsFirstEntries request.now enough IsMacroEntry found.old.items found.new.items)) }
     ensures limited { IfLimit result (LimitsFor request.now) }
 {
     for number in 0..request.tables.len() as u32 {

@@ -1,37 +1,34 @@
 //! The first of the entries that may be pushed, where a search has no room for more of them.
-ghost use Rattle.std.specs.Prelude.{◌≡◌, ◌⊎◌, [], All, Contains, IfOk, IsTrue, MatchBool};
+ghost use Rattle.std.specs.Prelude.{◌≡◌, ◌≤◌, ◌⊎◌, [], false, length, All, Contains, IfOk, IsTrue, MatchBool};
 ghost use Rattle.std.specs.List.Sorted.{IsStrictlySortedBy};
 ghost use Rattle.std.specs.declared.cmp.Ordering.TheVariants.{Less};
 ghost use Rattle.px_table.specs.declared.entry.Entry.{Entry as EntryValue};
 ghost use Rattle.px_table.specs.EntryOrder.{order_of};
-ghost use Rattle.px_terms.specs.AtomSets.{IsAtomSet};
 ghost use Rattle.px_terms.specs.Operators.{adds};
 ghost use Rattle.px_terms.specs.Validity.{IsValid};
-ghost use Rattle.px_diff.specs.Closings.{OneOf};
-ghost use Rattle.px_diff.specs.Learned.{AreLearned};
-ghost use Rattle.px_diff.specs.Models.{IsNeverLimited};
+ghost use Rattle.px_gaps.specs.Closings.{OneOf};
+ghost use Rattle.px_entries.specs.Learned.{AreLearned};
+ghost use Rattle.px_entries.specs.Unlimited.{IsNeverLimited};
 ghost use Rattle.px_diff.specs.Pushes.{IsPushable};
 ghost use Rattle.px_diff.specs.Firsts.{AreFirst, BringsFirstEntries};
-ghost use Rattle.px_diff.specs.Instances.{Covers};
+ghost use Rattle.px_entries.specs.Instances.{Covers};
 ghost use Rattle.px_diff.specs.Macros.{GathersEntriesFor, IsOperatorEntry};
-ghost use Rattle.px_diff.specs.Outcomes.{IfLimit};
+ghost use Rattle.px_gaps.specs.Outcomes.{IfLimit};
 ghost use Rattle.px_diff.specs.Requests.{LimitsFor};
 
-use crate::ask_err::AskErr;
-use crate::asker::Asker;
-use crate::bounds::Bounds;
 use crate::first::First;
 use crate::first_instances::gather_first;
 use crate::first_macros::gather_first_tables;
-use crate::matching::matches_of;
-use crate::partial::PartialInstance;
-use crate::pushes::{entries_of, ordered};
+use crate::pushes::{entries_of, order};
 use crate::request::Request;
+use px_entries::{PartialInstance, matches_of};
+use px_gaps::{AskErr, Asker, Bounds};
 use px_ops::Model;
 use px_table::{Entry, Table};
 use px_terms::{Atom, NoMemory, Problem};
 use std::alloc::Global;
 
+// Alike: `matches_of` of px_entries, whose promise it repeats; these are in order.
 /// The matches of what the operators add with the wanted atoms, in order.
 fn ordered_matches(
     alloc: Global,
@@ -46,11 +43,11 @@ fn ordered_matches(
     Ok(matches)
 }
 
-/// The entries of operators that may be pushed for the request. Where it isn't said that they are all, all others that may be pushed
-/// come after them.
+/// The entries of operators that may be pushed for the request. Where it isn't said that they are all, there are enough of them, and all
+/// others that may be pushed come after them.
 fn first_operators(asker: &mut Asker, request: &Request, enough: usize) -> Result<First, AskErr>
     requires problem { IsValid request.now.problem.now }
-    ensures gathers { IfOk result (λ first. MatchBool first.is_all (GathersEntriesFor request.now IsOperatorEntry [] first.entries.items) (BringsFirstEntries request.now (λ entry. Unit {0}) [] first.entries.items)) }
+    ensures gathers { IfOk result (λ first. MatchBool first.is_all (GathersEntriesFor request.now IsOperatorEntry [] first.entries.items) (BringsFirstEntries request.now enough (λ entry. Unit {0}) [] first.entries.items)) }
     ensures limited { IfLimit result (LimitsFor request.now) }
 {
     let matches = ordered_matches(asker.alloc, request.problem, request.wanted)?;
@@ -61,12 +58,13 @@ fn first_operators(asker: &mut Asker, request: &Request, enough: usize) -> Resul
     Ok(First { entries, is_all })
 }
 
-/// The first of the entries that may be pushed for the request, in whatever order.
-fn first_found(asker: &mut Asker, request: &Request, enough: usize) -> Result<First, AskErr>
+/// The first of the entries that may be pushed for the request.
+fn first_for(asker: &mut Asker, request: &Request, enough: usize) -> Result<First, AskErr>
     requires problem { IsValid request.now.problem.now }
     requires tables { AreLearned request.now.problem.now request.now.tables.now }
     requires never { IsNeverLimited request.now.problem.now request.now.tables.now }
-    ensures first { IfOk result (λ first. AreFirst request.now first.is_all first.entries.items) }
+    ensures first { IfOk result (λ first. AreFirst request.now enough first.is_all first.entries.items) }
+    ensures order { IfOk result (λ first. IsStrictlySortedBy order_of first.entries.items) }
     ensures limited { IfLimit result (LimitsFor request.now) }
 {
     let first = first_operators(asker, request, enough)?;
@@ -75,30 +73,18 @@ fn first_found(asker: &mut Asker, request: &Request, enough: usize) -> Result<Fi
     }
     let mut entries = first.entries;
     let is_all = gather_first_tables(asker, &mut entries, request, enough)?;
+    if !is_all {
+        return Ok(First { entries, is_all });
+    }
+    order(&mut entries);
     Ok(First { entries, is_all })
 }
 
-/// The first of the entries that may be pushed for the request.
-fn first_for(asker: &mut Asker, request: &Request, enough: usize) -> Result<First, AskErr>
-    requires problem { IsValid request.now.problem.now }
-    requires tables { AreLearned request.now.problem.now request.now.tables.now }
-    requires never { IsNeverLimited request.now.problem.now request.now.tables.now }
-    ensures first { IfOk result (λ first. AreFirst request.now first.is_all first.entries.items) }
-    ensures order { IfOk result (λ first. IsStrictlySortedBy order_of first.entries.items) }
-    ensures limited { IfLimit result (LimitsFor request.now) }
-{
-    let found = first_found(asker, request, enough)?;
-    Ok(First {
-        entries: ordered(found.entries),
-        is_all: found.is_all,
-    })
-}
-
-/// The first of the entries that [`relevant`](crate::relevant) answers for an empty stack, where no question about an entry is ever
-/// limited: all that may be pushed, or some of them, and each other one comes after these. It may leave off once it has `enough`.
+/// Returns the first of the entries that [`relevant`](crate::relevant) answers for an empty stack, where no question about an entry is ever
+/// limited: all that may be pushed, or at least `enough` of them, and each other one comes after these.
 ///
 /// # Errors
-/// `NoMemory` where there is none.
+/// `NoMemory` if there isn't enough memory.
 pub fn relevant_first(
     alloc: Global,
     problem: &Problem,
@@ -109,13 +95,14 @@ pub fn relevant_first(
 ) -> Result<First, NoMemory>
     requires problem { IsValid problem.now }
     requires tables { AreLearned problem.now tables.now }
-    requires model { IsAtomSet model.now.atoms }
     requires never { IsNeverLimited problem.now tables.now }
     ensures sound { IfOk result (λ first. (entry : EntryValue) → Contains first.entries.items entry → IsPushable problem.now tables.now wanted.now [] model.now.atoms entry) }
     ensures order { IfOk result (λ first. IsStrictlySortedBy order_of first.entries.items) }
     ensures all { IfOk result (λ first. IsTrue first.is_all → (entry : EntryValue) → IsPushable problem.now tables.now wanted.now [] model.now.atoms entry → Contains first.entries.items entry) }
+    ensures enough { IfOk result (λ first. first.is_all ≡ false → enough ≤ length first.entries.items) }
     ensures others { IfOk result (λ first. (entry : EntryValue) → IsPushable problem.now tables.now wanted.now [] model.now.atoms entry → Contains first.entries.items entry ⊎ All (λ kept. order_of kept entry ≡ Less) first.entries.items) }
 {
+    let _facts = model.atoms();
     let mut asker = Asker::new(alloc);
     let request = Request {
         problem,

@@ -2,7 +2,7 @@
 ghost use Rattle.std.specs.Prelude.{◌≡◌, ◌<◌, ◌++◌, ◌+◌, List, length, take, drop, All, IfSome, IfOk};
 ghost use Rattle.px_terms.specs.declared.term.Term.{Term as TermValue};
 
-use crate::parameters::can_fit;
+use px_entries::can_fit;
 use px_terms::{NoMemory, Sequence, Term};
 use std::alloc::Global;
 
@@ -22,31 +22,11 @@ fn count_fitting(objects: u32, terms: &[Term], choices: &[Sequence<Term>], most:
     count
 }
 
-/// Fewer choices than so many are few.
+/// Fewer choices than this are few.
 const FEW: usize = 5;
 
-/// The place of the first row of which few choices can fit the terms, among the rows of these numbers.
-fn with_few(
-    objects: u32,
-    terms: &[Term],
-    rows: &[Sequence<Sequence<Term>>],
-    numbers: &[usize],
-) -> Option<usize>
-    requires long { All (All (λ (choice : List TermValue). length choice ≡ length terms.now)) rows.now }
-    requires numbers { All (λ number. number < length rows.now) numbers.now }
-    ensures { IfSome result (λ place. place < length numbers.now) }
-{
-    for place in 0..numbers.len() {
-        let row = rows[numbers[place]].as_slice();
-        if count_fitting(objects, terms, row, FEW) < FEW {
-            return Some(place);
-        }
-    }
-    None
-}
-
-/// The place of a row with few choices that can fit the terms, or else with the fewest, among the rows of these numbers. None where there
-/// is no number.
+/// The place of the first row with few choices that can fit the terms, or else of one with the fewest, among the rows of these numbers.
+/// None where there is no number.
 pub fn fewest(
     objects: u32,
     terms: &[Term],
@@ -60,8 +40,11 @@ pub fn fewest(
     if numbers.is_empty() {
         return None;
     }
-    if let Some(place) = with_few(objects, terms, rows, numbers) {
-        return Some(place);
+    for first in 0..numbers.len() {
+        let row = rows[numbers[first]].as_slice();
+        if count_fitting(objects, terms, row, FEW) < FEW {
+            return Some(first);
+        }
     }
     let mut least = 0;
     let mut count = usize::MAX;

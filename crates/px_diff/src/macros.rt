@@ -1,44 +1,41 @@
 //! MACROPs that may be pushed: the first steps of learned tables (Fikes, Hart and Nilsson 1972).
-ghost use Rattle.std.specs.Prelude.{◌≡◌, ◌↔◌, ◌<◌, ℕ, Some, true, List, length, slice_get, All, IsTrue, IfSome, IfOk, OnOk};
+ghost use Rattle.std.specs.Prelude.{◌≡◌, ◌↔◌, ◌<◌, List, length, All, IsTrue, IfSome, IfOk, OnOk};
 ghost use Rattle.px_table.specs.declared.entry.Entry.TheVariants.{Macro};
 ghost use Rattle.px_table.specs.Prefixes.{IsMacro};
-ghost use Rattle.px_table.specs.Tables.{IsTable};
+ghost use Rattle.px_table.specs.Tables.{IsTable, IsStepOf};
 ghost use Rattle.px_terms.specs.Validity.{IsValid};
 ghost use Rattle.px_terms.specs.declared.term.Term.{Term as TermValue};
-ghost use Rattle.px_diff.specs.Bindings.{IsBinding};
-ghost use Rattle.px_diff.specs.Closings.{OneOf};
-ghost use Rattle.px_diff.specs.Learned.{AreLearned};
-ghost use Rattle.px_diff.specs.Macros.{GathersEntriesFor, IsFrontFor, IsMacroBy, IsMacroEntry, IsMacroFitting, IsMacroLimited, IsMacroTold, IsOfFront, IsOfTable};
-ghost use Rattle.px_diff.specs.Parameters.{IsMatch};
-ghost use Rattle.px_diff.specs.Outcomes.{IfLimit};
+ghost use Rattle.px_gaps.specs.Bindings.{IsBinding};
+ghost use Rattle.px_gaps.specs.Closings.{OneOf};
+ghost use Rattle.px_entries.specs.Learned.{AreLearned};
+ghost use Rattle.px_diff.specs.Macros.{GathersEntriesFor, IsFront, IsMacroBy, IsMacroEntry, IsMacroFitting, IsMacroTold, IsOfFront, IsOfTable};
+ghost use Rattle.px_entries.specs.Parameters.{IsMatch};
+ghost use Rattle.px_gaps.specs.Outcomes.{IfLimit};
 ghost use Rattle.px_diff.specs.Requests.{IsRelevantEntryFor, LimitsFor};
 ghost use Rattle.px_diff.specs.RowQuestions.{AreTableChoices};
 
-use crate::ask_err::AskErr;
-use crate::asker::Asker;
-use crate::bindings::{bound, unbound};
-use crate::entry_rows::known_entry;
 use crate::fitting::{fewest, numbers_below, without_place};
 use crate::front::Front;
-use crate::known::Known;
-use crate::macro_matching::{macro_matches, one_matches};
-use crate::macro_open::is_open_by_facts;
-use crate::macro_steps::{add_wanted, steps_with};
-use crate::parameters::{first_terms, first_unbound, merged, objects_of};
+use crate::macro_open::are_settled_marks;
 use crate::relevance::is_stacked;
 use crate::request::Request;
 use crate::row_choices::TableChoices;
 use crate::row_questions::choices_of_rows;
 use px_base::push;
+use px_entries::{
+    add_wanted, first_terms, first_unbound, known_entry, macro_matches, merged, objects_of,
+    steps_with,
+};
+use px_gaps::{AskErr, Asker, Known, bound, unbound};
 use px_table::{Entry, Table, is_macro};
-use px_terms::{NoMemory, Sequence, Term};
+use px_terms::{Atom, NoMemory, OpInst, Problem, Sequence, Term};
 use std::alloc::Global;
 
 /// The entry of the first steps with these objects.
-fn entry_of(alloc: Global, front: &Front, sigma: &[u32]) -> Result<Entry, NoMemory>
+fn entry_of(front: &Front, sigma: &[u32]) -> Result<Entry, NoMemory>
     ensures { IfOk result (λ entry. entry ≡ Macro front.now.number front.now.count sigma.now) }
 {
-    let sigma = Sequence::from_slice(alloc, sigma)?;
+    let sigma = Sequence::from_slice(front.alloc, sigma)?;
     Ok(Entry::Macro {
         number: front.number,
         prefix: front.count,
@@ -47,46 +44,32 @@ fn entry_of(alloc: Global, front: &Front, sigma: &[u32]) -> Result<Entry, NoMemo
 }
 
 /// Is the entry of the first steps relevant: not on the stack, and adding one of the wanted atoms?
-fn is_relevant_macro(
-    alloc: Global,
-    request: &Request,
-    front: &Front,
-    sigma: &[u32],
-    entry: &Entry,
-) -> Result<bool, NoMemory>
-    requires problem { IsValid request.now.problem.now }
-    requires tables { AreLearned request.now.problem.now request.now.tables.now }
-    requires front { IsFrontFor request.now front.now }
-    requires sigma { IsMacro request.now.problem.now front.now.table.now front.now.count sigma.now }
+fn is_relevant_macro(front: &Front, sigma: &[u32], entry: &Entry) -> Result<bool, NoMemory>
+    requires front { IsFront front.now }
+    requires sigma { IsMacro front.now.request.problem.now front.now.table.now front.now.count sigma.now }
     requires entry { entry.now ≡ Macro front.now.number front.now.count sigma.now }
-    ensures { IfOk result (λ yes'. IsTrue yes' ↔ IsRelevantEntryFor request.now entry.now) }
+    ensures { IfOk result (λ yes'. IsTrue yes' ↔ IsRelevantEntryFor front.now.request entry.now) }
 {
-    if is_stacked(request.stack, entry) {
+    if is_stacked(front.request.stack, entry) {
         return Ok(false);
     }
-    let steps = steps_with(alloc, front.table, front.count, sigma)?;
-    Ok(add_wanted(request.problem, &steps, request.wanted))
+    let steps = steps_with(front.alloc, front.table, front.count, sigma)?;
+    Ok(add_wanted(front.request.problem, &steps, front.request.wanted))
 }
 
-/// Adds the relevant entry where it may be pushed.
-fn keep_known(
-    alloc: Global,
-    found: &mut Vec<Entry>,
-    request: &Request,
-    entry: Entry,
-) -> Result<(), AskErr>
-    requires problem { IsValid request.now.problem.now }
-    requires tables { AreLearned request.now.problem.now request.now.tables.now }
-    requires relevant { IsRelevantEntryFor request.now entry }
-    ensures gathers { OnOk result (GathersEntriesFor request.now (λ other. entry ≡ other) found.old.items found.new.items) }
-    ensures limited { IfLimit result (LimitsFor request.now) }
+/// Adds the relevant entry where it may be pushed, as questions about it tell.
+fn keep_known(found: &mut Vec<Entry>, front: &Front, entry: Entry) -> Result<(), AskErr>
+    requires front { IsFront front.now }
+    requires relevant { IsRelevantEntryFor front.now.request entry }
+    ensures gathers { OnOk result (GathersEntriesFor front.now.request (λ other. entry ≡ other) found.old.items found.new.items) }
+    ensures limited { IfLimit result (LimitsFor front.now.request) }
 {
     match known_entry(
-        alloc,
-        request.problem,
-        request.tables,
+        front.alloc,
+        front.request.problem,
+        front.request.tables,
         &entry,
-        request.model,
+        front.request.model,
     ) {
         Ok(Known::Applicable) => {
             push(found, entry)?;
@@ -102,95 +85,69 @@ fn keep_known(
     }
 }
 
-/// Adds the relevant entry of the first steps with these objects where it may be pushed, as the facts tell.
-fn keep_told_by_facts(
-    alloc: Global,
+/// Adds the relevant entry of the first steps with these objects where it may be pushed, as the facts tell, where they suffice.
+fn keep_relevant(
     found: &mut Vec<Entry>,
-    request: &Request,
     front: &Front,
     sigma: &[u32],
     entry: Entry,
 ) -> Result<(), AskErr>
-    requires problem { IsValid request.now.problem.now }
-    requires tables { AreLearned request.now.problem.now request.now.tables.now }
-    requires front { IsFrontFor request.now front.now }
-    requires told { front.now.is_told ≡ true }
-    requires sigma { IsMacro request.now.problem.now front.now.table.now front.now.count sigma.now }
+    requires front { IsFront front.now }
+    requires sigma { IsMacro front.now.request.problem.now front.now.table.now front.now.count sigma.now }
     requires entry { entry ≡ Macro front.now.number front.now.count sigma.now }
-    requires relevant { IsRelevantEntryFor request.now entry }
-    ensures gathers { OnOk result (GathersEntriesFor request.now (λ other. entry ≡ other) found.old.items found.new.items) }
-    ensures limited { IfLimit result (LimitsFor request.now) }
+    requires relevant { IsRelevantEntryFor front.now.request entry }
+    ensures gathers { OnOk result (GathersEntriesFor front.now.request (λ other. entry ≡ other) found.old.items found.new.items) }
+    ensures limited { IfLimit result (LimitsFor front.now.request) }
 {
-    let _facts = request.model.atoms();
-    let is_open = is_open_by_facts(
-        alloc,
-        request.problem,
-        request.tables,
-        front,
-        sigma,
-        request.model,
-    )?;
-    if !is_open {
-        return Ok(());
+    if !front.facts_suffice {
+        return keep_known(found, front, entry);
     }
-    push(found, entry)?;
-    Ok(())
+    let _facts = front.request.model.atoms();
+    match are_settled_marks(front, sigma)? {
+        Some(true) => {
+            push(found, entry)?;
+            Ok(())
+        }
+        Some(false) => Ok(()),
+        None => keep_known(found, front, entry),
+    }
 }
 
 /// Adds the entry of the first steps with these objects where it is one that may be pushed.
-fn keep_open(
-    alloc: Global,
-    found: &mut Vec<Entry>,
-    request: &Request,
-    front: &Front,
-    sigma: &[u32],
-) -> Result<(), AskErr>
-    requires problem { IsValid request.now.problem.now }
-    requires tables { AreLearned request.now.problem.now request.now.tables.now }
-    requires front { IsFrontFor request.now front.now }
-    ensures gathers { OnOk result (GathersEntriesFor request.now (λ other. Macro front.now.number front.now.count sigma.now ≡ other) found.old.items found.new.items) }
-    ensures limited { IfLimit result (LimitsFor request.now) }
+fn keep_open(found: &mut Vec<Entry>, front: &Front, sigma: &[u32]) -> Result<(), AskErr>
+    requires front { IsFront front.now }
+    ensures gathers { OnOk result (GathersEntriesFor front.now.request (λ other. Macro front.now.number front.now.count sigma.now ≡ other) found.old.items found.new.items) }
+    ensures limited { IfLimit result (LimitsFor front.now.request) }
 {
-    let is_one = is_macro(request.problem, front.table, front.count, sigma);
+    let is_one = is_macro(front.request.problem, front.table, front.count, sigma);
     if !is_one {
         return Ok(());
     }
-    let entry = entry_of(alloc, front, sigma)?;
-    if !is_relevant_macro(alloc, request, front, sigma, &entry)? {
+    let entry = entry_of(front, sigma)?;
+    if !is_relevant_macro(front, sigma, &entry)? {
         return Ok(());
     }
-    if front.is_told {
-        return keep_told_by_facts(alloc, found, request, front, sigma, entry);
-    }
-    keep_known(alloc, found, request, entry)
+    keep_relevant(found, front, sigma, entry)
 }
 
 /// Adds those of the entries of the first steps, with the objects that are chosen, that may be pushed. Each call of itself has a
 /// parameter without object less.
-fn keep_all(
-    alloc: Global,
-    found: &mut Vec<Entry>,
-    request: &Request,
-    front: &Front,
-    terms: &[Term],
-) -> Result<(), AskErr>
-    requires problem { IsValid request.now.problem.now }
-    requires tables { AreLearned request.now.problem.now request.now.tables.now }
-    requires front { IsFrontFor request.now front.now }
-    requires binding { IsBinding request.now.problem.now.objects terms.now }
-    ensures gathers { OnOk result (GathersEntriesFor request.now (IsMacroBy request.now.problem.now.objects front.now.number front.now.count terms.now) found.old.items found.new.items) }
-    ensures limited { IfLimit result (LimitsFor request.now) }
+fn keep_all(found: &mut Vec<Entry>, front: &Front, terms: &[Term]) -> Result<(), AskErr>
+    requires front { IsFront front.now }
+    requires binding { IsBinding front.now.request.problem.now.objects terms.now }
+    ensures gathers { OnOk result (GathersEntriesFor front.now.request (IsMacroBy front.now.request.problem.now.objects front.now.number front.now.count terms.now) found.old.items found.new.items) }
+    ensures limited { IfLimit result (LimitsFor front.now.request) }
 {
     let parameter = match first_unbound(terms) {
         Some(parameter) => parameter,
         None => {
-            let sigma = objects_of(alloc, terms)?;
-            return keep_open(alloc, found, request, front, sigma.as_slice());
+            let sigma = objects_of(front.alloc, terms)?;
+            return keep_open(found, front, sigma.as_slice());
         }
     };
-    for object in 0..request.problem.objects {
-        let next = bound(alloc, terms, parameter, object)?;
-        keep_all(alloc, found, request, front, &next)?;
+    for object in 0..front.request.problem.objects {
+        let next = bound(front.alloc, terms, parameter, object)?;
+        keep_all(found, front, &next)?;
     }
     Ok(())
 }
@@ -198,33 +155,29 @@ fn keep_all(
 /// Adds those whose objects fit one of the choices of each row. Each call of itself chooses from one of the rows of these numbers,
 /// and has a number less. It takes a row of which few choices fit the terms.
 fn keep_by_rows(
-    alloc: Global,
     found: &mut Vec<Entry>,
-    request: &Request,
     front: &Front,
     terms: &[Term],
     rows: &[Sequence<Sequence<Term>>],
     numbers: &[usize],
 ) -> Result<(), AskErr>
-    requires problem { IsValid request.now.problem.now }
-    requires tables { AreLearned request.now.problem.now request.now.tables.now }
-    requires front { IsFrontFor request.now front.now }
-    requires binding { IsBinding request.now.problem.now.objects terms.now }
+    requires front { IsFront front.now }
+    requires binding { IsBinding front.now.request.problem.now.objects terms.now }
     requires rows { All (All (λ (choice : List TermValue). length choice ≡ length terms.now)) rows.now }
     requires numbers { All (λ number. number < length rows.now) numbers.now }
-    ensures gathers { OnOk result (GathersEntriesFor request.now (IsMacroFitting request.now.problem.now.objects front.now.number front.now.count terms.now rows.now) found.old.items found.new.items) }
-    ensures limited { IfLimit result (LimitsFor request.now) }
+    ensures gathers { OnOk result (GathersEntriesFor front.now.request (IsMacroFitting front.now.request.problem.now.objects front.now.number front.now.count terms.now rows.now) found.old.items found.new.items) }
+    ensures limited { IfLimit result (LimitsFor front.now.request) }
 {
-    let limit = request.problem.objects;
+    let limit = front.request.problem.objects;
     let place = match fewest(limit, terms, rows, numbers) {
         Some(place) => place,
-        None => return keep_all(alloc, found, request, front, terms),
+        None => return keep_all(found, front, terms),
     };
-    let others = without_place(alloc, numbers, place)?;
+    let others = without_place(front.alloc, numbers, place)?;
     let choices = rows[numbers[place]].as_slice();
     for choice in choices {
-        match merged(alloc, limit, terms, choice.as_slice())? {
-            Some(next) => keep_by_rows(alloc, found, request, front, &next, rows, &others)?,
+        match merged(front.alloc, limit, terms, choice.as_slice())? {
+            Some(next) => keep_by_rows(found, front, &next, rows, &others)?,
             None => {}
         }
     }
@@ -233,72 +186,34 @@ fn keep_by_rows(
 
 /// Adds those whose objects fit one of the choices of each row.
 fn keep_fitting(
-    alloc: Global,
     found: &mut Vec<Entry>,
-    request: &Request,
     front: &Front,
     terms: &[Term],
     rows: &[Sequence<Sequence<Term>>],
 ) -> Result<(), AskErr>
-    requires problem { IsValid request.now.problem.now }
-    requires tables { AreLearned request.now.problem.now request.now.tables.now }
-    requires front { IsFrontFor request.now front.now }
-    requires binding { IsBinding request.now.problem.now.objects terms.now }
+    requires front { IsFront front.now }
+    requires binding { IsBinding front.now.request.problem.now.objects terms.now }
     requires rows { All (All (λ (choice : List TermValue). length choice ≡ length terms.now)) rows.now }
-    ensures gathers { OnOk result (GathersEntriesFor request.now (IsMacroFitting request.now.problem.now.objects front.now.number front.now.count terms.now rows.now) found.old.items found.new.items) }
-    ensures limited { IfLimit result (LimitsFor request.now) }
+    ensures gathers { OnOk result (GathersEntriesFor front.now.request (IsMacroFitting front.now.request.problem.now.objects front.now.number front.now.count terms.now rows.now) found.old.items found.new.items) }
+    ensures limited { IfLimit result (LimitsFor front.now.request) }
 {
-    let numbers = numbers_below(alloc, rows.len())?;
-    keep_by_rows(alloc, found, request, front, terms, rows, &numbers)
+    let numbers = numbers_below(front.alloc, rows.len())?;
+    keep_by_rows(found, front, terms, rows, &numbers)
 }
 
 /// Adds all entries that the matches stand for and that may be pushed, each tried by itself.
 fn keep_listed(
-    alloc: Global,
     found: &mut Vec<Entry>,
-    request: &Request,
     front: &Front,
     matches: &[Sequence<Term>],
 ) -> Result<(), AskErr>
-    requires problem { IsValid request.now.problem.now }
-    requires tables { AreLearned request.now.problem.now request.now.tables.now }
-    requires front { IsFrontFor request.now front.now }
-    requires matches { All (IsMatch request.now.problem.now.objects front.now.table.now.params) matches.now }
-    ensures gathers { OnOk result (GathersEntriesFor request.now (λ entry. OneOf matches.now (λ (terms : List TermValue). IsMacroBy request.now.problem.now.objects front.now.number front.now.count terms entry)) found.old.items found.new.items) }
-    ensures limited { IfLimit result (LimitsFor request.now) }
+    requires front { IsFront front.now }
+    requires matches { All (IsMatch front.now.request.problem.now.objects front.now.table.now.params) matches.now }
+    ensures gathers { OnOk result (GathersEntriesFor front.now.request (λ entry. OneOf matches.now (λ (terms : List TermValue). IsMacroBy front.now.request.problem.now.objects front.now.number front.now.count terms entry)) found.old.items found.new.items) }
+    ensures limited { IfLimit result (LimitsFor front.now.request) }
 {
     for terms in matches {
-        keep_all(alloc, found, request, front, terms.as_slice())?;
-    }
-    Ok(())
-}
-
-/// Adds those whose objects fit one of the terms at which some row meets the limit.
-fn keep_limited(
-    alloc: Global,
-    found: &mut Vec<Entry>,
-    request: &Request,
-    front: &Front,
-    terms: &[Term],
-    limited: &[Sequence<Sequence<Term>>],
-) -> Result<(), AskErr>
-    requires problem { IsValid request.now.problem.now }
-    requires tables { AreLearned request.now.problem.now request.now.tables.now }
-    requires front { IsFrontFor request.now front.now }
-    requires binding { IsBinding request.now.problem.now.objects terms.now }
-    requires limited { All (All (λ (choice : List TermValue). length choice ≡ length terms.now)) limited.now }
-    ensures gathers { OnOk result (GathersEntriesFor request.now (IsMacroLimited request.now.problem.now.objects front.now.number front.now.count terms.now limited.now) found.old.items found.new.items) }
-    ensures limited { IfLimit result (LimitsFor request.now) }
-{
-    for place in 0..limited.len() {
-        keep_fitting(
-            alloc,
-            found,
-            request,
-            front,
-            terms,
-            &limited[place..place + 1],
-        )?;
+        keep_all(found, front, terms.as_slice())?;
     }
     Ok(())
 }
@@ -306,57 +221,43 @@ fn keep_limited(
 /// Adds those that have the objects of the terms and fit one of the choices of each row, or one of the terms at which some row
 /// meets the limit.
 fn keep_told(
-    alloc: Global,
     found: &mut Vec<Entry>,
-    request: &Request,
     front: &Front,
     terms: &[Term],
     rows: &[Sequence<Sequence<Term>>],
     limited: &[Sequence<Sequence<Term>>],
 ) -> Result<(), AskErr>
-    requires problem { IsValid request.now.problem.now }
-    requires tables { AreLearned request.now.problem.now request.now.tables.now }
-    requires front { IsFrontFor request.now front.now }
-    requires binding { IsBinding request.now.problem.now.objects terms.now }
+    requires front { IsFront front.now }
+    requires binding { IsBinding front.now.request.problem.now.objects terms.now }
     requires rows { All (All (λ (choice : List TermValue). length choice ≡ length terms.now)) rows.now }
     requires limited { All (All (λ (choice : List TermValue). length choice ≡ length terms.now)) limited.now }
-    ensures gathers { OnOk result (GathersEntriesFor request.now (IsMacroTold request.now.problem.now.objects front.now.number front.now.count rows.now limited.now terms.now) found.old.items found.new.items) }
-    ensures limited { IfLimit result (LimitsFor request.now) }
+    ensures gathers { OnOk result (GathersEntriesFor front.now.request (IsMacroTold front.now.request.problem.now.objects front.now.number front.now.count rows.now limited.now terms.now) found.old.items found.new.items) }
+    ensures limited { IfLimit result (LimitsFor front.now.request) }
 {
-    keep_limited(alloc, found, request, front, terms, limited)?;
-    keep_fitting(alloc, found, request, front, terms, rows)
+    for place in 0..limited.len() {
+        keep_fitting(found, front, terms, &limited[place..place + 1])?;
+    }
+    keep_fitting(found, front, terms, rows)
 }
 
 /// Adds those of the entries that the matches stand for whose objects fit one of the choices of each row, or one of the terms at
 /// which some row meets the limit.
 fn keep_matches(
-    alloc: Global,
     found: &mut Vec<Entry>,
-    request: &Request,
     front: &Front,
     matches: &[Sequence<Term>],
     rows: &[Sequence<Sequence<Term>>],
     limited: &[Sequence<Sequence<Term>>],
 ) -> Result<(), AskErr>
-    requires problem { IsValid request.now.problem.now }
-    requires tables { AreLearned request.now.problem.now request.now.tables.now }
-    requires front { IsFrontFor request.now front.now }
-    requires matches { All (IsMatch request.now.problem.now.objects front.now.table.now.params) matches.now }
+    requires front { IsFront front.now }
+    requires matches { All (IsMatch front.now.request.problem.now.objects front.now.table.now.params) matches.now }
     requires rows { All (All (λ (choice : List TermValue). length choice ≡ front.now.table.now.params)) rows.now }
     requires limited { All (All (λ (choice : List TermValue). length choice ≡ front.now.table.now.params)) limited.now }
-    ensures gathers { OnOk result (GathersEntriesFor request.now (λ entry. OneOf matches.now (λ (terms : List TermValue). IsMacroTold request.now.problem.now.objects front.now.number front.now.count rows.now limited.now terms entry)) found.old.items found.new.items) }
-    ensures limited { IfLimit result (LimitsFor request.now) }
+    ensures gathers { OnOk result (GathersEntriesFor front.now.request (λ entry. OneOf matches.now (λ (terms : List TermValue). IsMacroTold front.now.request.problem.now.objects front.now.number front.now.count rows.now limited.now terms entry)) found.old.items found.new.items) }
+    ensures limited { IfLimit result (LimitsFor front.now.request) }
 {
     for terms in matches {
-        keep_told(
-            alloc,
-            found,
-            request,
-            front,
-            terms.as_slice(),
-            rows,
-            limited,
-        )?;
+        keep_told(found, front, terms.as_slice(), rows, limited)?;
     }
     Ok(())
 }
@@ -364,37 +265,56 @@ fn keep_matches(
 /// Adds those of all entries of the first steps that may be pushed. The rows are what questions about the whole table told, where
 /// no parameter had an object; without them each entry is tried by itself.
 pub fn gather_front(
-    alloc: Global,
     found: &mut Vec<Entry>,
-    request: &Request,
     front: &Front,
     rows: &Option<TableChoices>,
 ) -> Result<(), AskErr>
-    requires problem { IsValid request.now.problem.now }
-    requires tables { AreLearned request.now.problem.now request.now.tables.now }
-    requires front { IsFrontFor request.now front.now }
-    requires rows { IfSome rows.now (AreTableChoices request.now.problem.now request.now.model.now.atoms front.now.table.now) }
-    ensures gathers { OnOk result (GathersEntriesFor request.now (IsOfFront front.now.number front.now.count) found.old.items found.new.items) }
-    ensures limited { IfLimit result (LimitsFor request.now) }
+    requires front { IsFront front.now }
+    requires rows { IfSome rows.now (AreTableChoices front.now.request.problem.now front.now.request.model.now.atoms front.now.table.now) }
+    ensures gathers { OnOk result (GathersEntriesFor front.now.request (IsOfFront front.now.number front.now.count) found.old.items found.new.items) }
+    ensures limited { IfLimit result (LimitsFor front.now.request) }
 {
-    let start = first_terms(alloc, front.table, front.count)?;
+    let problem = front.request.problem;
+    let start = first_terms(front.alloc, front.table, front.count)?;
     let terms = start.as_slice();
-    if request.problem.objects == 0 {
-        let sigma = objects_of(alloc, terms)?;
-        return keep_open(alloc, found, request, front, &sigma);
+    if problem.objects == 0 {
+        let sigma = objects_of(front.alloc, terms)?;
+        return keep_open(found, front, &sigma);
     }
     let count = front.count as usize;
     let steps = &front.table.steps.as_slice()[..count];
-    let made = macro_matches(alloc, request.problem, terms, steps, request.wanted)?;
+    let made = macro_matches(front.alloc, problem, terms, steps, front.request.wanted)?;
     let matches = made.as_slice();
     match rows {
         Some(known) => {
             let choices = &known.choices.as_slice()[..count];
             let limited = &known.limited.as_slice()[..count];
-            keep_matches(alloc, found, request, front, matches, choices, limited)
+            keep_matches(found, front, matches, choices, limited)
         }
-        None => keep_listed(alloc, found, request, front, matches),
+        None => keep_listed(found, front, matches),
     }
+}
+
+/// Does one of the steps by itself have a match?
+fn one_matches(
+    alloc: Global,
+    problem: &Problem,
+    start: &[Term],
+    steps: &[OpInst],
+    wanted: &[Atom],
+) -> Result<bool, NoMemory>
+    requires problem { IsValid problem.now }
+    requires steps { All (IsStepOf problem.now (length start.now)) steps.now }
+    requires binding { IsBinding problem.now.objects start.now }
+{
+    for place in 0..steps.len() {
+        let step = &steps[place..place + 1];
+        let matches = macro_matches(alloc, problem, start, step, wanted)?;
+        if !matches.is_empty() {
+            return Ok(true);
+        }
+    }
+    Ok(false)
 }
 
 /// What is known of all rows of the table, where no parameter has an object yet. None where the problem has no object, where the
@@ -441,12 +361,14 @@ fn gather_table(
     let steps = table.steps.len() as u32;
     for count in 2..steps + 1 {
         let front = Front {
+            alloc: asker.alloc,
+            request: *request,
             number,
             table,
             count,
-            is_told: false,
+            facts_suffice: false,
         };
-        gather_front(asker.alloc, found, request, &front, rows)?;
+        gather_front(found, &front, rows)?;
     }
     Ok(())
 }

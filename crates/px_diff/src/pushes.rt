@@ -1,5 +1,5 @@
 //! Which entries may be pushed where these atoms are wanted.
-ghost use Rattle.std.specs.Prelude.{◌≡◌, ◌↔◌, ◌⊎◌, ◌++◌, ◌∷◌, [], ℕ, List, map, All, Any, Contains, IfOk, OnOk};
+ghost use Rattle.std.specs.Prelude.{◌≡◌, ◌↔◌, ◌⊎◌, ℕ, List, map, All, Any, Contains, IfOk, OnOk};
 ghost use Rattle.std.specs.List.Sorted.{IsStrictlySortedBy};
 ghost use Rattle.px_proof.specs.declared.shape.Tick.{Tick};
 ghost use Rattle.px_prover.specs.PatternLists.{lists_of};
@@ -11,64 +11,31 @@ ghost use Rattle.px_table.specs.EntryOrder.{order_of};
 ghost use Rattle.px_terms.specs.declared.instance.OpInst.{OpInst};
 ghost use Rattle.px_terms.specs.Operators.{precondition};
 ghost use Rattle.px_terms.specs.Validity.{IsValid, IsInstanceOf};
-ghost use Rattle.px_diff.specs.Bounds.{AreBounds};
-ghost use Rattle.px_diff.specs.Closings.{OneOf};
-ghost use Rattle.px_diff.specs.Entries.{obligations_of};
-ghost use Rattle.px_diff.specs.GapAnswers.{AnswersSome, IsGapAnswer};
+ghost use Rattle.px_gaps.specs.Bounds.{AreBounds};
+ghost use Rattle.px_gaps.specs.Closings.{OneOf};
+ghost use Rattle.px_entries.specs.Entries.{obligations_of};
+ghost use Rattle.px_gaps.specs.GapAnswers.{AnswersSome};
 ghost use Rattle.px_diff.specs.Gathering.{AreObjectsFor, IsOpenIn, instance_by};
-ghost use Rattle.px_diff.specs.Instances.{IsCovered, IsPartialInstance, StandsFor};
-ghost use Rattle.px_diff.specs.Learned.{AreLearned};
-ghost use Rattle.px_diff.specs.Outcomes.{AtLimit, IfLimit};
-ghost use Rattle.px_diff.specs.Pushes.{IsRelevant, IsPushable};
-ghost use Rattle.px_diff.specs.Questions.{AreBelow, AreUnlimited, LimitsRelevant};
+ghost use Rattle.px_entries.specs.Instances.{IsCovered, IsPartialInstance, StandsFor};
+ghost use Rattle.px_entries.specs.Learned.{AreLearned};
+ghost use Rattle.px_gaps.specs.Outcomes.{AtLimit, IfLimit};
+ghost use Rattle.px_diff.specs.Pushes.{IsRelevant, IsPushable, LimitsRelevant};
+ghost use Rattle.px_gaps.specs.Questions.{AreBelow, AreUnlimited};
 ghost use Rattle.px_diff.specs.Requests.{AreBelowFor, AreUnlimitedFor, GathersFor, IsPushableFor, IsRelevantFor, LimitsFor};
-ghost use Rattle.px_diff.specs.Rest.{IsRestAnswer};
 
-use crate::ask_err::AskErr;
-use crate::asker::Asker;
-use crate::asking::copied;
-use crate::bounds::Bounds;
-use crate::choices::choices_of;
-use crate::gap_answer::{GapAnswer, ask_gaps};
-use crate::instances::{bound, filled};
 use crate::macros::gather_tables;
-use crate::matching::matches_of;
 use crate::measured::Measured;
-use crate::partial::PartialInstance;
-use crate::relevance::{is_relevant, schema_of};
+use crate::relevance::is_relevant;
 use crate::request::Request;
 use crate::rest::rest_answer;
-use px_ops::Model;
+use px_base::push;
+use px_entries::{PartialInstance, bound, filled, matches_of};
+use px_gaps::{AskErr, Asker, Bounds, GapAnswer, ask_gaps, choices_of};
+use px_ops::{Model, precondition_of};
 use px_prover::ProveErr;
 use px_table::{Entry, Table};
-use px_terms::{Atom, NoMemory, OpInst, Problem, Sequence, apply};
+use px_terms::{Atom, NoMemory, OpInst, Problem, Sequence};
 use std::alloc::Global;
-
-/// What the instance needs.
-fn precondition_of(
-    alloc: Global,
-    problem: &Problem,
-    partial: &PartialInstance,
-) -> Result<Vec<Atom>, NoMemory>
-    requires problem { IsValid problem.now }
-    requires partial { IsPartialInstance problem.now partial.now }
-    ensures { IfOk result (λ atoms. atoms.items ≡ precondition problem.now partial.now.inst) }
-{
-    let patterns = schema_of(problem, &partial.inst).pre.as_slice();
-    let mut atoms = Vec::new(alloc);
-    for pattern in patterns {
-        atoms.extend_from_slice(&[apply(partial.inst.args(), pattern)])?;
-    }
-    Ok(atoms)
-}
-
-/// Puts the instance last.
-fn keep(found: &mut Vec<OpInst>, inst: &OpInst) -> Result<(), NoMemory>
-    ensures { OnOk result (found.new.items ≡ found.old.items ++ inst.now ∷ []) }
-{
-    found.extend_from_slice(&[*inst])?;
-    Ok(())
-}
 
 /// Adds the instance without variables where it may be pushed, though finding its gaps meets this limit.
 fn gather_one(
@@ -91,12 +58,12 @@ fn gather_one(
     }
     match asker.prove(request.problem, formula, 0, request.model) {
         Ok(_) => {
-            keep(found, inst)?;
+            push(found, *inst)?;
             Ok(())
         }
         Err(ProveErr::Unprovable) => Err(limit),
         Err(ProveErr::ShapeLimit(shapes)) => {
-            let formula = copied(asker.alloc, formula)?;
+            let formula = Sequence::from_slice(asker.alloc, formula)?;
             let shapes = Sequence::from_vec(shapes);
             Err(AskErr::ShapeLimit { formula, shapes })
         }
@@ -120,7 +87,7 @@ fn keep_relevant(
     if !is_relevant(request, &inst) {
         return Ok(());
     }
-    keep(found, &inst)
+    push(found, inst)
 }
 
 /// The same with each of the choices of objects.
@@ -159,39 +126,6 @@ fn keep_open(
     keep_choices(found, request, partial, &choices)
 }
 
-/// Adds the instances that the partial one stands for and that may be pushed, where this is the answer for what it needs.
-fn gather_answer(
-    alloc: Global,
-    found: &mut Vec<OpInst>,
-    request: &Request,
-    partial: &PartialInstance,
-    answer: &GapAnswer,
-) -> Result<(), NoMemory>
-    requires problem { IsValid request.now.problem.now }
-    requires partial { IsPartialInstance request.now.problem.now partial.now }
-    requires answer { IsGapAnswer (setting_of request.now.problem.now request.now.model.now.atoms) (precondition request.now.problem.now partial.now.inst) partial.now.vars answer.now.patterns.items answer.now.provable.atoms }
-    ensures { OnOk result (GathersFor request.now (StandsFor request.now.problem.now partial.now) found.old.items found.new.items) }
-{
-    keep_open(alloc, found, request, partial, answer)
-}
-
-/// The same where this is the answer for the rest of what it needs.
-fn gather_rest(
-    alloc: Global,
-    found: &mut Vec<OpInst>,
-    request: &Request,
-    partial: &PartialInstance,
-    answer: &GapAnswer,
-) -> Result<(), NoMemory>
-    requires problem { IsValid request.now.problem.now }
-    requires partial { IsPartialInstance request.now.problem.now partial.now }
-    requires answer { IsRestAnswer request.now.problem.now request.now.model.now.atoms (precondition request.now.problem.now partial.now.inst) partial.now.vars answer.now.patterns.items answer.now.provable.atoms }
-    ensures { OnOk result (GathersFor request.now (StandsFor request.now.problem.now partial.now) found.old.items found.new.items) }
-{
-    let _facts = request.model.atoms();
-    keep_open(alloc, found, request, partial, answer)
-}
-
 /// Adds the instances that the partial one stands for and that may be pushed: by one question, about the rest of what it needs
 /// or about all of it, where this answers all of them, else in the same way for each object that its first variable may be.
 /// Each call of itself has a variable less.
@@ -208,10 +142,11 @@ pub fn gather(
     ensures gathers { OnOk result (GathersFor request.now (StandsFor request.now.problem.now partial.now) found.old.items found.new.items) }
     ensures limited { IfLimit result (LimitsFor request.now) }
 {
-    let formula = precondition_of(asker.alloc, request.problem, partial)?;
+    let _facts = request.model.atoms();
+    let formula = precondition_of(asker.alloc, request.problem, &partial.inst)?;
     match rest_answer(asker, request, bounds, &formula, partial.vars)? {
         Some(answer) => {
-            gather_rest(asker.alloc, found, request, partial, &answer)?;
+            keep_open(asker.alloc, found, request, partial, &answer)?;
             return Ok(());
         }
         None => {}
@@ -224,7 +159,7 @@ pub fn gather(
         request.model,
     ) {
         Ok(answer) => {
-            gather_answer(asker.alloc, found, request, partial, &answer)?;
+            keep_open(asker.alloc, found, request, partial, &answer)?;
             Ok(())
         }
         Err(AskErr::NoMemory) => Err(AskErr::NoMemory),
@@ -272,14 +207,13 @@ pub fn entries_of(alloc: Global, insts: &[OpInst]) -> Result<Vec<Entry>, NoMemor
     Ok(entries)
 }
 
-/// The entries in order, each once.
-pub fn ordered(mut found: Vec<Entry>) -> Vec<Entry>
-    ensures members { (entry : Entry) → Contains result.items entry ↔ Contains found.items entry }
-    ensures order { IsStrictlySortedBy order_of result.items }
+/// Puts the entries in order, each once.
+pub fn order(found: &mut Vec<Entry>)
+    ensures members { (entry : Entry) → Contains found.new.items entry ↔ Contains found.old.items entry }
+    ensures ordered { IsStrictlySortedBy order_of found.new.items }
 {
     found.sort_unstable();
     found.dedup();
-    found
 }
 
 /// The entries that may be pushed for the request.
@@ -298,10 +232,12 @@ fn pushable_for(asker: &mut Asker, request: &Request) -> Result<Vec<Entry>, AskE
     gather_matches(asker, &mut found, request, &bounds, &matches)?;
     let mut entries = entries_of(asker.alloc, &found)?;
     gather_tables(asker, &mut entries, request)?;
-    Ok(ordered(entries))
+    order(&mut entries);
+    Ok(entries)
 }
 
-/// What `relevant` answers, with the number of questions that it asks the prover. The number is measured: it begins with 0,
+// `relevant` promises the same of the entries alone.
+/// Returns what `relevant` does, with the number of questions that it asks the prover. The number is measured: it begins with 0,
 /// and the clause `counted` of each of the two private methods that ask (`Asker::gap_patterns` and `Asker::prove`) says that
 /// it asks one more, up to the greatest number of 64 bits. What is asked of each MACROP by itself isn't counted. No clause of this
 /// call speaks of the number.
@@ -335,20 +271,20 @@ pub fn relevant_measured(
     match pushable_for(&mut asker, &request) {
         Ok(entries) => Ok(Measured {
             entries,
-            questions: asker.questions(),
+            questions: asker.questions,
         }),
         Err(error) => Err(error),
     }
 }
 
-/// The entries that may be pushed where these atoms are wanted, in order, each once: operators by number, then by
+/// Returns the entries that may be pushed where these atoms are wanted, in order, each once: operators by number, then by
 /// arguments, and after them MACROPs by the table's number, then by the number of steps, then by objects. They aren't on the
 /// stack, add a wanted atom, and all that they need has an answer or a gap in the model (Fikes and Nilsson 1971; Fikes, Hart
 /// and Nilsson 1972). There are at most 32 tables, which `check_table` of `px_table` accepts, of at most 64 steps each.
 ///
 /// # Errors
 /// `ShapeLimit` where a question about an entry that isn't on the stack and adds a wanted atom meets the limit: proving
-/// what it needs, or where that has no answer finding its gaps. `NoMemory` where there is none.
+/// what it needs, or where that has no answer finding its gaps. `NoMemory` if there isn't enough memory.
 pub fn relevant(
     alloc: Global,
     problem: &Problem,

@@ -1,16 +1,12 @@
 //! The part of a formula that decides whether it is open, and one question of gaps about it alone.
 ghost use Rattle.std.specs.Prelude.{◌↔◌, ◌≤◌, ◌<◌, All, IfOk, IfSome, IsTrue};
 ghost use Rattle.px_terms.specs.Validity.{IsValid, IsAtomOf};
-ghost use Rattle.px_diff.specs.Bounds.{AreBounds};
-ghost use Rattle.px_diff.specs.Rest.{IsOnlyAdded, IsRest, IsRestAnswer};
+ghost use Rattle.px_gaps.specs.Bounds.{AreBounds};
+ghost use Rattle.px_entries.specs.Rest.{IsOnlyAdded, IsRest, IsRestAnswer};
 
-use crate::ask_err::AskErr;
-use crate::asker::Asker;
-use crate::bounds::Bounds;
-use crate::facts::is_concluded;
-use crate::gap_answer::{GapAnswer, ask_gaps};
 use crate::request::Request;
 use px_base::push;
+use px_gaps::{AskErr, Asker, Bounds, GapAnswer, ask_gaps, is_concluded};
 use px_ops::is_addable;
 use px_terms::{Atom, NoMemory, Problem};
 use std::alloc::Global;

@@ -13,48 +13,32 @@ ghost use Rattle.px_ops.specs.Models.{IsModel};
 ghost use Rattle.px_prover.specs.declared.pattern.GapPattern.{GapPattern as PatternValue};
 ghost use Rattle.px_question.specs.Limits.{AreFewGapShapes};
 ghost use Rattle.px_question.specs.Settings.{setting_of};
-ghost use Rattle.px_table.specs.Tables.{IsTable};
-ghost use Rattle.px_terms.specs.Language.{IsVariableBelow};
 ghost use Rattle.px_terms.specs.Validity.{IsAtomOf, IsValid};
 ghost use Rattle.px_terms.specs.declared.term.Term.{Term as TermValue};
 ghost use Rattle.px_terms.specs.declared.term.Term.TheVariants.{Var};
-ghost use Rattle.px_diff.specs.Bindings.{Extends, IsBinding, IsPlain};
-ghost use Rattle.px_diff.specs.Closings.{OneOf};
-ghost use Rattle.px_diff.specs.Forms.{IsForm};
-ghost use Rattle.px_diff.specs.Parameters.{Fits};
-ghost use Rattle.px_diff.specs.RowQuestions.{AreAskedOf, AreInstancesKnown, AreRowsKnown, FitsOne, IsRowAnswer, IsRowKnown, Widens, row_formula as formula_by};
+ghost use Rattle.px_gaps.specs.Bindings.{Extends, IsBinding, IsPlain};
+ghost use Rattle.px_gaps.specs.Closings.{OneOf};
+ghost use Rattle.px_gaps.specs.Forms.{IsForm};
+ghost use Rattle.px_entries.specs.Parameters.{Fits};
+ghost use Rattle.px_diff.specs.RowQuestions.{AreAskedOf, AreInstancesKnown, AreRowsKnown, CanAskRows, FitsOne, IsRowAnswer, IsRowKnown, Widens};
 
-use crate::asker::Asker;
-use crate::bindings::{bound, open_variable};
-use crate::entry_rows::{is_initial, push_wanted};
-use crate::forms::forms_of;
-use crate::parameters::merged;
 use crate::row_choices::{RowChoices, TableChoices};
 use px_base::push;
+use px_entries::{is_initial, merged, row_formula};
+use px_gaps::{Asker, bound, forms_of, open_variable};
 use px_ops::Model;
 use px_prover::{GapErr, GapPattern};
 use px_table::Table;
-use px_terms::{Atom, NoMemory, Problem, Sequence, Term, apply};
+use px_terms::{Atom, NoMemory, Problem, Sequence, Term};
 use std::alloc::Global;
 
-/// What the row's marks take from the initial model, with these terms for the parameters.
-fn row_formula(
-    alloc: Global,
-    table: &Table,
-    terms: &[Term],
+/// A row of a table, of which it is asked what a world model tells.
+#[derive(Clone, Copy)]
+struct RowQuestion<'a> {
+    problem: &'a Problem,
+    model: &'a Model,
+    table: &'a Table,
     row: u32,
-) -> Result<Vec<Atom>, NoMemory>
-    requires marks { All (λ mark. All (IsVariableBelow (length terms.now)) mark.atom.args) table.now.marks }
-    ensures { IfOk result (λ atoms. atoms.items ≡ formula_by table.now terms.now row) }
-{
-    let marks = table.marks.as_slice();
-    let mut atoms = Vec::new(alloc);
-    for mark in marks {
-        let is_wanted = is_initial(mark, row);
-        let atom = apply(terms, &mark.atom);
-        push_wanted(&mut atoms, atom, is_wanted)?;
-    }
-    Ok(atoms)
 }
 
 /// Is it known by one question that fewer unfinished gap proofs of each instance of the form exist than the limit?
@@ -245,29 +229,29 @@ fn open_parameter(table: &Table, terms: &[Term], row: u32) -> Option<u32>
 fn ask_choices(
     asker: &mut Asker,
     choices: &mut Vec<Sequence<Term>>,
-    problem: &Problem,
-    model: &Model,
-    table: &Table,
+    question: &RowQuestion,
     terms: &[Term],
-    row: u32,
 ) -> Result<bool, NoMemory>
-    requires problem { IsValid problem.now }
-    requires table { IsTable problem.now table.now }
-    requires terms { length terms.now ≡ table.now.params }
-    requires binding { IsBinding problem.now.objects terms.now }
-    requires few_parameters { table.now.params ≤ 4096 }
-    requires choices { All (λ (choice : List TermValue). length choice ≡ table.now.params) choices.old.items }
-    ensures widens { OnOk result (Widens table.now.params choices.old.items choices.new.items) }
-    ensures known { IfOk result (λ is_known. IsTrue is_known → AreInstancesKnown (setting_of problem.now model.now.atoms) table.now row (Extends problem.now.objects terms.now) choices.new.items) }
+    requires asked { CanAskRows question.now.problem.now question.now.table.now terms.now }
+    requires choices { All (λ (choice : List TermValue). length choice ≡ question.now.table.now.params) choices.old.items }
+    ensures widens { OnOk result (Widens question.now.table.now.params choices.old.items choices.new.items) }
+    ensures known { IfOk result (λ is_known. IsTrue is_known → AreInstancesKnown (setting_of question.now.problem.now question.now.model.now.atoms) question.now.table.now question.now.row (Extends question.now.problem.now.objects terms.now) choices.new.items) }
 {
-    let formula = row_formula(asker.alloc, table, terms, row)?;
-    let answer = ask_row(asker, problem, model, &formula, table.params)?;
+    let table = question.table;
+    let formula = row_formula(asker.alloc, table, terms, question.row)?;
+    let answer = ask_row(
+        asker,
+        question.problem,
+        question.model,
+        &formula,
+        table.params,
+    )?;
     match answer {
         Some(patterns) => {
             push_offers(
                 choices,
                 asker.alloc,
-                problem.objects,
+                question.problem.objects,
                 terms,
                 patterns.as_slice(),
             )?;
@@ -283,35 +267,28 @@ fn add_choices(
     asker: &mut Asker,
     choices: &mut Vec<Sequence<Term>>,
     limited: &mut Vec<Sequence<Term>>,
-    problem: &Problem,
-    model: &Model,
-    table: &Table,
+    question: &RowQuestion,
     terms: &[Term],
-    row: u32,
 ) -> Result<(), NoMemory>
-    requires problem { IsValid problem.now }
-    requires table { IsTable problem.now table.now }
-    requires terms { length terms.now ≡ table.now.params }
-    requires binding { IsBinding problem.now.objects terms.now }
-    requires few_parameters { table.now.params ≤ 4096 }
-    requires choices { All (λ (choice : List TermValue). length choice ≡ table.now.params) choices.old.items }
-    ensures choices { OnOk result (Widens table.now.params choices.old.items choices.new.items) }
-    ensures limited { OnOk result (Widens table.now.params limited.old.items limited.new.items) }
-    ensures known { OnOk result (AreAskedOf (setting_of problem.now model.now.atoms) table.now row (Extends problem.now.objects terms.now) choices.new.items limited.new.items) }
+    requires asked { CanAskRows question.now.problem.now question.now.table.now terms.now }
+    requires choices { All (λ (choice : List TermValue). length choice ≡ question.now.table.now.params) choices.old.items }
+    ensures choices { OnOk result (Widens question.now.table.now.params choices.old.items choices.new.items) }
+    ensures limited { OnOk result (Widens question.now.table.now.params limited.old.items limited.new.items) }
+    ensures known { OnOk result (AreAskedOf (setting_of question.now.problem.now question.now.model.now.atoms) question.now.table.now question.now.row (Extends question.now.problem.now.objects terms.now) choices.new.items limited.new.items) }
 {
-    if ask_choices(asker, choices, problem, model, table, terms, row)? {
+    if ask_choices(asker, choices, question, terms)? {
         return Ok(());
     }
-    let parameter = match open_parameter(table, terms, row) {
+    let parameter = match open_parameter(question.table, terms, question.row) {
         Some(parameter) => parameter,
         None => {
             let kept = Sequence::from_slice(asker.alloc, terms)?;
             return push(limited, kept);
         }
     };
-    for object in 0..problem.objects {
+    for object in 0..question.problem.objects {
         let next = bound(asker.alloc, terms, parameter, object)?;
-        add_choices(asker, choices, limited, problem, model, table, &next, row)?;
+        add_choices(asker, choices, limited, question, &next)?;
     }
     Ok(())
 }
@@ -319,31 +296,15 @@ fn add_choices(
 /// What is known of the row with the objects that are chosen.
 fn choices_of_row(
     asker: &mut Asker,
-    problem: &Problem,
-    model: &Model,
-    table: &Table,
+    question: &RowQuestion,
     terms: &[Term],
-    row: u32,
 ) -> Result<RowChoices, NoMemory>
-    requires problem { IsValid problem.now }
-    requires table { IsTable problem.now table.now }
-    requires terms { length terms.now ≡ table.now.params }
-    requires binding { IsBinding problem.now.objects terms.now }
-    requires few_parameters { table.now.params ≤ 4096 }
-    ensures { IfOk result (λ found. IsRowKnown (setting_of problem.now model.now.atoms) table.now terms.now row found.choices found.limited) }
+    requires { CanAskRows question.now.problem.now question.now.table.now terms.now }
+    ensures { IfOk result (λ found. IsRowKnown (setting_of question.now.problem.now question.now.model.now.atoms) question.now.table.now terms.now question.now.row found.choices found.limited) }
 {
     let mut choices = Vec::new(asker.alloc);
     let mut limited = Vec::new(asker.alloc);
-    add_choices(
-        asker,
-        &mut choices,
-        &mut limited,
-        problem,
-        model,
-        table,
-        terms,
-        row,
-    )?;
+    add_choices(asker, &mut choices, &mut limited, question, terms)?;
     Ok(RowChoices {
         choices: Sequence::from_vec(choices),
         limited: Sequence::from_vec(limited),
@@ -358,11 +319,7 @@ pub fn choices_of_rows(
     table: &Table,
     terms: &[Term],
 ) -> Result<TableChoices, NoMemory>
-    requires problem { IsValid problem.now }
-    requires table { IsTable problem.now table.now }
-    requires terms { length terms.now ≡ table.now.params }
-    requires binding { IsBinding problem.now.objects terms.now }
-    requires few_parameters { table.now.params ≤ 4096 }
+    requires { CanAskRows problem.now table.now terms.now }
     ensures rows { IfOk result (λ found. AreRowsKnown (setting_of problem.now model.now.atoms) table.now terms.now (length table.now.steps) found.choices found.limited) }
     ensures facts { IsModel model.now.atoms }
 {
@@ -370,14 +327,13 @@ pub fn choices_of_rows(
     let mut rows = Vec::new(asker.alloc);
     let mut limited_rows = Vec::new(asker.alloc);
     for place in 0..table.steps.len() as u32 {
-        let RowChoices { choices, limited } = choices_of_row(
-            asker,
+        let question = RowQuestion {
             problem,
             model,
             table,
-            terms,
-            place + 1,
-        )?;
+            row: place + 1,
+        };
+        let RowChoices { choices, limited } = choices_of_row(asker, &question, terms)?;
         push(&mut rows, choices)?;
         push(&mut limited_rows, limited)?;
     }

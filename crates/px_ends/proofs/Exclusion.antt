@@ -7,7 +7,7 @@ use Rattle.px_terms.specs.declared.problem.Problem.{Problem}
 use Rattle.px_proof.specs.declared.shape.Tick.{Tick}
 use Rattle.px_table.specs.declared.entry.Move.{Move}
 use Rattle.px_table.specs.declared.node.Node.{Node}
-use Rattle.px_diff.specs.Questions.{FindingGaps, MeetsLimit, Proving, Question}
+use Rattle.px_gaps.specs.Questions.{FindingGaps, MeetsLimit, Proving, Question}
 use Rattle.px_ends.specs.Determined.{EndsAreOne}
 use Rattle.px_ends.specs.Order.{IsBefore}
 use Rattle.px_ends.specs.Tasks.{Task, initial_node, IsAllowed, after}
@@ -41,7 +41,7 @@ module _ (task : Task) where
   agree : (xs ys : List (List Move)) → BeginsWith task xs → BeginsWith task ys → (k : ℕ) (p q : List Move) → slice_get xs k ≡ Some p → slice_get ys k ≡ Some q → p ≡ q
   agree = beginnings_agree (IsAllowed task) (after task) IsBefore (initial_node task) order
 
-  not_shorter : (e₁ e₂ : List (List Move)) (l₁ l₂ : List Move) → IsStop task e₁ l₁ → IsStop task e₂ l₂ → length e₁ < length e₂ → ⊥
+  not_shorter : (e₁ e₂ : List (List Move)) (l₁ l₂ : List Move) → IsStop task e₁ l₁ → IsStop task e₂ l₂ → ¬ (length e₁ < length e₂)
   not_shorter e₁ e₂ l₁ l₂ s₁ s₂ less =
       let second : slice_get e₂ (length e₁) ≡ Some _ = at_index e₂ (length e₁) l₁ less in
       let e = agree (e₁ ++ l₁ ∷ []) (e₂ ++ l₂ ∷ []) s₁.beginning s₂.beginning (length e₁) l₁ _ (at_end e₁ l₁) (still_there e₂ (l₂ ∷ []) (length e₁) _ second) in
@@ -79,10 +79,10 @@ module _ (task : Task) where
     k.moves_are ∙ ap length (same_stop k.earlier l.earlier k.last l.last (limit_stop nodes moves k) (limit_stop more others l)) ∙ sym l.moves_are,
   )
 
-  pub found_or_limit : (ms : List Move) (nodes : List Node) (moves : ℕ) → IsFound task ms → IsNodeLimit task nodes moves → ⊥
+  pub found_or_limit : (ms : List Move) (nodes : List Node) (moves : ℕ) → IsFound task ms → ¬ IsNodeLimit task nodes moves
   found_or_limit ms nodes moves f l = omega (arith, f.room, l.full, same_length f.earlier l.earlier ms l.last (found_stop ms f) (limit_stop nodes moves l))
 
-  pub found_or_exhausted : (ms : List Move) → IsFound task ms → IsExhausted task → ⊥
+  pub found_or_exhausted : (ms : List Move) → IsFound task ms → ¬ IsExhausted task
   found_or_exhausted ms f x =
       let made = (f.stop.beginning.least ms (Contains-push f.earlier ms)).made in
       elim f.stop.stops [
@@ -90,20 +90,20 @@ module _ (task : Task) where
         | inr full ↦ omega (arith, full, f.room)
       ]
 
-  pub limit_or_exhausted : (nodes : List Node) (moves : ℕ) → IsNodeLimit task nodes moves → IsExhausted task → ⊥
+  pub limit_or_exhausted : (nodes : List Node) (moves : ℕ) → IsNodeLimit task nodes moves → ¬ IsExhausted task
   limit_or_exhausted nodes moves l x =
       let has = x.whole.every l.last (l.stop.beginning.least l.last (Contains-push l.earlier l.last)) in
       let place = place_of x.lists l.last has in
       let number : place.0 ≡ length l.earlier = one_place (IsAllowed task) (after task) IsBefore (initial_node task) order x.lists (l.earlier ++ l.last ∷ []) x.whole.beginning l.stop.beginning place.0 (length l.earlier) l.last place.1 (at_end l.earlier l.last) in
       omega (arith, number, l.full, x.room, place-within x.lists place.0 l.last place.1)
 
-  pub shape_limit_or_found : (node : Node) (formula : List Atom) (shapes : List (List Tick)) (ms : List Move) → IsShapeLimit task node formula shapes → IsFound task ms → ⊥
+  pub shape_limit_or_found : (node : Node) (formula : List Atom) (shapes : List (List Tick)) (ms : List Move) → IsShapeLimit task node formula shapes → ¬ IsFound task ms
   shape_limit_or_found node formula shapes ms s f = f.unlimited s.moves s.question formula shapes s.asked s.met
 
-  pub shape_limit_or_exhausted : (node : Node) (formula : List Atom) (shapes : List (List Tick)) → IsShapeLimit task node formula shapes → IsExhausted task → ⊥
+  pub shape_limit_or_exhausted : (node : Node) (formula : List Atom) (shapes : List (List Tick)) → IsShapeLimit task node formula shapes → ¬ IsExhausted task
   shape_limit_or_exhausted node formula shapes s x = x.unlimited s.moves s.question formula shapes s.asked s.met
 
-  pub shape_limit_or_limit : (node : Node) (formula : List Atom) (shapes : List (List Tick)) (nodes : List Node) (moves : ℕ) → IsShapeLimit task node formula shapes → IsNodeLimit task nodes moves → ⊥
+  pub shape_limit_or_limit : (node : Node) (formula : List Atom) (shapes : List (List Tick)) (nodes : List Node) (moves : ℕ) → IsShapeLimit task node formula shapes → ¬ IsNodeLimit task nodes moves
   shape_limit_or_limit node formula shapes nodes moves s l = l.unlimited s.moves s.question formula shapes s.asked s.met
 
 -- ---- the laws

@@ -5,10 +5,10 @@ use Rattle.px_ends.specs.Moves.{CanMake, reached, IsLeast, IsBeginning, IsAll}
 
 -- what the proof asks of the order of lists of moves
 pub record IsMoveOrder {M : Type 0} (before : List M → List M → Type 0) : Type 0 where
-  pub irreflexive : (ms : List M) → before ms ms → ⊥
+  pub irreflexive : (ms : List M) → ¬ before ms ms
   pub transitive : (ks ms ns : List M) → before ks ms → before ms ns → before ks ns
   pub total : (ms ns : List M) → before ms ns ⊎ ((ms ≡ ns) ⊎ before ns ms)
-  pub first : (ms : List M) → before ms [] → ⊥
+  pub first : (ms : List M) → ¬ before ms []
   pub longer : (ms : List M) (m : M) → before ms (ms ++ m ∷ [])
   pub goes_on : (ms ns : List M) (m n : M) → before ms ns → before (ms ++ m ∷ []) (ns ++ n ∷ [])
 
@@ -36,32 +36,32 @@ pub order_of : (a b : ℕ) → (a < b) ⊎ (b ≤ a)
 order_of a b = grind arith
 
 module _ {M : Type 0} (before : List M → List M → Type 0) (order : IsMoveOrder before) where
-  pub before-left : (p q r : List M) → (before q p → ⊥) → before q r → before p r
+  pub before-left : (p q r : List M) → (¬ before q p) → before q r → before p r
   before-left p q r h g = elim (order.total p q) [
     | inl less ↦ order.transitive p q r less g
     | inr (inl e) ↦ subst (λ (x : List M). before x r) (sym e) g
     | inr (inr more) ↦ absurd (h more)
   ]
 
-  pub before-right : (p q r : List M) → before p q → (before r q → ⊥) → before p r
+  pub before-right : (p q r : List M) → before p q → (¬ before r q) → before p r
   before-right p q r h g = elim (order.total q r) [
     | inl less ↦ order.transitive p q r h less
     | inr (inl e) ↦ subst (λ (x : List M). before p x) e h
     | inr (inr more) ↦ absurd (g more)
   ]
 
-  pub goes_on-not : (p q : List M) (m : M) → (before q p → ⊥) → before (q ++ m ∷ []) (p ++ m ∷ []) → ⊥
+  pub goes_on-not : (p q : List M) (m : M) → (¬ before q p) → ¬ (before (q ++ m ∷ []) (p ++ m ∷ []))
   goes_on-not p q m h g = elim (order.total p q) [
     | inl less ↦ order.irreflexive _ (order.transitive _ _ _ g (order.goes_on p q m m less))
     | inr (inl e) ↦ order.irreflexive _ (subst (λ (x : List M). before (x ++ m ∷ []) (p ++ m ∷ [])) (sym e) g)
     | inr (inr more) ↦ h more
   ]
 
-  pub not_before-trans : (p q r : List M) → (before q p → ⊥) → (before r q → ⊥) → before r p → ⊥
+  pub not_before-trans : (p q r : List M) → (¬ before q p) → (¬ before r q) → ¬ before r p
   not_before-trans p q r h g more = h (before-left q r p g more)
 
 module _ {N M : Type 0} (may : N → M → Type 0) (after : N → M → N) (before : List M → List M → Type 0) (start : N)
-    (order : IsMoveOrder before) (same : (m n : M) → (m ≡ n) ⊎ (m ≡ n → ⊥)) where
+    (order : IsMoveOrder before) (same : (m n : M) → (m ≡ n) ⊎ (¬ (m ≡ n))) where
   abbrev pub goes : List M → N
   goes moves = reached may after start moves
 
@@ -81,8 +81,8 @@ module _ {N M : Type 0} (may : N → M → Type 0) (after : N → M → N) (befo
     pub ascending : (i j : ℕ) (p q : List M) → i < j → slice_get found i ≡ Some p → slice_get found j ≡ Some q → before p q
     pub distinct : (p q : List M) → Contains found p → Contains found q → goes p ≡ goes q → p ≡ q
     pub covered : (i : ℕ) (p : List M) (m : M) → slice_get found i ≡ Some p → IsTried next tried i m → may (goes p) m →
-        (q : List M) × Contains found q × (goes q ≡ after (goes p) m) × (before (p ++ m ∷ []) q → ⊥)
-    pub pending : (p : List M) (m n : M) → slice_get found next ≡ Some p → may (goes p) m → (Contains tried m → ⊥) → Contains tried n →
+        (q : List M) × Contains found q × (goes q ≡ after (goes p) m) × (¬ (before (p ++ m ∷ []) q))
+    pub pending : (p : List M) (m n : M) → slice_get found next ≡ Some p → may (goes p) m → (¬ Contains tried m) → Contains tried n →
         before (p ++ n ∷ []) (p ++ m ∷ [])
 
   pub reached-append : (node : N) (ms ns : List M) → reached may after node (ms ++ ns) ≡ reached may after (reached may after node ms) ns
@@ -95,7 +95,7 @@ module _ {N M : Type 0} (may : N → M → Type 0) (after : N → M → N) (befo
 
   -- found before the list, to the same node
   abbrev pub IsCovered : List (List M) → List M → Type 0
-  IsCovered found moves = (i : ℕ) × (q : List M) × (slice_get found i ≡ Some q) × (goes q ≡ goes moves) × (before moves q → ⊥)
+  IsCovered found moves = (i : ℕ) × (q : List M) × (slice_get found i ≡ Some q) × (goes q ≡ goes moves) × (¬ before moves q)
 
   -- after all that was found
   abbrev pub IsBeyond : List (List M) → List M → Type 0
@@ -107,7 +107,7 @@ module _ {N M : Type 0} (may : N → M → Type 0) (after : N → M → N) (befo
       let more : IsBeyond found (moves ++ m ∷ []) = λ q has. order.transitive q moves (moves ++ m ∷ []) (h q has) (order.longer moves m) in
       subst (λ (x : List M). IsBeyond found x) (append_assoc moves (m ∷ []) rest) (IsBeyond-more found (moves ++ m ∷ []) rest more)
 
-  pub contains_or_not : (ms : List M) (m : M) → Contains ms m ⊎ (Contains ms m → ⊥)
+  pub contains_or_not : (ms : List M) (m : M) → Contains ms m ⊎ (¬ Contains ms m)
   contains_or_not [] m = inr (λ h. omega (arith, h.1))
   contains_or_not (n ∷ ms) m = elim (same n m) [
     | inl e ↦ inl (0, omega arith, e)
@@ -117,11 +117,11 @@ module _ {N M : Type 0} (may : N → M → Type 0) (after : N → M → N) (befo
     ]
   ]
     where
-      neither : (n m : M) (ms : List M) → (n ≡ m → ⊥) → (Contains ms m → ⊥) → Contains (n ∷ ms) m → ⊥
+      neither : (n m : M) (ms : List M) → (¬ (n ≡ m)) → (¬ Contains ms m) → ¬ (Contains (n ∷ ms) m)
       neither n m ms differs not_later (zero, h, e) = differs e
       neither n m ms differs not_later (suc k, h, e) = not_later (k, omega arith, e)
 
-  tried_or_not : (next : ℕ) (tried : List M) (i : ℕ) (m : M) → IsTried next tried i m ⊎ ((next ≤ i) × (i ≡ next → Contains tried m → ⊥))
+  tried_or_not : (next : ℕ) (tried : List M) (i : ℕ) (m : M) → IsTried next tried i m ⊎ ((next ≤ i) × (i ≡ next → ¬ Contains tried m))
   tried_or_not next tried i m = elim (order_of i next) [
     | inl less ↦ inl (inl less)
     | inr more ↦ elim (contains_or_not tried m) [
@@ -135,8 +135,8 @@ module _ {N M : Type 0} (may : N → M → Type 0) (after : N → M → N) (befo
 
   module _ (found : List (List M)) (next : ℕ) (tried : List M) (f : Frontier found next tried) where
     -- what is found before the list that leaves the tried moves
-    pub leaves_tried : (i : ℕ) (q moves : List M) (m : M) → slice_get found i ≡ Some q → (before moves q → ⊥) → next ≤ i →
-        (i ≡ next → Contains tried m → ⊥) → may (goes q) m → IsBeyond found (moves ++ m ∷ [])
+    pub leaves_tried : (i : ℕ) (q moves : List M) (m : M) → slice_get found i ≡ Some q → (¬ before moves q) → next ≤ i →
+        (i ≡ next → ¬ Contains tried m) → may (goes q) m → IsBeyond found (moves ++ m ∷ [])
     leaves_tried i q moves m at le later untried can x has = elim (f.tried_from x has) [
       | inl e ↦ subst (λ (y : List M). before y (moves ++ m ∷ [])) (sym e)
           (before-left before order [] moves (moves ++ m ∷ []) (order.first moves) (order.longer moves m))
@@ -166,7 +166,7 @@ module _ {N M : Type 0} (may : N → M → Type 0) (after : N → M → N) (befo
               let r = f.covered c.0 c.1 m c.2 tried_m can_q in
               let at = place_of found r.0 r.1 in
               let goal : goes r.0 ≡ goes (moves ++ m ∷ []) = r.2 ∙ ap (λ (x : N). after x m) c.3 ∙ sym (reached-append start moves (m ∷ [])) in
-              let le : before (moves ++ m ∷ []) r.0 → ⊥ = not_before-trans before order r.0 (c.1 ++ m ∷ []) (moves ++ m ∷ []) r.3 (goes_on-not before order c.1 moves m c.4) in
+              let le : ¬ before (moves ++ m ∷ []) r.0 = not_before-trans before order r.0 (c.1 ++ m ∷ []) (moves ++ m ∷ []) r.3 (goes_on-not before order c.1 moves m c.4) in
               let rest_can : CanMake may after (goes (moves ++ m ∷ [])) rest = rw (reached-append start moves (m ∷ [])) can.1 in
               let again = classify rest (moves ++ m ∷ []) (at.0, r.0, at.1, goal, le) rest_can in
               subst (λ (x : List M). IsCovered found x ⊎ ((next < length found) × IsBeyond found x)) (append_assoc moves (m ∷ []) rest) again
@@ -181,6 +181,14 @@ module _ {N M : Type 0} (may : N → M → Type 0) (after : N → M → N) (befo
 
     pub found_or_beyond : (moves : List M) → made moves → IsCovered found moves ⊎ ((next < length found) × IsBeyond found moves)
     found_or_beyond moves can = classify moves [] (0, [], f.root, refl, order.irreflexive []) can
+
+    -- a least list that leads to a found node is found
+    covered_least : (moves : List M) → IsLeast may after before start moves → IsCovered found moves → Contains found moves
+    covered_least moves least c = elim (order.total c.1 moves) [
+      | inl less ↦ absurd (least.least c.1 (f.can c.1 (contains_place found c.0 c.1 c.2)) c.3 less)
+      | inr (inl e) ↦ subst (λ (x : List M). Contains found x) e (contains_place found c.0 c.1 c.2)
+      | inr (inr more) ↦ absurd (c.4 more)
+    ]
 
     pub frontier-beginning : IsBeginning may after before start found
     frontier-beginning = record {
@@ -198,13 +206,6 @@ module _ {N M : Type 0} (may : N → M → Type 0) (after : N → M → N) (befo
         | inr b ↦ absurd (order.irreflexive later (order.transitive later moves later (b.1 later has) less))
       ];
     }
-      where
-        covered_least : (moves : List M) → IsLeast may after before start moves → IsCovered found moves → Contains found moves
-        covered_least moves least c = elim (order.total c.1 moves) [
-          | inl less ↦ absurd (least.least c.1 (f.can c.1 (contains_place found c.0 c.1 c.2)) c.3 less)
-          | inr (inl e) ↦ subst (λ (x : List M). Contains found x) e (contains_place found c.0 c.1 c.2)
-          | inr (inr more) ↦ absurd (c.4 more)
-        ]
 
     -- where each found node was gone through, each node that moves reach is found
     pub frontier-reaches : length found ≤ next → (moves : List M) → made moves → (q : List M) × Contains found q × (goes q ≡ goes moves)
@@ -218,17 +219,10 @@ module _ {N M : Type 0} (may : N → M → Type 0) (after : N → M → N) (befo
     frontier-all all = record {
       beginning = frontier-beginning;
       every = λ moves least. elim (found_or_beyond moves least.made) [
-        | inl c ↦ least_is_found moves least c
+        | inl c ↦ covered_least moves least c
         | inr b ↦ absurd (omega (arith, b.0))
       ];
     }
-      where
-        least_is_found : (moves : List M) → IsLeast may after before start moves → IsCovered found moves → Contains found moves
-        least_is_found moves least c = elim (order.total c.1 moves) [
-          | inl less ↦ absurd (least.least c.1 (f.can c.1 (contains_place found c.0 c.1 c.2)) c.3 less)
-          | inr (inl e) ↦ subst (λ (x : List M). Contains found x) e (contains_place found c.0 c.1 c.2)
-          | inr (inr more) ↦ absurd (c.4 more)
-        ]
 
 -- ---- two beginnings of the list of all nodes agree as far as both go
 
@@ -247,7 +241,7 @@ module _ {N M : Type 0} (may : N → M → Type 0) (after : N → M → N) (befo
 
   -- a list at a place of one stands at no later place of the other, where the earlier places agree
   not_less : (xs ys : List (List M)) → Begins xs → Begins ys → (k : ℕ) (p q : List M) → slice_get xs k ≡ Some p → slice_get ys k ≡ Some q →
-      ((j : ℕ) (r s : List M) → j < k → slice_get xs j ≡ Some r → slice_get ys j ≡ Some s → r ≡ s) → before p q → ⊥
+      ((j : ℕ) (r s : List M) → j < k → slice_get xs j ≡ Some r → slice_get ys j ≡ Some s → r ≡ s) → ¬ before p q
   not_less xs ys bx by k p q at_x at_y same less =
       let has = by.closed p q (contains_place ys k q at_y) (bx.least p (contains_place xs k p at_x)) less in
       let place = place_of ys p has in

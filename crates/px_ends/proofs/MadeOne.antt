@@ -26,7 +26,7 @@ use Rattle.px_table.specs.declared.node.Node.{Node}
 use Rattle.px_table.specs.declared.table.Table.{Table}
 use Rattle.px_table.specs.Marks.{marks_from, step_at}
 use Rattle.px_table.specs.Tables.{rows_of}
-use Rattle.px_diff.specs.Entries.{effect_of, table_at}
+use Rattle.px_entries.specs.Entries.{effect_of, table_at}
 use Rattle.px_ends.specs.Determined.{TablesAreOne}
 use Rattle.px_ends.specs.Made.{EntryRows, IsFirstRow, IsGraft, IsPart, IsSource, IsSourced, MacroRows, MovesRows, TopRows, top_steps}
 use Rattle.px_ends.specs.Tasks.{Task, after, initial_node}

@@ -46,16 +46,16 @@ entry_of : Entry → Move → Entry
 entry_of d Apply = d
 entry_of d (Push e) = e
 
-pub same_move : (x y : Move) → (x ≡ y) ⊎ (x ≡ y → ⊥)
+pub same_move : (x y : Move) → (x ≡ y) ⊎ (¬ (x ≡ y))
 unfolding entry_of
 same_move Apply Apply = inl refl
 same_move Apply (Push f) = inr (λ h. cc)
 same_move (Push e) Apply = inr (λ h. cc)
-same_move (Push e) (Push f) = elim (entry_eq e f) as (λ b. entry_eq e f ≡ b → (Push e ≡ Push f) ⊎ (Push e ≡ Push f → ⊥)) [
+same_move (Push e) (Push f) = elim (entry_eq e f) as (λ b. entry_eq e f ≡ b → (Push e ≡ Push f) ⊎ (¬ (Push e ≡ Push f))) [
   | true ↦ λ h. inl (ap Push ((entry_eq-decides e f).0 h))
   | false ↦ λ h. inr (λ same. wrong (entry_eq e f) h ((entry_eq-decides e f).1 (ap (entry_of e) same)))
 ] refl where
-  wrong : (b : Bool) → b ≡ false → b ≡ true → ⊥
+  wrong : (b : Bool) → b ≡ false → ¬ (b ≡ true)
   wrong b f t = cc
 
 abbrev pub order : IsMoveOrder IsBefore

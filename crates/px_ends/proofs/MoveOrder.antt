@@ -76,11 +76,11 @@ module _ {M : Type 0} (compare : M → M → Ordering) (total : IsTotalOrder com
     ];
   }
     where
-      not_less : (ms : List M) → whole ms ms ≡ Less → ⊥
+      not_less : (ms : List M) → ¬ (whole ms ms ≡ Less)
       not_less ms e = let back = whole_total.antisymm ms ms in
           let turned : Less ≡ Greater = sym e ∙ back ∙ ap ordering_reverse e in cc
 
-      none_first : (ms : List M) → slice_cmp compare ms [] ≡ Less → ⊥
+      none_first : (ms : List M) → ¬ (slice_cmp compare ms [] ≡ Less)
       none_first [] e = cc
       none_first (m ∷ ms) e = cc
 

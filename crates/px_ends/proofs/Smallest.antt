@@ -25,8 +25,9 @@ use Rattle.px_table.specs.declared.entry.Move.{Move}
 use Rattle.px_table.specs.declared.entry.Move.TheVariants.{Apply, Push}
 use Rattle.px_table.specs.declared.table.Table.{Table}
 use Rattle.px_table.specs.Marks.{marks_from, step_at}
-use Rattle.px_diff.specs.Entries.{HasAnswer, IsEntry, Obligation}
-use Rattle.px_diff.specs.Questions.{FindingGaps, MeetsLimit, Proving, Question}
+use Rattle.px_entries.specs.Entries.{IsEntry}
+use Rattle.px_gaps.specs.Needs.{HasAnswer, Obligation}
+use Rattle.px_gaps.specs.Questions.{FindingGaps, MeetsLimit, Proving, Question}
 use Rattle.px_ends.specs.Ends.{AreMoves, BeginsWith, IsExhausted, IsFound, IsLeastList, IsStop, IsUnlimited, node_of}
 use Rattle.px_ends.specs.Made.{IsFirstRow, IsSource, IsTableOfMoves}
 use Rattle.px_ends.specs.Order.{IsBefore}
@@ -43,7 +44,7 @@ none_least task = record { made = tt; least = λ others can same before. order.f
 only_none : (moves : List Move) → Contains ([] ∷ []) moves → [] ≡ moves
 only_none moves has = Contains-one [] moves has
 
-begins : (task : Task) → BeginsWith task ([] ∷ [])
+pub begins : (task : Task) → BeginsWith task ([] ∷ [])
 begins task = record {
   least = λ moves has. subst (IsLeastList task) (only_none moves has) (none_least task);
   ascending = λ i j d less below. absurd (omega (arith, less, below));
@@ -55,7 +56,7 @@ no_last [] m e = cc
 no_last (k ∷ parent) m e = cc
 
 -- where the initial node is solved, nothing but its goal is asked
-found_at_once : (task : Task) → 1 ≤ task.problem.nodes → IsSolved task (initial_node task) → ((formula : List Atom) (shapes : List (List Tick)) → ¬ MeetsLimit task.problem (Proving (goal_from task task.initial)) formula shapes) → IsFound task []
+pub found_at_once : (task : Task) → 1 ≤ task.problem.nodes → IsSolved task (initial_node task) → ((formula : List Atom) (shapes : List (List Tick)) → ¬ MeetsLimit task.problem (Proving (goal_from task task.initial)) formula shapes) → IsFound task []
 found_at_once task some solved below = record { unlimited = unlimited; earlier = []; stop = stop; room = some }
   where
     stop : IsStop task [] []
@@ -150,6 +151,7 @@ no_loose objects (also (step number theta place parts) none) is = let at = is.pr
 no_loose objects (also (gap atom) none) is = Contains-none atom.pred is.proved.0.1
 no_loose objects (also open_place none) is = is.proved.0
 
+-- Alike: `no_loose` above, by other rules: the cases compute only where the rules are known
 no_proof : (objects : List ℕ) (ds : Derivations) → ¬ IsList (proofs_in (setting_of idle [])) (setting_of idle []) (p ∷ []) 0 objects ds
 no_proof objects none is = is.proved
 no_proof objects (also d (also e ds)) is = is.proved.1
@@ -164,17 +166,17 @@ asked_below : (question : Question) → AsksAt without_p (initial_node without_p
 asked_below question (inr relevant) formula shapes met = no_entry relevant.0 relevant.1.is_entry
 asked_below question (inl (zero, needed, within, is, asks)) formula shapes met = of_goal asks
   where
-    of_goal : (question ≡ Proving needed) ⊎ ((¬ HasAnswer idle needed) × (question ≡ FindingGaps needed)) → ⊥
+    of_goal : ¬ ((question ≡ Proving needed) ⊎ ((¬ HasAnswer idle needed) × (question ≡ FindingGaps needed)))
     of_goal (inl proving) = proved (subst (λ (n : Obligation). MeetsLimit idle (Proving n) formula shapes) (sym is) (subst (λ (q : Question). MeetsLimit idle q formula shapes) proving met))
       where
-        proved : MeetsLimit idle (Proving (goal_from without_p [])) formula shapes → ⊥
+        proved : ¬ MeetsLimit idle (Proving (goal_from without_p [])) formula shapes
         proved m = few_or_limited.proofs (setting_of idle []) (p ∷ []) 0 shapes (few_shapes []) m.1
     of_goal (inr finding) = found (subst (λ (n : Obligation). MeetsLimit idle (FindingGaps n) formula shapes) (sym is) (subst (λ (q : Question). MeetsLimit idle q formula shapes) finding.1 met))
       where
         no_gap : (atom : Atom) → ¬ IsLooseGap (setting_of idle []) (p ∷ []) 0 atom
         no_gap atom loose = no_loose loose.0 loose.1 loose.2
 
-        found : MeetsLimit idle (FindingGaps (goal_from without_p [])) formula shapes → ⊥
+        found : ¬ MeetsLimit idle (FindingGaps (goal_from without_p [])) formula shapes
         found m = few_or_limited.gaps_below (setting_of idle []) (p ∷ []) 0 formula shapes (record { shapes = few_gap_shapes []; atoms = λ atom loose. absurd (no_gap atom loose) }) m
 asked_below question (inl (suc k, needed, within, is, asks)) formula shapes met = omega (arith, within)
 
@@ -187,7 +189,7 @@ not_there = record {
   room = omega arith;
 }
   where
-    unsolved_there : IsSolved without_p (initial_node without_p) → ⊥
+    unsolved_there : ¬ IsSolved without_p (initial_node without_p)
     unsolved_there solved = no_proof solved.1.0 solved.1.1 solved.1.2
 
     unlimited : IsUnlimited without_p

@@ -5,7 +5,7 @@ use Rattle.px_terms.specs.declared.atom.Atom.{Atom}
 use Rattle.px_proof.specs.declared.shape.Tick.{Tick}
 use Rattle.px_table.specs.declared.entry.Move.{Move}
 use Rattle.px_table.specs.declared.node.Node.{Node}
-use Rattle.px_diff.specs.Questions.{Question, MeetsLimit}
+use Rattle.px_gaps.specs.Questions.{Question, MeetsLimit}
 use Rattle.px_ends.specs.Moves.{CanMake, reached, IsLeast, IsBeginning, IsAll}
 use Rattle.px_ends.specs.Order.{IsBefore}
 use Rattle.px_ends.specs.Tasks.{Task, initial_node, IsSolved, IsAllowed, after, AsksAt, goal_question}
@@ -31,7 +31,7 @@ abbrev pub IsWhole : Task → List (List Move) → Type 0
 IsWhole task lists = IsAll (IsAllowed task) (after task) IsBefore (initial_node task) lists
 
 abbrev pub NoneSolved : Task → List (List Move) → Type 0
-NoneSolved task lists = (moves : List Move) → Contains lists moves → IsSolved task (node_of task moves) → ⊥
+NoneSolved task lists = (moves : List Move) → Contains lists moves → ¬ IsSolved task (node_of task moves)
 
 -- the first node that is solved, or that comes after as many as may be kept, and the nodes before it
 pub record IsStop (task : Task) (earlier : List (List Move)) (last : List Move) : Type 0 where
@@ -44,7 +44,7 @@ pub record IsStop (task : Task) (earlier : List (List Move)) (last : List Move) 
 
 -- the last of the moves is made from a node that doesn't stand before
 abbrev pub IsMadeFrom : List Move → List Move → Type 0
-IsMadeFrom moves last = (parent : List Move) × (m : Move) × (last ≡ parent ++ m ∷ []) × (IsBefore parent moves → ⊥)
+IsMadeFrom moves last = (parent : List Move) × (m : Move) × (last ≡ parent ++ m ∷ []) × (¬ IsBefore parent moves)
 
 -- the search goes through the node: it stands no later than the one from which the stop is reached, if there is a stop
 pub record IsGoneThrough (task : Task) (moves : List Move) : Type 0 where
@@ -65,7 +65,7 @@ IsAsked task moves question =
 -- no question that is asked meets the shape limit
 abbrev pub IsUnlimited : Task → Type 0
 IsUnlimited task =
-    (moves : List Move) (question : Question) (formula : List Atom) (shapes : List (List Tick)) → IsAsked task moves question → MeetsLimit task.problem question formula shapes → ⊥
+    (moves : List Move) (question : Question) (formula : List Atom) (shapes : List (List Tick)) → IsAsked task moves question → ¬ MeetsLimit task.problem question formula shapes
 
 -- ---- the four ends
 
@@ -81,10 +81,10 @@ pub record IsExhausted (task : Task) : Type 0 where
   pub unlimited : IsUnlimited task
   pub lists : List (List Move)
   pub whole : IsWhole task lists
-  pub unsolved : (moves : List Move) → AreMoves task moves → IsSolved task (node_of task moves) → ⊥
+  pub unsolved : (moves : List Move) → AreMoves task moves → ¬ IsSolved task (node_of task moves)
   pub room : length lists ≤ task.problem.nodes
 
--- These are the first nodes, as many as may be kept, in order. None of them is solved, and so many moves reach a further one.
+-- These are the first nodes, as many as may be kept, in order. None of them is solved, and this number of moves reaches a further one.
 pub record IsNodeLimit (task : Task) (nodes : List Node) (moves : ℕ) : Type 0 where
   pub unlimited : IsUnlimited task
   pub earlier : List (List Move)

@@ -22,7 +22,7 @@ use Rattle.px_table.specs.declared.node.Node.{Node}
 use Rattle.px_table.specs.declared.table.Table.{Table}
 use Rattle.px_table.specs.Marks.{marks_from, step_at}
 use Rattle.px_table.specs.Tables.{rows_of}
-use Rattle.px_diff.specs.Entries.{effect_of, table_at}
+use Rattle.px_entries.specs.Entries.{effect_of, table_at}
 use Rattle.px_ends.specs.Tasks.{Task, after, initial_node, steps_of}
 
 -- ---- where a fact comes from
@@ -51,8 +51,8 @@ IsFirstRow problem made facts formula vars row =
 abbrev pub IsPart : Problem → List OpInst → List Atom → Leaf → Derivation → Type 0
 IsPart problem made facts leaf part = (first : Derivation) × IsFirstProof (setting_of problem facts) leaf.atom first × IsSourced problem made first part
 
--- The second proof is the first with such parts in the places of its leaves in column 0, and with its other leaves so many columns
--- higher.
+-- The second proof is the first with such parts in the places of its leaves in column 0, and with its other leaves higher by the number of
+-- columns.
 abbrev pub IsGraft : Problem → ℕ → List OpInst → List Atom → Derivation → Derivation → Type 0
 IsGraft problem shift made facts d new =
     (parts : List Derivation) × AllZip (IsPart problem made facts) (first_leaves (leaves_of d)) parts × (new ≡ grafted shift parts d)

@@ -7,7 +7,7 @@
 //!
 //! - `specs/Tasks`: a `Task` is to reach a goal from an initial model, by the operators of a problem and by learned tables.
 //!   It says what a node needs, which moves it allows (`IsAllowed`), what they lead to (`after`), what is asked there
-//!   (`AsksAt`), and which steps moves take (`steps_of`). Entries and questions are those of `px_diff`.
+//!   (`AsksAt`), and which steps moves take (`steps_of`). Entries are those of `px_entries`, questions those of `px_gaps`.
 //! - `specs/Order`: lists of moves are ordered by their number, and then by the entry at the first different push. A node
 //!   stands where its least list of moves does (`specs/Moves`, for any nodes and moves).
 //! - `specs/Ends`: `IsFound`, `IsExhausted`, `IsNodeLimit` and `IsShapeLimit` are the four ends. `IsStop` is the first node

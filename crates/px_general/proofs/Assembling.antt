@@ -1,7 +1,7 @@
 -- The whole replay: the terms of any steps, goal and proofs of the plan's shape make all its pairs equal.
 use Rattle.std.specs.Prelude.{◌≡◌, ◌+◌, ◌<◌, ℕ, Option, Some, None, List, [], ◌∷◌, ◌++◌, map, length, slice_get, All, Contains}
 use Rattle.std.proofs.Common.{zero, suc, refl, sym, ap, ◌∙◌, subst, arith}
-use Rattle.std.proofs.lemmas.List.Elements.{All-append, Contains-append_left, Contains-append_right}
+use Rattle.std.proofs.lemmas.List.Elements.{All-append, Contains-append_right}
 use Rattle.px_base.specs.ListLaws.{All-at, All-each}
 use Rattle.px_terms.specs.declared.atom.Atom.{Atom}
 use Rattle.px_terms.specs.declared.instance.OpInst.{OpInst}
@@ -12,30 +12,22 @@ use Rattle.px_terms.specs.Operators.{adds, precondition}
 use Rattle.px_terms.specs.Substitution.{substitute_atom, substitute_instance}
 use Rattle.px_terms.specs.Validity.{IsAtomOf}
 use Rattle.px_unify.specs.Changes.{MakesPairEqual, MakesEachEqual}
-use Rattle.px_proof.specs.declared.proof.Leaf.{Leaf}
 use Rattle.px_proof.specs.Derivation.{Derivation, skeleton, no_atom}
-use Rattle.px_proof.specs.PlaceLaws.{Contains-mapped}
 use Rattle.px_proof.specs.Proves.{IsName}
 use Rattle.px_proof.specs.Substitution.{derivation_under}
 use Rattle.px_table.specs.declared.mark.Mark.{Mark}
 use Rattle.px_table.specs.declared.table.Table.{Table}
-use Rattle.px_table.specs.MarkLaws.{mark_eq-decides}
-use Rattle.px_table.specs.Marks.{IsNamed, mark_eq, mark_of, marks_from, row_leaves, row_marks, step_at}
-use Rattle.px_table.specs.OnceLaws.{Contains-each_once}
+use Rattle.px_table.specs.Marks.{IsNamed, mark_of, marks_from, row_leaves, row_marks, step_at}
 use Rattle.px_table.specs.Supports.{RowsProve, variables_from}
 use Rattle.px_table.specs.SupportShapes.{SupportShape, shape_of_support}
 use Rattle.px_table.specs.Tables.{IsTable, rows_of}
 use Rattle.px_table.specs.UnderLaws.{adds-under, from_map, precondition-under}
+use Rattle.px_table.specs.RowLaws.{first_row}
 use Rattle.px_general.specs.General.{shape_of}
 use Rattle.px_replay.specs.Opened.{add_at, atom_in, opened_steps, opened_goal, opened_row, opened_rows, row_pairs, rows_pairs, step_variables, goal_objects, first_own, first_of_rows, steps_opened, rows_opened, replay_pairs}
 use Rattle.px_general.proofs.Opening.{HasFrom, HasFrom-front, HasFrom-back, IsNamedAdd, variables-are}
-use Rattle.px_general.proofs.Solving.{HasItsArguments, atom_without, cons_same, goal-counted, goal-solved, goal_opened-alike, goal_terms, goals-alike, op_of, own_of, own_of_goal, own_of_row, own_of_rows, own_of_steps, preconditions-alike, row-solved, steps-fresh, steps-solved}
-
--- the leaf of a row is a mark of it
-pub leaf-marked : (r : ℕ) (row : List Derivation) (rows : List (List Derivation)) (leaf : Leaf) → Contains (row_leaves row) leaf → Contains (marks_from r (row ∷ rows)) (mark_of r leaf)
-leaf-marked r row rows leaf has =
-    Contains-append_left (row_marks r row) (marks_from (suc r) rows) (mark_of r leaf)
-    (Contains-each_once mark_eq mark_eq-decides (map (mark_of r) (row_leaves row)) (mark_of r leaf) (Contains-mapped (mark_of r) (row_leaves row) leaf has))
+use Rattle.px_general.proofs.Solving.{HasItsArguments, atom_without, goal-counted, goal-solved, goal_opened-alike, goal_terms, goals-alike, op_of, own_of, own_of_goal, own_of_row, own_of_rows, own_of_steps, preconditions-alike, row-solved, steps-fresh, steps-solved}
+use Rattle.px_general.proofs.Reading.{cons_same}
 
 module _ (One Other : Term → Type 0) (problem : Problem) (named : ℕ → ℕ → Atom) (terms : List Term) (goal others : List Atom) (goal_vars goal_first own : ℕ)
     (same_goal : map atom_without others ≡ map atom_without goal) (goal_are : All (IsAtomOf problem goal_vars) goal) (has_goal : HasFrom terms goal_first (own_of_goal others)) where
@@ -48,7 +40,7 @@ module _ (One Other : Term → Type 0) (problem : Problem) (named : ℕ → ℕ 
     pub equal : MakesEachEqual (rows_pairs problem (opened_steps f steps) (opened_goal goal_first own goal) (opened_rows named first rows)) terms
 
   row_named : (r : ℕ) (row : List Derivation) (rows : List (List Derivation)) → ((mark : Mark) → Contains (marks_from r (row ∷ rows)) mark → NamesAdd mark) → All (IsNamedAdd named terms) (row_leaves row)
-  row_named r row rows each = All-each (IsNamedAdd named terms) (row_leaves row) (λ leaf has. each (mark_of r leaf) (leaf-marked r row rows leaf has))
+  row_named r row rows each = All-each (IsNamedAdd named terms) (row_leaves row) (λ leaf has. each (mark_of r leaf) (first_row r row rows leaf has))
 
   pub rows-solved : (r f first : ℕ) (steps steps' : List OpInst) (rows rows' : List (List Derivation)) → RowsProve One problem 0 steps goal goal_vars rows → (q : RowsProve Other problem 0 steps' others goal_vars rows')
       → map op_of steps' ≡ map op_of steps → map (substitute_instance terms) (opened_steps f steps) ≡ steps' → map (map skeleton) rows' ≡ map (map skeleton) rows

@@ -27,6 +27,7 @@ use Rattle.px_table.specs.declared.table.Table.{Table}
 use Rattle.px_table.specs.Marks.{step_at}
 use Rattle.px_table.specs.Supports.{ProvesEachOf, RowsProve, variables_from}
 use Rattle.px_table.specs.Tables.{IsStepOf, IsTable, rows_of}
+use Rattle.px_table.proofs.Choosing.{length-variables}
 use Rattle.px_replay.specs.FreshVariables.{all_fresh_in, fresh_in, fresh_variables, is_object}
 use Rattle.px_replay.specs.Opened.{add_at, atom_in, first_of_rows, first_own, goal_objects, goal_opened, opened_args, opened_goal, opened_row, opened_rows, opened_steps, opened_terms, rows_opened, step_variables, steps_opened}
 use Rattle.px_replay.specs.Replay.{opened, all_opened}
@@ -34,7 +35,6 @@ use Rattle.px_replay.specs.Replaying.{ArePlainAtoms, CanReplayRows, PlanForms, R
 use Rattle.px_general.proofs.Labelling.{plan-own}
 use Rattle.px_general.proofs.Opening.{zero_test}
 use Rattle.px_general.proofs.OpenedForms.{form-opened}
-use Rattle.px_general.proofs.Reading.{length-variables}
 use Rattle.px_replay.proofs.ReplaySteps.{below_under}
 use Rattle.px_general.proofs.Solving.{AreAlike, count-object, count-variable, goal_opened-alike, preconditions-alike}
 

@@ -1,7 +1,7 @@
 -- From the parts of a generalisation to the general table.
-use Rattle.std.specs.Prelude.{◌≡◌, ◌⊎◌, ◌↔◌, ◌+◌, ◌<◌, ◌≤◌, ℕ, Some, None, List, [], ◌∷◌, ◌++◌, map, take, drop, length, replicate, slice_get, slice_index_or, cond, All, Contains}
+use Rattle.std.specs.Prelude.{◌≡◌, ◌⊎◌, ◌+◌, ◌<◌, ◌≤◌, ℕ, Some, None, List, [], ◌∷◌, ◌++◌, map, take, drop, length, replicate, slice_get, cond, All}
 use Rattle.std.proofs.Common.{zero, suc, refl, sym, ap, ◌∙◌, subst, inl, inr, arith}
-use Rattle.std.proofs.lemmas.List.Elements.{All-nil, All-cons, All-head, All-tail, All-append, All-replicate}
+use Rattle.std.proofs.lemmas.List.Elements.{All-nil, All-cons, All-append, All-replicate}
 use Rattle.std.proofs.lemmas.List.{length-map}
 use Rattle.std.proofs.lemmas.List.Sums.{sum_by-cons}
 use Rattle.px_terms.specs.declared.atom.Atom.{Atom}
@@ -13,7 +13,7 @@ use Rattle.px_terms.specs.Language.{IsPlainBelow, IsVariableBelow, substitute}
 use Rattle.px_terms.specs.Validity.{IsValid}
 use Rattle.px_unify.specs.declared.change.Change.{Change}
 use Rattle.px_unify.specs.declared.change.Change.TheVariants.{Fresh}
-use Rattle.px_unify.specs.Changes.{Fits, HasSolutions, IsRoot, IsUnbound, MakesEachEqual, Meets, NarrowedBy, slots_of, variables_of}
+use Rattle.px_unify.specs.Changes.{Fits, HasSolutions, IsRoot, IsUnbound, Meets, slots_of, variables_of}
 use Rattle.px_unify.specs.ChangeLaws.{variables-fresh}
 use Rattle.px_proof.specs.PlaceLaws.{All-back, All-front, slice_get-within}
 use Rattle.px_proof.specs.declared.proof.Proof.{Proof}
@@ -22,15 +22,17 @@ use Rattle.px_proof.specs.ProofTerm.{derivation_of}
 use Rattle.px_table.specs.declared.table.Table.{Table}
 use Rattle.px_table.specs.Supports.{variables_from}
 use Rattle.px_table.specs.Tables.{IsTable, rows_of}
+use Rattle.px_table.proofs.Layers.{plain_variable}
 use Rattle.px_replay.specs.FreshVariables.{fresh_variables}
-use Rattle.px_replay.specs.Opened.{goal_objects, goal_opened, opened_steps, opened_terms, replay_pairs, rows_opened, rows_pairs, step_variables, steps_opened}
-use Rattle.px_replay.specs.Replaying.{CanReplayRows, HasSchema, IsReplayOf}
-use Rattle.px_replay.proofs.ReplaySteps.{variable_below}
+use Rattle.px_replay.specs.Opened.{goal_objects, goal_opened, opened_terms, replay_pairs, rows_opened, rows_pairs, step_variables, steps_opened}
+use Rattle.px_replay.specs.Replaying.{CanReplayRows, IsReplayOf}
 use Rattle.px_replay.proofs.RowSteps.{plan_forms-length}
 use Rattle.px_general.specs.General.{Generalises, row_terms, step_terms}
-use Rattle.px_general.specs.Naming.{AreLabels, HasRootsBelow, IsBuilt, IsMadeOf, IsResolved, IsSolutionOf, IsSolvedBy, is_unlabelled, leaf_terms, unlabelled, walked_terms}
+use Rattle.px_general.specs.Naming.{AreLabels, HasRootsBelow, IsBuilt, IsMadeOf, IsResolved, IsSolutionOf, is_unlabelled, leaf_terms, unlabelled, walked_terms}
 use Rattle.px_general.proofs.Counting.{can_replay}
 use Rattle.px_general.proofs.Labelling.{general-is, leaf_terms-among}
+use Rattle.px_general.proofs.Reading.{less_or_not, read-past}
+use Rattle.px_general.proofs.GeneralTable.{length-opened_steps}
 
 -- ---- fresh variables
 
@@ -65,23 +67,15 @@ root_number changes w unbound = slice_get-within (slots_of changes) w None unbou
 
 -- what a variable is bound to in the end is an object or one of the variables
 pub roots-below : (changes : List Change) (resolved : List Term) → IsResolved changes resolved → HasRootsBelow (length resolved) resolved
-roots-below changes resolved are v w is = by_place (less_or_past v (length resolved))
+roots-below changes resolved are v w is = by_place (less_or_not v (length resolved))
   where
-    less_or_past : (a b : ℕ) → (a < b) ⊎ (b ≤ a)
-    less_or_past a b = grind arith
-
-    past : (xs : List Term) (k : ℕ) → length xs ≤ k → slice_index_or xs k WildCard ≡ WildCard
-    past [] k far = refl
-    past (x ∷ xs) zero far = absurd (omega (arith, far))
-    past (x ∷ xs) (suc k) far = past xs k (omega (arith, far))
-
     by_place : (v < length resolved) ⊎ (length resolved ≤ v) → w < length resolved
     by_place (inl below) =
         let rooted : IsRoot changes (Var w) = subst (IsRoot changes) is (are.root v (subst (λ (n : ℕ). v < n) are.count below)) in
         subst (λ (n : ℕ). w < n) (sym are.count) (root_number changes w rooted)
-    by_place (inr far) = absurd (no_wild_card (sym (past resolved v far) ∙ is))
+    by_place (inr far) = absurd (no_wild_card (sym (read-past resolved v far) ∙ is))
       where
-        no_wild_card : WildCard ≡ Var w → ⊥
+        no_wild_card : ¬ (WildCard ≡ Var w)
         no_wild_card e = cc
 
 pub resolved-below : (n : ℕ) (resolved : List Term) → HasRootsBelow n resolved → All (IsVariableBelow n) resolved
@@ -102,7 +96,7 @@ pub free-count : (count : ℕ) → unlabelled (replicate count WildCard) ≡ cou
 free-count zero = refl
 free-count (suc count) = sum_by-cons one_free WildCard (replicate count WildCard) ∙ omega (arith, free-count count)
 
-unlabelled_at : (count v p : ℕ) → slice_get (replicate count WildCard) v ≡ Some (Var p) → ⊥
+unlabelled_at : (count v p : ℕ) → ¬ (slice_get (replicate count WildCard) v ≡ Some (Var p))
 unlabelled_at zero v p at = cc
 unlabelled_at (suc count) zero p at = cc
 unlabelled_at (suc count) (suc v) p at = unlabelled_at count v p at
@@ -125,7 +119,7 @@ written_back len made old same = ap (λ (n : ℕ). take n (made ++ drop (length 
 -- ---- the opened plan
 
 variables-below : (n : ℕ) (ts : List Term) → All (IsPlainBelow n) ts → All (IsVariableBelow n) ts
-variables-below n ts all k d below = variable_below n _ (all k d below)
+variables-below n ts all k d below = plain_variable n _ (all k d below)
 
 module _ (problem : Problem) (plan : Table) (valid : IsValid problem) (is_table : IsTable problem plan) (no_params : plan.params ≡ 0) (count : ℕ) (counted : count ≡ fresh_variables plan) where
   both : CanReplayRows problem (steps_opened plan) (goal_opened plan) (rows_opened problem plan) (replicate count Fresh) × All (IsPlainBelow (variables_of (replicate count Fresh))) (opened_terms problem plan)
@@ -203,12 +197,8 @@ variables_all n m ts same all = variables-below m ts (subst (λ (k : ℕ). All (
 
 -- ---- how many rows
 
-length-steps_opened : (first : ℕ) (steps : List OpInst) → length (opened_steps first steps) ≡ length steps
-length-steps_opened first [] = refl
-length-steps_opened first (s ∷ steps) = ap suc (length-steps_opened (first + length s.args) steps)
-
 pub few_rows : (problem : Problem) (plan : Table) (rows : List (List Proof)) (changes : List Change) → IsTable problem plan → rows_of rows ≡ rows_opened problem plan
     → CanReplayRows problem (steps_opened plan) (goal_opened plan) (rows_opened problem plan) changes → length rows ≤ 4294967295
 few_rows problem plan rows changes is_table rows_are can =
     let long = plan_forms-length problem (steps_opened plan) (goal_opened plan) (rows_opened problem plan) can.forms in
-    omega (arith, is_table.in_range.short, long, length-steps_opened 0 plan.steps, ap length rows_are, length-map rows (map derivation_of))
+    omega (arith, is_table.in_range.short, long, length-opened_steps 0 plan.steps, ap length rows_are, length-map rows (map derivation_of))

@@ -17,35 +17,35 @@ use Rattle.px_terms.specs.Substitution.{substitute_atom, substitute_instance}
 use Rattle.px_terms.specs.Validity.{HasArity, IsAtomOf, IsTermOf, IsValid}
 use Rattle.px_unify.specs.Changes.{MakesPairEqual, MakesEachEqual}
 use Rattle.px_proof.specs.declared.proof.Leaf.{Leaf}
-use Rattle.px_proof.specs.Derivation.{Derivation, Derivations, fact, ancestor, step, gap, open_place, none, also, leaves_of, all_leaves_of, leaf_atoms, terms_of, all_terms_of}
+use Rattle.px_proof.specs.Derivation.{Derivation, Derivations, fact, ancestor, step, gap, open_place, none, also, leaves_of, all_leaves_of, leaf_atoms, terms_of}
 use Rattle.px_proof.specs.Literals.{positive_of}
 use Rattle.px_proof.specs.PlaceLaws.{All-front, All-back, Contains-mapped, slice_get-map}
 use Rattle.px_proof.specs.Proves.{IsName}
 use Rattle.px_proof.specs.Substitution.{derivation_under}
 use Rattle.px_proof.specs.SubstitutionLaws.{leaf_atoms-under}
+use Rattle.px_proof.specs.ProvesLaws.{term_of_name}
 use Rattle.px_table.specs.declared.mark.Mark.{Mark}
 use Rattle.px_table.specs.declared.table.Table.{Table}
-use Rattle.px_table.specs.KernelLaws.{Contains-from_map}
-use Rattle.px_table.specs.MarkLaws.{mark_eq-decides}
-use Rattle.px_table.specs.Marks.{IsNamed, mark_eq, mark_of, marks_from, row_leaves, row_marks, step_at}
-use Rattle.px_table.specs.OnceLaws.{Contains-each_once}
+use Rattle.px_table.specs.Marks.{IsNamed, mark_of, marks_from, row_leaves, row_marks, step_at}
 use Rattle.px_table.specs.Supports.{ProvesEachOf, RowsProve, variables, variables_from}
 use Rattle.px_table.specs.Tables.{IsInRange, IsStepOf, IsTable, rows_of}
 use Rattle.px_table.specs.UnderLaws.{adds-under, from_map, precondition-under, step_at-map}
+use Rattle.px_table.proofs.Choosing.{length-variables}
+use Rattle.px_table.specs.RowLaws.{first_row}
 use Rattle.px_replay.specs.FreshVariables.{fresh_in, is_object}
 use Rattle.px_replay.specs.Opened.{add_at, first_of_rows, first_own, goal_objects, named_args, named_goal, opened_args, opened_goal, opened_row, opened_rows, opened_steps, row_pairs, rows_opened, rows_pairs, step_variables, steps_opened}
 use Rattle.px_general.specs.Replayed.{IsReplayed}
 use Rattle.px_replay.specs.Replay.{opened, opened_atom, all_opened, pairs_of}
+use Rattle.px_replay.proofs.GoalSteps.{read-variable}
 use Rattle.px_general.proofs.Assembling.{add_at-is}
-use Rattle.px_general.proofs.InstanceSupports.{read-map}
 use Rattle.px_general.proofs.Opening.{zero_test}
 use Rattle.px_general.proofs.OpenedForms.{form-opened}
-use Rattle.px_general.proofs.Reading.{length-variables}
-use Rattle.px_general.proofs.Proving.{conclusion-names, name-term, proves-from_pairs}
+use Rattle.px_general.proofs.Reading.{Contains-flat_map, read-left, read-map, read-right}
+use Rattle.px_general.proofs.Proving.{conclusion-names, proves-from_pairs}
 use Rattle.px_general.proofs.Shaped.{slot-name}
 use Rattle.px_general.proofs.Solving.{AreAlike, count-object, count-variable, goal_opened-alike, preconditions-alike}
-use Rattle.px_general.proofs.SupportInstances.{read-left, read-right, variable-read}
-use Rattle.px_general.proofs.Under.{Contains-from_each_once, from_marks-under, mark_with, rows_terms-under}
+use Rattle.px_general.proofs.Under.{from_marks-under, rows_terms-under}
+use Rattle.px_general.proofs.Marked.{mark_by, mark_terms-in, row_mark-leaf}
 
 -- ---- leaves and marks of the opened plan
 
@@ -85,13 +85,12 @@ module _ (named : ℕ → ℕ → Atom) where
   from_marks-opened r first [] mark has = absurd (Contains-none mark has)
   from_marks-opened r first (row ∷ rows) mark has = elim (Contains-append_cases (row_marks r (opened_row named first row)) (marks_from (suc r) (opened_rows named _ rows)) mark has) [
     | inl here ↦
-        let leaf = Contains-from_map (mark_of r) (row_leaves (opened_row named first row)) mark (Contains-from_each_once mark_eq _ mark here) in
+        let leaf = row_mark-leaf r (opened_row named first row) mark here in
         let open_of = row_leaf-opened first row leaf.0 leaf.1 in (
           open_of.0,
           open_of.1,
           r,
-          Contains-append_left (row_marks r row) (marks_from (suc r) rows) (mark_of r open_of.0)
-              (Contains-each_once mark_eq mark_eq-decides (map (mark_of r) (row_leaves row)) (mark_of r open_of.0) (Contains-mapped (mark_of r) (row_leaves row) open_of.0 open_of.2)),
+          first_row r row rows open_of.0 open_of.2,
           ap (mark_of r) open_of.3 ∙ leaf.2,
         )
     | inr later ↦
@@ -102,36 +101,9 @@ module _ (named : ℕ → ℕ → Atom) where
 -- ---- the terms of marks
 
 module _ (P : Term → Type 0) where
-  mutual
-    leaf-terms : (d : Derivation) (leaf : Leaf) → All P (terms_of d) → Contains (leaves_of d) leaf → All P leaf.atom.args
-    leaf-terms (fact l) leaf all has = elim (Contains-cases l [] leaf has) [ inl is ↦ subst (λ (x : Leaf). All P x.atom.args) is all | inr later ↦ absurd (Contains-none leaf later) ]
-    leaf-terms (ancestor i) leaf all has = absurd (Contains-none leaf has)
-    leaf-terms (step number theta place parts) leaf all has = leaves-terms parts leaf (All-back P theta (all_terms_of parts) all) has
-    leaf-terms (gap atom) leaf all has = absurd (Contains-none leaf has)
-    leaf-terms open_place leaf all has = absurd (Contains-none leaf has)
-
-    leaves-terms : (ds : Derivations) (leaf : Leaf) → All P (all_terms_of ds) → Contains (all_leaves_of ds) leaf → All P leaf.atom.args
-    leaves-terms none leaf all has = absurd (Contains-none leaf has)
-    leaves-terms (also d ds) leaf all has = elim (Contains-append_cases (leaves_of d) (all_leaves_of ds) leaf has) [
-      | inl here ↦ leaf-terms d leaf (All-front P (terms_of d) (all_terms_of ds) all) here
-      | inr later ↦ leaves-terms ds leaf (All-back P (terms_of d) (all_terms_of ds) all) later
-    ]
-
-  pub row_leaf-terms : (row : List Derivation) (leaf : Leaf) → All P (flat_map terms_of row) → Contains (row_leaves row) leaf → All P leaf.atom.args
-  row_leaf-terms [] leaf all has = absurd (Contains-none leaf has)
-  row_leaf-terms (d ∷ row) leaf all has = elim (Contains-append_cases (leaves_of d) (row_leaves row) leaf has) [
-    | inl here ↦ leaf-terms d leaf (All-front P (terms_of d) (flat_map terms_of row) all) here
-    | inr later ↦ row_leaf-terms row leaf (All-back P (terms_of d) (flat_map terms_of row) all) later
-  ]
-
-  pub mark-terms : (r : ℕ) (rows : List (List Derivation)) (mark : Mark) → All P (flat_map (flat_map terms_of) rows) → Contains (marks_from r rows) mark → All P mark.atom.args
-  mark-terms r [] mark all has = absurd (Contains-none mark has)
-  mark-terms r (row ∷ rows) mark all has = elim (Contains-append_cases (row_marks r row) (marks_from (suc r) rows) mark has) [
-    | inl here ↦
-        let leaf = Contains-from_map (mark_of r) (row_leaves row) mark (Contains-from_each_once mark_eq _ mark here) in
-        subst (λ (m : Mark). All P m.atom.args) leaf.2 (row_leaf-terms row leaf.0 (All-front P (flat_map terms_of row) (flat_map (flat_map terms_of) rows) all) leaf.1)
-    | inr later ↦ mark-terms (suc r) rows mark (All-back P (flat_map terms_of row) (flat_map (flat_map terms_of) rows) all) later
-  ]
+  mark-terms : (r : ℕ) (rows : List (List Derivation)) (mark : Mark) → All P (flat_map (flat_map terms_of) rows) → Contains (marks_from r rows) mark → All P mark.atom.args
+  mark-terms r rows mark all has =
+      All-each P mark.atom.args (λ t here. All-at P (flat_map (flat_map terms_of) rows) t all (mark_terms-in r rows t (Contains-flat_map (λ (m : Mark). m.atom.args) (marks_from r rows) mark t has here)))
 
 -- ---- adds of the opened steps
 
@@ -209,14 +181,14 @@ module _ (One : Term → Type 0) (problem : Problem) (valid : IsValid problem) (
       where
         stays : (t : Term) → IsName problem.objects params t → substitute (variables params ++ chosen_names) t ≡ t
         stays (Obj m) is = refl
-        stays (Var v) is = read-left (variables params) chosen_names v (omega (arith, is, length-variables 0 params)) ∙ variable-read 0 params v is ∙ ap Var (omega arith)
+        stays (Var v) is = read-left (variables params) chosen_names v (omega (arith, is, length-variables 0 params)) ∙ read-variable 0 params v is ∙ ap Var (omega arith)
         stays WildCard is = absurd is
     named_args-chosen first (Var v ∷ ts) are at =
         let below : v < goal_vars = All-head (IsTermOf problem goal_vars) (Var v) ts are in
         let counted = count-variable v ts in
         let head : substitute (variables params ++ chosen_names) (Var (params + v)) ≡ substitute names (Var (own + v)) =
         read-right (variables params) chosen_names params v (sym (length-variables 0 params))
-        ∙ read-map (substitute names) (variables_from own goal_vars) v (omega (arith, below, length-variables own goal_vars)) ∙ ap (substitute names) (variable-read own goal_vars v below) in
+        ∙ read-map (substitute names) (variables_from own goal_vars) v (omega (arith, below, length-variables own goal_vars)) ∙ ap (substitute names) (read-variable own goal_vars v below) in
         let rest = named_args-chosen first ts (All-tail (IsTermOf problem goal_vars) (Var v) ts are) (λ x low high. at x low (omega (arith, high, counted))) in
         λ i. head i ∷ rest i
     named_args-chosen first (WildCard ∷ ts) are at = absurd (All-head (IsTermOf problem goal_vars) WildCard ts are)
@@ -254,7 +226,7 @@ module _ (One : Term → Type 0) (problem : Problem) (valid : IsValid problem) (
 
 -- ---- the table
 
-length-opened_steps : (first : ℕ) (steps : List OpInst) → length (opened_steps first steps) ≡ length steps
+pub length-opened_steps : (first : ℕ) (steps : List OpInst) → length (opened_steps first steps) ≡ length steps
 length-opened_steps first [] = refl
 length-opened_steps first (s ∷ steps) = ap suc (length-opened_steps (first + length s.args) steps)
 
@@ -268,7 +240,7 @@ steps-are_of problem params first names (s ∷ steps) are terms =
     record {
       op = here.op;
       count = length-map (variables_from first (length s.args)) (substitute names) ∙ length-variables first (length s.args) ∙ here.count;
-      terms = All-map (IsTermOf problem params) (substitute names) (variables_from first (length s.args)) (λ k d below. name-term problem params _ (own k d below));
+      terms = All-map (IsTermOf problem params) (substitute names) (variables_from first (length s.args)) (λ k d below. term_of_name problem params _ (own k d below));
     }
     (steps-are_of problem params (first + length s.args) names steps (All-tail (IsStepOf problem 0) s steps are) (All-back (λ t. IsName problem.objects params (substitute names t)) (variables_from first (length s.args)) _ terms))
 
@@ -345,13 +317,13 @@ module _ (problem : Problem) (valid : IsValid problem) (plan general : Table) (n
       0 (first_of_rows plan) plan.steps (rows_of plan.proofs) plan_prove row_terms-are replayed.most_general.unifies))))
 
   -- each mark is that of a leaf of the plan, opened, under the names
-  from_plan : (mark : Mark) → Contains general.marks mark → (leaf : Leaf) × (k : ℕ) × (q : ℕ) × Contains plan.marks (mark_of q leaf) × (mark_with names (mark_of q (open_leaf named_here k leaf)) ≡ mark)
+  from_plan : (mark : Mark) → Contains general.marks mark → (leaf : Leaf) × (k : ℕ) × (q : ℕ) × Contains plan.marks (mark_of q leaf) × (mark_by (substitute names) (mark_of q (open_leaf named_here k leaf)) ≡ mark)
   from_plan mark has =
       let there : Contains (marks_from 1 (map (map (derivation_under names)) (rows_opened problem plan))) mark =
       subst (λ (r : List (List Derivation)). Contains (marks_from 1 r) mark) replayed.rows (subst (λ (l : List Mark). Contains l mark) replayed.marks has) in
       let under = from_marks-under names 1 (rows_opened problem plan) mark there in
       let open_mark = from_marks-opened named_here 1 (first_of_rows plan) (rows_of plan.proofs) under.0 under.1 in
-      (open_mark.0, open_mark.1, open_mark.2, subst (λ (l : List Mark). Contains l (mark_of open_mark.2 open_mark.0)) (sym is_table.marks) open_mark.3, ap (mark_with names) open_mark.4 ∙ under.2)
+      (open_mark.0, open_mark.1, open_mark.2, subst (λ (l : List Mark). Contains l (mark_of open_mark.2 open_mark.0)) (sym is_table.marks) open_mark.3, ap (mark_by (substitute names)) open_mark.4 ∙ under.2)
 
   plan_named : (q : ℕ) (leaf : Leaf) → Contains plan.marks (mark_of q leaf) → IsNamed problem plan.steps (mark_of q leaf)
   plan_named q leaf has = All-at (IsNamed problem plan.steps) plan.marks (mark_of q leaf) is_table.named has
@@ -393,7 +365,7 @@ module _ (problem : Problem) (valid : IsValid problem) (plan general : Table) (n
       let rows_terms : All (IsTermOf problem general.params) (flat_map (flat_map terms_of) (rows_of general.proofs)) =
       subst (λ (r : List (List Derivation)). All (IsTermOf problem general.params) (flat_map (flat_map terms_of) r)) (sym replayed.rows)
       (subst (All (IsTermOf problem general.params)) (sym (rows_terms-under names (rows_opened problem plan)))
-      (All-map (IsTermOf problem general.params) (substitute names) (flat_map (flat_map terms_of) (rows_opened problem plan)) (λ k d below. name-term problem general.params _ (row_terms-are k d below)))) in
+      (All-map (IsTermOf problem general.params) (substitute names) (flat_map (flat_map terms_of) (rows_opened problem plan)) (λ k d below. term_of_name problem general.params _ (row_terms-are k d below)))) in
       (subst (λ (m : Mark). HasArity problem m.atom) from.4 arity, mark-terms (IsTermOf problem general.params) 1 (rows_of general.proofs) mark rows_terms (subst (λ (l : List Mark). Contains l mark) replayed.marks has))
 
   general_is_table : IsTable problem general

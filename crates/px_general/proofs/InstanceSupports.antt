@@ -1,5 +1,5 @@
 -- Each instance of a table that is proper at 1, over any objects, supports its steps and goal from any atoms that have its first kernel.
-use Rattle.std.specs.Prelude.{◌≡◌, ◌⊎◌, ◌+◌, ◌-◌, ◌<◌, ◌≤◌, ℕ, List, [], ◌∷◌, ◌++◌, map, length, slice_index_or, All, Contains}
+use Rattle.std.specs.Prelude.{◌≡◌, ◌+◌, ◌-◌, ℕ, List, [], ◌∷◌, ◌++◌, map, length, slice_index_or, All, Contains}
 use Rattle.std.proofs.Common.{zero, suc, refl, sym, ap, ◌∙◌, subst, inl, inr, arith}
 use Rattle.std.proofs.lemmas.List.{length-map}
 use Rattle.std.proofs.lemmas.List.Elements.{All-map, All-contains_itself}
@@ -12,13 +12,14 @@ use Rattle.px_terms.specs.declared.term.Term.TheVariants.{Obj, Var, Any as WildC
 use Rattle.px_terms.specs.Language.{substitute, IsObject}
 use Rattle.px_terms.specs.Operators.{precondition}
 use Rattle.px_terms.specs.Substitution.{substitute_atom}
-use Rattle.px_terms.specs.Validity.{IsGroundInstanceOf, IsTermOf}
+use Rattle.px_terms.specs.Validity.{IsGroundInstanceOf}
 use Rattle.px_proof.specs.Derivation.{Derivation, leaves_of, leaf_atoms}
 use Rattle.px_proof.specs.Literals.{positive_of}
 use Rattle.px_proof.specs.PlaceLaws.{Contains-mapped}
 use Rattle.px_proof.specs.Proves.{IsName}
 use Rattle.px_proof.specs.Substitution.{derivation_under}
 use Rattle.px_proof.specs.SubstitutionLaws.{leaf_atoms-under, object_under, proves_from_facts}
+use Rattle.px_proof.specs.ProvesLaws.{name_of_term}
 use Rattle.px_table.specs.declared.mark.Mark.{Mark}
 use Rattle.px_table.specs.declared.table.Table.{Table}
 use Rattle.px_table.specs.KernelLaws.{kernel-has}
@@ -27,22 +28,10 @@ use Rattle.px_table.specs.Marks.{IsKept, IsNamed, marks_from}
 use Rattle.px_table.specs.Supports.{IsProofOf, ProvesEachOf, RowsProve, Supports, variables}
 use Rattle.px_table.specs.Tables.{IsTable, rows_of}
 use Rattle.px_table.specs.UnderLaws.{IsNamed-under, precondition-under}
-use Rattle.px_general.proofs.Reading.{length-variables}
-use Rattle.px_general.proofs.SupportInstances.{read-left, read-right, variable-read}
+use Rattle.px_table.proofs.Choosing.{length-variables}
+use Rattle.px_replay.proofs.GoalSteps.{read-variable}
+use Rattle.px_general.proofs.Reading.{less_or_not, read-left, read-map, read-past, read-right}
 use Rattle.px_general.proofs.Under.{from_marks-under}
-
-less_or_not : (a b : ℕ) → (a < b) ⊎ (b ≤ a)
-less_or_not a b = grind arith
-
-pub read-map : (f : Term → Term) (xs : List Term) (k : ℕ) → k < length xs → slice_index_or (map f xs) k WildCard ≡ f (slice_index_or xs k WildCard)
-read-map f [] k below = absurd (omega (arith, below))
-read-map f (x ∷ xs) zero below = refl
-read-map f (x ∷ xs) (suc k) below = read-map f xs k (omega (arith, below))
-
-read-past : (xs : List Term) (k : ℕ) → length xs ≤ k → slice_index_or xs k WildCard ≡ WildCard
-read-past [] k past = refl
-read-past (x ∷ xs) zero past = absurd (omega (arith, past))
-read-past (x ∷ xs) (suc k) past = read-past xs k (omega (arith, past))
 
 objects_all : (sigma : List ℕ) → All IsObject (map Obj sigma)
 objects_all sigma = All-map IsObject Obj sigma (λ k d below. tt)
@@ -79,7 +68,7 @@ module _ (problem : Problem) (sigma : List ℕ) (params : ℕ) (count : length s
   chosen-under goal_vars chosen long (Var v) = elim (less_or_not v params) [
     | inl inside ↦
         let left : slice_index_or (variables params ++ chosen) v WildCard ≡ Var v =
-        read-left (variables params) chosen v (omega (arith, inside, length-variables 0 params)) ∙ variable-read 0 params v inside ∙ ap Var (omega arith) in
+        read-left (variables params) chosen v (omega (arith, inside, length-variables 0 params)) ∙ read-variable 0 params v inside ∙ ap Var (omega arith) in
         let right = read-left terms (variables goal_vars) v (omega (arith, inside, terms-count)) in
         rw left (rw right (stays sigma v (map (substitute terms) chosen)))
     | inr outside ↦
@@ -100,7 +89,7 @@ module _ (problem : Problem) (sigma : List ℕ) (params : ℕ) (count : length s
       behind k = elim (less_or_not k goal_vars) [
         | inl inside ↦
             sym (read-map (substitute terms) chosen k (omega (arith, inside, long)))
-            ∙ ap (substitute (map (substitute terms) chosen)) (sym (variable-read 0 goal_vars k inside ∙ ap Var (omega arith)))
+            ∙ ap (substitute (map (substitute terms) chosen)) (sym (read-variable 0 goal_vars k inside ∙ ap Var (omega arith)))
         | inr outside ↦
             ap (substitute terms) (read-past chosen k (omega (arith, outside, long)))
             ∙ ap (substitute (map (substitute terms) chosen)) (sym (read-past (variables goal_vars) k (omega (arith, outside, length-variables 0 goal_vars))))
@@ -134,11 +123,6 @@ module _ (problem : Problem) (sigma : List ℕ) (params : ℕ) (count : length s
     rows_prove-under goal goal_vars steps rows p.1,
   )
 
-name_of : (problem : Problem) (params : ℕ) (t : Term) → IsTermOf problem params t → IsName problem.objects params t
-name_of problem params (Obj n) is = is
-name_of problem params (Var v) is = is
-name_of problem params WildCard is = is
-
 pub instance_supports : (problem : Problem) (table : Table) → IsTable problem table → (objects : List ℕ) → length objects ≡ table.params → IsProper problem table objects 1
     → (atoms : List Atom) → All (Contains atoms) (kernel_under table objects 1) → Supports problem atoms (steps_under table objects) (goal_under table objects) table.goal_vars (rows_under table objects)
 instance_supports problem table is_table objects count proper atoms kernel = record {
@@ -147,7 +131,7 @@ instance_supports problem table is_table objects count proper atoms kernel = rec
       record {
         op = step.op;
         count = length-map _ (substitute (map Obj objects)) ∙ step.count;
-        all_objects = All-map IsObject (substitute (map Obj objects)) _ (λ j e under. object-there problem objects table.params count _ (name_of problem table.params _ (step.terms j e under)));
+        all_objects = All-map IsObject (substitute (map Obj objects)) _ (λ j e under. object-there problem objects table.params count _ (name_of_term problem table.params _ (step.terms j e under)));
       });
   prove = rows_prove-under problem objects table.params count table.goal table.goal_vars table.steps (rows_of table.proofs) is_table.prove;
   named = All-each (IsNamed problem (steps_under table objects)) (marks_from 1 (rows_under table objects)) (λ mark has.

@@ -1,9 +1,9 @@
 -- Labels that are given along the walk make the opened plan the general table.
-use Rattle.std.specs.Prelude.{◌≡◌, ◌↔◌, ◌+◌, ◌<◌, ℕ, Bool, true, false, cond, not, Some, List, [], ◌∷◌, map, length, filter, flat_map, slice_get, slice_index_or, All, Contains}
+use Rattle.std.specs.Prelude.{◌≡◌, ◌↔◌, ◌+◌, ◌<◌, ℕ, true, Some, List, [], ◌∷◌, map, length, filter, flat_map, slice_get, slice_index_or, All, Contains}
 use Rattle.std.proofs.Common.{zero, suc, refl, sym, ap, ◌∙◌, subst, inl, inr, arith}
 use Rattle.std.proofs.lemmas.Bool.Decides.{nat_tests}
 use Rattle.std.proofs.lemmas.List.{length-map}
-use Rattle.std.proofs.lemmas.List.Elements.{All-nil, All-head, All-tail, All-append, Contains-append_right, Contains-append_cases}
+use Rattle.std.proofs.lemmas.List.Elements.{Contains-append_right, Contains-append_cases}
 use Rattle.px_base.specs.ListLaws.{All-at, All-each, Contains-first, Contains-later, Contains-filter}
 use Rattle.px_terms.specs.declared.atom.Atom.{Atom}
 use Rattle.px_terms.specs.declared.instance.OpInst.{OpInst}
@@ -18,46 +18,32 @@ use Rattle.px_unify.specs.declared.change.Change.{Change}
 use Rattle.px_unify.specs.Changes.{Fits, HasSolutions, IsRoot, MakesEachEqual, variables_of}
 use Rattle.px_proof.specs.declared.proof.Leaf.{Leaf}
 use Rattle.px_proof.specs.Derivation.{Derivation, terms_of}
-use Rattle.px_proof.specs.PlaceLaws.{All-front, All-back, Contains-mapped, slice_get-read, slice_get-within, some_same}
+use Rattle.px_proof.specs.PlaceLaws.{Contains-mapped, slice_get-read, slice_get-within, some_same}
 use Rattle.px_proof.specs.Proves.{IsName}
+use Rattle.px_proof.specs.ProvesLaws.{name_of_term}
+use Rattle.px_proof.specs.SubstitutionLaws.{substitute_twice, terms_twice}
 use Rattle.px_table.specs.declared.table.Table.{Table}
 use Rattle.px_table.specs.KernelLaws.{Contains-from_map}
 use Rattle.px_table.specs.Marks.{IsNamed, row_leaves}
 use Rattle.px_table.specs.Once.{each_once}
-use Rattle.px_table.specs.OnceLaws.{Contains-each_once}
+use Rattle.px_table.specs.OnceLaws.{Contains-each_once, Contains-from_each_once}
 use Rattle.px_table.specs.Supports.{RowsProve, variables, variables_from}
 use Rattle.px_table.specs.Tables.{IsTable, rows_of}
-use Rattle.px_general.specs.General.{Generalises, is_parameter}
-use Rattle.px_general.specs.Naming.{AreLabels, AreNamed, IsBuilt, IsResolved, is_variable, leaf_terms, roots_of, walked_terms}
+use Rattle.px_table.proofs.Choosing.{length-variables}
+use Rattle.px_general.specs.General.{Generalises, is_parameter, row_terms}
+use Rattle.px_general.specs.Naming.{args_of_leaves, AreLabels, AreNamed, IsBuilt, IsResolved, is_variable, leaf_terms, roots_of, walked_terms}
 use Rattle.px_replay.specs.Opened.{goal_objects, opened_terms, replay_pairs, rows_opened, step_variables, steps_opened}
+use Rattle.px_replay.proofs.GoalSteps.{read-variable}
 use Rattle.px_general.specs.Replayed.{IsReplayed}
 use Rattle.px_general.proofs.Assembling.{IsSolution, own_terms-solve}
-use Rattle.px_general.proofs.GeneralTable.{row_leaf-terms}
-use Rattle.px_general.proofs.InstanceSupports.{read-map}
 use Rattle.px_general.proofs.MostGeneral.{is_most_general, same_list}
 use Rattle.px_general.proofs.Numbering.{walks-number}
-use Rattle.px_general.proofs.Reading.{length-variables}
+use Rattle.px_general.proofs.Reading.{All-flat_map, Contains-flat_map, read-map}
 use Rattle.px_general.proofs.Opening.{read-at}
-use Rattle.px_general.proofs.Solving.{objects_among, own_of_goal}
-use Rattle.px_general.proofs.SupportInstances.{variable-read}
+use Rattle.px_general.proofs.Solving.{objects_among, objects_among-all, own_of_goal}
 use Rattle.px_general.proofs.Together.{generalises}
-use Rattle.px_general.proofs.Under.{Contains-from_each_once, rows_terms-allowed, rows_terms-under, steps_terms-under}
-
--- ---- replacing, where a name is the label of what is resolved
-
-twice_at : (outer inner : List Term) (v : ℕ) → slice_index_or (map (substitute outer) inner) v WildCard ≡ substitute outer (slice_index_or inner v WildCard)
-twice_at outer [] v = refl
-twice_at outer (t ∷ inner) zero = refl
-twice_at outer (t ∷ inner) (suc v) = twice_at outer inner v
-
-pub twice : (outer inner : List Term) (t : Term) → substitute (map (substitute outer) inner) t ≡ substitute outer (substitute inner t)
-twice outer inner (Obj n) = refl
-twice outer inner (Var v) = twice_at outer inner v
-twice outer inner WildCard = refl
-
-twice_each : (outer inner ts : List Term) → map (substitute (map (substitute outer) inner)) ts ≡ map (substitute outer) (map (substitute inner) ts)
-twice_each outer inner [] = refl
-twice_each outer inner (t ∷ ts) = cc (twice outer inner t, twice_each outer inner ts)
+use Rattle.px_general.proofs.Under.{rows_terms-allowed, rows_terms-under, steps_terms-under}
+use Rattle.px_general.proofs.Marked.{each_once-by, filter-by, row_leaf-terms}
 
 place_of : (xs : List Term) (x : Term) → Contains xs x → (p : ℕ) × (slice_get xs p ≡ Some x)
 place_of xs x has = (has.0, slice_get-read xs has.0 x has.1 ∙ ap Some has.2)
@@ -66,11 +52,6 @@ there_at : (xs : List Term) (p : ℕ) (x : Term) → slice_get xs p ≡ Some x �
 there_at [] p x at = absurd (cc)
 there_at (y ∷ xs) zero x at = subst (Contains (y ∷ xs)) (some_same y x at) (Contains-first y xs)
 there_at (y ∷ xs) (suc p) x at = Contains-later y xs x (there_at xs p x at)
-
-same_bool : (a b : Bool) → (a ≡ true → b ≡ true) → (b ≡ true → a ≡ true) → a ≡ b
-same_bool true b f g = sym (f refl)
-same_bool false true f g = absurd (let e = g refl in cc)
-same_bool false false f g = refl
 
 same_number : {v w : ℕ} → Var v ≡ Var w → v ≡ w
 same_number e = cc
@@ -83,6 +64,9 @@ module _ (resolved labels : List Term) (next : ℕ) (walked : List Term) (are : 
 
   abbrev found : List Term
   found = map (substitute resolved) walked
+
+  abbrev variables_there : List Term
+  variables_there = filter is_variable found
 
   -- a term with a label
   abbrev HasLabel : Term → Type 0
@@ -114,47 +98,19 @@ module _ (resolved labels : List Term) (next : ℕ) (walked : List Term) (are : 
   below_next : (p : ℕ) → p < next → is_parameter next (Var p) ≡ true
   below_next p below = grind (arith, nat_tests, below)
 
-  -- of the names those that are parameters are the labels of the variables
-  filtered : (rs : List Term) → ((v : ℕ) → Contains rs (Var v) → HasLabel (Var v)) → filter (is_parameter next) (map name rs) ≡ map name (filter is_variable rs)
-  filtered [] each = refl
-  filtered (Obj n ∷ rs) each = filtered rs (λ v has. each v (Contains-later (Obj n) rs (Var v) has))
-  filtered (WildCard ∷ rs) each = filtered rs (λ v has. each v (Contains-later WildCard rs (Var v) has))
-  filtered (Var v ∷ rs) each =
-      let label = each v (Contains-first (Var v) rs) in
-      let is : name (Var v) ≡ Var label.1 = ap name label.2 ∙ name_is label.0 label.1 label.3 in
-      let passes : is_parameter next (name (Var v)) ≡ true = ap (is_parameter next) is ∙ below_next label.1 label.4 in
-      ap (λ b. cond b (name (Var v) ∷ filter (is_parameter next) (map name rs)) (filter (is_parameter next) (map name rs))) passes
-      ∙ ap (λ l. name (Var v) ∷ l) (filtered rs (λ w has. each w (Contains-later (Var v) rs (Var w) has)))
+  -- of the names those of variables are the parameters
+  test_by : (t : Term) → Contains found t → is_parameter next (name t) ≡ is_variable t
+  test_by (Obj n) has = refl
+  test_by (Var v) has =
+      let label = label_of_root v (root_of_found v has) in
+      ap (is_parameter next) (ap name label.2 ∙ name_is label.0 label.1 label.3) ∙ below_next label.1 label.4
+  test_by WildCard has = refl
 
-  same_test : (t u : Term) → HasLabel t → HasLabel u → term_eq (name t) (name u) ≡ term_eq t u
-  same_test t u a b =
-      let t_is : name t ≡ Var a.1 = ap name a.2 ∙ name_is a.0 a.1 a.3 in
-      let u_is : name u ≡ Var b.1 = ap name b.2 ∙ name_is b.0 b.1 b.3 in
-      same_bool (term_eq (name t) (name u)) (term_eq t u)
-      (λ yes.
-      let one : a.1 ≡ b.1 = same_number (sym t_is ∙ (term_eq-decides (name t) (name u)).0 yes ∙ u_is) in
-      let here : Var a.0 ≡ Var b.0 = some_same _ _ (sym (labelled a.0 a.1 a.3) ∙ ap (slice_get roots) one ∙ labelled b.0 b.1 b.3) in
-      (term_eq-decides t u).1 (a.2 ∙ here ∙ sym b.2))
-      (λ yes. (term_eq-decides (name t) (name u)).1 (ap name ((term_eq-decides t u).0 yes)))
-
-  filtered_once : (t : Term) (us : List Term) → HasLabel t → All HasLabel us → filter (λ u. not (term_eq (name t) u)) (map name us) ≡ map name (filter (λ u. not (term_eq t u)) us)
-  filtered_once t [] a all = refl
-  filtered_once t (u ∷ us) a all =
-      let rest = filtered_once t us a (All-tail HasLabel u us all) in
-      ap (λ b. cond (not b) (name u ∷ filter (λ w. not (term_eq (name t) w)) (map name us)) (filter (λ w. not (term_eq (name t) w)) (map name us))) (same_test t u a (All-head HasLabel u us all))
-      ∙ by_case (term_eq t u) rest
-    where
-      by_case : (b : Bool) → filter (λ w. not (term_eq (name t) w)) (map name us) ≡ map name (filter (λ w. not (term_eq t w)) us)
-          → cond (not b) (name u ∷ filter (λ w. not (term_eq (name t) w)) (map name us)) (filter (λ w. not (term_eq (name t) w)) (map name us)) ≡ map name (cond (not b) (u ∷ filter (λ w. not (term_eq t w)) us) (filter (λ w. not (term_eq t w)) us))
-      by_case true rest = rest
-      by_case false rest = ap (λ l. name u ∷ l) rest
-
-  once_named : (us : List Term) → All HasLabel us → each_once term_eq (map name us) ≡ map name (each_once term_eq us)
-  once_named [] all = refl
-  once_named (u ∷ us) all =
-      let rest_all = All-tail HasLabel u us all in
-      ap (λ l. name u ∷ filter (λ w. not (term_eq (name u) w)) l) (once_named us rest_all)
-      ∙ ap (λ l. name u ∷ l) (filtered_once u (each_once term_eq us) (All-head HasLabel u us all) (All-each HasLabel (each_once term_eq us) (λ w has. All-at HasLabel us w rest_all (Contains-from_each_once term_eq us w has))))
+  -- terms that have one label are one
+  one_label : (t u : Term) → HasLabel t → HasLabel u → name t ≡ name u → t ≡ u
+  one_label t u a b same =
+      let one : a.1 ≡ b.1 = same_number (sym (ap name a.2 ∙ name_is a.0 a.1 a.3) ∙ same ∙ ap name b.2 ∙ name_is b.0 b.1 b.3) in
+      a.2 ∙ some_same (Var a.0) (Var b.0) (sym (labelled a.0 a.1 a.3) ∙ ap (slice_get roots) one ∙ labelled b.0 b.1 b.3) ∙ sym b.2
 
   variable_found : (t : Term) → Contains (filter is_variable found) t → (v : ℕ) × (t ≡ Var v)
   variable_found t has = by_term t ((Contains-filter is_variable found t).0 has).1
@@ -183,13 +139,14 @@ module _ (resolved labels : List Term) (next : ℕ) (walked : List Term) (are : 
       same_list (map name roots) (variables next) (length-map roots name ∙ are.count ∙ sym (length-variables 0 next)) (λ p below.
       let under : p < next = omega (arith, below, length-map roots name, are.count) in
       let root = root_at p under in
-      read-map name roots p (omega (arith, under, are.count)) ∙ ap name (read-at roots p (Var root.0) root.1) ∙ name_is root.0 p root.2 ∙ ap Var (omega arith) ∙ sym (variable-read 0 next p under))
+      read-map name roots p (omega (arith, under, are.count)) ∙ ap name (read-at roots p (Var root.0) root.1) ∙ name_is root.0 p root.2 ∙ ap Var (omega arith) ∙ sym (read-variable 0 next p under))
 
   pub walk-numbered : each_once term_eq (filter (is_parameter next) (map (substitute (map (substitute labels) resolved)) walked)) ≡ variables next
   walk-numbered =
-      ap (λ l. each_once term_eq (filter (is_parameter next) l)) (twice_each labels resolved walked)
-      ∙ ap (each_once term_eq) (filtered found (λ v has. label_of_root v (root_of_found v has)))
-      ∙ once_named (filter is_variable found) labels_found
+      ap (λ l. each_once term_eq (filter (is_parameter next) l)) (sym (terms_twice labels resolved walked))
+      ∙ ap (each_once term_eq) (filter-by name (is_parameter next) is_variable found test_by)
+      ∙ each_once-by name term_eq term_eq term_eq-decides term_eq-decides variables_there
+      (λ t u has there. one_label t u (All-at HasLabel variables_there t labels_found has) (All-at HasLabel variables_there u labels_found there))
       ∙ names_in_order
 
   -- each parameter is the name of a term of the walk
@@ -198,48 +155,24 @@ module _ (resolved labels : List Term) (next : ℕ) (walked : List Term) (are : 
       let root = root_at p below in
       let there = ((Contains-filter is_variable found (Var root.0)).0 (Contains-from_each_once term_eq (filter is_variable found) (Var root.0) (there_at roots p (Var root.0) root.1))).0 in
       let from = Contains-from_map (substitute resolved) walked (Var root.0) there in
-      (from.0, from.1, twice labels resolved from.0 ∙ ap name from.2 ∙ name_is root.0 p root.2)
+      (from.0, from.1, sym (substitute_twice labels resolved from.0) ∙ ap name from.2 ∙ name_is root.0 p root.2)
 
 -- ---- leaves' terms are terms of the proofs
 
-pub leaf_terms-among : (P : Term → Type 0) (rows : List (List Derivation)) → All P (flat_map (flat_map terms_of) rows) → All P (leaf_terms rows)
-leaf_terms-among P [] all = All-nil P
-leaf_terms-among P (row ∷ rows) all =
-    All-append P (flat_map (λ (leaf : Leaf). leaf.atom.args) (row_leaves row)) (leaf_terms rows)
-    (own (row_leaves row) (λ leaf has. row_leaf-terms P row leaf (All-front P (flat_map terms_of row) (flat_map (flat_map terms_of) rows) all) has))
-    (leaf_terms-among P rows (All-back P (flat_map terms_of row) (flat_map (flat_map terms_of) rows) all))
-  where
-    own : (leaves : List Leaf) → ((leaf : Leaf) → Contains leaves leaf → All P leaf.atom.args) → All P (flat_map (λ (leaf : Leaf). leaf.atom.args) leaves)
-    own [] each = All-nil P
-    own (leaf ∷ leaves) each = All-append P leaf.atom.args (flat_map (λ (l : Leaf). l.atom.args) leaves) (each leaf (Contains-first leaf leaves)) (own leaves (λ l has. each l (Contains-later leaf leaves l has)))
+pub leaf_terms-among : (P : Term → Type 0) (rows : List (List Derivation)) → All P (row_terms rows) → All P (leaf_terms rows)
+leaf_terms-among P rows all = All-flat_map P (λ (row : List Derivation). args_of_leaves (row_leaves row)) rows (λ row has.
+    All-flat_map P (λ (leaf : Leaf). leaf.atom.args) (row_leaves row) (λ leaf there.
+    All-each P leaf.atom.args (λ t here. All-at P (row_terms rows) t all (Contains-flat_map (flat_map terms_of) rows row t has (row_leaf-terms row leaf t there here)))))
 
 -- ---- the plan's own terms are objects of the problem
 
-name_of_term : (problem : Problem) (t : Term) → IsTermOf problem 0 t → IsName problem.objects 0 t
-name_of_term problem (Obj n) is = is
-name_of_term problem (Var v) is = is
-name_of_term problem WildCard is = is
-
 steps_terms-names : (problem : Problem) (steps : List OpInst) → All (λ (inst : OpInst). All (IsTermOf problem 0) inst.args) steps → All (IsName problem.objects 0) (flat_map (λ (inst : OpInst). inst.args) steps)
-steps_terms-names problem [] all = All-nil (IsName problem.objects 0)
-steps_terms-names problem (s ∷ steps) all =
-    All-append (IsName problem.objects 0) s.args (flat_map (λ (inst : OpInst). inst.args) steps)
-    (λ k d below. name_of_term problem _ (All-head (λ (inst : OpInst). All (IsTermOf problem 0) inst.args) s steps all k d below)) (steps_terms-names problem steps (All-tail (λ (inst : OpInst). All (IsTermOf problem 0) inst.args) s steps all))
-
-objects_among-names : (problem : Problem) (vars : ℕ) (ts : List Term) → All (IsTermOf problem vars) ts → All (IsName problem.objects 0) (objects_among ts)
-objects_among-names problem vars [] all = All-nil (IsName problem.objects 0)
-objects_among-names problem vars (Obj n ∷ ts) all = All-append (IsName problem.objects 0) (Obj n ∷ []) (objects_among ts) one (objects_among-names problem vars ts (All-tail (IsTermOf problem vars) (Obj n) ts all))
-  where
-    one : All (IsName problem.objects 0) (Obj n ∷ [])
-    one zero d below = All-head (IsTermOf problem vars) (Obj n) ts all
-    one (suc k) d below = absurd (omega (arith, below))
-objects_among-names problem vars (Var v ∷ ts) all = objects_among-names problem vars ts (All-tail (IsTermOf problem vars) (Var v) ts all)
-objects_among-names problem vars (WildCard ∷ ts) all = objects_among-names problem vars ts (All-tail (IsTermOf problem vars) WildCard ts all)
+steps_terms-names problem steps all = All-flat_map (IsName problem.objects 0) (λ (inst : OpInst). inst.args) steps (λ s has.
+    All-each (IsName problem.objects 0) s.args (λ t there. name_of_term problem 0 t (All-at (IsTermOf problem 0) s.args t (All-at (λ (inst : OpInst). All (IsTermOf problem 0) inst.args) steps s all has) there)))
 
 own_of_goal-names : (problem : Problem) (vars : ℕ) (goal : List Atom) → All (IsAtomOf problem vars) goal → All (IsName problem.objects 0) (own_of_goal goal)
-own_of_goal-names problem vars [] all = All-nil (IsName problem.objects 0)
-own_of_goal-names problem vars (a ∷ goal) all =
-    All-append (IsName problem.objects 0) (objects_among a.args) (own_of_goal goal) (objects_among-names problem vars a.args (All-head (IsAtomOf problem vars) a goal all).1) (own_of_goal-names problem vars goal (All-tail (IsAtomOf problem vars) a goal all))
+own_of_goal-names problem vars goal all = All-flat_map (IsName problem.objects 0) (λ (atom : Atom). objects_among atom.args) goal (λ a has.
+    objects_among-all (IsName problem.objects 0) a.args (λ n there. All-at (IsTermOf problem vars) a.args (Obj n) (All-at (IsAtomOf problem vars) goal a all has).1 there))
 
 module _ (problem : Problem) (plan : Table) (is_table : IsTable problem plan) (no_params : plan.params ≡ 0) where
   plan_prove : RowsProve (IsName problem.objects 0) problem 0 plan.steps plan.goal plan.goal_vars (rows_of plan.proofs)
@@ -322,7 +255,7 @@ module _ (problem : Problem) (plan general : Table) (changes : List Change) (res
   bound_object WildCard has inside n is = absurd inside
 
   name-there : (t : Term) → Contains (opened_terms problem plan) t → IsName problem.objects general.params (substitute the_names t)
-  name-there t has = subst (IsName problem.objects general.params) (sym (twice labels resolved t)) (by_root (substitute resolved t) refl)
+  name-there t has = subst (IsName problem.objects general.params) (substitute_twice labels resolved t) (by_root (substitute resolved t) refl)
     where
       inside : IsPlainBelow (variables_of changes) t
       inside = All-at (IsPlainBelow (variables_of changes)) (opened_terms problem plan) t below has

@@ -1,6 +1,7 @@
 -- A proof of the table's rows is high where one of its proof terms is.
 use Rattle.std.specs.Prelude.{◌≡◌, ◌↔◌, ◌<◌, ℕ, List, [], ◌∷◌, map, length, slice_index_or, Any}
 use Rattle.std.proofs.Common.{zero, suc, refl, sym, ap, ◌∙◌, subst, arith}
+use Rattle.std.proofs.lemmas.List.{length-map}
 use Rattle.px_proof.specs.declared.proof.Proof.{Proof}
 use Rattle.px_proof.specs.Derivation.{Derivation, height}
 use Rattle.px_proof.specs.ProofTerm.{derivation_of}
@@ -11,12 +12,8 @@ read-map f [] k x = refl
 read-map f (z ∷ xs) zero x = refl
 read-map f (z ∷ xs) (suc k) x = read-map f xs k x
 
-length-mapped : {X Y : Type 0} (f : X → Y) (xs : List X) → length (map f xs) ≡ length xs
-length-mapped f [] = refl
-length-mapped f (x ∷ xs) = ap suc (length-mapped f xs)
-
 any-to_map : {X Y : Type 0} (f : X → Y) (P : Y → Type 0) (xs : List X) → Any (λ x. P (f x)) xs → Any P (map f xs)
-any-to_map f P xs has = (has.0, f has.1, omega (arith, has.2, length-mapped f xs), read-map f xs has.0 has.1 ∙ ap f has.3, has.4)
+any-to_map f P xs has = (has.0, f has.1, omega (arith, has.2, length-map xs f), read-map f xs has.0 has.1 ∙ ap f has.3, has.4)
 
 any-from_map : {X Y : Type 0} (f : X → Y) (P : Y → Type 0) (xs : List X) (k : ℕ) (y : Y) → k < length (map f xs) → slice_index_or (map f xs) k y ≡ y → P y → Any (λ x. P (f x)) xs
 any-from_map f P [] k y below at holds = absurd (omega (arith, below))

@@ -56,8 +56,12 @@ mark_by f mark = record { atom = atom_by f mark.atom; row = mark.row; column = m
 abbrev pub mark_terms : List Mark → List Term
 mark_terms marks = flat_map (λ (mark : Mark). mark.atom.args) marks
 
+-- a mark of a row is that of a leaf of it
+pub row_mark-leaf : (r : ℕ) (row : List Derivation) (mark : Mark) → Contains (row_marks r row) mark → (leaf : Leaf) × Contains (row_leaves row) leaf × (mark_of r leaf ≡ mark)
+row_mark-leaf r row mark has = Contains-from_map (mark_of r) (row_leaves row) mark (Contains-from_each_once mark_eq (map (mark_of r) (row_leaves row)) mark has)
+
 -- the terms of a row's leaf are terms of the row
-row_leaf-terms : (row : List Derivation) (leaf : Leaf) (t : Term) → Contains (row_leaves row) leaf → Contains leaf.atom.args t → Contains (flat_map terms_of row) t
+pub row_leaf-terms : (row : List Derivation) (leaf : Leaf) (t : Term) → Contains (row_leaves row) leaf → Contains leaf.atom.args t → Contains (flat_map terms_of row) t
 row_leaf-terms row leaf t has here =
     let from = Contains-from_flat_map leaves_of row leaf has in
     Contains-flat_map terms_of row from.0 t from.1 (leaf-terms from.0 leaf t from.2 here)
@@ -72,7 +76,7 @@ mark_terms-in first rows t has =
     of_mark first [] mark has t here = absurd (Contains-none mark has)
     of_mark first (row ∷ rows) mark has t here = elim (Contains-append_cases (row_marks first row) (marks_from (suc first) rows) mark has) [
       | inl own ↦
-          let leaf = Contains-from_map (mark_of first) (row_leaves row) mark (Contains-from_each_once mark_eq (map (mark_of first) (row_leaves row)) mark own) in
+          let leaf = row_mark-leaf first row mark own in
           Contains-append_left (flat_map terms_of row) (row_terms rows) t (row_leaf-terms row leaf.0 t leaf.1 (subst (λ (m : Mark). Contains m.atom.args t) (sym leaf.2) here))
       | inr later ↦ Contains-append_right (flat_map terms_of row) (row_terms rows) t (of_mark (suc first) rows mark later t here)
     ]

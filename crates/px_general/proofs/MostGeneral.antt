@@ -11,8 +11,8 @@ use Rattle.px_unify.specs.declared.change.Change.{Change}
 use Rattle.px_unify.specs.Changes.{Fits, HasSolutions, IsRoot, IsUnbound, MakesEachEqual, variables_of}
 use Rattle.px_general.specs.Naming.{AreNamed}
 use Rattle.px_general.specs.Replayed.{IsMostGeneral}
-use Rattle.px_general.proofs.InstanceSupports.{read-map}
 use Rattle.px_general.proofs.Opening.{read-at}
+use Rattle.px_general.proofs.Reading.{read-map}
 
 -- lists of one length with the same terms at each place are one
 pub same_list : (xs ys : List Term) → length xs ≡ length ys → ((k : ℕ) → k < length xs → slice_index_or xs k WildCard ≡ slice_index_or ys k WildCard) → xs ≡ ys

@@ -10,9 +10,10 @@ use Rattle.px_terms.specs.OrderLaws.{term_eq-decides}
 use Rattle.px_table.specs.Once.{each_once}
 use Rattle.px_table.specs.OnceLaws.{Contains-from_each_once}
 use Rattle.px_table.specs.Supports.{variables, variables_from}
+use Rattle.px_table.proofs.Choosing.{length-variables}
 use Rattle.px_general.specs.General.{is_parameter}
 use Rattle.px_general.proofs.Marked.{filter-by, each_once-by}
-use Rattle.px_general.proofs.Reading.{item-left, length-variables, variables-have}
+use Rattle.px_general.proofs.Reading.{item-left, variables-have}
 
 -- a map that makes variables of variables in order leaves each
 variable-left : (f : Term → Term) (first count : ℕ) → map f (variables_from first count) ≡ variables_from first count → (v : ℕ) → first ≤ v → v < first + count → f (Var v) ≡ Var v

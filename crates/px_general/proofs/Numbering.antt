@@ -33,7 +33,8 @@ use Rattle.px_replay.specs.FreshVariables.{is_object}
 use Rattle.px_general.specs.Naming.{AreNumbered, leaf_terms, walked_terms}
 use Rattle.px_replay.specs.Opened.{goal_objects, named_args, named_goal, rows_opened, step_variables, steps_opened}
 use Rattle.px_general.specs.Replayed.{IsReplayed}
-use Rattle.px_general.proofs.Under.{flat_map-map, row_leaves-under, rows_terms-under, steps_terms-under}
+use Rattle.px_general.proofs.Under.{row_leaves-under, rows_terms-under, steps_terms-under}
+use Rattle.px_general.proofs.Reading.{flat_map-mapped}
 
 -- ---- lists
 
@@ -144,9 +145,9 @@ module _ (p : Term → Bool) where
 
 leaf_terms-under : (terms : List Term) (rows : List (List Derivation)) → leaf_terms (map (map (derivation_under terms)) rows) ≡ map (substitute terms) (leaf_terms rows)
 leaf_terms-under terms rows =
-    flat_map-map (λ (row : List Derivation). flat_map (λ (leaf : Leaf). leaf.atom.args) (row_leaves row)) (map (derivation_under terms)) (λ (row : List Derivation). flat_map (λ (leaf : Leaf). leaf.atom.args) (row_leaves row)) (substitute terms)
+    flat_map-mapped (λ (row : List Derivation). flat_map (λ (leaf : Leaf). leaf.atom.args) (row_leaves row)) (map (derivation_under terms)) (λ (row : List Derivation). flat_map (λ (leaf : Leaf). leaf.atom.args) (row_leaves row)) (substitute terms)
     (λ row. ap (flat_map (λ (leaf : Leaf). leaf.atom.args)) (row_leaves-under terms row)
-    ∙ flat_map-map (λ (leaf : Leaf). leaf.atom.args) (leaf_under terms) (λ (leaf : Leaf). leaf.atom.args) (substitute terms) (λ leaf. refl) (row_leaves row))
+    ∙ flat_map-mapped (λ (leaf : Leaf). leaf.atom.args) (leaf_under terms) (λ (leaf : Leaf). leaf.atom.args) (substitute terms) (λ leaf. refl) (row_leaves row))
     rows
 
 -- ---- the goal's own variables are no parameters
@@ -215,6 +216,7 @@ module _ (problem : Problem) (plan general : Table) (names roots : List Term) (i
   abbrev rows_part : List Term
   rows_part = flat_map (flat_map terms_of) (rows_of general.proofs)
 
+  -- Alike: `SupportInstances`, which is of the same opened plan.
   abbrev leaves_walk : List Term
   leaves_walk = leaf_terms (rows_opened problem plan)
 

@@ -1,5 +1,5 @@
--- A plan that is proper has one general table: each of two is the other with its parameters renamed, and as these are numbered by first
--- occurrence, none is renamed.
+-- A plan that is proper has at most one general table: each of two is the other with its parameters renamed, and as these are numbered
+-- by first occurrence, none is renamed.
 use Rattle.std.specs.Prelude.{◌≡◌, ◌+◌, ◌-◌, ◌<◌, ℕ, List, [], ◌∷◌, ◌++◌, map, length, filter, slice_index, Contains}
 use Rattle.std.proofs.Common.{refl, sym, ap, ◌∙◌, subst, inl, inr, arith}
 use Rattle.std.proofs.lemmas.List.{map-append}
@@ -114,7 +114,7 @@ module _ (problem : Problem) (one other : Table) (is_one : IsTable problem one) 
       variable_number : {a b : ℕ} → Var a ≡ Var b → a ≡ b
       variable_number e = cc
 
-      no_wild : {a : ℕ} → WildCard ≡ Var a → ⊥
+      no_wild : {a : ℕ} → ¬ (WildCard ≡ Var a)
       no_wild e = cc
 
   parameter-moves : (v : ℕ) → v < one.params → (w : ℕ) × (w < other.params) × (there (Var v) ≡ Var w)
@@ -131,7 +131,7 @@ module _ (problem : Problem) (one other : Table) (is_one : IsTable problem one) 
             (n - problem.objects, reads-parameter v (n - problem.objects) below (sym (ap again moved) ∙ round (Var v) has), moved)
       ]
     where
-      no_object : {a b : ℕ} → Obj a ≡ Var b → ⊥
+      no_object : {a b : ℕ} → ¬ (Obj a ≡ Var b)
       no_object e = cc
 
   alike : (t : Term) → Contains (own_terms one) t → is_parameter other.params (there t) ≡ is_parameter one.params t

@@ -14,11 +14,11 @@ use Rattle.px_proof.specs.Proves.{Proves, ProvesEach, from_atoms}
 use Rattle.px_proof.specs.Substitution.{derivation_under}
 use Rattle.px_table.specs.Supports.{variables_from}
 use Rattle.px_table.specs.UnderLaws.{from_map}
+use Rattle.px_table.proofs.Choosing.{length-variables}
 use Rattle.px_replay.specs.FreshVariables.{fresh_in}
 use Rattle.px_replay.specs.Replay.{pairs_of, HasForm, HaveForms, opened, all_opened, own_terms}
 use Rattle.px_general.proofs.Matching.{IsAlike, alike_parts, Matches, matches_from}
 use Rattle.px_general.proofs.Opening.{HasFrom, IsNamedAdd, opened-is}
-use Rattle.px_general.proofs.Reading.{length-variables}
 use Rattle.px_replay.proofs.Replaying.{pairs-equal}
 
 alike_at : (path path' : List Lit) (i : ℕ) (lit : Lit) → AllZip IsAlike path path' → slice_get path i ≡ Some lit → (other : Lit) × (slice_get path' i ≡ Some other) × IsAlike lit other

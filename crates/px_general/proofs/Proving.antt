@@ -82,11 +82,6 @@ module _ (Is : Term → Type 0) (axioms : List Clause) (atoms : List Atom) (term
 
 -- ---- what is proved over names is over names
 
-pub name-term : (problem : Problem) (params : ℕ) (t : Term) → IsName problem.objects params t → IsTermOf problem params t
-name-term problem params (Obj n) is = is
-name-term problem params (Var v) is = is
-name-term problem params WildCard is = is
-
 module _ (problem : Problem) (valid : IsValid problem) (params : ℕ) (atoms : List Atom) where
   literal_terms : (vars : ℕ) (theta : List Term) → length theta ≡ vars → All (IsName problem.objects params) theta → (t : Term) → IsTermOf problem vars t → IsName problem.objects params (substitute theta t)
   literal_terms vars theta long names (Obj n) is = is
@@ -97,7 +92,7 @@ module _ (problem : Problem) (valid : IsValid problem) (params : ℕ) (atoms : L
   conclusion-names lit (fact leaf) p = subst (λ (l : Lit). All (IsName problem.objects params) l.atom.args) (sym p.0) p.1.1
   conclusion-names lit (ancestor i) p = absurd (nothing i p)
     where
-      nothing : (i : ℕ) → slice_get [] i ≡ Some (complement_of lit) → ⊥
+      nothing : (i : ℕ) → ¬ (slice_get [] i ≡ Some (complement_of lit))
       nothing i e = cc
   conclusion-names lit (step number theta place parts) p =
       let from = from_map (substitute_literal theta) p.0.lits place lit p.1.literal_at in

@@ -1,10 +1,10 @@
 -- Reading lists of terms at a place, and what is in lists.
-use Rattle.std.specs.Prelude.{◌≡◌, ◌⊎◌, ◌+◌, ◌<◌, ◌≤◌, ℕ, true, false, nat_lt, List, [], ◌∷◌, ◌++◌, map, length, flat_map, slice_index, slice_index_or, Contains}
+use Rattle.std.specs.Prelude.{◌≡◌, ◌⊎◌, ◌+◌, ◌<◌, ◌≤◌, ℕ, true, false, nat_lt, List, [], ◌∷◌, ◌++◌, map, length, flat_map, slice_index, slice_index_or, All, Contains}
 use Rattle.std.proofs.Common.{zero, suc, refl, sym, ap, ◌∙◌, subst, inl, inr, arith}
 use Rattle.std.proofs.lemmas.Bool.Decides.{nat_tests}
 use Rattle.std.proofs.lemmas.List.{map-append}
 use Rattle.std.proofs.lemmas.List.Elements.{Contains-append_left, Contains-append_right, Contains-append_cases}
-use Rattle.px_base.specs.ListLaws.{Contains-none, Contains-first, Contains-later, Contains-cases}
+use Rattle.px_base.specs.ListLaws.{All-at, All-each, Contains-none, Contains-first, Contains-later, Contains-cases}
 use Rattle.px_terms.specs.declared.term.Term.{Term}
 use Rattle.px_terms.specs.declared.term.Term.TheVariants.{Obj, Var, Any as WildCard}
 use Rattle.px_table.specs.Supports.{variables_from}
@@ -17,6 +17,9 @@ lt-true a b below = grind (arith, nat_tests)
 
 pub lt-false : (a b : ℕ) → b ≤ a → nat_lt a b ≡ false
 lt-false a b above = grind (arith, nat_tests)
+
+pub cons_same : {X : Type 0} (x y : X) (xs ys : List X) → x ∷ xs ≡ y ∷ ys → (x ≡ y) × (xs ≡ ys)
+cons_same x y xs ys e = (cc, cc)
 
 -- ---- at a place
 
@@ -47,15 +50,6 @@ read-objects [] k below = absurd (omega (arith, below))
 read-objects (n ∷ objects) zero below = refl
 read-objects (n ∷ objects) (suc k) below = read-objects objects k (omega (arith, below))
 
-pub length-variables : (first count : ℕ) → length (variables_from first count) ≡ count
-length-variables first zero = refl
-length-variables first (suc count) = ap suc (length-variables (suc first) count)
-
-pub read-variables : (first count k : ℕ) → k < count → slice_index_or (variables_from first count) k WildCard ≡ Var (first + k)
-read-variables first zero k below = absurd (omega (arith, below))
-read-variables first (suc count) zero below = ap Var (omega arith)
-read-variables first (suc count) (suc k) below = read-variables (suc first) count k (omega (arith, below)) ∙ ap Var (omega arith)
-
 pub variables-have : (first count v : ℕ) → first ≤ v → v < first + count → Contains (variables_from first count) (Var v)
 variables-have first zero v low high = absurd (omega (arith, low, high))
 variables-have first (suc count) v low high = elim (here_or_later first v low) [
@@ -82,6 +76,10 @@ Contains-from_flat_map k (z ∷ xs) y has = elim (Contains-append_cases (k z) (f
   | inr later ↦ let rest = Contains-from_flat_map k xs y later in (rest.0, Contains-later z xs rest.0 rest.1, rest.2)
 ]
 
+-- what holds of all items of each list holds of all of them together
+pub All-flat_map : {X Y : Type 0} (P : Y → Type 0) (k : X → List Y) (xs : List X) → ((x : X) → Contains xs x → All P (k x)) → All P (flat_map k xs)
+All-flat_map P k xs each = All-each P (flat_map k xs) (λ y has. let from = Contains-from_flat_map k xs y has in All-at P (k from.0) y (each from.0 from.1) from.2)
+
 pub flat_map-mapped : {A B C D : Type 0} (f : A → List C) (g : A → B) (k : B → List D) (h : C → D) → ((x : A) → k (g x) ≡ map h (f x)) → (xs : List A) → flat_map k (map g xs) ≡ map h (flat_map f xs)
 flat_map-mapped f g k h each [] = refl
 flat_map-mapped f g k h each (x ∷ xs) =
@@ -96,9 +94,6 @@ item-left f (y ∷ xs) same x has =
       | inl is ↦ ap f (sym is) ∙ both.0 ∙ is
       | inr later ↦ item-left f xs both.1 x later
     ]
-  where
-    cons_same : {A : Type 0} (a b : A) (xs ys : List A) → a ∷ xs ≡ b ∷ ys → (a ≡ b) × (xs ≡ ys)
-    cons_same a b xs ys e = (cc, cc)
 
 -- two lists that a map makes equal are equal, where it doesn't make different items equal
 pub lists-one : {A B : Type 0} (f : A → B) (xs ys : List A) → ((x y : A) → Contains xs x → Contains ys y → f x ≡ f y → x ≡ y) → map f xs ≡ map f ys → xs ≡ ys
@@ -110,6 +105,3 @@ lists-one f (x ∷ xs) (y ∷ ys) one same =
     let head : x ≡ y = one x y (Contains-first x xs) (Contains-first y ys) both.0 in
     let rest = lists-one f xs ys (λ p q has there. one p q (Contains-later x xs p has) (Contains-later y ys q there)) both.1 in
     λ i. head i ∷ rest i
-  where
-    cons_same : {A : Type 0} (a b : A) (xs ys : List A) → a ∷ xs ≡ b ∷ ys → (a ≡ b) × (xs ≡ ys)
-    cons_same a b xs ys e = (cc, cc)

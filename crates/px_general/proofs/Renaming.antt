@@ -1,8 +1,7 @@
 -- Tables whose instances are the same are each the other with its parameters renamed.
-use Rattle.std.specs.Prelude.{◌≡◌, ◌+◌, ◌-◌, ◌<◌, ◌≤◌, ℕ, nat_lt, if◌then◌else◌, List, [], ◌∷◌, ◌++◌, map, length, flat_map, slice_index, All, Contains}
+use Rattle.std.specs.Prelude.{◌≡◌, ◌+◌, ◌-◌, ◌<◌, ◌≤◌, ℕ, nat_lt, if◌then◌else◌, List, [], ◌∷◌, ◌++◌, map, length, slice_index, All, Contains}
 use Rattle.std.proofs.Common.{zero, suc, refl, sym, ap, ◌∙◌, subst, inl, inr, arith}
 use Rattle.std.proofs.lemmas.List.{length-map}
-use Rattle.std.proofs.lemmas.List.Elements.{All-append}
 use Rattle.px_base.specs.ListLaws.{All-at}
 use Rattle.px_terms.specs.declared.atom.Atom.{Atom}
 use Rattle.px_terms.specs.declared.instance.OpInst.{OpInst}
@@ -11,16 +10,18 @@ use Rattle.px_terms.specs.declared.term.Term.{Term}
 use Rattle.px_terms.specs.declared.term.Term.TheVariants.{Obj, Var, Any as WildCard}
 use Rattle.px_terms.specs.Language.{substitute}
 use Rattle.px_terms.specs.Validity.{IsAtomOf, IsTermOf}
-use Rattle.px_proof.specs.Derivation.{Derivation, terms_of}
-use Rattle.px_proof.specs.Proves.{IsName, from_atoms}
-use Rattle.px_proof.specs.ProvesLaws.{only_terms}
+use Rattle.px_proof.specs.Proves.{IsName}
+use Rattle.px_proof.specs.ProvesLaws.{term_of_name}
 use Rattle.px_table.specs.declared.table.Table.{Table}
 use Rattle.px_table.specs.Kernels.{goal_under, rows_under, steps_under}
-use Rattle.px_table.specs.Supports.{ProvesEachOf, RowsProve, variables}
+use Rattle.px_table.specs.Supports.{variables}
 use Rattle.px_table.specs.Tables.{IsStepOf, IsTable, rows_of}
+use Rattle.px_table.proofs.Choosing.{length-variables}
+use Rattle.px_replay.proofs.GoalSteps.{read-variable}
 use Rattle.px_general.specs.General.{step_terms, goal_terms, row_terms}
 use Rattle.px_general.proofs.Mapped.{atom_by, instance_by, rows_by, rows-under, steps-by, goal-by, rows-by, steps-same, goal-same, rows-same}
-use Rattle.px_general.proofs.Reading.{less_or_not, lt-true, lt-false, read-left, read-right, read-past, read-objects, read-variables, length-variables, Contains-from_flat_map}
+use Rattle.px_general.proofs.Reading.{less_or_not, lt-true, lt-false, read-left, read-right, read-past, read-objects, Contains-from_flat_map}
+use Rattle.px_general.proofs.Under.{rows_terms-allowed}
 
 -- ---- which terms a table has
 
@@ -38,11 +39,6 @@ read-numbers first zero k below = absurd (omega (arith, below))
 read-numbers first (suc count) zero below = omega arith
 read-numbers first (suc count) (suc k) below = read-numbers (suc first) count k (omega (arith, below)) ∙ omega arith
 
-pub term_of_name : (problem : Problem) (params : ℕ) (t : Term) → IsName problem.objects params t → IsTermOf problem params t
-term_of_name problem params (Obj n) is = is
-term_of_name problem params (Var v) is = is
-term_of_name problem params WildCard is = is
-
 pub term_of_more : (problem : Problem) (few more : ℕ) (t : Term) → IsTermOf problem few t → IsTermOf problem (few + more) t
 term_of_more problem few more (Obj n) is = is
 term_of_more problem few more (Var v) is = omega (arith, is)
@@ -59,23 +55,6 @@ module _ (problem : Problem) (params : ℕ) where
       let from = Contains-from_flat_map (λ (a : Atom). a.args) goal t has in
       All-at (IsTermOf problem params) from.0.args t (All-at (IsAtomOf problem params) goal from.0 all from.1).1 from.2
 
-  row-terms : (atoms : List Atom) (row : List Derivation) → ProvesEachOf (IsName problem.objects params) problem.axioms atoms row → All (IsName problem.objects params) (flat_map terms_of row)
-  row-terms [] [] p = λ k e below. absurd (omega (arith, below))
-  row-terms [] (d ∷ row) p = absurd p
-  row-terms (a ∷ atoms) [] p = absurd p
-  row-terms (a ∷ atoms) (d ∷ row) p =
-      All-append (IsName problem.objects params) (terms_of d) (flat_map terms_of row)
-      (only_terms problem.axioms (IsName problem.objects params) (from_atoms (IsName problem.objects params) _) (record { choices = λ t h. h; facts = λ leaf h. h.1; gaps = λ atom h. absurd h }) [] _ d p.0.proves)
-      (row-terms atoms row p.1)
-
-  rows-terms : (goal : List Atom) (goal_vars : ℕ) (steps : List OpInst) (rows : List (List Derivation)) → RowsProve (IsName problem.objects params) problem params steps goal goal_vars rows
-      → All (IsName problem.objects params) (row_terms rows)
-  rows-terms goal goal_vars [] [] p = absurd p
-  rows-terms goal goal_vars [] (row ∷ []) p = All-append (IsName problem.objects params) (flat_map terms_of row) [] (row-terms _ row p.2) (λ k e below. absurd (omega (arith, below)))
-  rows-terms goal goal_vars [] (row ∷ second ∷ rows) p = absurd p
-  rows-terms goal goal_vars (s ∷ steps) [] p = absurd p
-  rows-terms goal goal_vars (s ∷ steps) (row ∷ rows) p = All-append (IsName problem.objects params) (flat_map terms_of row) (row_terms rows) (row-terms _ row p.0) (rows-terms goal goal_vars steps rows p.1)
-
 -- the terms of the table's steps, goal and rows
 module _ (problem : Problem) (table : Table) (is_table : IsTable problem table) where
   pub of-steps : (t : Term) → Contains (step_terms table.steps) t → IsTermOf problem table.params t
@@ -87,7 +66,7 @@ module _ (problem : Problem) (table : Table) (is_table : IsTable problem table) 
   pub of-rows : (t : Term) → Contains (row_terms (rows_of table.proofs)) t → IsTermOf problem table.params t
   of-rows t has =
       term_of_name problem table.params t
-      (All-at (IsName problem.objects table.params) (row_terms (rows_of table.proofs)) t (rows-terms problem table.params table.goal table.goal_vars table.steps (rows_of table.proofs) is_table.prove) has)
+      (All-at (IsName problem.objects table.params) (row_terms (rows_of table.proofs)) t (rows_terms-allowed (IsName problem.objects table.params) problem table.params table.goal table.goal_vars table.steps (rows_of table.proofs) is_table.prove) has)
 
 -- ---- putting objects in, and reading parameters back from them
 
@@ -117,7 +96,7 @@ module _ (objects : List ℕ) (params goal_vars : ℕ) (count : length objects �
 
   pub put-own : (j : ℕ) → j < goal_vars → put_in objects goal_vars (Var (params + j)) ≡ Var j
   put-own j below =
-      read-right (map Obj objects) (variables goal_vars) params j (sym count ∙ sym (length-map objects Obj)) ∙ read-variables 0 goal_vars j below ∙ ap Var (omega arith)
+      read-right (map Obj objects) (variables goal_vars) params j (sym count ∙ sym (length-map objects Obj)) ∙ read-variable 0 goal_vars j below ∙ ap Var (omega arith)
 
   pub put-past : (j : ℕ) → goal_vars ≤ j → put_in objects goal_vars (Var (params + j)) ≡ WildCard
   put-past j past =

@@ -15,7 +15,8 @@ use Rattle.px_terms.specs.Substitution.{substitute_atom, substitute_instance}
 use Rattle.px_terms.specs.Validity.{IsAtomOf, IsTermOf}
 use Rattle.px_proof.specs.Derivation.{Derivation, Derivations, fact, ancestor, step, gap, open_place, none, also, skeleton, skeletons}
 use Rattle.px_proof.specs.Proves.{IsName}
-use Rattle.px_proof.specs.Substitution.{derivation_under, derivations_under}
+use Rattle.px_proof.specs.Substitution.{derivation_under}
+use Rattle.px_proof.specs.SubstitutionLaws.{skeleton-under}
 use Rattle.px_table.specs.declared.table.Table.{Table}
 use Rattle.px_table.specs.Kernels.{goal_under, rows_under, steps_under}
 use Rattle.px_table.specs.Supports.{Supports, variables, variables_from}
@@ -26,10 +27,11 @@ use Rattle.px_replay.specs.FreshVariables.{fresh_in, is_object}
 use Rattle.px_replay.specs.Opened.{goal_objects, named_args, named_goal, opened_row, opened_rows, opened_steps, opened_terms, rows_opened, step_variables, steps_opened}
 use Rattle.px_general.specs.Replayed.{IsReplayed}
 use Rattle.px_replay.specs.Replay.{opened, all_opened}
+use Rattle.px_replay.proofs.GoalSteps.{read-variable}
 use Rattle.px_general.proofs.InstanceSupports.{object-there, instance_supports}
 use Rattle.px_general.proofs.Solving.{atom_without, count-object, count-variable, op_of}
-use Rattle.px_general.proofs.SupportInstances.{name-read, read-right, variable-read}
-use Rattle.px_general.proofs.Under.{variables_from-has}
+use Rattle.px_general.proofs.SupportInstances.{name-read}
+use Rattle.px_general.proofs.Reading.{read-right, variables-have}
 
 -- ---- steps
 
@@ -43,23 +45,11 @@ ops-opened first (s ∷ steps) = ap (λ l. s.op ∷ l) (ops-opened (first + leng
 
 -- ---- proofs
 
-mutual
-  skeleton-under : (terms : List Term) (d : Derivation) → skeleton (derivation_under terms d) ≡ skeleton d
-  skeleton-under terms (fact leaf) = refl
-  skeleton-under terms (ancestor i) = refl
-  skeleton-under terms (step number theta place parts) = ap (step number [] place) (skeletons-under terms parts)
-  skeleton-under terms (gap atom) = refl
-  skeleton-under terms open_place = refl
-
-  skeletons-under : (terms : List Term) (ds : Derivations) → skeletons (derivations_under terms ds) ≡ skeletons ds
-  skeletons-under terms none = refl
-  skeletons-under terms (also d ds) = let one = skeleton-under terms d in let rest = skeletons-under terms ds in λ i. also (one i) (rest i)
-
 row_skeletons-under : (terms : List Term) (row : List Derivation) → map skeleton (map (derivation_under terms) row) ≡ map skeleton row
 row_skeletons-under terms [] = refl
 row_skeletons-under terms (d ∷ row) = let one = skeleton-under terms d in let rest = row_skeletons-under terms row in λ i. one i ∷ rest i
 
-rows_skeletons-under : (terms : List Term) (rows : List (List Derivation)) → map (map skeleton) (map (map (derivation_under terms)) rows) ≡ map (map skeleton) rows
+pub rows_skeletons-under : (terms : List Term) (rows : List (List Derivation)) → map (map skeleton) (map (map (derivation_under terms)) rows) ≡ map (map skeleton) rows
 rows_skeletons-under terms [] = refl
 rows_skeletons-under terms (row ∷ rows) = let one = row_skeletons-under terms row in let rest = rows_skeletons-under terms rows in λ i. one i ∷ rest i
 
@@ -107,7 +97,7 @@ module _ (problem : Problem) (vars params : ℕ) (names : List Term) (sigma : Li
       let below : v < vars = All-head (IsTermOf problem vars) (Var v) ts are in
       let counted = count-variable v ts in
       let head : without_object (substitute (map Obj sigma ++ variables vars) (Var (params + v))) ≡ Var v =
-      ap without_object (read-right (map Obj sigma) (variables vars) params v (omega (arith, count, length-map sigma Obj)) ∙ variable-read 0 vars v below ∙ ap Var (omega arith)) in
+      ap without_object (read-right (map Obj sigma) (variables vars) params v (omega (arith, count, length-map sigma Obj)) ∙ read-variable 0 vars v below ∙ ap Var (omega arith)) in
       let rest = named_args-shape first ts (All-tail (IsTermOf problem vars) (Var v) ts are) (λ x low high. at x low (omega (arith, high, counted))) in
       λ i. head i ∷ rest i
   named_args-shape first (WildCard ∷ ts) are at = absurd (All-head (IsTermOf problem vars) WildCard ts are)
@@ -128,7 +118,7 @@ pub slot-name : (problem : Problem) (plan general : Table) (names roots : List T
     → (v : ℕ) → step_variables plan.steps ≤ v → v < step_variables plan.steps + goal_objects plan.goal → IsName problem.objects general.params (substitute names (Var v))
 slot-name problem plan general names roots replayed v low high =
     All-at (λ t. IsName problem.objects general.params (substitute names t)) (opened_terms problem plan) (Var v) replayed.are_names
-    (Contains-append_right _ _ (Var v) (Contains-append_left (variables_from (step_variables plan.steps) (goal_objects plan.goal)) _ (Var v) (variables_from-has (step_variables plan.steps) (goal_objects plan.goal) v low high)))
+    (Contains-append_right _ _ (Var v) (Contains-append_left (variables_from (step_variables plan.steps) (goal_objects plan.goal)) _ (Var v) (variables-have (step_variables plan.steps) (goal_objects plan.goal) v low high)))
 
 pub instance-shaped : (problem : Problem) (plan general : Table) (names roots : List Term) → IsTable problem plan → plan.params ≡ 0 → IsReplayed problem plan general names roots
     → (objects : List ℕ) → length objects ≡ general.params → shape_of_support (steps_under general objects) (goal_under general objects) (rows_under general objects) ≡ shape_of plan

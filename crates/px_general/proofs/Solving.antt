@@ -1,11 +1,12 @@
 -- The terms of any steps, goal and proofs of the plan's shape make all pairs of its replay equal, and the opened plan under
 -- them is these steps, this goal and these proofs.
-use Rattle.std.specs.Prelude.{◌≡◌, ◌+◌, ◌<◌, ◌≤◌, ℕ, cond, Some, List, [], ◌∷◌, ◌++◌, map, length, sum_by, count_by, flat_map, slice_get, slice_index_or, All}
+use Rattle.std.specs.Prelude.{◌≡◌, ◌+◌, ◌<◌, ◌≤◌, ℕ, cond, Some, List, [], ◌∷◌, ◌++◌, map, length, sum_by, count_by, flat_map, slice_get, slice_index_or, All, Contains}
 use Rattle.std.proofs.Common.{suc, refl, sym, ap, ◌∙◌, subst, arith, length-append}
 use Rattle.std.specs.List.{AllZip}
 use Rattle.std.proofs.lemmas.List.{length-map}
 use Rattle.std.proofs.lemmas.List.Sums.{sum_by-cons}
-use Rattle.std.proofs.lemmas.List.Elements.{All-nil, All-head, All-tail, All-append}
+use Rattle.std.proofs.lemmas.List.Elements.{All-nil, All-cons, All-head, All-tail, All-append}
+use Rattle.px_base.specs.ListLaws.{Contains-first, Contains-later}
 use Rattle.px_terms.specs.declared.atom.Atom.{Atom}
 use Rattle.px_terms.specs.declared.instance.OpInst.{OpInst}
 use Rattle.px_terms.specs.declared.problem.Problem.{Problem}
@@ -29,9 +30,7 @@ use Rattle.px_replay.specs.Replay.{own_terms, pairs_of, opened}
 use Rattle.px_general.proofs.Matching.{IsAlike}
 use Rattle.px_general.proofs.Opening.{HasFrom, HasFrom-front, HasFrom-back, IsNamedAdd, read-at, variables-are, fresh-own}
 use Rattle.px_general.proofs.OpenedForms.{own_terms-unify}
-
-pub cons_same : {X : Type 0} (x y : X) (xs ys : List X) → x ∷ xs ≡ y ∷ ys → (x ≡ y) × (xs ≡ ys)
-cons_same x y xs ys e = (cc, cc)
+use Rattle.px_general.proofs.Reading.{cons_same}
 
 -- ---- the terms of steps, goal and proofs
 
@@ -41,6 +40,13 @@ objects_among [] = []
 objects_among (Obj n ∷ ts) = Obj n ∷ objects_among ts
 objects_among (Var v ∷ ts) = objects_among ts
 objects_among (WildCard ∷ ts) = objects_among ts
+
+-- what holds of each object of the list holds of the objects among its terms
+pub objects_among-all : (P : Term → Type 0) (ts : List Term) → ((n : ℕ) → Contains ts (Obj n) → P (Obj n)) → All P (objects_among ts)
+objects_among-all P [] each = All-nil P
+objects_among-all P (Obj n ∷ ts) each = All-cons P (Obj n) (objects_among ts) (each n (Contains-first (Obj n) ts)) (objects_among-all P ts (λ m has. each m (Contains-later (Obj n) ts (Obj m) has)))
+objects_among-all P (Var v ∷ ts) each = objects_among-all P ts (λ m has. each m (Contains-later (Var v) ts (Obj m) has))
+objects_among-all P (WildCard ∷ ts) each = objects_among-all P ts (λ m has. each m (Contains-later WildCard ts (Obj m) has))
 
 abbrev pub own_of_steps : List OpInst → List Term
 own_of_steps steps = flat_map (λ (inst : OpInst). inst.args) steps

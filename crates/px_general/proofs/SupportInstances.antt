@@ -1,18 +1,16 @@
 -- Each support of the plan's shape is a proper instance of the general table.
-use Rattle.std.specs.Prelude.{◌≡◌, ◌+◌, ◌<◌, ◌≤◌, ◌&&◌, true, nat_le, nat_lt, ℕ, Some, List, [], ◌∷◌, ◌++◌, map, length, flat_map, count_by, slice_get, slice_index_or, All, Contains}
-use Rattle.std.proofs.Common.{zero, suc, refl, sym, ap, ◌∙◌, subst, inl, inr, arith}
-use Rattle.std.proofs.lemmas.Bool.Decides.{nat_tests}
+use Rattle.std.specs.Prelude.{◌≡◌, ◌+◌, ◌<◌, ◌≤◌, ℕ, Some, List, [], ◌∷◌, ◌++◌, map, length, flat_map, count_by, slice_get, slice_index_or, All, Contains}
+use Rattle.std.proofs.Common.{refl, sym, ap, ◌∙◌, subst, inl, inr, arith}
 use Rattle.std.proofs.lemmas.List.{length-map}
-use Rattle.std.proofs.lemmas.List.Elements.{All-head, All-tail, All-append, Contains-append_left, Contains-append_right, Contains-append_cases}
+use Rattle.std.proofs.lemmas.List.Elements.{All-head, All-tail, Contains-append_left, Contains-append_right, Contains-append_cases}
 use Rattle.std.proofs.lemmas.List.Sums.{sum_by-cons}
-use Rattle.px_base.specs.ListLaws.{All-at, All-each, Contains-filter}
+use Rattle.px_base.specs.ListLaws.{All-at, All-each}
 use Rattle.px_terms.specs.declared.atom.Atom.{Atom}
 use Rattle.px_terms.specs.declared.instance.OpInst.{OpInst}
 use Rattle.px_terms.specs.declared.problem.Problem.{Problem}
 use Rattle.px_terms.specs.declared.term.Term.{Term}
 use Rattle.px_terms.specs.declared.term.Term.TheVariants.{Obj, Var, Any as WildCard}
 use Rattle.px_terms.specs.Language.{substitute, IsObject}
-use Rattle.px_terms.specs.Order.{atom_eq}
 use Rattle.px_terms.specs.Substitution.{substitute_atom, substitute_instance}
 use Rattle.px_terms.specs.Validity.{IsAtomOf, IsTermOf, IsGroundInstanceOf}
 use Rattle.px_proof.specs.Derivation.{Derivation, terms_of}
@@ -21,8 +19,8 @@ use Rattle.px_proof.specs.Proves.{IsName}
 use Rattle.px_proof.specs.Substitution.{derivation_under}
 use Rattle.px_table.specs.declared.mark.Mark.{Mark}
 use Rattle.px_table.specs.declared.table.Table.{Table}
-use Rattle.px_table.specs.KernelLaws.{Contains-from_map}
-use Rattle.px_table.specs.Kernels.{atom_under, goal_under, kernel_marks, kernel_of, kernel_under, mark_under, rows_under, steps_under}
+use Rattle.px_table.specs.KernelLaws.{Contains-from_map, from_kernel}
+use Rattle.px_table.specs.Kernels.{atom_under, goal_under, kernel_of, kernel_under, mark_under, rows_under, steps_under}
 use Rattle.px_table.specs.Marks.{IsKept, marks_from}
 use Rattle.px_table.specs.Supports.{Supports, variables, variables_from}
 use Rattle.px_table.specs.SupportShapes.{SupportShape, shape_of_support, without_object}
@@ -30,11 +28,13 @@ use Rattle.px_table.specs.Tables.{IsTable, rows_of}
 use Rattle.px_general.specs.General.{IsGeneralFor, IsTableInstance, shape_of}
 use Rattle.px_replay.specs.FreshVariables.{is_object}
 use Rattle.px_replay.specs.Opened.{goal_objects, named_args, named_goal, opened_terms, rows_opened, step_variables, steps_opened}
+use Rattle.px_replay.proofs.GoalSteps.{read-variable}
 use Rattle.px_general.specs.Replayed.{IsReplayed}
 use Rattle.px_general.proofs.Assembling.{IsSolution, own_terms-solve, solution_terms}
 use Rattle.px_general.proofs.Opening.{HasFrom, HasFrom-front, HasFrom-back, read-at}
-use Rattle.px_general.proofs.Solving.{HasItsArguments, atom_without, cons_same, count-object, count-variable, objects-counted, objects_among, own_of_goal}
-use Rattle.px_general.proofs.Under.{All-places, Agrees, Contains-from_each_once, marks-under, rows-agree, rows_terms-allowed, rows_terms-under, steps-agree, steps_terms-under, variables_from-has}
+use Rattle.px_general.proofs.Solving.{HasItsArguments, atom_without, count-object, count-variable, objects-counted, objects_among, objects_among-all, own_of_goal}
+use Rattle.px_general.proofs.Under.{All-places, Agrees, marks-under, rows-agree, rows_terms-allowed, rows_terms-under, steps-agree, steps_terms-under}
+use Rattle.px_general.proofs.Reading.{All-flat_map, cons_same, read-left, read-right, variables-have}
 
 -- ---- objects
 
@@ -50,57 +50,13 @@ numbers-back (Obj n ∷ ts) all = ap (λ l. Obj n ∷ l) (numbers-back ts (All-t
 numbers-back (Var v ∷ ts) all = absurd (All-head IsObject (Var v) ts all)
 numbers-back (WildCard ∷ ts) all = absurd (All-head IsObject WildCard ts all)
 
-objects_among-are : (ts : List Term) → All IsObject (objects_among ts)
-objects_among-are [] = λ k d below. absurd (omega (arith, below))
-objects_among-are (Obj n ∷ ts) = All-append IsObject (Obj n ∷ []) (objects_among ts) (λ k d below. one k d below) (objects_among-are ts)
-  where
-    one : (k : ℕ) (d : Term) → k < 1 → IsObject (slice_index_or (Obj n ∷ []) k d)
-    one zero d below = tt
-    one (suc k) d below = absurd (omega (arith, below))
-objects_among-are (Var v ∷ ts) = objects_among-are ts
-objects_among-are (WildCard ∷ ts) = objects_among-are ts
-
 own_of_goal-are : (goal : List Atom) → All IsObject (own_of_goal goal)
-own_of_goal-are [] = λ k d below. absurd (omega (arith, below))
-own_of_goal-are (a ∷ goal) = All-append IsObject (objects_among a.args) (own_of_goal goal) (objects_among-are a.args) (own_of_goal-are goal)
+own_of_goal-are goal = All-flat_map IsObject (λ (atom : Atom). objects_among atom.args) goal (λ a has. objects_among-all IsObject a.args (λ n there. tt))
 
 steps_terms-objects : (problem : Problem) (steps : List OpInst) → All (IsGroundInstanceOf problem) steps → All IsObject (flat_map (λ (inst : OpInst). inst.args) steps)
-steps_terms-objects problem [] all = λ k d below. absurd (omega (arith, below))
-steps_terms-objects problem (s ∷ steps) all =
-    All-append IsObject s.args (flat_map (λ (inst : OpInst). inst.args) steps) (All-head (IsGroundInstanceOf problem) s steps all).all_objects (steps_terms-objects problem steps (All-tail (IsGroundInstanceOf problem) s steps all))
-
--- ---- kernels
-
-tests_between : (i r c : ℕ) → nat_le i r && nat_lt c i ≡ true → (i ≤ r) × (c < i)
-tests_between i r c e = (grind (arith, nat_tests), grind (arith, nat_tests))
-
--- an atom of a kernel is that of a mark that the kernel rests on
-pub from_kernel : (table : Table) (i : ℕ) (atom : Atom) → Contains (kernel_of table i) atom → (mark : Mark) × Contains table.marks mark × (mark.atom ≡ atom) × (i ≤ mark.row) × (mark.column < i)
-from_kernel table i atom has =
-    let once = Contains-from_each_once atom_eq (map (λ (m : Mark). m.atom) (kernel_marks table i)) atom has in
-    let from = Contains-from_map (λ (m : Mark). m.atom) (kernel_marks table i) atom once in
-    let passed = (Contains-filter (λ (m : Mark). nat_le i m.row && nat_lt m.column i) table.marks from.0).0 from.1 in
-    let between = tests_between i from.0.row from.0.column passed.1 in
-    (from.0, passed.0, from.2, between.0, between.1)
+steps_terms-objects problem steps all = All-flat_map IsObject (λ (inst : OpInst). inst.args) steps (λ s has. (All-at (IsGroundInstanceOf problem) steps s all has).all_objects)
 
 -- ---- the goal
-
-pub read-left : (xs ys : List Term) (k : ℕ) → k < length xs → slice_index_or (xs ++ ys) k WildCard ≡ slice_index_or xs k WildCard
-read-left [] ys k below = absurd (omega (arith, below))
-read-left (x ∷ xs) ys zero below = refl
-read-left (x ∷ xs) ys (suc k) below = read-left xs ys k (omega (arith, below))
-
-pub read-right : (xs ys : List Term) (n k : ℕ) → n ≡ length xs → slice_index_or (xs ++ ys) (n + k) WildCard ≡ slice_index_or ys k WildCard
-read-right [] ys n k e = ap (λ j. slice_index_or ys j WildCard) (omega arith)
-read-right (x ∷ xs) ys zero k e = absurd (omega (arith, e))
-read-right (x ∷ xs) ys (suc n) k e =
-    let later : suc n + k ≡ suc (n + k) = omega arith in
-    ap (λ j. slice_index_or (x ∷ (xs ++ ys)) j WildCard) later ∙ read-right xs ys n k (omega (arith, e))
-
-pub variable-read : (first count k : ℕ) → k < count → slice_index_or (variables_from first count) k WildCard ≡ Var (first + k)
-variable-read first zero k below = absurd (omega (arith, below))
-variable-read first (suc count) zero below = ap Var (omega arith)
-variable-read first (suc count) (suc k) below = variable-read (suc first) count k (omega (arith, below)) ∙ ap Var (omega arith)
 
 -- a name of fewer parameters doesn't see what follows them
 pub name-read : (objects params : ℕ) (xs ys : List Term) (t : Term) → params ≤ length xs → IsName objects params t → substitute (xs ++ ys) t ≡ substitute xs t
@@ -130,7 +86,7 @@ module _ (problem : Problem) (vars params : ℕ) (terms names values : List Term
   named_args-are first (Var v ∷ ts) (Var w ∷ us) same are has at =
       let same_var : w ≡ v = number (cons_same (Var w) (Var v) _ _ same).0 in
       let below : v < vars = All-head (IsTermOf problem vars) (Var v) ts are in
-      let head : substitute (values ++ variables vars) (Var (params + v)) ≡ Var w = read-right values (variables vars) params v (sym count) ∙ variable-read 0 vars v below ∙ ap Var (omega (arith, same_var)) in
+      let head : substitute (values ++ variables vars) (Var (params + v)) ≡ Var w = read-right values (variables vars) params v (sym count) ∙ read-variable 0 vars v below ∙ ap Var (omega (arith, same_var)) in
       let counted = count-variable v ts in
       let rest = named_args-are first ts us (cons_same _ _ _ _ same).1 (All-tail (IsTermOf problem vars) (Var v) ts are) has (λ x low high. at x low (omega (arith, high, counted))) in
       λ i. head i ∷ rest i
@@ -232,7 +188,7 @@ module _ (problem : Problem) (plan general : Table) (names roots : List Term) (i
   slot-named : (v : ℕ) → step_variables plan.steps ≤ v → v < step_variables plan.steps + goal_objects plan.goal → IsNamedAt problem plan.goal_vars general.params own names values values-count v
   slot-named v low high =
       let has : Contains (opened_terms problem plan) (Var v) = Contains-append_right step_terms (goal_slots ++ row_terms) (Var v)
-      (Contains-append_left goal_slots row_terms (Var v) (variables_from-has (step_variables plan.steps) (goal_objects plan.goal) v low high)) in
+      (Contains-append_left goal_slots row_terms (Var v) (variables-have (step_variables plan.steps) (goal_objects plan.goal) v low high)) in
       (replayed.most_general.factors own solution.equal (Var v) has, All-at (λ t. IsName problem.objects general.params (substitute names t)) (opened_terms problem plan) (Var v) replayed.are_names has)
 
   goal-is : goal ≡ goal_under general objects

@@ -1,21 +1,13 @@
 -- The laws of generalisation put together.
-use Rattle.std.specs.Prelude.{◌≡◌, List, All}
+use Rattle.std.specs.Prelude.{◌≡◌, List}
 use Rattle.px_terms.specs.declared.problem.Problem.{Problem}
 use Rattle.px_terms.specs.declared.term.Term.{Term}
 use Rattle.px_terms.specs.Validity.{IsValid}
-use Rattle.std.proofs.Common.{ℕ, refl, subst}
-use Rattle.px_unify.specs.Changes.{MakesEachEqual}
-use Rattle.px_proof.specs.Proves.{IsName}
 use Rattle.px_table.specs.declared.table.Table.{Table}
-use Rattle.px_table.specs.Marks.{IsNamed}
-use Rattle.px_table.specs.Supports.{RowsProve}
-use Rattle.px_table.specs.Tables.{IsTable, rows_of}
+use Rattle.px_table.specs.Tables.{IsTable}
 use Rattle.px_general.specs.General.{Generalises, IsNumbered}
-use Rattle.px_replay.specs.Opened.{replay_pairs}
 use Rattle.px_general.specs.Replayed.{IsReplayed}
-use Rattle.px_general.proofs.Assembling.{own_terms-solve}
 use Rattle.px_general.proofs.GeneralTable.{general-is_table}
-use Rattle.px_general.proofs.MostGeneral.{is_most_general}
 use Rattle.px_general.proofs.Shaped.{sound_for}
 use Rattle.px_general.proofs.SupportInstances.{general_for}
 

@@ -74,7 +74,7 @@ same_shape : shape_of_support other_steps other_goal other_rows ≡ shape_of pla
 same_shape = ap (shape_of_support plan.steps plan.goal) (sym (rows_are 0 (Obj 0) (Obj 0)))
 
 -- both steps of the support aren't one
-two_things : (t : Term) → touch (Obj 0) ∷ touch (Obj 1) ∷ [] ≡ touch t ∷ touch t ∷ [] → ⊥
+two_things : (t : Term) → ¬ (touch (Obj 0) ∷ touch (Obj 1) ∷ [] ≡ touch t ∷ touch t ∷ [])
 two_things t e =
     let first : touch (Obj 0) ≡ touch t = cc in
     let second : touch (Obj 1) ≡ touch t = cc in

@@ -6,7 +6,7 @@ use Rattle.px_base.proofs.Loops.{take_next, whole_taken}
 use Rattle.px_terms.specs.declared.term.Term.{Term}
 use Rattle.px_proof.specs.declared.proof.Leaf.{Leaf}
 use Rattle.px_proof.specs.declared.proof.Proof.{Proof}
-use Rattle.px_proof.specs.Derivation.{Derivation, all_terms_of, derivations, leaves_of, terms_of}
+use Rattle.px_proof.specs.Derivation.{all_terms_of, derivations, leaves_of, terms_of}
 use Rattle.px_proof.specs.ProofTerm.{derivation_of}
 use Rattle.px_table.specs.Marks.{row_leaves}
 use Rattle.px_table.specs.Tables.{rows_of}

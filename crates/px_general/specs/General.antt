@@ -81,8 +81,8 @@ pub record Generalises (problem : Problem) (plan general : Table) : Type 0 where
   pub sound : IsSoundFor problem plan general
   pub all : IsGeneralFor problem plan general
 
--- A plan whose own steps delete nothing that its later rows rest on has one general table. (Of other plans that isn't so: where no support
--- has the plan's shape, each table without proper instances generalises it.)
+-- A plan whose own steps delete nothing that its later rows rest on has at most one general table. (Of other plans that isn't so: where
+-- no support has the plan's shape, each table without proper instances generalises it.)
 abbrev pub GeneralIsOne : Type 0
 GeneralIsOne = (problem : Problem) (plan one other : Table) → IsValid problem → IsTable problem plan → IsProper problem plan [] 1
     → Generalises problem plan one → Generalises problem plan other → one ≡ other

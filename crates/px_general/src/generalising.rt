@@ -15,9 +15,10 @@ ghost use Rattle.px_general.specs.Naming.{IsMadeOf, IsSolutionOf};
 use crate::building::{named_rows, named_steps};
 use crate::general_err::GeneralErr;
 use crate::limits::is_too_deep;
-use crate::naming::{labels_along, names_of, resolve_all};
+use crate::naming::{labels_along, resolve_all};
 use crate::walking::walk;
 use px_base::{NoMemory, Sequence};
+use px_proof::substitute_terms;
 use px_replay::{Opened, fresh_count, named_goal, open_plan, replay_rows};
 use px_table::{Table, marks};
 use px_terms::{Problem, Term};
@@ -60,7 +61,7 @@ pub fn generalise(alloc: Global, problem: &Problem, table: &Table) -> Result<Tab
     }
 }
 
-/// The general table of a plan that takes so many fresh variables.
+/// The general table of a plan that takes `count` fresh variables.
 fn general_table(
     alloc: Global,
     problem: &Problem,
@@ -84,11 +85,11 @@ fn general_table(
         plan.objects,
     )?;
     let labels = labels_along(alloc, &resolved, &walked)?;
-    let names = names_of(alloc, &resolved, &labels.terms)?;
+    let names = substitute_terms(alloc, &resolved, &labels.terms)?;
     build_general(alloc, table, &plan, labels.params, &names)
 }
 
-/// What each of so many fresh variables is bound to after the replay of the plan.
+/// What each of `count` fresh variables is bound to after the replay of the plan.
 fn replayed(
     alloc: Global,
     problem: &Problem,

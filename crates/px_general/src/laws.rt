@@ -2,7 +2,7 @@
 ghost use Rattle.px_general.specs.General.{GeneralIsOne};
 ghost use Rattle.px_general.specs.WorkedGeneral.{GeneralFacts};
 
-/// A plan whose own steps delete nothing that its later rows rest on has one general table, proofs included.
+/// A plan whose own steps delete nothing that its later rows rest on has at most one general table, proofs included.
 pub fn general_is_one()
     ensures { GeneralIsOne }
 {}

@@ -15,7 +15,7 @@
 //!   supports its steps and goal and has the plan's shape (`IsSoundFor`), and each support of the plan's shape is a proper
 //!   instance (`IsGeneralFor`). Any whole number may stand for an object there. The parameters are numbered in the order in
 //!   which they first occur in the marks, then in the steps, the goal and the proofs (`IsNumbered`).
-//! - A plan whose own steps delete nothing that its later rows rest on has one general table, proofs included
+//! - A plan whose own steps delete nothing that its later rows rest on has at most one general table, proofs included
 //!   ([`general_is_one`]). The table of each plan that a search finds is such.
 //! - A plan is too long above 64 steps (`IsTooLong`), too deep where a proof is higher than 56 (`IsTooDeep`), and too wide above
 //!   1,000,000 fresh variables (`IsTooWide`), which `fresh_variables` of `px_replay` counts.
@@ -27,18 +27,8 @@ mod building;
 mod general_err;
 mod generalising;
 mod laws;
-#[cfg(test)]
-mod limit_tests;
 mod limits;
 mod naming;
-#[cfg(test)]
-mod plain_check;
-#[cfg(test)]
-mod plain_plans;
-#[cfg(test)]
-mod test_plans;
-#[cfg(test)]
-mod tests;
 mod walking;
 
 pub use general_err::GeneralErr;

@@ -1,11 +1,12 @@
 //! From bindings to names: what each fresh variable is bound to, and the parameters in order.
-ghost use Rattle.std.specs.Prelude.{◌≡◌, ◌≤◌, ◌+◌, ◌++◌, ◌∷◌, [], List, IfOk, length, All, map, replicate};
+ghost use Rattle.std.specs.Prelude.{◌≡◌, ◌≤◌, ◌+◌, ◌++◌, ◌∷◌, [], List, IfOk, length, All, replicate};
 ghost use Rattle.px_terms.specs.declared.term.Term.TheVariants.{Any as WildCard};
 ghost use Rattle.px_terms.specs.declared.term.Term.{Term};
-ghost use Rattle.px_terms.specs.Language.{IsVariableBelow, substitute};
+ghost use Rattle.px_terms.specs.Language.{IsVariableBelow};
 ghost use Rattle.px_general.specs.Naming.{AreLabels, HasRootsBelow, IsResolved, unlabelled};
 
 use px_base::{NoMemory, push};
+use px_proof::apply_term;
 use px_terms::Term;
 use px_unify::Bind;
 use std::alloc::Global;
@@ -22,17 +23,6 @@ pub fn resolve_all(alloc: Global, bind: &Bind) -> Result<Vec<Term>, NoMemory>
     Ok(resolved)
 }
 
-/// What the term is bound to in the end.
-fn root_of(resolved: &[Term], term: Term) -> Term
-    requires { IsVariableBelow (length resolved.now) term }
-    ensures { result ≡ substitute resolved.now term }
-{
-    match term {
-        Term::Var(v) => resolved[v as usize],
-        Term::Obj(_) | Term::Any => term,
-    }
-}
-
 /// Gives the root of the term the next label, if it is a variable without one. Answers the next label then.
 fn label(labels: &mut [Term], next: u32, resolved: &[Term], term: Term) -> u32
     requires room { next + unlabelled labels.old ≤ 1000000 }
@@ -42,7 +32,7 @@ fn label(labels: &mut [Term], next: u32, resolved: &[Term], term: Term) -> u32
     ensures left { result + unlabelled labels.new ≡ next + unlabelled labels.old }
     ensures labels { (walked : List Term) → AreLabels resolved.now labels.old next walked → AreLabels resolved.now labels.new result (walked ++ term ∷ []) }
 {
-    match root_of(resolved, term) {
+    match apply_term(resolved, term) {
         Term::Var(root) => match labels[root as usize] {
             Term::Var(_) => next,
             Term::Obj(_) | Term::Any => {
@@ -70,7 +60,7 @@ fn label_each(labels: &mut [Term], next: u32, resolved: &[Term], terms: &[Term])
     given
 }
 
-/// So many wild cards.
+/// `count` wild cards.
 fn no_labels(alloc: Global, count: usize) -> Result<Vec<Term>, NoMemory>
     ensures { IfOk result (λ labels. labels.items ≡ replicate count WildCard) }
 {
@@ -99,16 +89,4 @@ pub fn labels_along(alloc: Global, resolved: &[Term], walked: &[Term]) -> Result
     let mut terms = no_labels(alloc, resolved.len())?;
     let params = label_each(&mut terms, 0, resolved, walked);
     Ok(Labels { params, terms })
-}
-
-/// The labels of what the variables are bound to.
-pub fn names_of(alloc: Global, resolved: &[Term], labels: &[Term]) -> Result<Vec<Term>, NoMemory>
-    requires { All (IsVariableBelow (length labels.now)) resolved.now }
-    ensures { IfOk result (λ names. names.items ≡ map (substitute labels.now) resolved.now) }
-{
-    let mut names = Vec::new(alloc);
-    for term in resolved {
-        push(&mut names, root_of(labels, *term))?;
-    }
-    Ok(names)
 }

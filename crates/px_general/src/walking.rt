@@ -15,7 +15,7 @@ use px_table::Row;
 use px_terms::{OpInst, Term};
 use std::alloc::Global;
 
-/// The terms of the leaves by rows, those of the steps, so many variables, and the terms of the proofs.
+/// The terms of the leaves by rows, those of the steps, `objects` variables from number `first` on, and the terms of the proofs.
 pub fn walk(
     alloc: Global,
     steps: &[OpInst],

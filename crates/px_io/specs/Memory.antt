@@ -37,6 +37,6 @@ lists_none (_ ∷ _) = false
 abbrev pub sure_room : SinkValue → Option ℕ
 sure_room sink = cond (lists_none sink.failing) (Some sink.room) None
 
--- the next write of so many bytes fails: it is listed, or the room is full and there is a byte to write
+-- the next write of `len` bytes fails: it is listed, or the room is full and there is a byte to write
 abbrev pub WriteFails : SinkValue → ℕ → Type 0
 WriteFails sink len = Contains sink.failing sink.call ⊎ ((sink.room ≤ length sink.written) × (0 < len))

@@ -9,7 +9,7 @@
 //!   Each has one answer for a failed call, and that answer comes only where the count of faults rose. A count stops
 //!   at the last value of 64 bits, and one that stands there counts as one that rose.
 //! - [`MemSource`] and [`MemSink`] are ends in memory. Each is made with a list of the calls that fail, counted from 0;
-//!   an end with an empty list never fails, but for a sink whose room is full. A source also gives at most so many
+//!   an end with an empty list never fails, but for a sink whose room is full. A source also gives at most a certain number of
 //!   bytes at a call, so a test can cut a text anywhere.
 //! - [`StdSource`] and [`StdSink`] stand over std's readers and writers, as `StdSource::new(rt.stdin())`. That they
 //!   hand the bytes on unchanged is trusted and tested, not proved.

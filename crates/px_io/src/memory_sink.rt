@@ -10,7 +10,9 @@ use crate::{Failed, NoMemory, Sink};
 use std::alloc::Global;
 use std::marker::Model;
 
-/// A sink in memory, with room for so many bytes.
+// Alike: `MemSource` keeps the calls that fail in the same way, but here a full sink fails, too.
+
+/// A sink in memory, with room for a number of bytes.
 #[derive(Drop)]
 pub struct MemSink {
     bytes: Vec<u8>,
@@ -32,13 +34,13 @@ impl Model for MemSink {
 }
 
 impl MemSink {
-    /// An empty sink with room for `room` bytes. A write fails whose number, counted from 0, stands in `failing`;
+    /// Returns an empty sink with room for `room` bytes. A write fails whose number, counted from 0, stands in `failing`;
     /// the counting stops at the last number of 32 bits, which can't be listed.
     ///
     /// # Errors
-    /// `NoMemory` where there is none for the room.
+    /// `NoMemory` where there is no memory for the room.
     pub fn new(alloc: Global, room: usize, failing: Vec<u32>) -> Result<MemSink, NoMemory>
-        requires { Contains failing.items (2 ^ 32 - 1) → ⊥ }
+        requires { ¬ Contains failing.items (2 ^ 32 - 1) }
         ensures { IfOk result (λ sink. sink ≡ record { written = []; room = room; failing = failing.items; call = 0; faults = 0 }) }
     {
         Ok(MemSink {
@@ -50,14 +52,14 @@ impl MemSink {
         })
     }
 
-    // The next write of so many bytes fails.
+    // Does the next write of `len` bytes fail?
     fn fails(&self, len: usize) -> bool
         ensures { IsTrue result ↔ WriteFails self.now len }
     {
         self.failing.contains(&self.call) || (self.room <= self.bytes.len() && len > 0)
     }
 
-    /// What was written.
+    /// Returns what was written. Does not allocate.
     pub fn bytes(&self) -> &[u8]
         ensures written { result.now ≡ self.now.written }
         ensures room { length self.now.written ≤ self.now.room }

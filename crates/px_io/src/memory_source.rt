@@ -9,7 +9,7 @@ ghost use Rattle.px_io.specs.Memory.{next_call, next_fault, lists_none};
 use crate::{Failed, Source};
 use std::marker::Model;
 
-/// A source in memory. It gives at most so many bytes at a read.
+/// A source in memory. It gives at most a certain number of bytes at a read.
 #[derive(Drop)]
 pub struct MemSource {
     bytes: Vec<u8>,
@@ -32,11 +32,11 @@ impl Model for MemSource {
 }
 
 impl MemSource {
-    /// A source of `bytes` that gives at most `most` of them at a read. A read fails whose number, counted from 0,
-    /// stands in `failing`; the counting stops at the last number of 32 bits, which can't be listed. Takes no memory.
+    /// Returns a source of `bytes` that gives at most `most` of them at a read. A read fails whose number, counted from 0,
+    /// stands in `failing`; the counting stops at the last number of 32 bits, which can't be listed. Does not allocate.
     pub fn new(bytes: Vec<u8>, most: usize, failing: Vec<u32>) -> MemSource
         requires most { 1 ≤ most }
-        requires failing { Contains failing.items (2 ^ 32 - 1) → ⊥ }
+        requires failing { ¬ Contains failing.items (2 ^ 32 - 1) }
         ensures { result ≡ record { left = bytes.items; taken = 0; most = most; failing = failing.items; call = 0; faults = 0 } }
     {
         MemSource {
@@ -84,7 +84,7 @@ impl Source for MemSource {
     }
 }
 
-// Copies as much as fits, but at most so many bytes, and answers how many.
+// Copies as much as fits, but at most `most` bytes, and returns how many.
 fn copy_front(from: &[u8], into: &mut [u8], most: usize) -> usize
     ensures count { result ≡ min (min (length from.now) (length into.old)) most }
     ensures copied { take result into.new ≡ take result from.now }

@@ -34,13 +34,13 @@ impl From<AllocError> for ReadErr {
 // How many bytes are asked for at once.
 pub const PIECE: usize = 4096;
 
-/// All bytes up to the end of the source, where there are at most `limit` of them.
+/// Returns all bytes up to the end of the source, where there are at most `limit` of them.
 /// Whatever the answer, the bytes that were read are gone from the source.
 ///
 /// # Errors
 /// - `Fault` where a read failed before more than `limit` bytes came; only where the source's count of faults rose.
 /// - `TooLong` where more than `limit` bytes came and no read failed before.
-/// - `NoMemory` where there is none for the bytes; only where no read failed and at most `limit` bytes came.
+/// - `NoMemory` where there is no memory for the bytes; only where no read failed and at most `limit` bytes came.
 pub fn read_all<S: Source>(alloc: Global, source: &mut S, limit: usize) -> Result<Vec<u8>, ReadErr>
     ensures all { IfOk result (λ bytes. ReadToEnd limit bytes.items (S.left source.old) (S.left source.new)
         (S.taken source.old) (S.taken source.new) (S.faults source.old) (S.faults source.new)) }

@@ -25,7 +25,7 @@ impl<R: Read + Drop> Model for StdSource<R> {
 }
 
 impl<R: Read + Drop> StdSource<R> {
-    /// The source of what the reader gives from now on. Takes no memory.
+    /// Returns the source of what the reader gives from now on. Does not allocate.
     pub fn new(reader: R) -> Self
         ensures { result ≡ record { taken = 0; faults = 0 } }
     {
@@ -79,7 +79,7 @@ impl<W: Write + Drop> Model for StdSink<W> {
 }
 
 impl<W: Write + Drop> StdSink<W> {
-    /// The sink that hands all on to the writer. Contracts see it as its count of faults. Takes no memory.
+    /// Returns the sink that hands all on to the writer. Contracts see it as its count of faults. Does not allocate.
     pub fn new(writer: W) -> Self
         ensures { result ≡ 0 }
     {

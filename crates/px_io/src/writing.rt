@@ -6,7 +6,7 @@ ghost use Rattle.px_io.specs.Writing.{AppendsProperFront, HasNoRoomFor};
 
 use crate::{Fault, Sink};
 
-/// Writes all of the bytes. Takes no memory.
+/// Writes all of the bytes. Does not allocate.
 ///
 /// # Errors
 /// `Fault` where a write failed; only where the sink's count of faults rose. A part of the bytes from their start

@@ -7,7 +7,7 @@
 //!   last; `find` gives the table of a name (`table_named`), and `tables` all of them.
 //! - It has at most 32 tables. `learn` answers `Duplicate` exactly where the name has a table, and `Full` exactly where there
 //!   are 32 and it has none. After a refusal the library is as it was, and the table is dropped.
-//! - `find` and `tables` take no memory.
+//! - `find` and `tables` do not allocate.
 #![tactic(auto)]
 
 mod library;

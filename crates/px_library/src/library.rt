@@ -45,7 +45,7 @@ impl std::marker::Model for Library {
 }
 
 impl Library {
-    /// The library without a table. Takes no memory.
+    /// The library without a table. Does not allocate.
     pub fn new(alloc: Global) -> Library
         ensures { result ≡ no_tables }
     {
@@ -59,7 +59,7 @@ impl Library {
     ///
     /// # Errors
     /// `Duplicate` exactly where the name has a table; `Full` exactly where there are 32 tables and the name has none;
-    /// `NoMemory` where there is none for one table more. The table is then dropped, and the library is as it was.
+    /// `NoMemory` where there is no memory for one table more. The table is then dropped, and the library is as it was.
     pub fn learn(&mut self, name: u32, table: Table) -> Result<(), LibErr>
         ensures duplicate { (result ≡ Err LibErr.Duplicate) ↔ Contains self.old.names name }
         ensures full { (result ≡ Err LibErr.Full) ↔ ((¬ Contains self.old.names name) × (length self.old.tables ≡ 32)) }
@@ -80,7 +80,7 @@ impl Library {
         Ok(())
     }
 
-    /// The table of that name, or `None` where the name has none. Takes no memory.
+    /// The table of that name, or `None` where the name has none. Does not allocate.
     pub fn find(&self, name: u32) -> Option<&Table>
         ensures { option_map (λ table. table.now) result ≡ table_named self.now name }
     {
@@ -92,7 +92,7 @@ impl Library {
         None
     }
 
-    /// The tables, in the order of learning. Takes no memory.
+    /// The tables, in the order of learning. Does not allocate.
     pub fn tables(&self) -> &[Table]
         ensures { result.now ≡ self.now.tables }
     {

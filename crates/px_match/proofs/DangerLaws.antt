@@ -120,6 +120,7 @@ module _ (x y : ℕ) where
         },
       )
 
+      -- Alike: `third_fits`, each kernel with the marks that it needs.
       second_fits : KernelFits danger danger_table bound atoms 2 (x ∷ y ∷ []) ↔ (AreChosen bound x y × (Contains atoms (r (Obj x)) × Contains atoms (q (Obj y))))
       second_fits = (
         λ fits. (chosen fits.instantiation fits.extends, (needs 2 r_mark has_r fits.holds (omega arith) (omega arith), needs 2 q_mark has_q fits.holds (omega arith) (omega arith))),

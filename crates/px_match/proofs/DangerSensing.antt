@@ -63,13 +63,13 @@ abbrev pub IsBound : List ℕ → ℕ × ℕ → Type 0
 IsBound objects pair = (k : ℕ) × (pair.0 ≡ suc k) × (slice_get objects k ≡ Some pair.1)
 
 -- no atom of the list has that predicate
-pub lacks : (atoms : List Atom) (atom : Atom) → All (λ (other : Atom). other.pred ≢ atom.pred) atoms → Contains atoms atom → ⊥
+pub lacks : (atoms : List Atom) (atom : Atom) → All (λ (other : Atom). other.pred ≢ atom.pred) atoms → ¬ Contains atoms atom
 lacks atoms atom others has = All-at (λ (other : Atom). other.pred ≢ atom.pred) atoms atom others has refl
 
 abbrev pub Differs : Atom → Atom → Type 0
 Differs atom other = other.pred ≢ atom.pred
 
-pub facts_lack : (atom : Atom) → 2 ≤ atom.pred → Contains danger_facts atom → ⊥
+pub facts_lack : (atom : Atom) → 2 ≤ atom.pred → ¬ Contains danger_facts atom
 facts_lack atom high = lacks danger_facts atom
     (All-cons (Differs atom) (p (Obj a)) (q (Obj a) ∷ q (Obj b) ∷ []) (λ e. omega (arith, e, high))
     (All-cons (Differs atom) (q (Obj a)) (q (Obj b) ∷ []) (λ e. omega (arith, e, high)) (one (Differs atom) (q (Obj b)) (λ e. omega (arith, e, high)))))
@@ -96,7 +96,7 @@ greater_not_less xs ys e less = absurd (cc)
 one_object : IsSensed danger danger_table ((1, a) ∷ (2, a) ∷ []) danger_facts None
 one_object i objects fits = none_fits (fitting ((1, a) ∷ (2, a) ∷ []) danger_facts i objects fits)
   where
-    none_fits : Fitting ((1, a) ∷ (2, a) ∷ []) danger_facts i objects → ⊥
+    none_fits : ¬ Fitting ((1, a) ∷ (2, a) ∷ []) danger_facts i objects
     none_fits (x, (y, is, are, inl (number, has_p, has_q, differ))) =
         differ (first_bound x y a (All-head (IsBound (x ∷ y ∷ [])) (1, a) ((2, a) ∷ []) are.2)
         ∙ sym (second_bound x y a (All-at (IsBound (x ∷ y ∷ [])) ((1, a) ∷ (2, a) ∷ []) (2, a) are.2 (Contains-later (1, a) ((2, a) ∷ []) (2, a) (Contains-first (2, a) [])))))
@@ -144,7 +144,7 @@ has_r = Contains-later (p (Obj a)) (q (Obj a) ∷ q (Obj b) ∷ r (Obj a) ∷ []
 has_q : Contains with_r (q (Obj a))
 has_q = Contains-later (p (Obj a)) (q (Obj a) ∷ q (Obj b) ∷ r (Obj a) ∷ []) (q (Obj a)) (Contains-first (q (Obj a)) (q (Obj b) ∷ r (Obj a) ∷ []))
 
-no_g : (x : ℕ) → Contains with_r (g (Obj x)) → ⊥
+no_g : (x : ℕ) → ¬ Contains with_r (g (Obj x))
 no_g x = lacks with_r (g (Obj x))
     (All-cons (Differs (g (Obj x))) (p (Obj a)) (q (Obj a) ∷ q (Obj b) ∷ r (Obj a) ∷ []) (λ e. omega (arith, e))
     (All-cons (Differs (g (Obj x))) (q (Obj a)) (q (Obj b) ∷ r (Obj a) ∷ []) (λ e. omega (arith, e))

@@ -1,12 +1,10 @@
 -- A loop that changes each list of a mark in turn.
-use Rattle.std.specs.Prelude.{◌≡◌, ◌⊎◌, ◌≤◌, ◌<◌, ◌+◌, ℕ, List, length}
+use Rattle.std.specs.Prelude.{◌≡◌, ◌≤◌, ◌<◌, ◌+◌, ℕ, List, length}
 use Rattle.std.proofs.Common.{sym, ◌∙◌, subst, inl, inr, get_or, slice_set, arith}
 use Rattle.std.proofs.lemmas.List.{get_or-set_other, get_or-set_same, get_or_default}
+use Rattle.px_base.proofs.Loops.{level_or_below}
 use Rattle.px_ops.specs.ModelValue.{ModelValue}
 use Rattle.px_table.specs.declared.mark.Mark.{Mark}
-
-before_or_at : (k at : ℕ) → k < at + 1 → (k < at) ⊎ (k ≡ at)
-before_or_at k at below = grind arith
 
 module _ (R : Mark → ModelValue → ModelValue → Type 0) (marks : List Mark) (first lists : List ModelValue) (at : ℕ) (one : ModelValue) (here : at < length lists) where
   set_there : (k : ℕ) (d : ModelValue) (m : Mark) → ((e : ModelValue) (n : Mark) → R (get_or marks at n) (get_or first at e) one) → k ≡ at → R (get_or marks k m) (get_or first k d) (get_or (slice_set lists at one) k d)
@@ -16,7 +14,7 @@ module _ (R : Mark → ModelValue → ModelValue → Type 0) (marks : List Mark)
 
   pub set_before : ((k : ℕ) (d : ModelValue) (m : Mark) → k < at → R (get_or marks k m) (get_or first k d) (get_or lists k d)) → ((d : ModelValue) (m : Mark) → R (get_or marks at m) (get_or first at d) one)
       → (k : ℕ) (d : ModelValue) (m : Mark) → k < at + 1 → R (get_or marks k m) (get_or first k d) (get_or (slice_set lists at one) k d)
-  set_before before last k d m below = elim (before_or_at k at below) [
+  set_before before last k d m below = elim (level_or_below k at below) [
     | inl less ↦ subst (R (get_or marks k m) (get_or first k d)) (sym (get_or-set_other lists at k one d (λ same. omega (arith, less, same)))) (before k d m less)
     | inr same ↦ set_there k d m last same
   ]

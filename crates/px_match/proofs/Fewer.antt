@@ -5,8 +5,9 @@ use Rattle.std.specs.Cmp.{tied_itself}
 use Rattle.std.specs.List.Sorted.{IsStrictlySortedBy}
 use Rattle.std.specs.declared.cmp.Ordering.{Ordering}
 use Rattle.std.specs.declared.cmp.Ordering.TheVariants.{Less, Equal}
-use Rattle.px_base.specs.ListLaws.{AllByRecursion-at, Contains-cases, Contains-first, Contains-later}
+use Rattle.px_base.specs.ListLaws.{AllByRecursion-at, Contains-cases, Contains-first, Contains-later, Contains-none}
 use Rattle.px_base.specs.SetLaws.{with_item-members}
+use Rattle.px_base.specs.Answers.{both_answers}
 use Rattle.px_terms.specs.declared.atom.Atom.{Atom}
 use Rattle.px_terms.specs.AtomSets.{IsAtomSet, with_atom}
 use Rattle.px_terms.specs.Order.{atom_cmp, atom_eq}
@@ -22,10 +23,10 @@ abbrev AreDifferent : List Atom → Type 0
 AreDifferent [] = Unit {0}
 AreDifferent (x ∷ xs) = (¬ Contains xs x) × AreDifferent xs
 
-pub less_itself : (a : Atom) → atom_cmp a a ≡ Less → ⊥
+pub less_itself : (a : Atom) → ¬ (atom_cmp a a ≡ Less)
 less_itself a less = differs (sym less ∙ tied_itself atom_cmp-total a)
   where
-    differs : ◌≡◌ {A = Ordering} Less Equal → ⊥
+    differs : ¬ (◌≡◌ {A = Ordering} Less Equal)
     differs e = cc
 
 set_different : (xs : List Atom) → IsAtomSet xs → AreDifferent xs
@@ -67,16 +68,12 @@ with_atom-longer atom xs set hasnt =
 either_atom : (q atom : Atom) → (q ≡ atom) ⊎ (¬ (q ≡ atom))
 either_atom q atom = elim (atom_eq q atom) as (λ t. atom_eq q atom ≡ t → (q ≡ atom) ⊎ (¬ (q ≡ atom))) [
   | true ↦ λ is. inl ((atom_eq-decides q atom).0 is)
-  | false ↦ λ is. inr (λ same. both (atom_eq q atom) ((atom_eq-decides q atom).1 same) is)
-] refl where
-  both : (b : Bool) → b ≡ true → b ≡ false → ⊥
-  both b t f = cc
+  | false ↦ λ is. inr (λ same. both_answers (atom_eq q atom) is ((atom_eq-decides q atom).1 same))
+] refl
 
-none_has : (q : Atom) → Contains [] q → ⊥
-none_has q (k, below, is) = absurd (omega (arith, below))
-
+-- Alike: `contains_decided` of px_question, which is of numbers.
 has_or_not : (xs : List Atom) (q : Atom) → Contains xs q ⊎ (¬ Contains xs q)
-has_or_not [] q = inr (none_has q)
+has_or_not [] q = inr (Contains-none q)
 has_or_not (x ∷ xs) q = elim (either_atom x q) [
   | inl same ↦ inl (subst (Contains (x ∷ xs)) same (Contains-first x xs))
   | inr other ↦ elim (has_or_not xs q) [

@@ -20,5 +20,5 @@ module _ (question : Question) (work : List ℕ) (place later : ℕ) where
 
   -- with none left there is no answer
   pub none_left : (before after : List Bool) (from : ℕ) → Grown before after → IsLeft question before work place later 0 (Some from) → IsLeft question after work place later from None
-      → (objects : List ℕ) → IsAnswer question objects → Agree after (length work) work place objects → object_at work place ≡ object_at objects place → ⊥
+      → (objects : List ℕ) → IsAnswer question objects → Agree after (length work) work place objects → ¬ (object_at work place ≡ object_at objects place)
   none_left before after from grown first none objects answer agree same = (left_then before after 0 from None grown first none).at_most objects answer agree same (omega arith)

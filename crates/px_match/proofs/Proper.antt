@@ -14,7 +14,7 @@ use Rattle.px_match.specs.Asking.{AreProperFrom}
 pub proper_later : (problem : Problem) (table : Table) (objects : List ℕ) (number : ℕ) → IsProper problem table objects number → AreProperFrom problem table objects number
 proper_later problem table objects number proper = λ i above k d below step inst first. proper k d below step inst (omega (arith, first, above))
 
-last_step : (steps : List OpInst) (number : ℕ) (inst : OpInst) → step_at steps number ≡ Some inst → number ≤ length steps
+pub last_step : (steps : List OpInst) (number : ℕ) (inst : OpInst) → step_at steps number ≡ Some inst → number ≤ length steps
 last_step steps zero inst is = omega arith
 last_step steps (suc k) inst is = let within = slice_get-within steps k inst is in omega (arith, within)
 

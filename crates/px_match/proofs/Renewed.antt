@@ -10,6 +10,8 @@ use Rattle.std.specs.List.Sorted.{IsStrictlySortedBy}
 use Rattle.std.specs.declared.cmp.Ordering.TheVariants.{Less}
 use Rattle.px_base.specs.ListLaws.{AllByRecursion-at, All-at, All-each, Contains-cases, Contains-filter, Contains-first, Contains-later}
 use Rattle.px_base.specs.SetLaws.{same_set, with_item-members}
+use Rattle.px_base.specs.Answers.{both_answers}
+use Rattle.px_base.proofs.Loops.{level_or_below}
 use Rattle.px_terms.specs.declared.atom.Atom.{Atom}
 use Rattle.px_terms.specs.declared.term.Term.{Term}
 use Rattle.px_terms.specs.declared.term.Term.TheVariants.{Obj, Var, Any}
@@ -57,20 +59,14 @@ at_kept list kept at atom same below is = (subst (λ l. at < length l) same belo
 has_at : (list kept : List Atom) (at : ℕ) (atom : Atom) → list ≡ kept → at < length list → atom ≡ get_or list at atom → Contains kept atom
 has_at list kept at atom same below is = let there = at_kept list kept at atom same below is in (at, there.0, sym there.1)
 
-before_or_at : (k at : ℕ) → k < at + 1 → (k < at) ⊎ (k ≡ at)
-before_or_at k at below = grind arith
-
 pub met : (list atoms : List Atom) (place : ℕ) (found atom : Atom) → list ≡ atoms → place < length list → found ≡ get_or list place found → atom_eq found atom ≡ true → Contains atoms atom
 met list atoms place found atom same below is equal = subst (Contains atoms) ((atom_eq-decides found atom).0 equal) (has_at list atoms place found same below is)
 
 pub unmet : (b : Bool) (kept : List Atom) (atom : Atom) → (Contains kept atom → IsTrue b) → b ≡ false → ¬ Contains kept atom
-unmet b kept atom tells f has = both b (tells has) f
-  where
-    both : (t : Bool) → t ≡ true → t ≡ false → ⊥
-    both t yes_is no_is = cc
+unmet b kept atom tells f has = both_answers b f (tells has)
 
 pub found_next : (new kept list : List Atom) (atom : Atom) (at : ℕ) → list ≡ kept → at < length list → atom ≡ get_or list at atom → Contains new atom → AreFound new kept at → AreFound new kept (at + 1)
-found_next new kept list atom at same below is has found = λ k d low. elim (before_or_at k at low) [
+found_next new kept list atom at same below is has found = λ k d low. elim (level_or_below k at low) [
   | inl before ↦ found k d before
   | inr here ↦
       let there = at_kept list kept at atom same below is in
@@ -217,7 +213,7 @@ mark_of atom = record { atom = atom; row = 0; column = 0; index = 0 }
 module _ (new : List Atom) (marks : List Mark) (first : ModelValue) (first_lists : List ModelValue) (at : ℕ) (kept : ModelValue) (lists : List ModelValue)
     (coming : IsComing new marks first first_lists at kept lists) (list : List Atom) (atom : Atom) (same : list ≡ new) (below : at < length list) (is : atom ≡ get_or list at atom) where
   put_there : (after : List Atom) → ((q : Atom) → (atom ≡ q) ⊎ Contains kept.atoms q → Contains after q) → (k : ℕ) (d : Atom) → k < at + 1 → Contains after (get_or new k d)
-  put_there after has k d low = elim (before_or_at k at low) [
+  put_there after has k d low = elim (level_or_below k at low) [
     | inl before ↦ has (get_or new k d) (inr (coming.there k d before))
     | inr here ↦
         let there = at_kept list new at atom same below is in

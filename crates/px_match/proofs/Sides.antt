@@ -11,6 +11,7 @@ use Rattle.std.specs.declared.cmp.Ordering.TheVariants.{Less, Equal, Greater}
 use Rattle.std.proofs.lemmas.List.{get_or_default}
 use Rattle.std.proofs.lemmas.List.Elements.{All-head, All-tail, Contains-get_or}
 use Rattle.px_base.specs.ListLaws.{AllByRecursion-at}
+use Rattle.px_base.proofs.Loops.{level_or_below}
 use Rattle.px_terms.specs.contracts.term.TermOrd.TheImpl.Laws as term_order
 use Rattle.px_terms.specs.declared.atom.Atom.{Atom}
 use Rattle.px_terms.specs.declared.term.Term.{Term}
@@ -113,7 +114,7 @@ module _ (work : List ℕ) (place : ℕ) (limit : Option ℕ) (terms found : Lis
 
 -- ---- the side of atoms
 
-same_number : (m n : ℕ) → m ≡ n → nat_cmp m n ≡ Equal
+pub same_number : (m n : ℕ) → m ≡ n → nat_cmp m n ≡ Equal
 same_number m n e = sym (nat_cmp_is m n Equal e)
 
 pub mark_below : (work : List ℕ) (place : ℕ) (limit : Option ℕ) (mark atom : Atom) → mark.pred ≡ atom.pred → AreTermsBelow work place limit mark.args atom.args → AreBelow work place limit mark atom
@@ -137,9 +138,6 @@ ascending_at (x ∷ xs) i zero d e set less below = absurd (omega (arith, less))
 ascending_at (x ∷ xs) zero (suc j) d e set less below = AllByRecursion-at (λ y. atom_cmp x y ≡ Less) xs (get_or xs j e) set.0 (Contains-get_or xs j e (omega (arith, below)))
 ascending_at (x ∷ xs) (suc i) (suc j) d e set less below = ascending_at xs i j d e set.1 (omega (arith, less)) (omega (arith, below))
 
-before_or_at : (k at : ℕ) → k < at + 1 → (k < at) ⊎ (k ≡ at)
-before_or_at k at below = grind arith
-
 pub none_yet : (work : List ℕ) (place from : ℕ) (mark : Atom) (atoms : List Atom) → IsNoneBefore work place from mark atoms 0
 none_yet work place from mark atoms = record { none = λ tau like at_least k d below is. omega (arith, below) }
 
@@ -148,7 +146,7 @@ pub none_so_far : (work : List ℕ) (place from : ℕ) (mark : Atom) (atoms : Li
 none_so_far work place from mark atoms at atom set within here below = record {
   none = λ tau like at_least k d low is.
       let less = below.each tau like at_least in
-      elim (before_or_at k at low) [
+      elim (level_or_below k at low) [
         | inl before ↦
             let first : atom_cmp (get_or atoms k d) atom ≡ Less = subst (λ a. atom_cmp (get_or atoms k d) a ≡ Less) (sym here) (ascending_at atoms k at d atom set before within) in
             less_itself (atom_under tau mark) (subst (λ a. atom_cmp a (atom_under tau mark) ≡ Less) is (atom_cmp-total.trans (get_or atoms k d) atom (atom_under tau mark) first less))
@@ -178,7 +176,7 @@ pub past_rest : (work : List ℕ) (place from : ℕ) (best : Option ℕ) (mark :
     → (k : ℕ) (d : Atom) → at ≤ k → k < length atoms → get_or atoms k d ≡ atom_under tau mark → IsAtMost best (object_at tau place)
 past_rest work place from best mark atoms at atom set within here past tau like at_least k d high below is = elim (past.each tau like at_least) [
   | inl enough ↦ enough
-  | inr less ↦ elim (at_or_after at k high) [
+  | inr less ↦ elim (level_or_below at k (omega (arith, high))) [
     | inl later ↦
         let first : atom_cmp atom (get_or atoms k d) ≡ Less = subst (λ a. atom_cmp a (get_or atoms k d) ≡ Less) (sym here) (ascending_at atoms at k atom d set later below) in
         absurd (less_itself (atom_under tau mark) (atom_cmp-total.trans (atom_under tau mark) atom (atom_under tau mark) less (subst (λ a. atom_cmp atom a ≡ Less) is first)))
@@ -186,6 +184,4 @@ past_rest work place from best mark atoms at atom set within here past tau like 
         let one : atom ≡ atom_under tau mark = here ∙ get_or_default atoms at atom d within ∙ ap (λ j. get_or atoms j d) same ∙ is in
         absurd (less_itself (atom_under tau mark) (subst (λ a. atom_cmp (atom_under tau mark) a ≡ Less) one less))
   ]
-] where
-  at_or_after : (m n : ℕ) → m ≤ n → (m < n) ⊎ (m ≡ n)
-  at_or_after m n h = grind arith
+]

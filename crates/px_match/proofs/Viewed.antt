@@ -2,6 +2,7 @@
 use Rattle.std.specs.Prelude.{◌≡◌, ℕ, ◌<◌, ◌≤◌, ◌+◌, ◌&&◌, Bool, true, false, not, nat_le, Some, None, List, [], ◌∷◌, ◌++◌, length, take, drop, find, cond}
 use Rattle.std.proofs.Common.{zero, suc, refl, sym, ap, ◌∙◌, subst, get_or, append-nil, arith}
 use Rattle.std.proofs.lemmas.Bool.Decides.{nat_tests}
+use Rattle.std.proofs.lemmas.List.{drop_all, take_all}
 use Rattle.px_terms.specs.declared.atom.Atom.{Atom}
 use Rattle.px_terms.specs.declared.problem.Problem.{Problem}
 use Rattle.px_table.specs.declared.table.Table.{Table}
@@ -54,18 +55,6 @@ is_among a params low high = grind (arith, nat_tests)
 
 -- ---- a list that was written whole
 
-drop_all : {X : Type 0} (xs : List X) (n : ℕ) → length xs ≤ n → drop n xs ≡ []
-drop_all [] zero h = refl
-drop_all [] (suc n) h = refl
-drop_all (x ∷ xs) zero h = absurd (omega (arith, h))
-drop_all (x ∷ xs) (suc n) h = drop_all xs n (omega (arith, h))
-
-take_all : {X : Type 0} (xs : List X) (n : ℕ) → length xs ≤ n → take n xs ≡ xs
-take_all [] zero h = refl
-take_all [] (suc n) h = refl
-take_all (x ∷ xs) zero h = absurd (omega (arith, h))
-take_all (x ∷ xs) (suc n) h = ap (λ l. x ∷ l) (take_all xs n (omega (arith, h)))
-
 pub written_whole : {X : Type 0} (n : ℕ) (written old : List X) → length written ≡ length old → n ≡ length written → take n (written ++ drop (length written) old) ≡ written
 written_whole n written old lengths all =
-    ap (λ l. take n (written ++ l)) (drop_all old (length written) (omega (arith, lengths))) ∙ ap (take n) (append-nil written) ∙ take_all written n (omega (arith, all))
+    ap (λ l. take n (written ++ l)) (drop_all (length written) old (omega (arith, lengths))) ∙ ap (take n) (append-nil written) ∙ take_all n written (omega (arith, all))

@@ -2,6 +2,7 @@
 use Rattle.std.specs.Prelude.{◌≡◌, ◌⊎◌, ℕ, ◌<◌, ◌≤◌, ◌+◌, None, Option, List, length, All, Contains}
 use Rattle.std.proofs.Common.{◌∙◌, sym, ap, inl, inr, get_or, arith}
 use Rattle.std.proofs.lemmas.List.{get_or_default}
+use Rattle.px_base.proofs.Loops.{level_or_below}
 use Rattle.px_terms.specs.declared.atom.Atom.{Atom}
 use Rattle.px_terms.specs.AtomSets.{IsAtomSet}
 use Rattle.px_table.specs.Kernels.{atom_under}
@@ -17,15 +18,12 @@ module _ (work : List ℕ) (place from : ℕ) (mark : Atom) (atoms : List Atom) 
   pub walked_first : (at : ℕ) → IsNoneBefore work place from mark atoms at → IsWalked work place from mark atoms at None
   walked_first at before = record { each = λ tau like at_least k d below is. absurd (before.none tau like at_least k d below is) }
 
-  before_or_at : (k at : ℕ) → k < at + 1 → (k < at) ⊎ (k ≡ at)
-  before_or_at k at below = grind arith
-
   pub walked_next : (at : ℕ) (atom : Atom) (best reached both : Option ℕ) → at < length atoms → atom ≡ get_or atoms at atom
       → ((tau : List ℕ) → length tau ≡ length work → All (IsSameBefore work place tau) mark.args → from ≤ object_at tau place → atom ≡ atom_under tau mark → IsAtMost reached (object_at tau place))
       → ((n : ℕ) → IsAtMost best n ⊎ IsAtMost reached n → IsAtMost both n)
       → IsWalked work place from mark atoms at best → IsWalked work place from mark atoms (at + 1) both
   walked_next at atom best reached both within here reach lesser walked = record {
-    each = λ tau like at_least k d low is. elim (before_or_at k at low) [
+    each = λ tau like at_least k d low is. elim (level_or_below k at low) [
       | inl before ↦ lesser _ (inl (walked.each tau like at_least k d before is))
       | inr same ↦ lesser _ (inr (reach tau like.count like.same at_least (here ∙ get_or_default atoms at atom d within ∙ ap (λ j. get_or atoms j d) (sym same) ∙ is)))
     ];

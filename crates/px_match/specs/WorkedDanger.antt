@@ -16,6 +16,7 @@ use Rattle.px_table.specs.Tables.{IsTable}
 use Rattle.px_match.specs.Matching.{Extends, IsSensed, KernelFits, KernelInstance, first_bad}
 
 -- P(x), Q(x), R(x), G(x)
+-- Alike: `Domain` of px_rooms and `Lamps` of px_terms, each of which names the atoms of its own predicates.
 abbrev pub p : Term → Atom
 p x = record { pred = 0; args = x ∷ [] }
 
@@ -88,8 +89,8 @@ danger_table = record {
 abbrev pub AreChosen : List (ℕ × ℕ) → ℕ → ℕ → Type 0
 AreChosen bound x y = (x < 2) × (y < 2) × Extends bound (x ∷ y ∷ [])
 
--- The plan is a table of a valid problem. Kernel 1 fits where P(p1) and Q(p2) are true and the objects differ: else the first step would delete what the second one needs.
--- Kernel 2 fits where R(p1) and Q(p2) are true, and kernel 3 where G(p1) is. There is no other.
+-- The plan is a table of a valid problem. Kernel 1 fits where P(p1) and Q(p2) are true and the objects differ: else the first step would
+-- delete what the second one needs. Kernel 2 fits where R(p1) and Q(p2) are true, and kernel 3 where G(p1) is. There is no other.
 pub record DangerKernels : Type 0 where
   pub valid : IsValid danger
   pub table : IsTable danger danger_table

@@ -5,10 +5,10 @@
 //!
 //! - [`Matcher::reserve`] makes a matcher for a table of a problem, under a binding, for models of at most `room` atoms. It
 //!   takes all the memory that the matcher will need. It asks for a table of a valid problem (`check_table` of `px_table`) and for a
-//!   binding that binds no parameter twice and has objects of the problem. `BadParam` comes exactly where the table hasn't
+//!   binding that binds no parameter twice and has objects of the problem. `BadParam` comes exactly where the table does not have
 //!   some bound parameter, with the first such one.
 //! - A binding is a list of pairs, each a parameter, counted from 1, and its object. `first_bad` in `specs/Matching` is the
-//!   first parameter of it that the table hasn't.
+//!   first parameter of it that the table does not have.
 //! - [`Matcher::best`] answers the number of the highest kernel that fits a model, and `None` exactly where none does.
 //!   [`Matcher::instance`] then gives the first objects with which that kernel fits; where `best` found none they stay, and at
 //!   first there are none. Neither takes memory.
@@ -35,9 +35,9 @@
 //! which no object is left for a later parameter. Each time this has its reasons, the earlier parameters on whose objects it
 //! rests. Where no object is left, the search goes back to the last reason, over all parameters between. What was found for these is
 //! kept as long as the objects on which it rests stand, so that marks without a common parameter aren't searched anew for each
-//! other. What is found first is the first in the order of objects. In a list the atom is found by halves, since it ascends, where the mark's terms are known from
-//! the left up to the parameter. Which marks, deletions and later parameters are looked at, and when, is a hint: each passing over
-//! is proved by itself, and a full list of objects is tested.
+//! other. What is found first is the first in the order of objects. In a list the atom is found by halves, since it ascends, where
+//! the mark's terms are known from the left up to the parameter. Which marks, deletions and later parameters are looked at, and
+//! when, is a hint: each passing over is proved by itself, and a full list of objects is tested.
 //!
 //! What contracts of public calls cite stands in `specs/Matching`, `specs/MatcherValue` and `specs/WorkedDanger`. The other files of
 //! `specs/` are cited by private functions: the reasons (`Reasons`), what the search looks for (`Asking`, `Filling`), on which side of
@@ -60,12 +60,6 @@ mod question;
 mod raising;
 mod reasons;
 mod seeking;
-#[cfg(test)]
-mod test_problems;
-#[cfg(test)]
-mod test_rooms;
-#[cfg(test)]
-mod tests;
 mod turns;
 
 pub use laws::{danger_kernels, danger_sensed, sensed_is_one};

@@ -9,7 +9,7 @@ use thiserror::Error;
 /// Why no matcher is made.
 #[derive(Clone, Copy, PartialEq, Eq, Debug, Error)]
 pub enum MatchErr {
-    /// The table hasn't the parameter of this number.
+    /// The table has no parameter of this number.
     #[error("the table has no parameter {0}")]
     BadParam(u32),
     /// There was no memory for the matcher.

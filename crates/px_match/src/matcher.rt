@@ -60,7 +60,7 @@ impl<'a> std::marker::Model for Matcher<'a> {
     ghost invariant = { λ m. IsValid m.problem.now × IsTable m.problem.now m.table.now × (length m.work.items ≡ m.table.now.params) × (length m.instance.items ≡ m.table.now.params) × AreKept m.room m.table.now.marks m.sensed m.lists.items × AreProperFrom m.problem.now m.table.now m.instance.items m.proper_from };
 }
 
-/// The first bound parameter that the table hasn't.
+/// The first bound parameter that the table does not have.
 fn first_bad(table: &Table, bind: &[(u32, u32)]) -> Option<u32>
     ensures { result ≡ spec_first_bad table.now bind.now }
 {
@@ -72,7 +72,7 @@ fn first_bad(table: &Table, bind: &[(u32, u32)]) -> Option<u32>
     None
 }
 
-/// No atoms, with room for so many.
+/// No atoms, with room for `room` of them.
 fn model_with_room(alloc: Global, room: usize) -> Result<Model, NoMemory>
     ensures empty { IfOk result (λ model. model.atoms ≡ []) }
     ensures room { IfOk result (λ model. room ≤ model.spare) }
@@ -82,7 +82,7 @@ fn model_with_room(alloc: Global, room: usize) -> Result<Model, NoMemory>
     Ok(model)
 }
 
-/// For each mark a list of no atoms, with room for so many.
+/// For each mark a list of no atoms, with room for `room` of them.
 #[tactic(auto, using(crate::proofs::Renewed::none_empty, crate::proofs::Renewed::one_more_empty))]
 fn lists_of(alloc: Global, count: usize, room: usize) -> Result<Vec<Model>, NoMemory>
     ensures { IfOk result (λ lists. AreEmpty room count lists.items) }
@@ -98,7 +98,8 @@ impl<'a> Matcher<'a> {
     /// A matcher for the table in which these parameters, counted from 1, have these objects. Takes all memory that it needs.
     ///
     /// # Errors
-    /// `BadParam` with the first parameter that the table hasn't, and `NoMemory`.
+    /// `BadParam` with the first parameter that the table does not have, and `NoMemory`.
+    // Alike: `Planex::begin` of px_planex, which hands a binding to this call and so has its clauses on it.
     #[tactic(auto, using(crate::proofs::Renewed::kept_empty))]
     pub fn reserve(
         alloc: Global,
@@ -146,7 +147,7 @@ impl<'a> Matcher<'a> {
     }
 
     /// The highest kernel of which an instance that extends the binding and is proper holds in the model; `None` exactly where
-    /// there is none. Takes no memory.
+    /// there is none. Does not allocate.
     pub fn best(&mut self, model: &Model) -> Option<u32>
         requires room { length model.now.atoms ≤ self.old.room }
         ensures none { (result ≡ None) ↔ NoKernelFits self.old.problem self.old.table self.old.bound model.now.atoms }
@@ -186,7 +187,7 @@ impl<'a> Matcher<'a> {
         }
     }
 
-    /// The first objects with which the kernel of the last `best` that found one fits; none before. Takes no memory.
+    /// The first objects with which the kernel of the last `best` that found one fits; none before. Does not allocate.
     pub fn instance(&self) -> &[u32]
         ensures { result.now ≡ self.now.instance }
     {

@@ -1,8 +1,7 @@
 //! Passing over an object because none is left for a later parameter: marks that have it and no other parameter after the
 //! place don't agree on its object.
 ghost use Rattle.std.specs.Prelude.{◌≡◌, ◌≢◌, ◌<◌, ◌≤◌, ◌+◌, ℕ, List, Option, All, IsTrue, IfSome, length};
-ghost use Rattle.px_table.specs.Kernels.{IsInstantiation};
-ghost use Rattle.px_match.specs.Asking.{IsAnswer, IsLeft, IsQuestion};
+ghost use Rattle.px_match.specs.Asking.{IsAnswer, IsLeft, IsTried};
 ghost use Rattle.px_match.specs.Reasons.{Agree, Grown, IsBlamed, IsNear, object_at};
 
 use crate::marks::{least_of, mark_of};
@@ -10,19 +9,21 @@ use crate::question::Question;
 use crate::reasons::blame;
 use px_terms::Term;
 
+/// Is the term no parameter between the place and the later one?
+fn is_near(term: Term, place: usize, later: usize) -> bool
+    ensures { IsTrue result → IsNear place later term }
+{
+    match term {
+        Term::Var(number) => number as usize <= place || later <= number as usize,
+        Term::Obj(_) | Term::Any => true,
+    }
+}
+
 /// Is no parameter of the terms between the place and the later one?
 fn are_near(terms: &[Term], place: usize, later: usize) -> bool
     ensures { IsTrue result → All (IsNear place later) terms.now }
 {
-    for term in terms {
-        if let Term::Var(number) = *term {
-            let at = number as usize;
-            if place < at && at < later {
-                return false;
-            }
-        }
-    }
-    true
+    terms.iter().all(|term| is_near(*term, place, later))
 }
 
 /// The parameters among the terms that come before the place are reasons, where that is asked.
@@ -38,6 +39,7 @@ fn blame_if(cells: &mut [bool], params: usize, place: usize, terms: &[Term], is_
 }
 
 /// The least object from `from` on that the mark of that number allows at the later place, whatever stands between.
+// Alike: `least_left_by_marks`, which asks the marks in turn; the parameters and clauses of `is_none_left` are like them, too.
 fn least_left(
     question: &Question,
     cells: &mut [bool],
@@ -48,11 +50,8 @@ fn least_left(
     number: usize,
     is_blamed: bool,
 ) -> Option<u32>
-    requires asked { IsQuestion question.now }
-    requires short { length work.now ≤ 4294967295 }
-    requires work { IsInstantiation question.now.problem.now question.now.table.now work.now }
+    requires tried { IsTried question.now work.now later }
     requires place { place < later }
-    requires later { later < length work.now }
     ensures grown { Grown cells.old cells.new }
     ensures at_least { IfSome result (λ r. from ≤ r) }
     ensures left { IsTrue is_blamed → IsLeft question.now cells.new work.now place later from result }
@@ -78,11 +77,8 @@ fn least_left_by_marks(
     from: u32,
     is_blamed: bool,
 ) -> Option<u32>
-    requires asked { IsQuestion question.now }
-    requires short { length work.now ≤ 4294967295 }
-    requires work { IsInstantiation question.now.problem.now question.now.table.now work.now }
+    requires tried { IsTried question.now work.now later }
     requires place { place < later }
-    requires later { later < length work.now }
     ensures grown { Grown cells.old cells.new }
     ensures at_least { IfSome result (λ r. from ≤ r) }
     ensures left { IsTrue is_blamed → IsLeft question.now cells.new work.now place later from result }
@@ -112,11 +108,8 @@ fn is_none_left(
     later: usize,
     is_blamed: bool,
 ) -> bool
-    requires asked { IsQuestion question.now }
-    requires short { length work.now ≤ 4294967295 }
-    requires work { IsInstantiation question.now.problem.now question.now.table.now work.now }
+    requires tried { IsTried question.now work.now later }
     requires place { place < later }
-    requires later { later < length work.now }
     ensures grown { Grown cells.old cells.new }
     ensures never { IsTrue is_blamed → IsTrue result → (objects : List ℕ) → IsAnswer question.now objects → Agree cells.new (length work.now) work.now place objects → object_at work.now place ≢ object_at objects place }
 {
@@ -135,10 +128,9 @@ fn is_none_left(
 }
 
 /// Is no object left for a later place? Reasons are put only where that is so.
+// Alike: `has_clash`, since the yes of both says that the object of the place is in no answer, for another reason.
 pub fn has_meeting(question: &Question, cells: &mut [bool], work: &[u32], place: usize) -> bool
-    requires asked { IsQuestion question.now }
-    requires short { length work.now ≤ 4294967295 }
-    requires work { IsInstantiation question.now.problem.now question.now.table.now work.now }
+    requires { IsTried question.now work.now place }
     ensures grown { Grown cells.old cells.new }
     ensures never { IsTrue result → (objects : List ℕ) → IsAnswer question.now objects → Agree cells.new (length work.now) work.now place objects → object_at work.now place ≢ object_at objects place }
 {

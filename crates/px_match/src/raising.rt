@@ -2,7 +2,7 @@
 ghost use Rattle.std.specs.Prelude.{◌≡◌, ◌≢◌, ◌↔◌, ◌<◌, ◌≤◌, ◌+◌, ℕ, List, Option, Some, None, All, IsTrue, IfSome, length};
 ghost use Rattle.px_terms.specs.Language.{IsVariableBelow};
 ghost use Rattle.px_table.specs.Kernels.{IsInstantiation};
-ghost use Rattle.px_match.specs.Asking.{Excludes, IsAnswer, IsQuestion, IsRaised};
+ghost use Rattle.px_match.specs.Asking.{Excludes, IsAnswer, IsQuestion, IsRaised, IsTried};
 ghost use Rattle.px_match.specs.Matching.{Extends};
 ghost use Rattle.px_match.specs.Reasons.{Agree, Grown, IsAtMost, IsChanged, IsReason, IsStale, object_at};
 
@@ -15,18 +15,21 @@ use px_ops::schema_of;
 use px_table::atom_with;
 use px_terms::{Atom, Term, apply, instance_of};
 
+/// Is the term no parameter after the place?
+fn is_up_to(term: Term, place: usize) -> bool
+    ensures { IsTrue result → IsVariableBelow (place + 1) term }
+{
+    match term {
+        Term::Var(number) => number as usize <= place,
+        Term::Obj(_) | Term::Any => true,
+    }
+}
+
 /// Are all parameters among the terms up to the place?
 fn are_up_to(terms: &[Term], place: usize) -> bool
     ensures { IsTrue result → All (IsVariableBelow (place + 1)) terms.now }
 {
-    for term in terms {
-        if let Term::Var(number) = *term {
-            if number as usize > place {
-                return false;
-            }
-        }
-    }
-    true
+    terms.iter().all(|term| is_up_to(*term, place))
 }
 
 /// The least object from `from` on that the binding allows at the place.
@@ -47,6 +50,7 @@ fn least_bound(bound: &[(u32, u32)], place: usize, from: u32) -> Option<u32>
 }
 
 /// The first object from that of the place on that the mark of that number allows.
+// Alike: `raise_by_marks` and `raise`, since each is a part of the next.
 fn raise_by_mark(
     question: &Question,
     cells: &mut [bool],
@@ -54,10 +58,7 @@ fn raise_by_mark(
     place: usize,
     number: usize,
 ) -> Option<u32>
-    requires asked { IsQuestion question.now }
-    requires short { length work.now ≤ 4294967295 }
-    requires work { IsInstantiation question.now.problem.now question.now.table.now work.now }
-    requires place { place < length work.now }
+    requires { IsTried question.now work.now place }
     ensures grown { Grown cells.old cells.new }
     ensures raised { IsRaised question.now cells.new work.now place (object_at work.now place) result }
 {
@@ -80,10 +81,7 @@ fn raise_by_marks(
     work: &[u32],
     place: usize,
 ) -> Option<u32>
-    requires asked { IsQuestion question.now }
-    requires short { length work.now ≤ 4294967295 }
-    requires work { IsInstantiation question.now.problem.now question.now.table.now work.now }
-    requires place { place < length work.now }
+    requires { IsTried question.now work.now place }
     ensures grown { Grown cells.old cells.new }
     ensures raised { IsRaised question.now cells.new work.now place (object_at work.now place) result }
 {
@@ -103,10 +101,7 @@ fn raise_by_marks(
 /// The pattern over the table's parameters, if it and the mark have all their parameters up to the place and it deletes the
 /// mark.
 fn deleting(question: &Question, work: &[u32], place: usize, clash: &Clash) -> Option<(Atom, Atom)>
-    requires asked { IsQuestion question.now }
-    requires short { length work.now ≤ 4294967295 }
-    requires work { IsInstantiation question.now.problem.now question.now.table.now work.now }
-    requires place { place < length work.now }
+    requires { IsTried question.now work.now place }
     ensures { IfSome result (λ pair. Excludes question.now work.now (place + 1) pair.0 pair.1) }
 {
     let marks = question.table.marks.as_slice();
@@ -139,10 +134,7 @@ fn deleting(question: &Question, work: &[u32], place: usize, clash: &Clash) -> O
 
 /// Does a step delete a mark, whatever the objects after the place?
 fn has_clash(question: &Question, cells: &mut [bool], work: &[u32], place: usize) -> bool
-    requires asked { IsQuestion question.now }
-    requires short { length work.now ≤ 4294967295 }
-    requires work { IsInstantiation question.now.problem.now question.now.table.now work.now }
-    requires place { place < length work.now }
+    requires { IsTried question.now work.now place }
     ensures grown { Grown cells.old cells.new }
     ensures never { IsTrue result → (objects : List ℕ) → IsAnswer question.now objects → Agree cells.new (length work.now) work.now place objects → object_at work.now place ≢ object_at objects place }
 {
@@ -161,10 +153,7 @@ fn has_clash(question: &Question, cells: &mut [bool], work: &[u32], place: usize
 
 /// The first object from that of the place on that isn't passed over at once.
 fn raise(question: &Question, cells: &mut [bool], work: &[u32], place: usize) -> Option<u32>
-    requires asked { IsQuestion question.now }
-    requires short { length work.now ≤ 4294967295 }
-    requires work { IsInstantiation question.now.problem.now question.now.table.now work.now }
-    requires place { place < length work.now }
+    requires { IsTried question.now work.now place }
     ensures grown { Grown cells.old cells.new }
     ensures raised { IsRaised question.now cells.new work.now place (object_at work.now place) result }
 {

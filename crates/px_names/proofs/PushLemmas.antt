@@ -10,10 +10,10 @@ use Rattle.px_names.specs.Lists.{AreNames, has_name, limit_of}
 use Rattle.px_names.specs.NameLaws.{has_name-decides}
 use Rattle.px_names.specs.declared.kind.Kind.{Kind}
 
-no_both : (b : Bool) → b ≡ true → b ≡ false → ⊥
+no_both : (b : Bool) → b ≡ true → ¬ (b ≡ false)
 no_both b held failed = cc
 
--- a name that the list hasn't is none of its names
+-- a name that isn't in the list is none of its names
 new_is_other : (names : List (List ℕ)) (name : List ℕ) → has_name name names ≡ false → All (λ earlier. earlier ≢ name) names
 new_is_other names name new =
     All-each (λ earlier. earlier ≢ name) names (λ earlier there same. let has : has_name name names ≡ true = (has_name-decides name names).1 (subst (Contains names) same there) in no_both (has_name name names) has new)

@@ -35,7 +35,7 @@ has_name-decides name (x ∷ xs) =
       )
     ] refl
   where
-    true-or-false : (b : Bool) → b ≡ true → b ≡ false → ⊥
+    true-or-false : (b : Bool) → b ≡ true → ¬ (b ≡ false)
     true-or-false b t f = cc
 
 distinct_rest : (x : List ℕ) (xs : List (List ℕ)) → AreDistinct (x ∷ xs) → AreDistinct xs
@@ -64,7 +64,7 @@ name_of_number names name (Some number) is tells =
     let place = position-Some (bytes_eq name) names number name (sym is) in
     slice_get-get_or names number name place.0 ∙ ap Some (sym ((bytes_eq-Decides name _).0 place.1))
 
-elim_false : (b : Bool) → b ≡ true → b ≡ false → ⊥
+elim_false : (b : Bool) → b ≡ true → ¬ (b ≡ false)
 elim_false b t f = cc
 
 -- the test of a name says whether it is in the list

@@ -53,7 +53,7 @@ impl Names {
     /// - `Duplicate` exactly where the kind has the name.
     /// - `Full` exactly where the kind has as many names as it may have: 256 objects, 64 predicates, 32 operators or
     ///   512 results.
-    /// - `NoMemory` where there is none for the name, which has none of these causes.
+    /// - `NoMemory` where there is no memory for the name, and none of these causes.
     pub fn declare(&mut self, kind: Kind, name: &str) -> Result<u32, NameErr>
         ensures number { IfOk result (λ number. number ≡ length (names_of kind self.old)) }
         ensures declared { OnOk result (self.new ≡ with_name kind name.now self.old) }
@@ -77,7 +77,7 @@ impl Names {
         Ok(number)
     }
 
-    /// The number of a name, or `None` exactly where the kind hasn't the name.
+    /// The number of a name, or `None` exactly where no name of that kind is the given one.
     ///
     /// `number` is the contract. `position` and `found` say the same by tests that compute, for callers whose own
     /// definitions compute numbers.

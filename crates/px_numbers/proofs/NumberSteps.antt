@@ -1,6 +1,6 @@
 -- One more thing is kept.
 use Rattle.std.proofs.Common.{◌≡◌, ◌↔◌, ℕ, zero, suc, ◌+◌, ◌-◌, ◌<◌, ◌≤◌, List, [], ◌∷◌, ◌++◌, length, take, get_or, refl, sym, ◌∙◌, ap, subst, inl, inr, arith, Some, slice_get, Contains}
-use Rattle.std.specs.Prelude.{true, false, None, Result, Ok, Err, IfOk, OnOk, OnErr, IsTrue}
+use Rattle.std.specs.Prelude.{None, Result, Ok, Err, IfOk, OnErr}
 use Rattle.px_base.specs.ListLaws.{Contains-none, Contains-first, Contains-later, Contains-cases}
 use Rattle.px_base.specs.Sets.{set_of}
 use Rattle.px_base.specs.SetLaws.{set_of-push, set_of-sorted}
@@ -29,14 +29,6 @@ module _ {X E : Type 0} (old new : List X) (item : X) where
   pub result_once : (result : Result ℕ E) → IfOk result (Keeps old new item) → OnErr result (new ≡ old) → AreOnce old → AreOnce new
   result_once (Ok number) kept same once = keeps-once old new item number kept once
   result_once (Err e) kept same once = subst AreOnce (sym same) once
-
-pub on_ok : {A E P : Type 0} (result : Result A E) → P → OnOk result P
-on_ok (Ok a) p = p
-on_ok (Err e) p = tt
-
-pub if_ok : {A E : Type 0} (P Q : A → Type 0) (result : Result A E) → IfOk result P → ((a : A) → P a → Q a) → IfOk result Q
-if_ok P Q (Ok a) p f = f a p
-if_ok P Q (Err e) p f = tt
 
 -- ---- the numbers of a list of atoms
 
@@ -78,7 +70,7 @@ all_atoms index (n ∷ ns) (x ∷ xs) (suc count) are enough = ap (λ (l : List 
 
 -- ---- making a model of its numbers
 
--- what is built is the set of the first so many atoms of the model
+-- what is built is the set of the first atoms of the model, as many as there are numbers
 abbrev pub IsBuilt : List Atom → List ℕ → ℕ → List Atom → Type 0
 IsBuilt index numbers count built = (model : List Atom) → IsModelOf index numbers model → built ≡ atom_set (take count model)
 
@@ -118,14 +110,14 @@ stack_within kept number [] is = omega (arith, is)
 stack_within kept number (entry ∷ below) is = omega (arith, is.2, place_in kept.frames is.0 is.1 is.3)
 
 -- a number other than 0 is that of a frame
-pub stack_split : (kept : Kept) (number : ℕ) (stack : List Entry) → IsStackAt kept number stack → (number ≡ 0 → ⊥) → number - 1 < length kept.frames
+pub stack_split : (kept : Kept) (number : ℕ) (stack : List Entry) → IsStackAt kept number stack → (¬ (number ≡ 0)) → number - 1 < length kept.frames
 stack_split kept number stack is other = omega (arith, stack_within kept number stack is, other)
 
 pub top_none : (kept : Kept) (number : ℕ) (stack : List Entry) → number ≡ 0 → IsStackAt kept number stack → IsTopOf kept stack None
 top_none kept number [] none is = tt
 top_none kept number (entry ∷ below) none is = omega (arith, none, is.2)
 
-pub top_some : (kept : Kept) (number : ℕ) (stack : List Entry) (frame : Frame) → (number ≡ 0 → ⊥) → slice_get kept.frames (number - 1) ≡ Some frame → IsStackAt kept number stack → IsTopOf kept stack (Some frame)
+pub top_some : (kept : Kept) (number : ℕ) (stack : List Entry) (frame : Frame) → (¬ (number ≡ 0)) → slice_get kept.frames (number - 1) ≡ Some frame → IsStackAt kept number stack → IsTopOf kept stack (Some frame)
 top_some kept number [] frame other at is = other is
 top_some kept number (entry ∷ below) frame other at (place, found, number_is, frame_at, entry_at, rest) =
     let same_place : number - 1 ≡ place = omega (arith, number_is) in
@@ -139,8 +131,8 @@ abbrev pub IsLookedFor : Kept → ℕ → ℕ → ℕ → Type 0
 IsLookedFor kept stack entry rest =
     (entries : List Entry) (one : Entry) → IsStackAt kept stack entries → slice_get kept.entries entry ≡ Some one → (left : List Entry) × IsStackAt kept rest left × (Contains entries one ↔ Contains left one)
 
-pub look_on : (kept : Kept) → AreEachOnce kept → (stack entry rest : ℕ) (frame : Frame) → IsLookedFor kept stack entry rest → (rest ≡ 0 → ⊥) → slice_get kept.frames (rest - 1) ≡ Some frame
-    → (frame.entry ≡ entry → ⊥) → IsLookedFor kept stack entry frame.below
+pub look_on : (kept : Kept) → AreEachOnce kept → (stack entry rest : ℕ) (frame : Frame) → IsLookedFor kept stack entry rest → (¬ (rest ≡ 0)) → slice_get kept.frames (rest - 1) ≡ Some frame
+    → (¬ (frame.entry ≡ entry)) → IsLookedFor kept stack entry frame.below
 look_on kept once stack entry rest frame looked other at differs entries one is one_at' =
     let l = looked entries one is one_at' in
     by l.0 l.1 l.2
@@ -149,7 +141,7 @@ look_on kept once stack entry rest frame looked other at differs entries one is 
     by [] is_left same = absurd (other is_left)
     by (top ∷ below) is_left same =
         let t = top_some kept rest (top ∷ below) frame other at is_left in
-        let not_top : top ≡ one → ⊥ = λ e. differs (once.entries frame.entry entry one (t.0 ∙ ap Some e) one_at') in (
+        let not_top : ¬ (top ≡ one) = λ e. differs (once.entries frame.entry entry one (t.0 ∙ ap Some e) one_at') in (
           below,
           t.1,
           (
@@ -158,7 +150,7 @@ look_on kept once stack entry rest frame looked other at differs entries one is 
           ),
         )
 
-pub look_found : (kept : Kept) (stack entry rest : ℕ) (frame : Frame) → IsLookedFor kept stack entry rest → (rest ≡ 0 → ⊥) → slice_get kept.frames (rest - 1) ≡ Some frame → frame.entry ≡ entry
+pub look_found : (kept : Kept) (stack entry rest : ℕ) (frame : Frame) → IsLookedFor kept stack entry rest → (¬ (rest ≡ 0)) → slice_get kept.frames (rest - 1) ≡ Some frame → frame.entry ≡ entry
     → (entries : List Entry) (one : Entry) → IsStackAt kept stack entries → slice_get kept.entries entry ≡ Some one → Contains entries one
 look_found kept stack entry rest frame looked other at same_entry entries one is one_at' =
     let l = looked entries one is one_at' in
@@ -172,28 +164,19 @@ look_found kept stack entry rest frame looked other at same_entry entries one is
         same.1 (subst (Contains (top ∷ below)) is_one (Contains-first top below))
 
 pub look_none : (kept : Kept) (stack entry rest : ℕ) → IsLookedFor kept stack entry rest → rest ≡ 0 → (entries : List Entry) (one : Entry) → IsStackAt kept stack entries
-    → slice_get kept.entries entry ≡ Some one → Contains entries one → ⊥
+    → slice_get kept.entries entry ≡ Some one → ¬ Contains entries one
 look_none kept stack entry rest looked none entries one is one_at' has =
     let l = looked entries one is one_at' in
     by l.0 l.1 (l.2.0 has)
   where
-    by : (left : List Entry) → IsStackAt kept rest left → Contains left one → ⊥
+    by : (left : List Entry) → IsStackAt kept rest left → ¬ Contains left one
     by [] is_left h = Contains-none one h
     by (top ∷ below) is_left h = omega (arith, none, is_left.2)
 
-pub some_below : (kept : Kept) (rest : ℕ) (frame : Frame) → ((entries : List Entry) × IsStackAt kept rest entries) → (rest ≡ 0 → ⊥) → slice_get kept.frames (rest - 1) ≡ Some frame
+pub some_below : (kept : Kept) (rest : ℕ) (frame : Frame) → ((entries : List Entry) × IsStackAt kept rest entries) → (¬ (rest ≡ 0)) → slice_get kept.frames (rest - 1) ≡ Some frame
     → (entries : List Entry) × IsStackAt kept frame.below entries
 some_below kept rest frame (entries, is) other at = by entries is
   where
     by : (entries : List Entry) → IsStackAt kept rest entries → (left : List Entry) × IsStackAt kept frame.below left
     by [] is' = absurd (other is')
     by (top ∷ below) is' = (below, (top_some kept rest (top ∷ below) frame other at is').1)
-
-pub said_true : {P : Type 0} → P → IsTrue true ↔ P
-said_true p = (λ _. p, λ _. refl)
-
-pub said_false : {P : Type 0} → (P → ⊥) → IsTrue false ↔ P
-said_false never = (λ h. wrong h, λ p. absurd (never p))
-  where
-    wrong : {G : Type 0} → IsTrue false → G
-    wrong h = cc

@@ -33,7 +33,7 @@ abbrev pub top_of : List Entry → Option Frame → List Entry
 top_of entries None = []
 top_of entries (Some frame) = items_of (slice_get entries frame.entry)
 
--- the stack of the number, of so many entries at most
+-- the stack of the number, of which at most the first number of entries are looked up
 unfoldable pub stack_of : Kept → ℕ → ℕ → List Entry
 stack_of kept zero number = []
 stack_of kept (suc most) zero = []
@@ -47,7 +47,7 @@ node_of kept key = record { model = atoms_of kept.atoms (slice_get kept.lists ke
 abbrev pub nodes_of : Kept → List NodeKey → List Node
 nodes_of kept keys = map (node_of kept) keys
 
--- there are so many pairs, and they are the nodes that they stand for
+-- there are at least that many pairs, and each stands for the node that is made of it
 pub record AreFirst (kept : Kept) (keys : List NodeKey) (count : ℕ) : Type 0 where
   pub few : count ≤ length keys
   pub stand : AllStand kept keys (nodes_of kept keys)

@@ -146,7 +146,7 @@ seen kept keys nodes key node all stands has =
 
 -- a pair that is new is a node that is new
 pub unseen : (kept : Kept) → AreEachOnce kept → (keys : List NodeKey) (nodes : List Node) (key : NodeKey) (node : Node) → AllStand kept keys nodes → IsKeyOf kept key node
-    → (Contains keys key → ⊥) → Contains nodes node → ⊥
+    → (¬ Contains keys key) → ¬ Contains nodes node
 unseen kept once keys nodes key node all stands fresh has =
     let place = at_has nodes node has in
     let there = key_of_node kept keys nodes place.0 node all place.1 in

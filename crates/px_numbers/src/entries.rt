@@ -36,10 +36,10 @@ impl EntryIndex {
         }
     }
 
-    /// The number of the entry. A new one is put last, and nothing else changes.
+    /// Returns the number of the entry. A new one is put last, and nothing else changes.
     ///
     /// # Errors
-    /// `NoMemory` where there is none for the entry. The index is then as it was.
+    /// `NoMemory` where there is no memory for the entry. The index is then as it was.
     pub fn intern(&mut self, entry: Entry) -> Result<u32, NoMemory>
         ensures kept { IfOk result (Keeps self.old self.new entry) }
         ensures err { OnErr result (self.new ≡ self.old) }
@@ -47,7 +47,7 @@ impl EntryIndex {
         keep(&mut self.entries, entry)
     }
 
-    /// The entry of the number. Takes no memory.
+    /// Returns the entry of the number. Does not allocate.
     pub fn entry(&self, number: u32) -> &Entry
         requires { number < length self.now }
         ensures { slice_get self.now number ≡ Some result.now }

@@ -34,7 +34,7 @@ impl Model for FirstNodes {
 }
 
 impl FirstNodes {
-    /// Returns so many of the nodes, the first ones. Does not allocate.
+    /// Returns the first `count` of the nodes. Does not allocate.
     pub fn new(numbers: Numbers, keys: NodeSet, count: usize) -> FirstNodes
         requires count { count ≤ length keys }
         requires stand { (nodes : List Node) × AllStand numbers keys nodes }
@@ -58,7 +58,7 @@ impl FirstNodes {
     /// Returns the node at the place.
     ///
     /// # Errors
-    /// `NoMemory` where there is none for it.
+    /// `NoMemory` where there is no memory for it.
     pub fn node(&self, alloc: Global, place: usize) -> Result<Node, NoMemory>
         requires { place < length self.now }
         ensures { IfOk result (λ node. slice_get self.now place ≡ Some node) }

@@ -34,10 +34,10 @@ impl NumberLists {
         }
     }
 
-    /// The number of the list. A new one is put last, and nothing else changes.
+    /// Returns the number of the list. A new one is put last, and nothing else changes.
     ///
     /// # Errors
-    /// `NoMemory` where there is none for the list. The lists are then as they were.
+    /// `NoMemory` where there is no memory for the list. The lists are then as they were.
     pub fn intern(&mut self, list: Sequence<u32>) -> Result<u32, NoMemory>
         ensures kept { IfOk result (Keeps self.old self.new list) }
         ensures err { OnErr result (self.new ≡ self.old) }
@@ -45,7 +45,7 @@ impl NumberLists {
         keep(&mut self.lists, list)
     }
 
-    /// The list of the number. Takes no memory.
+    /// Returns the list of the number. Does not allocate.
     pub fn list(&self, number: u32) -> &[u32]
         requires { number < length self.now }
         ensures { slice_get self.now number ≡ Some result.now }

@@ -10,7 +10,7 @@ use px_base::{NoMemory, Sequence};
 use px_table::{Entry, Node};
 use std::alloc::Global;
 
-/// The entries of the stack, the top one first.
+/// Returns the entries of the stack, the top one first.
 pub fn stack_at(alloc: Global, numbers: &Numbers, stack: u32) -> Result<Vec<Entry>, NoMemory>
     requires { (entries : List Entry) × IsStackAt numbers.now stack entries }
     ensures { IfOk result (λ made. (entries : List Entry) → IsStackAt numbers.now stack entries → made.items ≡ entries) }
@@ -25,7 +25,7 @@ pub fn stack_at(alloc: Global, numbers: &Numbers, stack: u32) -> Result<Vec<Entr
     Ok(entries)
 }
 
-/// The node of the pair.
+/// Returns the node of the pair.
 pub fn node_at(alloc: Global, numbers: &Numbers, key: NodeKey) -> Result<Node, NoMemory>
     requires { (node : Node) × IsKeyOf numbers.now key node }
     ensures { IfOk result (λ made. (node : Node) → IsKeyOf numbers.now key node → made ≡ node) }

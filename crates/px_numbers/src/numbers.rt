@@ -33,7 +33,7 @@ impl std::marker::Model for Numbers {
     ghost invariant = { λ n. AreSound (record { atoms = n.atoms; lists = n.lists; entries = n.entries; frames = n.stacks }) };
 }
 
-/// The number of the atom, if it is this one.
+/// Returns the number of the atom, if it is this one.
 fn number_if(index: &AtomIndex, number: u32, atom: &Atom) -> Option<u32>
     ensures { IfSome result (λ number. slice_get index.now number ≡ Some atom.now) }
 {
@@ -43,7 +43,7 @@ fn number_if(index: &AtomIndex, number: u32, atom: &Atom) -> Option<u32>
     None
 }
 
-/// The number of the atom. Most atoms of a model have the number after that of the atom before them, so that one is tried first.
+/// Returns the number of the atom. Most atoms of a model have the number after that of the atom before them, so that one is tried first.
 fn number_of(index: &mut AtomIndex, next: u32, atom: &Atom) -> Result<u32, NoMemory>
     requires { IsGround atom.now }
     ensures kept { IfOk result (Keeps index.old index.new atom.now) }
@@ -55,7 +55,7 @@ fn number_of(index: &mut AtomIndex, next: u32, atom: &Atom) -> Result<u32, NoMem
     }
 }
 
-/// The numbers of the atoms, in their order.
+/// Returns the numbers of the atoms, in their order.
 fn numbers_of(alloc: Global, index: &mut AtomIndex, atoms: &[Atom]) -> Result<Vec<u32>, NoMemory>
     requires { All IsGround atoms.now }
     ensures places { KeepsPlaces index.old index.new }
@@ -72,7 +72,7 @@ fn numbers_of(alloc: Global, index: &mut AtomIndex, atoms: &[Atom]) -> Result<Ve
     Ok(numbers)
 }
 
-/// The model of the atoms with these numbers. Each atom comes after all before it, so it is put at the end.
+/// Returns the model of the atoms with these numbers. Each atom comes after all before it, so it is put at the end.
 fn model_of(alloc: Global, index: &AtomIndex, numbers: &[u32]) -> Result<Model, NoMemory>
     requires { (model : List Atom) × IsModelOf index.now numbers.now model }
     ensures { IfOk result (λ built. IsModelOf index.now numbers.now built.atoms) }
@@ -105,10 +105,10 @@ impl Numbers {
         let _opened = &self.atoms;
     }
 
-    /// The number of the model.
+    /// Returns the number of the model.
     ///
     /// # Errors
-    /// `NoMemory` where there is none for it.
+    /// `NoMemory` where there is no memory for it.
     pub fn model_number(&mut self, alloc: Global, model: &Model) -> Result<u32, NoMemory>
         ensures keeps { KeepsAll self.old self.new }
         ensures model { IfOk result (λ number. IsModelAt self.new number model.now.atoms) }
@@ -117,10 +117,10 @@ impl Numbers {
         self.lists.intern(Sequence::from_vec(numbers))
     }
 
-    /// The model of the number.
+    /// Returns the model of the number.
     ///
     /// # Errors
-    /// `NoMemory` where there is none for it.
+    /// `NoMemory` where there is no memory for it.
     pub fn model(&self, alloc: Global, number: u32) -> Result<Model, NoMemory>
         requires { (model : List Atom) × IsModelAt self.now number model }
         ensures { IfOk result (λ built. IsModelAt self.now number built.atoms) }
@@ -128,10 +128,10 @@ impl Numbers {
         model_of(alloc, &self.atoms, self.lists.list(number))
     }
 
-    /// The number of the entry.
+    /// Returns the number of the entry.
     ///
     /// # Errors
-    /// `NoMemory` where there is none for it.
+    /// `NoMemory` where there is no memory for it.
     pub fn entry_number(&mut self, entry: Entry) -> Result<u32, NoMemory>
         ensures keeps { KeepsAll self.old self.new }
         ensures entry { IfOk result (λ number. slice_get self.new.entries number ≡ Some entry) }
@@ -139,7 +139,7 @@ impl Numbers {
         self.entries.intern(entry)
     }
 
-    /// The entry of the number. Takes no memory.
+    /// Returns the entry of the number. Does not allocate.
     pub fn entry(&self, number: u32) -> &Entry
         requires { number < length self.now.entries }
         ensures { slice_get self.now.entries number ≡ Some result.now }
@@ -147,10 +147,10 @@ impl Numbers {
         self.entries.entry(number)
     }
 
-    /// The number of the stack with the entry on top of another one.
+    /// Returns the number of the stack with the entry on top of another one.
     ///
     /// # Errors
-    /// `NoMemory` where there is none for it.
+    /// `NoMemory` where there is no memory for it.
     pub fn pushed(&mut self, entry: u32, below: u32) -> Result<u32, NoMemory>
         requires { (stack : List Entry) × IsStackAt self.old below stack }
         ensures keeps { KeepsAll self.old self.new }
@@ -160,7 +160,7 @@ impl Numbers {
         Ok(place + 1)
     }
 
-    /// The top entry of the stack, and the stack below. None where it is empty. Takes no memory.
+    /// Returns the top entry of the stack, and the stack below. None where it is empty. Does not allocate.
     pub fn top(&self, stack: u32) -> Option<Frame>
         requires { (entries : List Entry) × IsStackAt self.now stack entries }
         ensures top { (entries : List Entry) → IsStackAt self.now stack entries → IsTopOf self.now entries result }
@@ -173,7 +173,7 @@ impl Numbers {
         }
     }
 
-    /// Is the entry on the stack? Takes no memory.
+    /// Is the entry on the stack? Does not allocate.
     pub fn is_stacked(&self, stack: u32, entry: u32) -> bool
         requires { (entries : List Entry) × IsStackAt self.now stack entries }
         ensures { (entries : List Entry) (one : Entry) → IsStackAt self.now stack entries → slice_get self.now.entries entry ≡ Some one → IsTrue result ↔ Contains entries one }

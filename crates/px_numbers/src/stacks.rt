@@ -35,7 +35,7 @@ impl Model for StackIndex {
 }
 
 impl StackIndex {
-    /// The empty stack alone.
+    /// Returns the empty stack alone.
     pub fn new(alloc: Global) -> StackIndex
         ensures { result ≡ [] }
     {
@@ -44,10 +44,10 @@ impl StackIndex {
         }
     }
 
-    /// The place of the stack. A new one is put last, and nothing else changes.
+    /// Returns the place of the stack. A new one is put last, and nothing else changes.
     ///
     /// # Errors
-    /// `NoMemory` where there is none for the stack. The index is then as it was.
+    /// `NoMemory` where there is no memory for the stack. The index is then as it was.
     pub fn intern(&mut self, frame: Frame) -> Result<u32, NoMemory>
         ensures kept { IfOk result (Keeps self.old self.new frame) }
         ensures few { length self.new ≤ 4294967295 }
@@ -56,7 +56,7 @@ impl StackIndex {
         keep(&mut self.frames, frame)
     }
 
-    /// The stack at the place. Takes no memory.
+    /// Returns the stack at the place. Does not allocate.
     pub fn frame(&self, place: u32) -> Frame
         requires { place < length self.now }
         ensures { slice_get self.now place ≡ Some result }

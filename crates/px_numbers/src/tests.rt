@@ -8,7 +8,7 @@ use std::alloc::Global;
 use std::process::Abort;
 use std::rt::HostRuntime;
 
-/// The model of an atom without arguments.
+/// Returns the model of an atom without arguments.
 fn model_of_one(alloc: Global, pred: u32, rt: &impl Abort) -> Result<Model, NoMemory> {
     let atom = Atom::new(pred, &[]).expect(rt, "no argument");
     let mut model = Model::new(alloc);
@@ -16,7 +16,7 @@ fn model_of_one(alloc: Global, pred: u32, rt: &impl Abort) -> Result<Model, NoMe
     Ok(model)
 }
 
-/// The number of that model.
+/// Returns the number of that model.
 fn number_of_one(
     alloc: Global,
     numbers: &mut Numbers,
@@ -46,7 +46,7 @@ fn a_model_is_numbered_once(rt: HostRuntime) {
     assert!(&rt; matches!(found, Ok(true)));
 }
 
-/// How many atoms a model of one atom has when it comes back.
+/// Returns how many atoms a model of one atom has when it comes back.
 fn atoms_again(alloc: Global, numbers: &mut Numbers, rt: &impl Abort) -> Result<usize, NoMemory> {
     let model = model_of_one(alloc, 3, rt)?;
     let number = numbers.model_number(alloc, &model)?;
@@ -61,7 +61,7 @@ fn a_model_comes_back(rt: HostRuntime) {
     assert!(&rt; matches!(found, Ok(1)));
 }
 
-/// The number of the entry of an operator without parameters.
+/// Returns the number of the entry of an operator without parameters.
 fn entry_number(numbers: &mut Numbers, op: u32, rt: &impl Abort) -> Result<u32, NoMemory> {
     let inst = OpInst::new(op, &[]).expect(rt, "no argument");
     numbers.entry_number(Entry::Op(inst))

@@ -1,19 +1,11 @@
 -- An index of atoms stays one when an atom is kept.
-use Rattle.std.proofs.Common.{◌≡◌, ◌≤◌, ℕ, List, [], ◌∷◌, ◌++◌, length, sym, subst, inl, inr}
+use Rattle.std.proofs.Common.{◌≡◌, ◌≤◌, ℕ, List, length, sym, subst, inl, inr}
 use Rattle.std.specs.Prelude.{All, Result, Ok, Err, IfOk, OnErr}
-use Rattle.std.proofs.lemmas.List.Elements.{Contains-append_cases}
-use Rattle.px_base.specs.ListLaws.{All-at, All-each, Contains-one}
+use Rattle.std.proofs.lemmas.List.Elements.{All-push}
 use Rattle.px_terms.specs.declared.atom.Atom.{Atom}
 use Rattle.px_terms.specs.Instances.{IsGround}
 use Rattle.px_ops.specs.Keeping.{IsAtomIndex, Keeps}
 use Rattle.px_ops.specs.KeepLaws.{keeps-once}
-
-pushed_ground : (atoms : List Atom) (atom : Atom) → All IsGround atoms → IsGround atom → All IsGround (atoms ++ atom ∷ [])
-pushed_ground atoms atom all is_ground =
-    All-each IsGround (atoms ++ atom ∷ []) (λ q h. elim (Contains-append_cases atoms (atom ∷ []) q h) [
-      | inl old ↦ All-at IsGround atoms q all old
-      | inr last ↦ subst IsGround (Contains-one atom q last) is_ground
-    ])
 
 pub kept_index : {E : Type 0} (old new : List Atom) (atom : Atom) (result : Result ℕ E) → IsAtomIndex old → IsGround atom → IfOk result (Keeps old new atom) → OnErr result (new ≡ old)
     → length new ≤ 4294967295 → IsAtomIndex new
@@ -21,7 +13,7 @@ kept_index old new atom (Ok number) index is_ground kept same short = record {
   once = keeps-once old new atom number kept index.once;
   all_ground = elim kept.change [
     | inl is ↦ subst (All IsGround) (sym is.1) index.all_ground
-    | inr is ↦ subst (All IsGround) (sym is.1) (pushed_ground old atom index.all_ground is_ground)
+    | inr is ↦ subst (All IsGround) (sym is.1) (All-push IsGround old atom index.all_ground is_ground)
   ];
   short = short;
 }

@@ -23,7 +23,8 @@ use Rattle.px_terms.specs.AtomSets.{IsAtomSet, with_atom, atom_set}
 use Rattle.px_base.specs.ListLaws.{Contains-later, Contains-cases, AllByRecursion-at, AllByRecursion-map}
 use Rattle.px_base.specs.SetLaws.{with_item-sorted, with_item-members, same_set, set_of-sorted, set_of-push}
 use Rattle.px_ops.specs.Models.{IsModel, IsPlace, Parts, without_atom}
-use Rattle.px_ops.proofs.PlaceLemmas.{front_of, back_of, filter_all, around, level_or_below, rising, sorted_pair, with_item-between}
+use Rattle.px_base.proofs.Loops.{level_or_below}
+use Rattle.px_ops.proofs.PlaceLemmas.{front_of, back_of, filter_all, around, rising, sorted_pair, with_item-between}
 
 -- what a binary search answers is the place
 pub searched_place : (atoms : List Atom) (atom : Atom) (r : Result ℕ ℕ) → IsAtomSet atoms → IsSearchInRange r (length atoms)
@@ -201,7 +202,7 @@ next_added old added k atom before after below is was put =
     ∙ set_of-push atom_cmp atom_cmp-total atom_cmp-same (old ++ take k added) atom
     ∙ ap atom_set (append_assoc old (take k added) (atom ∷ []) ∙ ap (λ l. old ++ l) (ap (λ a. take k added ++ a ∷ []) is ∙ sym (take-suc added k atom below) ∙ ap (λ n. take n added) (sym (add-one k))))
 
--- a filter in place has yet to move what it hasn't reached
+-- a filter in place has yet to move what it has not reached
 pub kept_rest : (p : Atom → Bool) (xs ys : List Atom) (k i : ℕ) (d : Atom) → FiltersInPlace p xs ys k i → i < length xs → get_or ys i d ≡ get_or xs i d
 kept_rest p xs ys k i d filtered below =
     sym (rw add-zero at (get_or-drop i ys 0 d)) ∙ ap (λ l. get_or l 0 d) filtered.rest ∙ rw add-zero at (get_or-drop i xs 0 d)

@@ -1,5 +1,5 @@
 -- An ascending list around the place of an item.
-use Rattle.std.proofs.Common.{◌≡◌, ◌+◌, ◌<◌, ◌≤◌, ◌⊎◌, ℕ, zero, suc, Bool, true, List, [], ◌∷◌, ◌++◌, length, take, drop, get_or, refl, sym, ap, ◌∙◌, subst, inl, inr, arith}
+use Rattle.std.proofs.Common.{◌≡◌, ◌+◌, ◌<◌, ◌≤◌, ℕ, zero, suc, Bool, true, List, [], ◌∷◌, ◌++◌, length, take, drop, get_or, refl, sym, ap, ◌∙◌, subst, inl, inr, arith}
 use Rattle.std.proofs.lemmas.List.{get_or_default}
 use Rattle.std.specs.Prelude.{filter}
 use Rattle.std.specs.Cmp.{IsTotalOrder, alike_right}
@@ -8,6 +8,7 @@ use Rattle.std.specs.List.Sorted.{IsStrictlySortedBy, IsNonDecreasingBy}
 use Rattle.std.specs.Ordering.{ordering_index, ordering_reverse}
 use Rattle.std.specs.declared.cmp.Ordering.{Ordering}
 use Rattle.std.specs.declared.cmp.Ordering.TheVariants.{Less, Equal, Greater}
+use Rattle.px_base.proofs.Loops.{level_or_below}
 use Rattle.px_base.specs.Sets.{place_item, with_item}
 use Rattle.px_base.specs.SetLaws.{with_item-below}
 
@@ -32,12 +33,6 @@ pub filter_all : {X : Type 0} (p : X → Bool) (xs : List X) → AllByRecursion 
 filter_all p [] all = refl
 filter_all p (x ∷ xs) all = rw all.0 (ap (λ l. x ∷ l) (filter_all p xs all.1))
 
-pub level_or_below : (i j : ℕ) → i ≤ j → (i < j) ⊎ (i ≡ j)
-level_or_below zero zero h = inr refl
-level_or_below zero (suc j) h = inl (omega arith)
-level_or_below (suc i) zero h = absurd (omega (arith, h))
-level_or_below (suc i) (suc j) h = elim (level_or_below i j (omega (arith, h))) [ inl below ↦ inl (omega (arith, below)) | inr level ↦ inr (ap suc level) ]
-
 module _ {K : Type 0} (R : K → K → Ordering) (o : IsTotalOrder R) where
   pub sorted_pair : (xs : List K) (i j : ℕ) (d : K) → IsStrictlySortedBy R xs → i < j → j < length xs → R (get_or xs i d) (get_or xs j d) ≡ Less
   unfolding IsStrictlySortedBy
@@ -61,7 +56,7 @@ module _ {K : Type 0} (R : K → K → Ordering) (o : IsTotalOrder R) where
   -- the answers of a comparison with an item rise along an ascending list
   pub rising : (xs : List K) (a : K) → IsStrictlySortedBy R xs → IsNonDecreasingBy (λ y. ordering_index (R y a)) xs
   rising xs a sorted i j d h k =
-      elim (level_or_below i j h) [
+      elim (level_or_below i j (omega (arith, h))) [
         | inl below ↦ rises _ _ a (sorted_pair xs i j d sorted below k)
         | inr level ↦ rw level (omega arith)
       ]

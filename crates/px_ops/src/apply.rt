@@ -12,10 +12,10 @@ use crate::problems::schema_of;
 use px_terms::{NoMemory, OpInst, Problem, Schema};
 use std::alloc::Global;
 
-/// The model that the instance leaves: first all that it deletes goes, then what it adds comes (Fikes and Nilsson 1971).
+/// Returns the model that the instance leaves: first all that it deletes goes, then what it adds comes (Fikes and Nilsson 1971).
 ///
 /// # Errors
-/// `NoMemory` where there is none for the new model.
+/// `NoMemory` where there is no memory for the new model.
 pub fn apply_op(
     alloc: Global,
     problem: &Problem,
@@ -35,7 +35,7 @@ pub fn apply_op(
     Ok(next)
 }
 
-/// The same in place, where there is room for what the instance adds. Does not allocate.
+/// Changes the model to that one, where there is room for what the instance adds. Does not allocate.
 pub fn apply_in(problem: &Problem, model: &mut Model, inst: &OpInst)
     requires problem { IsValid problem.now }
     requires inst { IsGroundInstanceOf problem.now inst.now }
@@ -49,7 +49,7 @@ pub fn apply_in(problem: &Problem, model: &mut Model, inst: &OpInst)
     let _known = model.atoms();
 }
 
-/// The same by the lists of atoms.
+/// Changes the model so, by the lists of atoms.
 fn replace(problem: &Problem, model: &mut Model, inst: &OpInst)
     requires problem { IsValid problem.now }
     requires inst { IsGroundInstanceOf problem.now inst.now }

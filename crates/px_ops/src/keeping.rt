@@ -13,7 +13,7 @@ const MOST_KEPT: usize = 4_294_967_295;
 /// Returns the number of the item: its place, where the set has it, and else the last place, where it is put.
 ///
 /// # Errors
-/// `NoMemory` where the set doesn't have the item and there is no memory or no number for it. The set is then as it was.
+/// `NoMemory` where the set does not have the item and there is no memory or no number for it. The set is then as it was.
 pub fn keep<T: Eq + Hash + Drop>(set: &mut IndexSet<T>, item: T) -> Result<u32, NoMemory>
     requires few { length set.old.keys ≤ 4294967295 }
     ensures keys { OnOk result (set.new.keys ≡ insert_key T.eq set.old.keys item) }

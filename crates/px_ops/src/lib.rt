@@ -13,7 +13,7 @@
 //!   parameter. Each schema of a valid problem is so (`ValidityLaws.instance_schema` of `px_terms`).
 //! - [`apply_op`] and [`apply_in`] ask for a valid problem and a ground instance of one of its operators, over any
 //!   objects. First all that the instance deletes goes, then what it adds comes. A wild card in a delete list stands
-//!   for any object, also one that the problem hasn't. The result has at most as many atoms as the model and the add list have
+//!   for any object, also one that the problem does not have. The result has at most as many atoms as the model and the add list have
 //!   together (`length`).
 //! - [`schema_of`] is the operator of an instance, [`precondition_of`] the list of all that it needs, and [`is_addable`] tells
 //!   whether some operator may add an atom.

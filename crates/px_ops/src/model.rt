@@ -37,7 +37,7 @@ impl std::marker::Model for Model {
 }
 
 impl Model {
-    /// The model without atoms. Takes no memory.
+    /// Returns the model without atoms. Does not allocate.
     pub fn new(alloc: Global) -> Model
         ensures { result.atoms ≡ [] }
     {
@@ -46,7 +46,7 @@ impl Model {
         }
     }
 
-    /// Takes all atoms away. Their places stay as room. Takes no memory.
+    /// Takes all atoms away. Their places stay as room. Does not allocate.
     pub fn clear(&mut self)
         ensures atoms { self.new.atoms ≡ [] }
         ensures model { IsModel self.new.atoms }
@@ -55,7 +55,7 @@ impl Model {
         self.atoms.clear();
     }
 
-    /// The atoms, ascending, each once. Takes no memory.
+    /// Returns the atoms, ascending, each once. Does not allocate.
     pub fn atoms(&self) -> &[Atom]
         ensures value { result.now ≡ self.now.atoms }
         ensures model { IsModel self.now.atoms }
@@ -63,7 +63,7 @@ impl Model {
         &self.atoms
     }
 
-    /// Where the atom stands, or where it would.
+    /// Returns where the atom stands, or where it would.
     fn place(&self, atom: &Atom) -> Result<usize, usize>
         ensures place { IsPlace self.now.atoms atom.now result }
         ensures model { IsModel self.now.atoms }
@@ -71,7 +71,7 @@ impl Model {
         self.atoms.binary_search(atom)
     }
 
-    /// The same. An atom that comes after all others is told by one comparison, as where a model is filled in order.
+    /// Returns the same place. An atom that comes after all others is told by one comparison, as where a model is filled in order.
     fn place_from_end(&self, atom: &Atom) -> Result<usize, usize>
         ensures place { IsPlace self.now.atoms atom.now result }
         ensures model { IsModel self.now.atoms }
@@ -84,7 +84,7 @@ impl Model {
         self.place(atom)
     }
 
-    /// Is the atom in the model? Takes no memory.
+    /// Is the atom in the model? Does not allocate.
     pub fn holds(&self, atom: &Atom) -> bool
         ensures { IsTrue result ↔ Contains self.now.atoms atom.now }
     {
@@ -133,7 +133,7 @@ impl Model {
     /// Afterwards there is room for `more` further atoms.
     ///
     /// # Errors
-    /// `NoMemory` where there is none for them, or where the model would have more than 4,294,967,295 places. The model
+    /// `NoMemory` where there is no memory for them, or where the model would have more than 4,294,967,295 places. The model
     /// is then as it was.
     pub fn reserve(&mut self, more: usize) -> Result<(), NoMemory>
         ensures ok { OnOk result (more ≤ self.new.spare) }
@@ -151,7 +151,7 @@ impl Model {
     }
 
     /// Adds a ground atom where there is room for one. True exactly where it wasn't there; a place of the room is
-    /// taken at most. Takes no memory.
+    /// taken at most. Does not allocate.
     pub fn insert_spare(&mut self, atom: Atom) -> bool
         requires is_ground { IsGround atom }
         requires room { 1 ≤ self.old.spare }
@@ -169,7 +169,7 @@ impl Model {
         }
     }
 
-    /// Takes the atom away. True exactly where it was there; its place is then room. Takes no memory.
+    /// Takes the atom away. True exactly where it was there; its place is then room. Does not allocate.
     pub fn remove(&mut self, atom: &Atom) -> bool
         ensures atoms { self.new.atoms ≡ without_atom atom.now self.old.atoms }
         ensures model { IsModel self.new.atoms }
@@ -186,17 +186,17 @@ impl Model {
         }
     }
 
-    /// A model of the same atoms, in memory of the same allocator.
+    /// Returns a model of the same atoms, in memory of the same allocator.
     ///
     /// # Errors
-    /// `NoMemory` where there is none for the copy.
+    /// `NoMemory` where there is no memory for the copy.
     pub fn try_copy(&self) -> Result<Model, NoMemory>
         ensures { IfOk result (λ copy. copy.atoms ≡ self.now.atoms) }
     {
         self.copy_in(*self.atoms.allocator())
     }
 
-    /// The same in memory of another allocator.
+    /// Returns such a model in memory of another allocator.
     pub(crate) fn copy_in(&self, alloc: Global) -> Result<Model, NoMemory>
         ensures { IfOk result (λ copy. copy.atoms ≡ self.now.atoms) }
     {

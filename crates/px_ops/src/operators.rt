@@ -10,7 +10,7 @@ ghost use Rattle.px_ops.specs.Models.{IsInstanceOfSchema};
 use px_terms::{Atom, OpInst, Schema, apply, instance_of};
 
 /// Does the instance delete the atom? It does where putting objects in the place of the wild cards of one of its
-/// delete patterns gives the atom (Fikes and Nilsson 1971). Takes no memory.
+/// delete patterns gives the atom (Fikes and Nilsson 1971). Does not allocate.
 pub fn deletes(schema: &Schema, inst: &OpInst, atom: &Atom) -> bool
     requires schema { IsSchemaWellFormed schema.now }
     requires inst { IsInstanceOfSchema schema.now inst.now }
@@ -39,7 +39,8 @@ fn passes_a_pattern(schema: &Schema, inst: &OpInst, atom: &Atom) -> bool
     false
 }
 
-/// The atom at place `k` of the instance's precondition. Takes no memory.
+// Alike: `adds` below. The precondition and the add list are asked for by their own names.
+/// Returns the atom at place `k` of the instance's precondition. Does not allocate.
 pub fn pre(schema: &Schema, inst: &OpInst, k: usize) -> Atom
     requires schema { IsSchemaWellFormed schema.now }
     requires inst { IsInstanceOfSchema schema.now inst.now }
@@ -49,7 +50,7 @@ pub fn pre(schema: &Schema, inst: &OpInst, k: usize) -> Atom
     apply(inst.args(), &schema.pre.as_slice()[k])
 }
 
-/// The atom at place `k` of what the instance adds. Takes no memory.
+/// Returns the atom at place `k` of what the instance adds. Does not allocate.
 pub fn adds(schema: &Schema, inst: &OpInst, k: usize) -> Atom
     requires schema { IsSchemaWellFormed schema.now }
     requires inst { IsInstanceOfSchema schema.now inst.now }

@@ -25,7 +25,7 @@ pub fn schema_of<'a>(problem: &'a Problem, inst: &OpInst) -> &'a Schema
 /// Returns the atoms that the instance needs.
 ///
 /// # Errors
-/// `NoMemory` where there is none for them.
+/// `NoMemory` where there is no memory for them.
 pub fn precondition_of(
     alloc: Global,
     problem: &Problem,

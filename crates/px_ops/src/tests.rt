@@ -1,9 +1,11 @@
 //! Models, steps and atom indices on small examples.
 ghost use Rattle.std.specs.Prelude.{◌≡◌, IfOk, length, slice_index_or};
 ghost use Rattle.px_terms.specs.Operators.{no_schema};
-ghost use Rattle.px_terms.specs.Validity.{IsSchemaWellFormed, IsValid};
+ghost use Rattle.px_terms.specs.Validity.{IsValid};
 
-use crate::{AtomIndex, Model, adds, apply_op, deletes, is_addable, pre, precondition_of};
+use crate::{
+    AtomIndex, Model, adds, apply_op, deletes, is_addable, pre, precondition_of, schema_of,
+};
 use px_terms::{Atom, ClauseArena, NoMemory, OpInst, Problem, Schema, Sequence, Term};
 use std::alloc::Global;
 use std::process::Abort;
@@ -28,24 +30,7 @@ fn models_are_sets(rt: HostRuntime) -> Result<(), NoMemory> {
     Ok(())
 }
 
-/// The operator MOVE(x,y), which needs AT(x), deletes AT($) and adds AT(y).
-fn moving(alloc: Global, rt: &impl Abort) -> Result<Schema, NoMemory>
-    ensures well_formed { IfOk result IsSchemaWellFormed }
-    ensures shape { IfOk result (λ s. (s.params ≡ 2) × (length s.pre ≡ 1) × (length s.add ≡ 1)) }
-{
-    let here = Atom::new(0, &[Term::Var(0)]).expect(rt, "one argument");
-    let there = Atom::new(0, &[Term::Var(1)]).expect(rt, "one argument");
-    let any = Atom::new(0, &[Term::Any]).expect(rt, "one argument");
-    Ok(Schema {
-        op: 0,
-        params: 2,
-        pre: Sequence::from_slice(alloc, &[here])?,
-        del: Sequence::from_slice(alloc, &[any])?,
-        add: Sequence::from_slice(alloc, &[there])?,
-    })
-}
-
-/// The problem of that operator over two objects.
+/// Returns the problem of two objects with the operator MOVE(x,y), which needs AT(x), deletes AT($) and adds AT(y).
 fn moving_problem(alloc: Global, rt: &impl Abort) -> Result<Problem, NoMemory>
     ensures valid { IfOk result IsValid }
     ensures shape { IfOk result (λ p. (length p.schemas ≡ 1) × ((slice_index_or p.schemas 0 no_schema).params ≡ 2) × (p.objects ≡ 2)) }
@@ -60,31 +45,15 @@ fn moving_problem(alloc: Global, rt: &impl Abort) -> Result<Problem, NoMemory>
         del: Sequence::from_slice(alloc, &[any])?,
         add: Sequence::from_slice(alloc, &[there])?,
     };
-    let mut schemas = Vec::new(alloc);
-    if schemas.push(schema).is_err() {
-        return Err(NoMemory);
-    }
     Ok(Problem {
         objects: 2,
         arities: Sequence::from_slice(alloc, &[1u8])?,
         axioms: ClauseArena::new(alloc),
-        schemas: Sequence::from_vec(schemas),
+        schemas: Sequence::from_vec(Vec::from_array(alloc, [schema])?),
         height: 4,
         nodes: 10000,
         shapes: 10000,
     })
-}
-
-#[test]
-fn what_a_move_needs_deletes_and_adds(rt: HostRuntime) -> Result<(), NoMemory> {
-    let schema = moving(rt.alloc(), &rt)?;
-    let start = Atom::new(0, &[Term::Obj(0)]).expect(&rt, "one argument");
-    let end = Atom::new(0, &[Term::Obj(1)]).expect(&rt, "one argument");
-    let step = OpInst::new(0, &[Term::Obj(0), Term::Obj(1)]).expect(&rt, "two arguments");
-    assert!(&rt; deletes(&schema, &step, &start));
-    assert!(&rt; pre(&schema, &step, 0) == start);
-    assert!(&rt; adds(&schema, &step, 0) == end);
-    Ok(())
 }
 
 #[test]
@@ -93,6 +62,10 @@ fn a_move(rt: HostRuntime) -> Result<(), NoMemory> {
     let start = Atom::new(0, &[Term::Obj(0)]).expect(&rt, "one argument");
     let end = Atom::new(0, &[Term::Obj(1)]).expect(&rt, "one argument");
     let step = OpInst::new(0, &[Term::Obj(0), Term::Obj(1)]).expect(&rt, "two arguments");
+    let schema = schema_of(&problem, &step);
+    assert!(&rt; deletes(schema, &step, &start));
+    assert!(&rt; schema.pre.len() == 1 && pre(schema, &step, 0) == start);
+    assert!(&rt; schema.add.len() == 1 && adds(schema, &step, 0) == end);
     let mut facts = Model::new(rt.alloc());
     facts.insert(start)?;
     let after = apply_op(rt.alloc(), &problem, &facts, &step)?;

@@ -68,7 +68,7 @@ row_holds x y i atoms first second within mark has row =
 
 -- ---- the second sensing
 
-after_a-no_g : (x : ℕ) → Contains after_a (g (Obj x)) → ⊥
+after_a-no_g : (x : ℕ) → ¬ Contains after_a (g (Obj x))
 after_a-no_g x = lacks after_a (g (Obj x))
     (All-cons (Differs (g (Obj x))) (p (Obj a)) (q (Obj b) ∷ r (Obj a) ∷ []) (λ e. omega (arith, e))
     (All-cons (Differs (g (Obj x))) (q (Obj b)) (r (Obj a) ∷ []) (λ e. omega (arith, e)) (one (Differs (g (Obj x))) (r (Obj a)) (λ e. omega (arith, e)))))
@@ -130,11 +130,11 @@ third_sensed = record {
 abbrev only_q : List Atom
 only_q = q (Obj a) ∷ q (Obj b) ∷ []
 
-only_q-lacks : (atom : Atom) → atom.pred ≢ 1 → Contains only_q atom → ⊥
+only_q-lacks : (atom : Atom) → atom.pred ≢ 1 → ¬ Contains only_q atom
 only_q-lacks atom other = lacks only_q atom
     (All-cons (Differs atom) (q (Obj a)) (q (Obj b) ∷ []) (λ e. other (sym e)) (one (Differs atom) (q (Obj b)) (λ e. other (sym e))))
 
-nothing_fits : (i : ℕ) (objects : List ℕ) → Fitting chosen_a only_q i objects → ⊥
+nothing_fits : (i : ℕ) (objects : List ℕ) → ¬ Fitting chosen_a only_q i objects
 nothing_fits i objects (x, (y, is, are, inl (number, has_p, has_q, differ))) = only_q-lacks (p (Obj x)) (λ e. omega (arith, e)) has_p
 nothing_fits i objects (x, (y, is, are, inr (inl (number, has_r, has_q)))) = only_q-lacks (r (Obj x)) (λ e. omega (arith, e)) has_r
 nothing_fits i objects (x, (y, is, are, inr (inr (number, has_g)))) = only_q-lacks (g (Obj x)) (λ e. omega (arith, e)) has_g
@@ -152,6 +152,7 @@ stuck : RunsTable edited danger danger_table ((1, a) ∷ (2, a) ∷ []) (record 
 unfolding with_item
 stuck = (nothing_sensed, (at danger_facts None [], (NoKernel, (at danger_facts None [], (danger_sensed.one_object, refl), (refl, refl))), inl (tt, refl, refl)))
 
+-- Alike: `slipped`, since each run is written out turn by turn.
 straight : RunsTable edited danger danger_table chosen_a [] danger_facts (tried 1 (a_step (Obj a)) ByActing ∷ tried 2 (b_step (Obj a) (Obj b)) ByActing ∷ arrived ∷ []) after_b
 unfolding with_item set_of
 straight = (

@@ -4,6 +4,7 @@ use Rattle.std.proofs.Common.{zero, suc, refl, sym, ap, ◌∙◌, subst, inl, i
 use Rattle.std.proofs.lemmas.Bool.{cases_eq, cases_lt, cases_order}
 use Rattle.px_base.specs.Answers.{some_or_none, some_same}
 use Rattle.px_base.specs.ListLaws.{All-at, Contains-cases, Contains-first, Contains-later, Contains-none}
+use Rattle.px_base.proofs.Loops.{level_or_below}
 use Rattle.px_terms.specs.declared.atom.Atom.{Atom}
 use Rattle.px_terms.specs.declared.instance.OpInst.{OpInst}
 use Rattle.px_terms.specs.declared.problem.Problem.{Problem}
@@ -28,7 +29,6 @@ use Rattle.px_planex.specs.Executors.{IsActable}
 use Rattle.px_planex.specs.Existing.{TracesExist}
 use Rattle.px_planex.proofs.Decided.{Decided, decided-all, decided-contains, decided-if, decided-le, decided-lt, decided-not}
 use Rattle.px_planex.proofs.FirstLists.{FirstOrNone, first-list}
-use Rattle.px_planex.proofs.Progressing.{below_or_at}
 
 -- ---- the binding
 
@@ -100,7 +100,7 @@ module _ (problem : Problem) (valid : IsValid problem) (table : Table) (is_table
           (decided-not (IsDeleted (schema_of problem inst) inst atom) (decided-deleted k inst at))))
 
       kept-more : (k : ℕ) (o : Option OpInst) → step_at (steps_under table objects) k ≡ o → KeptUpTo k → Decided (KeptUpTo (suc k))
-      kept-more k None at before = inl (λ j inst below low column row step. elim (below_or_at j k below) [
+      kept-more k None at before = inl (λ j inst below low column row step. elim (level_or_below j k (omega (arith, below))) [
         | inl less ↦ before j inst less low column row step
         | inr same ↦ some_or_none (sym step ∙ ap (step_at (steps_under table objects)) same ∙ at)
       ])
@@ -108,7 +108,7 @@ module _ (problem : Problem) (valid : IsValid problem) (table : Table) (is_table
         where
           by : Decided (KeptAt k here) → Decided (KeptUpTo (suc k))
           by (inr never) = inr (λ all. never (λ low column row. all k here (omega arith) low column row at))
-          by (inl kept) = inl (λ j inst below low column row step. elim (below_or_at j k below) [
+          by (inl kept) = inl (λ j inst below low column row step. elim (level_or_below j k (omega (arith, below))) [
             | inl less ↦ before j inst less low column row step
             | inr same ↦
                 let is : here ≡ inst = some_same (sym at ∙ ap (step_at (steps_under table objects)) (sym same) ∙ step) in

@@ -8,10 +8,8 @@ use Rattle.std.specs.declared.cmp.Ordering.TheVariants.{Less, Equal, Greater}
 use Rattle.std.proofs.lemmas.Bool.{cases_order}
 use Rattle.std.proofs.lemmas.Bool.Decides.{nat_tests}
 use Rattle.std.proofs.lemmas.List.Elements.{All-head, All-tail}
+use Rattle.px_match.proofs.Sides.{same_number}
 use Rattle.px_planex.proofs.Decided.{Decided}
-
-nat_cmp-same : (m n : ℕ) → m ≡ n → nat_cmp m n ≡ Equal
-nat_cmp-same m n same = grind (arith, nat_tests)
 
 nat_cmp-more : (m n : ℕ) → n < m → nat_cmp m n ≡ Greater
 nat_cmp-more m n more = grind (arith, nat_tests)
@@ -57,7 +55,7 @@ module _ (top : ℕ) where
       not_before : (xs : List ℕ) → IsFirstOf (λ l. P (from ∷ l)) xs → (ys : List ℕ) → P ys → slice_cmp nat_cmp ys (from ∷ xs) ≢ Less
       not_before xs first [] is = absurd (omega (arith, (within [] is).0))
       not_before xs first (y ∷ ys) is = elim (cases_order y from) [
-        | inl same ↦ then-same (nat_cmp y from) (slice_cmp nat_cmp ys xs) (nat_cmp-same y from same) (first.1 ys (subst (λ n. P
+        | inl same ↦ then-same (nat_cmp y from) (slice_cmp nat_cmp ys xs) (same_number y from same) (first.1 ys (subst (λ n. P
             (n ∷ ys)) same is))
         | inr (inl less) ↦ absurd (omega (arith, less, least y ys is))
         | inr (inr more) ↦ then-more (nat_cmp y from) (slice_cmp nat_cmp ys xs) (nat_cmp-more y from more)

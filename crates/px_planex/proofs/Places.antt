@@ -22,7 +22,7 @@ module _ {E : Type 0} (leaves : E → List Atom → List Atom) (problem : Proble
   same_adds : (places : ℕ) (old new : Running) (outcome : Outcome) → new.atoms ≡ old.atoms → Adds places old outcome new
   same_adds places old new outcome same = (omega (arith, ap length same), λ _. same)
 
-  changing_adds : (places : ℕ) (old new : Running) (outcome : Outcome) → (ChangesNothing outcome → ⊥) → length new.atoms ≤ length old.atoms + places → Adds places old outcome new
+  changing_adds : (places : ℕ) (old new : Running) (outcome : Outcome) → (¬ ChangesNothing outcome) → length new.atoms ≤ length old.atoms + places → Adds places old outcome new
   changing_adds places old new outcome changes within = (within, λ nothing. absurd (changes nothing))
 
   sense_adds : (old new : Running) (answer : Option KernelInstance) (outcome : Outcome) → SenseGives leaves problem table bound old answer outcome new → Adds 0 old outcome new

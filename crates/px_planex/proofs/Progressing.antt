@@ -1,7 +1,8 @@
 -- In a world that nothing disturbs each action that was sensed is taken, and the next sensing finds a greater kernel.
-use Rattle.std.specs.Prelude.{◌≡◌, ◌⊎◌, ℕ, ◌<◌, ◌≤◌, Some, None, Option, List, length, slice_get, Contains}
+use Rattle.std.specs.Prelude.{◌≡◌, ℕ, ◌<◌, ◌≤◌, Some, None, Option, List, length, slice_get, Contains}
 use Rattle.std.proofs.Common.{zero, suc, refl, sym, ap, ◌∙◌, subst, inl, inr, arith}
 use Rattle.px_base.specs.ListLaws.{All-at, All-each}
+use Rattle.px_base.proofs.Loops.{level_or_below}
 use Rattle.px_terms.specs.declared.atom.Atom.{Atom}
 use Rattle.px_terms.specs.declared.instance.OpInst.{OpInst}
 use Rattle.px_terms.specs.declared.problem.Problem.{Problem}
@@ -24,9 +25,6 @@ use Rattle.px_planex.specs.Progress.{ActsAndGoesOn}
 use Rattle.px_planex.specs.declared.event.Event.TheVariants.{Sense, Act}
 use Rattle.px_planex.specs.declared.event.Outcome.{Outcome}
 use Rattle.px_planex.specs.declared.event.Outcome.TheVariants.{Disturbed, Sensed, Acted, Slipped, Goal, NoKernel, NotSensed}
-
-pub below_or_at : (a b : ℕ) → a < suc b → (a < b) ⊎ (a ≡ b)
-below_or_at a b h = grind arith
 
 module _ (problem : Problem) (valid : IsValid problem) (table : Table) (is_table : IsTable problem table) (bound : List (ℕ × ℕ)) where
   mark_holds : (atoms : List Atom) (i : ℕ) (objects : List ℕ) → KernelFits problem table bound atoms i objects → (mark : Mark) → Contains table.marks mark → i ≤ mark.row → mark.column < i → Contains atoms (atom_under objects mark.atom)
@@ -52,7 +50,7 @@ module _ (problem : Problem) (valid : IsValid problem) (table : Table) (is_table
         (inl (there, deletes-passed problem inst (atom_under objects mark.atom) valid (instance-is_ground problem inst is_inst) (atom_of-is_ground problem (atom_under objects mark.atom) is_atom) stays))
 
     from_mark : (mark : Mark) → Contains table.marks mark → suc (suc i) ≤ mark.row → mark.column < suc (suc i) → Contains (result_of problem atoms inst) (atom_under objects mark.atom)
-    from_mark mark has row column = elim (below_or_at mark.column (suc i) column) [
+    from_mark mark has row column = elim (level_or_below mark.column (suc i) (omega (arith, column))) [
       | inl before ↦ kept_atom mark has (mark_holds atoms (suc i) objects fits mark has (omega arith) before)
           (All-at (λ m. IsKept problem (steps_under table objects) (suc i) (mark_under objects m)) table.marks mark fits.proper has (suc i) inst (omega arith) before row at)
       | inr here ↦

@@ -1,6 +1,6 @@
 -- A run has at most (D + 1) * (n + 1) turns: between disturbances each turn's kernel is greater than the one before.
 use Rattle.std.specs.Prelude.{◌≡◌, ◌⊎◌, ◌<◌, ◌≤◌, ◌+◌, ◌-◌, ◌*◌, ◌==◌, ◌&&◌, ◌||◌, ℕ, Bool, true, false, cond, nat_lt, Option, Some, None, List, [], ◌∷◌, length, filter}
-use Rattle.std.proofs.Common.{zero, suc, refl, sym, ap, subst, inl, inr, arith}
+use Rattle.std.proofs.Common.{suc, refl, sym, ap, subst, inl, inr, arith}
 use mathlib.Core.Bool.{beq}
 use Rattle.std.proofs.lemmas.Bool.Decides.{nat_tests}
 use Rattle.std.proofs.lemmas.List.{length-map}
@@ -15,6 +15,7 @@ use Rattle.px_table.specs.Kernels.{instance_under, steps_under}
 use Rattle.px_table.specs.Marks.{step_at}
 use Rattle.px_table.specs.Tables.{IsTable}
 use Rattle.px_match.specs.Matching.{IsSensed, KernelFits, KernelInstance}
+use Rattle.px_match.proofs.Proper.{last_step}
 use Rattle.px_planex.specs.Turns.{IsLastTurn, Recorded, TurnValue, TurnsAreFew, after_edits, edits_at, is_at}
 use Rattle.px_planex.proofs.InAtoms.{RunInAtoms, TurnInAtoms, run_in_atoms}
 use Rattle.px_planex.proofs.Progressing.{next_kernel_fits, row_of_kernel_holds}
@@ -106,12 +107,6 @@ module _ (p : Problem) (valid : IsValid p) (t : Table) (table : IsTable p t) (bi
   turns_left-any None number atoms senses = omega arith
   turns_left-any (Some kernel) number atoms senses = omega (arith, senses.fits.from_one)
 
-  step_within : (steps : List OpInst) (k : ℕ) (o : OpInst) → step_at steps k ≡ Some o → k ≤ length steps
-  step_within steps zero o e = omega arith
-  step_within [] (suc k) o e = absurd (cc)
-  step_within (s ∷ steps) (suc zero) o e = omega arith
-  step_within (s ∷ steps) (suc (suc k)) o e = let r = step_within steps (suc k) o e in omega arith
-
   -- what the turns after this one are at most, where they are bounded
   abbrev RestBounded : ℕ → List TurnValue → List Atom → Type 0
   RestBounded number turns after = (mid : List Atom) (rest : RunInAtoms leaves p t binding recorded number mid turns after) →
@@ -128,12 +123,12 @@ module _ (p : Problem) (valid : IsValid p) (t : Table) (table : IsTable p t) (bi
       omega (arith, b.2, any, product)
 
   undisturbed : (kernel : KernelInstance) (number : ℕ) (turn : TurnValue) (turns : List TurnValue) (atoms mid after : List Atom) → KernelFits p t binding atoms kernel.number kernel.objects →
-      (IsLastTurn turn.end → ⊥) → TurnInAtoms p t (Some kernel) atoms atoms turn mid → RestBounded (suc number) turns after → RunInAtoms leaves p t binding recorded (suc number) mid turns after →
+      (¬ IsLastTurn turn.end) → TurnInAtoms p t (Some kernel) atoms atoms turn mid → RestBounded (suc number) turns after → RunInAtoms leaves p t binding recorded (suc number) mid turns after →
       suc (length turns) ≤ (n + 2 - kernel.number) + (n + 1) * count_after number recorded
   undisturbed kernel number turn turns atoms mid after fits not_last (inl goal) bound rest = absurd (not_last (subst IsLastTurn (sym goal.1) tt))
   undisturbed kernel number turn turns atoms mid after fits not_last (inr (inl fails)) bound rest = absurd (fails.3 (row_of_kernel_holds p valid t table binding atoms kernel fits fails.0 fails.1 fails.2))
   undisturbed kernel number turn turns atoms mid after fits not_last (inr (inr taken)) bound rest =
-      let within : kernel.number ≤ n = omega (arith, step_within (steps_under t kernel.objects) kernel.number taken.0 taken.1, length-map t.steps (instance_under kernel.objects)) in
+      let within : kernel.number ≤ n = omega (arith, last_step (steps_under t kernel.objects) kernel.number taken.0 taken.1, length-map t.steps (instance_under kernel.objects)) in
       let next : KernelFits p t binding mid (suc kernel.number) kernel.objects = subst (λ (x : List Atom). KernelFits p t binding x (suc kernel.number) kernel.objects) (sym taken.2) (next_kernel_fits p valid t table binding atoms kernel.number kernel.objects taken.0 fits within taken.1) in
       elim (edits_before number recorded) [
         | inr less ↦ disturbed kernel.number number turns after mid (omega arith) less bound rest
@@ -159,7 +154,7 @@ module _ (p : Problem) (valid : IsValid p) (t : Table) (table : IsTable p t) (bi
       sensed = after_edits leaves (edits_at recorded number false) atoms
 
       by : (answer : Option KernelInstance) → IsSensed p t binding sensed answer → (mid : List Atom) → TurnInAtoms p t answer sensed (after_edits leaves (edits_at recorded number true) sensed) turn mid →
-          ((IsLastTurn turn.end × (turns ≡ []) × (after ≡ mid)) ⊎ ((IsLastTurn turn.end → ⊥) × RunInAtoms leaves p t binding recorded (suc number) mid turns after)) →
+          ((IsLastTurn turn.end × (turns ≡ []) × (after ≡ mid)) ⊎ ((¬ IsLastTurn turn.end) × RunInAtoms leaves p t binding recorded (suc number) mid turns after)) →
           RestBounded (suc number) turns after → suc (length turns) ≤ turns_left answer number
       by None senses mid takes (inl last) bound = omega (arith, ap length last.1)
       by None senses mid takes (inr more) bound = absurd (more.0 (subst IsLastTurn (sym takes.0) tt))
@@ -188,7 +183,7 @@ module _ (p : Problem) (valid : IsValid p) (t : Table) (table : IsTable p t) (bi
       omega (arith, any, product)
 
   pub turns-fall : (kernel : KernelInstance) (number : ℕ) (turn : TurnValue) (atoms mid : List Atom) (next : Option KernelInstance) →
-      KernelFits p t binding atoms kernel.number kernel.objects → (IsLastTurn turn.end → ⊥) →
+      KernelFits p t binding atoms kernel.number kernel.objects → (¬ IsLastTurn turn.end) →
       TurnInAtoms p t (Some kernel) atoms (after_edits leaves (edits_at recorded number true) atoms) turn mid →
       IsSensed p t binding (after_edits leaves (edits_at recorded (suc number) false) mid) next →
       turns_left next (suc number) < turns_left (Some kernel) number
@@ -201,7 +196,7 @@ module _ (p : Problem) (valid : IsValid p) (t : Table) (table : IsTable p t) (bi
           IsSensed p t binding mid next → turns_left next (suc number) < turns_left (Some kernel) number
       higher o at fits' None senses = absurd (senses (suc kernel.number) kernel.objects fits')
       higher o at fits' (Some found) senses =
-          let within = step_within (steps_under t kernel.objects) kernel.number o at in
+          let within = last_step (steps_under t kernel.objects) kernel.number o at in
           let product : (n + 1) * count_after (suc number) recorded ≤ (n + 1) * count_after number recorded = mul-le-mul_left (n + 1) (count_falls number recorded) in
           omega (arith, product, senses.highest (suc kernel.number) kernel.objects fits', within, length-map t.steps (instance_under kernel.objects))
 
@@ -209,7 +204,7 @@ module _ (p : Problem) (valid : IsValid p) (t : Table) (table : IsTable p t) (bi
       quiet (inl goal) = absurd (not_last (subst IsLastTurn (sym goal.1) tt))
       quiet (inr (inl fails)) = absurd (fails.3 (row_of_kernel_holds p valid t table binding atoms kernel fits fails.0 fails.1 fails.2))
       quiet (inr (inr taken)) =
-          let within : kernel.number ≤ n = omega (arith, step_within (steps_under t kernel.objects) kernel.number taken.0 taken.1, length-map t.steps (instance_under kernel.objects)) in
+          let within : kernel.number ≤ n = omega (arith, last_step (steps_under t kernel.objects) kernel.number taken.0 taken.1, length-map t.steps (instance_under kernel.objects)) in
           let fits' : KernelFits p t binding mid (suc kernel.number) kernel.objects = subst (λ (x : List Atom). KernelFits p t binding x (suc kernel.number) kernel.objects) (sym taken.2) (next_kernel_fits p valid t table binding atoms kernel.number kernel.objects taken.0 fits within taken.1) in
           elim (edits_before number recorded) [
             | inr less ↦ fall_disturbed kernel.number number _ next fits.to_goal less senses

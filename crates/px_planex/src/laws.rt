@@ -10,6 +10,7 @@ ghost use Rattle.px_planex.specs.WorkedRuns.{DangerRuns};
 
 use px_world::World;
 
+// Alike: the laws, each of which is a call without a body whose clause is a definition of `specs/`.
 /// What comes of a list of events is determined.
 pub fn traces_are_one<W: World>()
     ensures { TracesAreOne W.leaves }

@@ -3,12 +3,12 @@
 //! # Calling it
 //!
 //! - [`Planex::begin`] takes a valid problem, a table for it, a binding and the greatest number of atoms that a world may have. It
-//!   takes all memory; it is refused where the binding names a parameter that the table hasn't, with the first such number.
+//!   takes all memory; it is refused where the binding names a parameter that the table does not have, with the first such number.
 //!   Contracts see an executor by what it was begun with and by its memory (`PlanexValue` in `specs/Executors`).
 //! - An [`Event`] is one step: the world is disturbed, or the executor senses, or it acts. [`Planex::step`] asks that the world's
 //!   objects, axioms and operators are the problem's (`HaveSameRules` of `px_world`), that it has at most as many atoms as there is
 //!   room for, that it admits a disturbance, and that it has the places that the event may take (`places_of`): one for a
-//!   disturbance, none for a sensing, and for an action as many as the remembered step adds. It takes no memory.
+//!   disturbance, none for a sensing, and for an action as many as the remembered step adds. It does not allocate.
 //! - Its [`Outcome`] is determined by the world's atoms and by what the executor remembers: at most one kernel, and the objects of the last
 //!   kernel that it sensed. `Happens` in `specs/Execution` is the table of events and outcomes, line by line, and the clause
 //!   `happens` of `step`. A sensing remembers the highest kernel that fits; where it is the last one that is the goal. An action takes
@@ -23,8 +23,8 @@
 //! - The laws are about sets of atoms, whatever an edit leaves of them. Where nothing disturbs the world each sensed action is taken and
 //!   the next kernel is greater ([`acts_and_goes_on`]), so the goal is reached ([`goal_is_reached`]). By rules with the
 //!   problem's objects, axioms and operators no step may be refused whose row is true ([`guard_never`]). A run is determined
-//!   ([`runs_are_one`]), it is a trace ([`runs_are_traces`]), and it has few turns ([`turns_are_few`]). Where an edit leaves at most one atom more, an event
-//!   leaves no more atoms than it may want places for ([`events_take_places`]).
+//!   ([`runs_are_one`]), it is a trace ([`runs_are_traces`]), and it has few turns ([`turns_are_few`]). Where an edit leaves at most one
+//!   atom more, an event leaves no more atoms than it may want places for ([`events_take_places`]).
 //! - Three runs are worked out in `specs/WorkedRuns` ([`danger_runs`]).
 #![tactic(auto)]
 
@@ -32,12 +32,6 @@ mod acting;
 mod event;
 mod laws;
 mod planex;
-#[cfg(test)]
-mod slow_executor;
-#[cfg(test)]
-mod test_tables;
-#[cfg(test)]
-mod tests;
 
 pub use event::{Event, Outcome};
 pub use laws::{

@@ -64,6 +64,7 @@ impl<'a> Planex<'a> {
     ///
     /// # Errors
     /// `BadParam` with the first number that isn't a parameter of the table, and `NoMemory`.
+    // Alike: `Matcher::reserve` of px_match, which takes the binding.
     pub fn begin(
         alloc: Global,
         problem: &'a Problem,
@@ -100,7 +101,7 @@ impl<'a> Planex<'a> {
     }
 
     /// The step that the next action will take, unless a mark of its row isn't true then. `None` exactly where an action would be
-    /// told as not sensed. Takes no memory.
+    /// told as not sensed. Does not allocate.
     pub fn action(&self) -> Option<StepInst>
         ensures step { result ≡ remembered_step self.now.table self.now.memory }
         ensures sensed { (result ≡ None) ↔ (self.now.memory.remembered ≡ None) }
@@ -116,14 +117,14 @@ impl<'a> Planex<'a> {
         }
     }
 
-    /// The objects of the last kernel that was sensed; none before. Takes no memory.
+    /// The objects of the last kernel that was sensed; none before. Does not allocate.
     pub fn instance(&self) -> &[u32]
         ensures { result.now ≡ self.now.memory.instance }
     {
         self.matcher.instance()
     }
 
-    /// What comes of the event: the world is disturbed, or the executor senses, or it acts. Takes no memory.
+    /// What comes of the event: the world is disturbed, or the executor senses, or it acts. Does not allocate.
     ///
     /// The world's objects, axioms and operators are those of the problem, and it has at most as many atoms as there is room
     /// for. The world admits the disturbance, if the event is one, and has the places that the event may take.

@@ -33,7 +33,8 @@ reply_text names (Plan name moves steps) =
 reply_text names (Exhausted name) =
     line (codes "exhausted" ∷ name_text names kind.Result name ∷ [])
 reply_text names (NodeLimit name nodes moves) =
-    line (codes "nodelimit" ∷ name_text names kind.Result name ∷ decimal (length nodes) ∷ codes "nodes" ∷ decimal moves ∷ codes "moves" ∷ [])
+    line (codes "nodelimit" ∷ name_text names kind.Result name ∷ decimal (length nodes) ∷ codes "nodes" ∷ decimal moves ∷ codes "moves"
+    ∷ [])
 reply_text names (ShapeLimit name node formula shapes) =
     line (codes "shapelimit" ∷ name_text names kind.Result name ∷ decimal (length shapes) ∷ codes "shapes" ∷ [])
 reply_text names (Learned name params steps) =
@@ -41,7 +42,8 @@ reply_text names (Learned name params steps) =
 reply_text names (LearnRefused name why) =
     line (codes "notlearned" ∷ name_text names kind.Result name ∷ why_text why ∷ [])
 reply_text names (Shown name table) =
-    line (codes "table" ∷ name_text names kind.Result name ∷ decimal table.params ∷ codes "parameters" ∷ decimal (length table.steps) ∷ codes "steps" ∷ [])
+    line (codes "table" ∷ name_text names kind.Result name ∷ decimal table.params ∷ codes "parameters" ∷ decimal (length table.steps)
+    ∷ codes "steps" ∷ [])
     ++ row_lines names table
 reply_text names (Noted count) =
     line (codes "noted" ∷ decimal count ∷ [])

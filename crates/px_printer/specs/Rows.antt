@@ -27,15 +27,18 @@ mark_lines names params marks row = flat_map (mark_line names params) (filter (�
 abbrev pub step_rows : NameLists → ℕ → List Mark → ℕ → List OpInst → List ℕ
 step_rows names params marks row [] = []
 step_rows names params marks row (step ∷ steps) =
-    line (codes "row" ∷ decimal row ∷ instance_text names params step ∷ []) ++ (mark_lines names params marks row ++ step_rows names params marks (row + 1) steps)
+    line (codes "row" ∷ decimal row ∷ instance_text names params step ∷ [])
+    ++ (mark_lines names params marks row ++ step_rows names params marks (row + 1) steps)
 
 -- the line of the last row: the goal's atoms, each after a space
 abbrev pub goal_line : NameLists → ℕ → ℕ → List Atom → List ℕ
-goal_line names params row goal = codes "row " ++ (decimal row ++ (codes " goal" ++ (after_spaces (map (atom_text names params) goal) ++ codes "\n")))
+goal_line names params row goal =
+    codes "row " ++ (decimal row ++ (codes " goal" ++ (after_spaces (map (atom_text names params) goal) ++ codes "\n")))
 
 -- the last row: the goal, then its marks
 abbrev pub goal_row : NameLists → Table → List ℕ
-goal_row names table = goal_line names table.params (length table.steps + 1) table.goal ++ mark_lines names table.params table.marks (length table.steps + 1)
+goal_row names table = goal_line names table.params (length table.steps + 1) table.goal
+    ++ mark_lines names table.params table.marks (length table.steps + 1)
 
 abbrev pub row_lines : NameLists → Table → List ℕ
 row_lines names table = step_rows names table.params table.marks 1 table.steps ++ goal_row names table

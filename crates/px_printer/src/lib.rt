@@ -23,12 +23,8 @@
 
 mod notice;
 mod reply;
-#[cfg(test)]
-mod reply_tests;
 mod shown;
 mod table_text;
-#[cfg(test)]
-mod tests;
 mod text;
 mod turn;
 mod turn_text;

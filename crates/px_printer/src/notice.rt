@@ -6,17 +6,18 @@ use px_base::NoMemory;
 use std::alloc::Global;
 use std::fmt::Write;
 
-/// How the program is called. Takes no memory.
+/// Returns how the program is called. Does not allocate.
 pub fn usage_text() -> &'static str
     ensures { result.now ≡ usage_text }
 {
     "usage: planex run | planex demo ROOMS SEED\n"
 }
 
-/// Where and why a script is refused: the line, the code of its fault, and the number of the limit that is passed, or 0.
+/// Returns the text that says where and why a script is refused: the line, the code of its fault, and the number of the limit that is
+/// passed, or 0.
 ///
 /// # Errors
-/// `NoMemory` where there is none for the text.
+/// `NoMemory` where there is no memory for the text.
 pub fn refused_text(alloc: Global, line: u32, code: u8, limit: u8) -> Result<Vec<u8>, NoMemory>
     ensures text { IfOk result (λ text. text.items ≡ refused_text line code limit) }
 {

@@ -24,7 +24,7 @@ pub enum Why {
 impl Why {
     ghost use Rattle.px_printer.specs.Whys.{why_text};
 
-    /// The word for it.
+    /// Returns the word for it.
     pub(crate) fn text(self) -> &'static str
         ensures { result.now ≡ why_text self }
     {

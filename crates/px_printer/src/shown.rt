@@ -40,31 +40,27 @@ impl fmt::Display for ShownTerm<'_> {
     }
 }
 
-/// Arguments that print as in a script: in parentheses, with commas and without blanks; no arguments print as nothing.
-#[derive(Clone, Copy)]
-struct ShownArguments<'a> {
-    terms: &'a [Term],
-    names: &'a Names,
+/// Writes arguments as in a script: in parentheses, with commas and without blanks. Where there are no arguments it writes nothing.
+fn write_arguments<W: fmt::Write>(
+    f: &mut fmt::Formatter<W>,
+    terms: &[Term],
+    names: &Names,
     params: u32,
-    ghost named: { All (IsNamedTerm names.now) terms.now },
-}
-
-impl fmt::Display for ShownArguments<'_> {
-    ghost output = { λ shown. Some (arguments_text shown.names.now shown.params shown.terms.now) };
-
-    fn fmt<W: fmt::Write>(&self, f: &mut fmt::Formatter<W>) -> fmt::Result {
-        if let [first, rest @ ..] = self.terms {
-            let first = ShownTerm {
-                term: *first,
-                names: self.names,
-                params: self.params,
-            };
-            write!(f, "({first}")?;
-            write_rest(f, rest, self.names, self.params)?;
-            f.write_str(")")?;
-        }
-        Ok(())
+) -> fmt::Result
+    requires { All (IsNamedTerm names.now) terms.now }
+    ensures { WritesOnOk W.write_str_gives f.old result (arguments_text names.now params terms.now) f.new }
+{
+    if let [first, rest @ ..] = terms {
+        let first = ShownTerm {
+            term: *first,
+            names,
+            params,
+        };
+        write!(f, "({first}")?;
+        write_rest(f, rest, names, params)?;
+        f.write_str(")")?;
     }
+    Ok(())
 }
 
 /// Writes the arguments after the first, each after a comma.
@@ -88,6 +84,7 @@ fn write_rest<W: fmt::Write>(
     Ok(())
 }
 
+// Alike: `ShownInstance` below, since each lends a value of a type of its own, with another fact about its names.
 /// An atom that prints as in a script. `params` is as in [`ShownTerm`].
 #[derive(Clone, Copy)]
 pub struct ShownAtom<'a> {
@@ -104,13 +101,8 @@ impl fmt::Display for ShownAtom<'_> {
     ghost output = { λ shown. Some (atom_text shown.names.now shown.params shown.atom.now) };
 
     fn fmt<W: fmt::Write>(&self, f: &mut fmt::Formatter<W>) -> fmt::Result {
-        let predicate = self.names.text(Kind::Predicate, self.atom.pred());
-        let arguments = ShownArguments {
-            terms: self.atom.args(),
-            names: self.names,
-            params: self.params,
-        };
-        write!(f, "{predicate}{arguments}")
+        f.write_str(self.names.text(Kind::Predicate, self.atom.pred()))?;
+        write_arguments(f, self.atom.args(), self.names, self.params)
     }
 }
 
@@ -130,12 +122,7 @@ impl fmt::Display for ShownInstance<'_> {
     ghost output = { λ shown. Some (instance_text shown.names.now shown.params shown.inst.now) };
 
     fn fmt<W: fmt::Write>(&self, f: &mut fmt::Formatter<W>) -> fmt::Result {
-        let operator = self.names.text(Kind::Operator, self.inst.op());
-        let arguments = ShownArguments {
-            terms: self.inst.args(),
-            names: self.names,
-            params: self.params,
-        };
-        write!(f, "{operator}{arguments}")
+        f.write_str(self.names.text(Kind::Operator, self.inst.op()))?;
+        write_arguments(f, self.inst.args(), self.names, self.params)
     }
 }

@@ -12,6 +12,7 @@ use px_terms::{Atom, OpInst};
 use std::alloc::AllocError;
 use std::fmt::Write;
 
+// Alike: `push_tried` of `turn_text`, since each text of several values is appended by a function of its own.
 /// Appends the line of a table, then its rows.
 pub(crate) fn push_table(
     text: &mut String,
@@ -21,13 +22,14 @@ pub(crate) fn push_table(
 ) -> Result<(), AllocError>
     requires { IsNamedTable names.now table.now }
     ensures { OnOk result (string_bytes text.new ≡ string_bytes text.old
-        ++ (line (codes "table" ∷ name.now ∷ decimal table.now.params ∷ codes "parameters" ∷ decimal (length table.now.steps) ∷ codes "steps" ∷ []) ++ row_lines names.now table.now)) }
+        ++ (line (codes "table" ∷ name.now ∷ decimal table.now.params ∷ codes "parameters" ∷ decimal (length table.now.steps)
+        ∷ codes "steps" ∷ []) ++ row_lines names.now table.now)) }
 {
     push_table_line(text, name, table.params, table.steps.len())?;
     push_rows(text, table, names)
 }
 
-/// Appends the line of a table of so many parameters and steps.
+/// Appends the line of a table, with the numbers of its parameters and steps.
 fn push_table_line(
     text: &mut String,
     name: &str,
@@ -62,7 +64,8 @@ fn push_step_row(
     requires step { IsNamedInstance names.now step.now }
     requires marks { All (λ (mark : Mark). IsNamedAtom names.now mark.atom) table.now.marks }
     ensures { OnOk result (string_bytes text.new ≡ string_bytes text.old
-        ++ (line (codes "row" ∷ decimal row ∷ instance_text names.now table.now.params step.now ∷ []) ++ mark_lines names.now table.now.params table.now.marks row)) }
+        ++ (line (codes "row" ∷ decimal row ∷ instance_text names.now table.now.params step.now ∷ [])
+        ++ mark_lines names.now table.now.params table.now.marks row)) }
 {
     let step = ShownInstance {
         inst: step,

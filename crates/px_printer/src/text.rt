@@ -14,10 +14,10 @@ use px_terms::{Atom, OpInst};
 use std::alloc::{AllocError, Global};
 use std::fmt::Write;
 
-/// The text of a reply, in UTF-8.
+/// Returns the text of a reply, in UTF-8.
 ///
 /// # Errors
-/// `NoMemory` where there is none for the text.
+/// `NoMemory` where there is no memory for the text.
 pub fn reply_text(alloc: Global, reply: &Reply, names: &Names) -> Result<Vec<u8>, NoMemory>
     requires named { IsNamed names.now reply.now }
     ensures text { IfOk result (λ text. text.items ≡ reply_text names.now reply.now) }
@@ -96,7 +96,7 @@ fn push_learned(text: &mut String, name: &str, params: u32, steps: u32) -> Resul
     write!(text, "learned {name} {params} parameters {steps} steps\n")
 }
 
-/// Appends the line of a plan that wasn't learned.
+/// Appends the line of a plan that was not learned.
 fn push_not_learned(text: &mut String, name: &str, why: &str) -> Result<(), AllocError>
     ensures { OnOk result (string_bytes text.new ≡ string_bytes text.old ++ line (codes "notlearned" ∷ name.now ∷ why.now ∷ [])) }
 {
@@ -122,7 +122,8 @@ fn push_step(
     names: &Names,
 ) -> Result<(), AllocError>
     requires { IsNamedInstance names.now step.now }
-    ensures { OnOk result (string_bytes text.new ≡ string_bytes text.old ++ indented_line (decimal number ∷ instance_text names.now 0 step.now ∷ [])) }
+    ensures { OnOk result (string_bytes text.new ≡ string_bytes text.old
+        ++ indented_line (decimal number ∷ instance_text names.now 0 step.now ∷ [])) }
 {
     let step = ShownInstance {
         inst: step,

@@ -6,7 +6,7 @@ use px_terms::OpInst;
 pub enum TurnEnd {
     /// The step was taken.
     Acted,
-    /// The step wasn't taken, since a mark of its row wasn't true.
+    /// The step was not taken, since a mark of its row was not true.
     Slipped,
     /// The goal is reached.
     Goal,

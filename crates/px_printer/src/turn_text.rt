@@ -45,7 +45,8 @@ fn push_tried(
 ) -> Result<(), AllocError>
     requires { IsNamedTurn names.now turn.now }
     ensures { OnOk result (string_bytes text.new ≡ string_bytes text.old
-        ++ indented_line (codes "turn" ∷ decimal number ∷ codes "kernel" ∷ decimal turn.now.kernel ∷ (step_words names.now turn.now.op ++ end.now ∷ []))) }
+        ++ indented_line (codes "turn" ∷ decimal number ∷ codes "kernel" ∷ decimal turn.now.kernel
+        ∷ (step_words names.now turn.now.op ++ end.now ∷ []))) }
 {
     let kernel = turn.kernel;
     match &turn.op {

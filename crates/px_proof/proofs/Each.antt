@@ -26,7 +26,7 @@ module _ (rules : Rules) (axioms : List Clause) (path : List Lit) where
 
   -- where the goal at k has no proof, no more have all of them
   pub each_fails : {W : Type 0} (goals : List Lit) (ps : List Derivation) (k : ℕ) (goal : Lit) (p : Derivation) → slice_get goals k ≡ Some goal → slice_get ps k ≡ Some p →
-      (ProvesEach rules axioms path (drop k goals) (derivations (drop k ps)) ↔ W) → (Proves rules axioms path goal p → ⊥) → W → ⊥
+      (ProvesEach rules axioms path (drop k goals) (derivations (drop k ps)) ↔ W) → (¬ Proves rules axioms path goal p) → ¬ W
   each_fails goals ps k goal p at_goal at_p same fails whole = fails ((each_from goals ps k goal p at_goal at_p).0 (same.1 whole)).0
 
   -- where it has one, those after it are left

@@ -29,7 +29,7 @@ part_at (p ∷ parts) (suc used) part below = part_at parts used part (omega (ar
 is_first : (n : ℕ) → n ≡ 0 → (n == 0) ≡ true
 is_first n is = ap (λ k. k == 0) is
 
-is_later : (n : ℕ) → (n ≡ 0 → ⊥) → (n == 0) ≡ false
+is_later : (n : ℕ) → (¬ (n ≡ 0)) → (n == 0) ≡ false
 is_later n later = elim (n == 0) as (λ b. (n == 0) ≡ b → b ≡ false) [
   | true ↦ λ yes. absurd (later (eqb-true n 0 yes))
   | false ↦ λ _. refl
@@ -49,7 +49,7 @@ one_left leaf used count first enough =
     omega (arith, one, enough)
 
 -- the leaf in a higher column
-pub place_later : (shift : ℕ) (parts : List Derivation) (leaf : Leaf) → (leaf.column ≡ 0 → ⊥) → derivation_of (Fact (raised shift leaf)) ≡ in_place_of shift parts leaf
+pub place_later : (shift : ℕ) (parts : List Derivation) (leaf : Leaf) → (¬ (leaf.column ≡ 0)) → derivation_of (Fact (raised shift leaf)) ≡ in_place_of shift parts leaf
 place_later shift parts leaf later =
     derivation_of-fact (raised shift leaf) ∙ sym (cond_false (leaf.column == 0) (slice_index_or parts 0 open_place) (fact (raised shift leaf)) (is_later leaf.column later))
 

@@ -7,12 +7,26 @@ use Rattle.px_terms.specs.declared.atom.Atom.{Atom}
 use Rattle.px_terms.specs.declared.clause.Clause.{Clause}
 use Rattle.px_terms.specs.declared.clause.Lit.{Lit}
 use Rattle.px_terms.specs.declared.term.Term.{Term}
+use Rattle.px_terms.specs.declared.problem.Problem.{Problem}
+use Rattle.px_terms.specs.declared.term.Term.TheVariants.{Obj, Var, Any as WildCard}
+use Rattle.px_terms.specs.Validity.{IsTermOf}
 use Rattle.px_proof.specs.declared.proof.Leaf.{Leaf}
 use Rattle.px_proof.specs.Basis.{over_names}
 use Rattle.px_proof.specs.Derivation.{Derivation, Derivations, fact, ancestor, step, gap, open_place, none, also, leaves_of, all_leaves_of, leaf_atoms, terms_of, all_terms_of}
 use Rattle.px_proof.specs.Literals.{complement_of}
 use Rattle.px_proof.specs.PlaceLaws.{Contains-mapped}
 use Rattle.px_proof.specs.Proves.{Rules, Proves, ProvesEach, parts_of, from_atoms, IsName, StaysUnderLongerPaths}
+
+-- a term of the problem is a name of it, and a name is a term
+pub name_of_term : (problem : Problem) (params : ℕ) (t : Term) → IsTermOf problem params t → IsName problem.objects params t
+name_of_term problem params (Obj n) is = is
+name_of_term problem params (Var v) is = is
+name_of_term problem params WildCard is = is
+
+pub term_of_name : (problem : Problem) (params : ℕ) (t : Term) → IsName problem.objects params t → IsTermOf problem params t
+term_of_name problem params (Obj n) is = is
+term_of_name problem params (Var v) is = is
+term_of_name problem params WildCard is = is
 
 -- what the one rules allow beside facts, the others allow
 pub record Allows (old new : Rules) : Type 0 where

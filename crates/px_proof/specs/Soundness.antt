@@ -24,8 +24,8 @@ pub record IsModel (state : State) (values : List ℕ) (rules : Rules) (axioms :
   pub axioms_hold : ClausesHold axioms state
   pub choices : (t : Term) → rules.IsChoice t → element_of state values t < state.size
   pub facts_hold : (leaf : Leaf) → rules.IsFact leaf → HoldsUnder state values leaf.atom
-  pub no_gap : (atom : Atom) → rules.IsGap atom → ⊥
-  pub no_open : rules.IsOpen → ⊥
+  pub no_gap : (atom : Atom) → ¬ rules.IsGap atom
+  pub no_open : ¬ rules.IsOpen
 
 module _ (state : State) (values : List ℕ) (rules : Rules) (axioms : List Clause) (model : IsModel state values rules axioms) where
   abbrev IsTrueHere : Lit → Type 0

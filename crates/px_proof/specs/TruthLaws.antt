@@ -6,6 +6,7 @@ use Rattle.std.specs.Bool.{Decides}
 use Rattle.std.specs.Cmp.Lexicographic.{pointwise, pointwise_decides}
 use borrow.Author.Tests.{eqb-true}
 use Rattle.px_base.specs.ListLaws.{Contains-none, Contains-first, Contains-later, Contains-cases}
+use Rattle.px_base.specs.Answers.{both_answers}
 use Rattle.px_terms.specs.declared.atom.Atom.{Atom}
 use Rattle.px_terms.specs.declared.clause.Lit.{Lit}
 use Rattle.px_terms.specs.declared.problem.Problem.{Problem}
@@ -26,9 +27,6 @@ axioms_hold-clauses problem state = (λ h. h, λ h. h)
 numbers_decide : (xs ys : List ℕ) → Decides (pointwise nat_eq xs ys) (xs ≡ ys)
 numbers_decide = pointwise_decides (λ m n. (eqb-true m n, eq-eqb m n))
 
-never_both : {G : Type 0} (b : Bool) → b ≡ false → b ≡ true → G
-never_both b f t = cc
-
 tuple_decided : (tuples : List (List ℕ)) (tuple : List ℕ) → Contains tuples tuple ⊎ (¬ Contains tuples tuple)
 tuple_decided [] tuple = inr (Contains-none tuple)
 tuple_decided (first ∷ tuples) tuple =
@@ -37,7 +35,7 @@ tuple_decided (first ∷ tuples) tuple =
       | false ↦ λ differ. elim (tuple_decided tuples tuple) [
         | inl later ↦ inl (Contains-later first tuples tuple later)
         | inr nowhere ↦ inr (λ h. elim (Contains-cases first tuples tuple h) [
-          | inl is ↦ never_both (pointwise nat_eq first tuple) differ ((numbers_decide first tuple).1 is)
+          | inl is ↦ both_answers (pointwise nat_eq first tuple) differ ((numbers_decide first tuple).1 is)
           | inr later ↦ nowhere later
         ])
       ]
@@ -114,7 +112,7 @@ literal-under state values theta lit = signed_under state values theta lit.posit
 
 -- ---- the elements of objects and parameters
 
-element_within : (size : ℕ) → 1 ≤ size → (elements : List ℕ) (n : ℕ) → All (λ e. e < size) elements → slice_index elements n < size
+pub element_within : (size : ℕ) → 1 ≤ size → (elements : List ℕ) (n : ℕ) → All (λ e. e < size) elements → slice_index elements n < size
 element_within size some [] n within = some
 element_within size some (e ∷ elements) zero within = within 0 0 (omega arith)
 element_within size some (e ∷ elements) (suc n) within = element_within size some elements n (All-tail (λ m. m < size) e elements within)

@@ -1,10 +1,9 @@
 //! What proofs may stand on: facts, or objects and parameters.
-ghost use Rattle.std.specs.Prelude.{◌≡◌, ◌↔◌, IsTrue, Contains, All};
+ghost use Rattle.std.specs.Prelude.{◌↔◌, IsTrue, Contains, All};
 ghost use Rattle.px_proof.specs.Basis.{rules_of};
-ghost use Rattle.px_proof.specs.Proves.{IsName};
 
 use crate::proof::Leaf;
-use px_terms::{Atom, Term, equal};
+use px_terms::{Atom, Term};
 
 /// What proofs may stand on: the terms that a step may choose, and the leaves that close a place.
 #[derive(Clone, Copy)]
@@ -19,12 +18,7 @@ pub enum Basis<'a> {
 fn is_fact(facts: &[Atom], atom: &Atom) -> bool
     ensures { IsTrue result ↔ Contains facts.now atom.now }
 {
-    for fact in facts {
-        if equal(fact, atom) {
-            return true;
-        }
-    }
-    false
+    facts.contains(atom)
 }
 
 /// May a step choose the term?
@@ -43,12 +37,7 @@ fn is_choice(basis: &Basis, term: Term) -> bool
 pub fn are_choices(basis: &Basis, terms: &[Term]) -> bool
     ensures { IsTrue result ↔ All (rules_of basis.now).IsChoice terms.now }
 {
-    for term in terms {
-        if !is_choice(basis, *term) {
-            return false;
-        }
-    }
-    true
+    terms.iter().all(|term| is_choice(basis, *term))
 }
 
 /// May the leaf close a place?

@@ -94,8 +94,9 @@ fn each_proves(
     true
 }
 
-/// What the part of that number of a step has to prove.
-fn part_at(lits: &[Lit], theta: &[Term], place: u32, part: usize) -> Lit
+/// Returns what the part of that number of a step has to prove: the complement of the clause's literal that it answers, under
+/// `theta`. The literal at `place` has no part. Does not allocate.
+pub fn part_at(lits: &[Lit], theta: &[Term], place: u32, part: usize) -> Lit
     requires place { place < length lits.now }
     requires part { part + 1 < length lits.now }
     requires plain { ArePlainBelow (length theta.now) lits.now }
@@ -140,7 +141,7 @@ fn is_literal_at(lits: &[Lit], theta: &[Term], place: u32, lit: &Lit) -> bool
 /// Is `proof` a proof of `lit` from the facts, without variables and gaps? A fact with a variable counts for nothing.
 /// It answers false to a number of a clause, a place or an ancestor that isn't there, and to lists of wrong lengths.
 ///
-/// The proofs are those of linear resolution with ancestors. Takes no memory; it calls itself once for each level.
+/// The proofs are those of linear resolution with ancestors. Does not allocate; it calls itself once for each level.
 pub fn check(arena: &ClauseArena, facts: &[Atom], lit: &Lit, proof: &Proof) -> bool
     ensures exact { IsTrue result ↔ Proves (from_facts facts.now) arena.now [] lit.now (derivation_of proof.now) }
     ensures terms { IsTrue result → All IsObject (terms_of (derivation_of proof.now)) }
@@ -149,11 +150,11 @@ pub fn check(arena: &ClauseArena, facts: &[Atom], lit: &Lit, proof: &Proof) -> b
     proves(proof, arena, &Basis::Facts(facts), &Path::Root, lit)
 }
 
-/// Is `proof` a proof of `lit` without gaps from the atoms of its own leaves, over so many objects and parameters?
+/// Is `proof` a proof of `lit` without gaps from the atoms of its own leaves, over the first `objects` objects and `params` parameters?
 /// `Var(v)` with `v` below `params` is a parameter, and counts as one more object. It answers false to each number
 /// and length that `check` does, and where another term stands in `lit` or `proof`.
 ///
-/// Takes no memory; it calls itself once for each level.
+/// Does not allocate; it calls itself once for each level.
 pub fn is_tree(arena: &ClauseArena, objects: u32, params: u32, lit: &Lit, proof: &Proof) -> bool
     ensures exact { IsTrue result ↔ IsTree arena.now objects params lit.now (derivation_of proof.now) }
     ensures terms { IsTrue result → All (IsName objects params) (terms_of (derivation_of proof.now)) }

@@ -6,8 +6,7 @@ ghost use Rattle.px_proof.specs.Grafting.{first_leaves, later_leaves, in_place_o
 ghost use Rattle.px_proof.specs.ProofTerm.{derivation_of};
 
 use crate::proof::{Leaf, Proof};
-use crate::store::keep;
-use px_base::{NoMemory, Sequence};
+use px_base::{NoMemory, Sequence, push};
 use std::alloc::Global;
 
 /// The proof with each leaf in column 0 replaced by its part, one each from left to right, and with the columns of the
@@ -16,7 +15,7 @@ use std::alloc::Global;
 /// the atoms of the other leaves are among the facts. Terms and parts are copied in memory of their own allocators.
 ///
 /// # Errors
-/// `NoMemory` where there is none for the proof.
+/// `NoMemory` where there is no memory for the proof.
 pub fn graft(alloc: Global, proof: &Proof, parts: &[Proof], shift: u32) -> Result<Proof, NoMemory>
     requires parts { length parts.now ≡ length (first_leaves (leaves_of (derivation_of proof.now))) }
     requires columns { All (λ leaf. leaf.column + shift ≤ 4294967295) (later_leaves (leaves_of (derivation_of proof.now))) }
@@ -30,6 +29,7 @@ pub fn graft(alloc: Global, proof: &Proof, parts: &[Proof], shift: u32) -> Resul
 }
 
 /// The same, from the first part that isn't used yet.
+// Alike: `Proof::try_copy`, which says why.
 #[cycle(grafts)]
 fn graft_all(
     alloc: Global,
@@ -82,7 +82,7 @@ fn graft_each(
     let mut made = Vec::new(alloc);
     for proof in proofs {
         let one = graft_all(alloc, proof, parts, used, shift)?;
-        keep(&mut made, one)?;
+        push(&mut made, one)?;
     }
     Ok(made)
 }

@@ -14,7 +14,7 @@ pub fn paths_may_be_longer()
     ensures { StaysUnderLongerPaths }
 {}
 
-/// Where a literal's atom is one of a problem over so many parameters, and the steps of its proof choose objects of the
+/// Where a literal's atom is one of a problem over some number of parameters, and the steps of its proof choose objects of the
 /// problem and such parameters, the leaves' atoms are the problem's, and so are all terms. The model may hold other atoms.
 pub fn leaves_are_of_problem()
     ensures { LeavesAreOfProblem }

@@ -1,8 +1,7 @@
 //! Proof terms and their leaves.
 ghost use Rattle.std.specs.Prelude.{◌≡◌, IfOk};
 
-use crate::store::keep;
-use px_base::{NoMemory, Sequence};
+use px_base::{NoMemory, Sequence, push};
 use px_terms::{Atom, Term};
 use std::alloc::Global;
 
@@ -38,7 +37,8 @@ impl Proof {
     /// An equal proof, each list of it in memory of the allocator of the list that it copies.
     ///
     /// # Errors
-    /// `NoMemory` where there is none for the copy.
+    /// `NoMemory` where there is no memory for the copy.
+    // Alike: `graft`, `substitute` and `open_plan` of `px_replay`, since one walk for all would call a closure in its cycle.
     #[cycle(copies)]
     pub fn try_copy(&self) -> Result<Proof, NoMemory>
         ensures { IfOk result (λ copy. copy ≡ self.now) }
@@ -74,7 +74,7 @@ fn copy_each(alloc: Global, proofs: &[Proof]) -> Result<Vec<Proof>, NoMemory>
     let mut copies = Vec::new(alloc);
     for proof in proofs {
         let copy = proof.try_copy()?;
-        keep(&mut copies, copy)?;
+        push(&mut copies, copy)?;
     }
     Ok(copies)
 }

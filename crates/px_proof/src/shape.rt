@@ -35,7 +35,7 @@ impl Model for Shape {
 }
 
 impl Shape {
-    /// The shape with these ticks. Takes no memory.
+    /// The shape with these ticks. Does not allocate.
     pub fn from_ticks(ticks: Vec<Tick>) -> Shape
         ensures { result ≡ ticks.items }
     {
@@ -51,7 +51,7 @@ impl Shape {
         self.ticks.as_slice()
     }
 
-    /// The ticks in preorder, given back. Takes no memory.
+    /// The ticks in preorder, given back. Does not allocate.
     pub fn into_ticks(self) -> Vec<Tick>
         ensures { result.items ≡ self }
     {
@@ -62,7 +62,7 @@ impl Shape {
     /// An equal shape, in memory of the same allocator.
     ///
     /// # Errors
-    /// `NoMemory` where there is none for the copy.
+    /// `NoMemory` where there is no memory for the copy.
     pub fn try_copy(&self) -> Result<Shape, NoMemory>
         ensures { IfOk result (λ copy. copy ≡ self.now) }
     {

@@ -6,8 +6,7 @@ ghost use Rattle.px_proof.specs.ProofTerm.{derivation_of};
 ghost use Rattle.px_proof.specs.Substitution.{derivation_under, derivations_under, StaysProof, StaysTree, ProvesFromFacts};
 
 use crate::proof::{Leaf, Proof};
-use crate::store::keep;
-use px_base::{NoMemory, Sequence};
+use px_base::{NoMemory, Sequence, push};
 use px_terms::{Term, apply};
 use std::alloc::Global;
 
@@ -17,7 +16,7 @@ use std::alloc::Global;
 /// leaves' atoms under the map.
 ///
 /// # Errors
-/// `NoMemory` where there is none for the proof.
+/// `NoMemory` where there is no memory for the proof.
 pub fn substitute(alloc: Global, proof: &Proof, map: &[Term]) -> Result<Proof, NoMemory>
     requires { All (IsVariableBelow (length map.now)) (terms_of (derivation_of proof.now)) }
     ensures value { IfOk result (λ made. derivation_of made ≡ derivation_under map.now (derivation_of proof.now)) }
@@ -29,6 +28,7 @@ pub fn substitute(alloc: Global, proof: &Proof, map: &[Term]) -> Result<Proof, N
 }
 
 /// The same, part by part.
+// Alike: `Proof::try_copy`, which says why.
 #[cycle(substitute)]
 fn substitute_all(alloc: Global, proof: &Proof, map: &[Term]) -> Result<Proof, NoMemory>
     requires { All (IsVariableBelow (length map.now)) (terms_of (derivation_of proof.now)) }
@@ -69,25 +69,28 @@ fn substitute_each(alloc: Global, proofs: &[Proof], map: &[Term]) -> Result<Vec<
     let mut made = Vec::new(alloc);
     for proof in proofs {
         let one = substitute_all(alloc, proof, map)?;
-        keep(&mut made, one)?;
+        push(&mut made, one)?;
     }
     Ok(made)
 }
 
-/// The terms with each variable replaced by the map's term of its number.
-fn substitute_terms(alloc: Global, terms: &[Term], map: &[Term]) -> Result<Vec<Term>, NoMemory>
+/// Returns the terms with each variable replaced by the map's term of its number.
+///
+/// # Errors
+/// `NoMemory` where there is no memory for the list.
+pub fn substitute_terms(alloc: Global, terms: &[Term], map: &[Term]) -> Result<Vec<Term>, NoMemory>
     requires { All (IsVariableBelow (length map.now)) terms.now }
     ensures { IfOk result (λ made. made.items ≡ map_list (substitute_term map.now) terms.now) }
 {
     let mut made = Vec::new(alloc);
     for term in terms {
-        keep(&mut made, substituted(map, *term))?;
+        push(&mut made, apply_term(map, *term))?;
     }
     Ok(made)
 }
 
-/// The term that stands for `term` under `map`.
-fn substituted(map: &[Term], term: Term) -> Term
+/// Returns the term that stands for `term` under `map`. Does not allocate.
+pub fn apply_term(map: &[Term], term: Term) -> Term
     requires { IsVariableBelow (length map.now) term }
     ensures { result ≡ substitute_term map.now term }
 {

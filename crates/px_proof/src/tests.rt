@@ -4,11 +4,10 @@ ghost use Rattle.px_proof.specs.Derivation as derivation;
 ghost use Rattle.px_proof.specs.Derivation.{also, none};
 ghost use Rattle.px_proof.specs.ProofTerm.{derivation_of};
 
-use crate::store::keep;
 use crate::{
     Leaf, Proof, Shape, Tick, check, graft, higher_than, is_tree, leaves, same_shape, substitute,
 };
-use px_base::{NoMemory, Sequence};
+use px_base::{NoMemory, Sequence, push};
 use px_terms::{Atom, ClauseArena, Lit, Term};
 use std::alloc::Global;
 use std::process::Abort;
@@ -168,9 +167,9 @@ fn step_from_three(alloc: Global, a: Leaf, b: Leaf, c: Leaf) -> Result<Proof, No
     ensures { IfOk result (λ proof. derivation_of proof ≡ derivation.step 0 [] 0 (also (derivation.fact a) (also (derivation.fact b) (also (derivation.fact c) none)))) }
 {
     let mut subs = Vec::new(alloc);
-    keep(&mut subs, Proof::Fact(a))?;
-    keep(&mut subs, Proof::Fact(b))?;
-    keep(&mut subs, Proof::Fact(c))?;
+    push(&mut subs, Proof::Fact(a))?;
+    push(&mut subs, Proof::Fact(b))?;
+    push(&mut subs, Proof::Fact(c))?;
     Ok(Proof::Step {
         clause: 0,
         theta: Sequence::from_vec(Vec::new(alloc)),
@@ -190,8 +189,8 @@ fn parts_in_the_places_of_leaves(rt: HostRuntime) -> Result<(), NoMemory> {
     arena.push(0, &[yes(s), no(t)]).expect(&rt, "two literals");
     let proof = step_from_three(rt.alloc(), leaf(0, 0, q), leaf(2, 1, r), leaf(0, 0, s))?;
     let mut parts = Vec::new(rt.alloc());
-    keep(&mut parts, Proof::Fact(leaf(3, 1, q)))?;
-    keep(
+    push(&mut parts, Proof::Fact(leaf(3, 1, q)))?;
+    push(
         &mut parts,
         step(rt.alloc(), 1, 0, Proof::Fact(leaf(0, 0, t)))?,
     )?;

@@ -4,8 +4,7 @@ ghost use Rattle.px_proof.specs.Derivation.{height, greatest_height, leaves_of, 
 ghost use Rattle.px_proof.specs.ProofTerm.{derivation_of};
 
 use crate::proof::{Leaf, Proof};
-use crate::store::keep;
-use px_base::NoMemory;
+use px_base::{NoMemory, push};
 use std::alloc::Global;
 
 /// Is the proof higher than the limit?
@@ -38,7 +37,7 @@ fn is_one_higher_than(proofs: &[Proof], limit: u32) -> bool
 /// The fact leaves from left to right.
 ///
 /// # Errors
-/// `NoMemory` where there is none for the list.
+/// `NoMemory` where there is no memory for the list.
 pub fn leaves(alloc: Global, proof: &Proof) -> Result<Vec<Leaf>, NoMemory>
     ensures { IfOk result (λ found. found.items ≡ leaves_of (derivation_of proof.now)) }
 {
@@ -53,7 +52,7 @@ fn add_leaves(found: &mut Vec<Leaf>, proof: &Proof) -> Result<(), NoMemory>
     ensures { IfOk result (λ _. found.new.items ≡ found.old.items ++ leaves_of (derivation_of proof.now)) }
 {
     match proof {
-        Proof::Fact(leaf) => keep(found, *leaf),
+        Proof::Fact(leaf) => push(found, *leaf),
         Proof::Anc(_) | Proof::Gap(_) => Ok(()),
         Proof::Step { subs, .. } => add_all_leaves(found, subs.as_slice()),
     }

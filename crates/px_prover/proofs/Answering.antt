@@ -1,7 +1,8 @@
 -- The state in which nothing is open gives the first answer.
-use Rattle.std.proofs.Common.{◌≡◌, ℕ, zero, suc, ◌+◌, ◌-◌, ◌<◌, ◌≤◌, Bool, false, Option, Some, None, List, [], ◌∷◌, ◌++◌, length, take, drop, map, slice_get, refl, ap, sym, subst, ◌∙◌, arith, length-append}
+use Rattle.std.proofs.Common.{◌≡◌, ℕ, zero, suc, ◌+◌, ◌-◌, ◌<◌, ◌≤◌, Bool, false, Option, Some, None, List, [], ◌∷◌, ◌++◌, length, take, drop, map, replicate, slice_get, refl, ap, sym, subst, ◌∙◌, arith}
 use Rattle.std.specs.Prelude.{All, reverse}
 use Rattle.std.specs.List.{AllByRecursion}
+use Rattle.std.proofs.lemmas.List.{length-replicate}
 use Rattle.std.proofs.lemmas.List.Elements.{All-take, All-drop}
 use Rattle.px_ops.specs.Models.{IsModel}
 use Rattle.px_prover.specs.Building.{AreLeast, IsThere, built, fresh_sum}
@@ -10,13 +11,13 @@ use Rattle.px_prover.proofs.Moves.{standing-sound, ticks-map}
 use Rattle.px_stack.specs.declared.open.Choice.{Choice}
 use Rattle.px_unify.specs.declared.change.Change.{Change}
 use Rattle.px_prover.proofs.Built.{built-is}
-use Rattle.px_prover.proofs.Chosen.{least-all, least-below, least-fits}
 use Rattle.px_proof.specs.Derivation.{Derivation, Derivations, derivations}
 use Rattle.px_proof.specs.PlaceLaws.{some_same, slice_get-within}
+use Rattle.px_proof.specs.Proves.{or_open}
 use Rattle.px_proof.specs.Shapes.{ticks_of}
 use Rattle.px_proof.specs.declared.shape.Tick.{Tick}
 use Rattle.px_proof.specs.declared.shape.Tick.TheVariants.{Fact, Anc, Step, Gap, Open}
-use Rattle.px_question.specs.Answers.{AtMost, IsFirst, IsList, all_choices_of, literals_of, object_terms}
+use Rattle.px_question.specs.Answers.{AtMost, IsFirst, IsList, all_choices_of, literals_of, object_of, object_terms}
 use Rattle.px_question.specs.Settings.{Setting, proofs_in, setting_of}
 use Rattle.px_stack.specs.Arena.{goals_at}
 use Rattle.px_stack.specs.States.{StackValue}
@@ -25,15 +26,21 @@ use Rattle.px_terms.specs.declared.atom.Atom.{Atom}
 use Rattle.px_terms.specs.declared.clause.Clause.{Clause}
 use Rattle.px_terms.specs.declared.problem.Problem.{Problem}
 use Rattle.px_terms.specs.declared.term.Term.{Term}
-use Rattle.px_unify.specs.Changes.{Fits, variables_of}
+use Rattle.px_terms.specs.declared.term.Term.TheVariants.{Obj, Var, Any}
+use Rattle.px_unify.specs.Changes.{variables_of}
+use Rattle.px_walk.specs.GapAtoms.{variables_in}
 use Rattle.px_walk.specs.Pending.{Goal, Closing, Pending, Solves, open_after, closing_at, fresh_of, goals_of, by_fact, by_step, variables_from, vars_of}
 use Rattle.px_walk.specs.Possible.{IsClosing, IsFinished, IsPossible, open_count}
 use Rattle.px_walk.specs.Search.{ComesFirst}
+use Rattle.px_walk.specs.Values.{AreValues, value_of}
+use Rattle.px_walk.proofs.Answering.{values-solve, zero-below}
+use Rattle.px_walk.proofs.Gathering.{AreParted, values-parted}
 use Rattle.px_walk.proofs.Lifting.{open_after-step}
 use Rattle.px_walk.proofs.Lists.{list-solved}
 use Rattle.px_walk.proofs.Outcomes.{first-is}
 use Rattle.px_walk.proofs.Partial.{closed-proves-each}
 use Rattle.px_walk.proofs.Questions.{formula-in, setting_of-is}
+use Rattle.px_walk.proofs.Values.{values-least, zero_at}
 
 -- a valid problem, a formula of it and a model are as the walk asks
 pub asked-of : (problem : Problem) (atoms formula : List Atom) (vars : ℕ) → IsValid problem → IsModel atoms → All (IsAtomOf problem vars) formula → vars ≤ 4096 → (0 < vars → 0 < problem.objects) → IsAsked (setting_of problem atoms) formula vars
@@ -88,15 +95,11 @@ module _ (s : Setting) where
       go None is later = absurd (let none = rw is at ends in cc)
       go (Some made) is later = (tick-there n goal tick made closing.0 is, later made (sym (open_after-step false s n goal goals tick ticks made is) ∙ ends))
 
-split : {X : Type 0} (k : ℕ) (xs : List X) → take k xs ++ drop k xs ≡ xs
-split zero xs = refl
-split (suc k) [] = refl
-split (suc k) (x ∷ xs) = ap (λ ys. x ∷ ys) (split k xs)
-
-length-front : {X : Type 0} (k : ℕ) (xs : List X) → k ≤ length xs → length (take k xs) ≡ k
-length-front zero xs within = refl
-length-front (suc k) [] within = absurd (omega (arith, within))
-length-front (suc k) (x ∷ xs) within = ap suc (length-front k xs (omega (arith, within)))
+-- what a variable that may be any object gets is object 0
+zero-of : (n : ℕ) (root : Term) → object_of root ≡ value_of (replicate n 0) root
+zero-of n (Obj k) = refl
+zero-of n (Var w) = sym (zero_at n w)
+zero-of n Any = refl
 
 module _ (s : Setting) (formula : List Atom) (vars : ℕ) (ticks : List Tick) (v : StackValue) (asked : IsAsked s formula vars) (sound : IsSound false s formula vars ticks v) where
   pub sum-is : variables_of v.changes ≡ vars + fresh_sum s ticks
@@ -106,43 +109,24 @@ module _ (s : Setting) (formula : List Atom) (vars : ℕ) (ticks : List Tick) (v
   all-there = ticks-there s ticks vars (goals_of s formula) (record { variables = variables_of v.changes; goals = goals_at v.goals v.first }) sound.closing sound.stands.pending
 
   module _ (first : ComesFirst (IsPossible false s formula vars) (IsFinished false s formula vars) s.limit ticks) (objects : List ℕ) (least : AreLeast v.changes objects) where
-    solved : Solves false s (object_terms objects) vars (goals_of s formula) ticks
-    solved = (sound.stands.matched (object_terms objects)).0 (least-fits v.changes objects least sound.solvable)
+    values : AreValues v.changes (replicate (variables_of v.changes) 0) objects
+    values = record { count = least.long; each = λ k within. let at = least.each k within in (at.root, at.same, at.is_root, at.object_is ∙ zero-of (variables_of v.changes) at.root) }
 
-    fits-other : (others : List ℕ) → Solves false s (object_terms others) vars (goals_of s formula) ticks → Fits (object_terms others) v.changes
-    fits-other others solves = (sound.stands.matched (object_terms others)).1 solves
+    count : variables_of v.changes ≡ variables_in (open_after false s vars (goals_of s formula) ticks)
+    count = sym (ap variables_in sound.stands.pending)
 
-    below : All (λ n. n < s.objects) objects
-    below = go first.possible.1
-      where
-        go : Rattle.px_walk.specs.Pending.IsFeasible false s formula vars ticks → All (λ n. n < s.objects) objects
-        go (p, now, (others, enough, small, solves)) =
-            let same : p.variables ≡ variables_of v.changes = ap (λ (q : Pending). q.variables) (some_same _ _ (sym now ∙ sound.stands.pending)) in
-            least-below v.changes objects least s.objects others (fits-other others solves) (omega (arith, least.long, enough, same)) small
+    solved : All (λ n. n < s.objects) objects × Solves false s (object_terms objects) vars (goals_of s formula) ticks × (length objects ≡ variables_in (open_after false s vars (goals_of s formula) ticks))
+    solved =
+        values-solve false s formula vars ticks first.possible v.changes sound.stands.matched sound.solvable count (replicate (variables_of v.changes) 0) objects (length-replicate (variables_of v.changes) 0)
+        (zero-below false s formula vars ticks first.possible v.changes sound.stands.matched sound.solvable count (variables_of v.changes)) values
 
-    nothing-open : (gs : List Goal) → length gs ≡ 0 → gs ≡ []
-    nothing-open [] e = refl
-    nothing-open (g ∷ gs) e = absurd (omega (arith, e))
+    parted : AreParted false s formula vars ticks objects
+    parted = values-parted false s formula vars ticks objects first.possible first.finished solved.2
 
-    ends : open_after false s vars (goals_of s formula) ticks ≡ Some (record { variables = variables_of v.changes; goals = [] })
-    ends =
-        let none : length (goals_at v.goals v.first) ≡ 0 = sym (ap Rattle.px_walk.specs.Possible.left_of sound.stands.pending) ∙ first.finished in
-        sound.stands.pending ∙ ap (λ gs. Some (record { variables = variables_of v.changes; goals = gs })) (nothing-open (goals_at v.goals v.first) none)
-
-    whole : take vars objects ++ drop vars objects ≡ objects
-    whole = split vars objects
-
-    count : length (take vars objects) ≡ vars
-    count = length-front vars objects (omega (arith, least.long, sum-is))
-
-    total : length (take vars objects) + length (drop vars objects) ≡ variables_of v.changes
-    total = sym (length-append (take vars objects) (drop vars objects)) ∙ ap length whole ∙ least.long
-
-    found : (ps : Derivations) × IsList (Rattle.px_proof.specs.Proves.or_open (proofs_in s)) s formula vars (take vars objects) ps × (ticks_of ps ≡ ticks) × (all_choices_of ps ≡ drop vars objects)
+    found : (ps : Derivations) × IsList (or_open (proofs_in s)) s formula vars (take vars objects) ps × (ticks_of ps ≡ ticks) × (all_choices_of ps ≡ drop vars objects)
     found =
-        list-solved false s asked.setting formula vars asked.scope ticks (take vars objects) (drop vars objects) count (All-take (λ n. n < s.objects) vars objects below) (All-drop (λ n. n < s.objects) vars objects below)
-        (ends ∙ ap (λ n. Some (record { variables = n; goals = [] })) (sym total))
-        (subst (λ (os : List ℕ). Solves false s (object_terms os) vars (goals_of s formula) ticks) (sym whole) solved)
+        list-solved false s asked.setting formula vars asked.scope ticks (take vars objects) (drop vars objects) parted.count (All-take (λ n. n < s.objects) vars objects solved.0) (All-drop (λ n. n < s.objects) vars objects solved.0) parted.ends
+        (subst (λ (os : List ℕ). Solves false s (object_terms os) vars (goals_of s formula) ticks) parted.whole solved.1)
 
     finished : IsList (proofs_in s) s formula vars (take vars objects) found.0
     finished = record {
@@ -153,7 +137,7 @@ module _ (s : Setting) (formula : List Atom) (vars : ℕ) (ticks : List Tick) (v
     }
 
     all_objects : take vars objects ++ all_choices_of found.0 ≡ objects
-    all_objects = ap (λ ns. take vars objects ++ ns) found.3 ∙ whole
+    all_objects = ap (λ ns. take vars objects ++ ns) found.3 ∙ sym parted.whole
 
     rest : drop (length objects - fresh_sum s ticks) objects ≡ drop vars objects
     rest = ap (λ n. drop n objects) (omega (arith, least.long, sum-is))
@@ -168,7 +152,7 @@ module _ (s : Setting) (formula : List Atom) (vars : ℕ) (ticks : List Tick) (v
     answer-first answered proofs objects_are proofs_are =
         rw (objects_are, proofs_are, made)
         (first-is s asked.setting formula vars asked.scope ticks (take vars objects) found.0 first finished found.2
-        (λ others solves long. subst (λ (ns : List ℕ). AtMost ns others) (sym all_objects) (least-all v.changes objects least others (fits-other others solves) (long ∙ ap length all_objects))))
+        (λ others solves long. subst (λ (ns : List ℕ). AtMost ns others) (sym all_objects) (values-least v.changes (variables_of v.changes) objects others values (long ∙ ap length all_objects) ((sound.stands.matched (object_terms others)).1 solves))))
 
 -- the same of the state itself
 module _ (loose : Bool) (s : Setting) (formula : List Atom) (vars : ℕ) (v : StackValue) (strict : loose ≡ false) (standing : IsStanding loose s formula vars v) (choices : List Choice) (are : reverse choices ≡ v.choices) where
@@ -189,7 +173,7 @@ module _ (loose : Bool) (s : Setting) (formula : List Atom) (vars : ℕ) (v : St
   pub given-first : (limit : ℕ) → limit ≡ s.limit → ComesFirst (IsPossible loose s formula vars) (IsFinished loose s formula vars) limit (ticks_in v.choices) → (changes : List Change) (objects listed : List ℕ) → changes ≡ v.changes → AreLeast changes objects → listed ≡ objects →
       (answered : List ℕ) (proofs made : List Derivation) → answered ≡ take vars objects → proofs ≡ made → made ≡ built s (map (λ (c : Choice). c.tick) choices) (drop (length listed - fresh_sum s (map (λ (c : Choice). c.tick) choices)) listed) →
       IsFirst s formula vars answered (derivations proofs)
-  given-first limit limit_is first changes objects listed changes_are least listed_are answered proofs made objects_are proofs_are made_is =
+  given-first limit limit_is first changes objects listed changes_are least listed_are answered proofs others objects_are proofs_are made_is =
       answer-first s formula vars (map (λ (c : Choice). c.tick) choices) v standing.asked sound
       (subst (λ (b : Bool). ComesFirst (IsPossible b s formula vars) (IsFinished b s formula vars) s.limit (map (λ (c : Choice). c.tick) choices)) strict
       (subst (λ (ts : List Tick). ComesFirst (IsPossible loose s formula vars) (IsFinished loose s formula vars) s.limit ts) ticks-same

@@ -2,6 +2,7 @@
 use Rattle.std.proofs.Common.{◌≡◌, ℕ, zero, suc, ◌+◌, ◌<◌, ◌≤◌, Bool, Option, Some, None, List, [], ◌∷◌, ◌++◌, length, map, get_or, slice_get, refl, ap, sym, ◌∙◌, arith}
 use Rattle.std.specs.Prelude.{All}
 use Rattle.std.specs.List.{AllByRecursion}
+use Rattle.std.proofs.lemmas.List.Elements.{All-from_recursion}
 use Rattle.px_terms.specs.Language.{IsObject, substitute}
 use Rattle.px_proof.specs.Literals.{substitute_literal, complement_of, positive_of}
 use Rattle.px_proof.specs.Proves.{IsName}
@@ -9,6 +10,7 @@ use Rattle.px_terms.specs.declared.term.Term.{Term}
 use Rattle.px_terms.specs.declared.term.Term.TheVariants.{Obj, Var, Any}
 use Rattle.px_terms.specs.declared.atom.Atom.{Atom}
 use Rattle.px_terms.specs.declared.clause.Lit.{Lit}
+use Rattle.px_proof.specs.PlaceLaws.{some_same}
 use Rattle.px_proof.specs.declared.shape.Tick.{Tick}
 use Rattle.px_proof.specs.declared.shape.Tick.TheVariants.{Fact, Anc}
 use Rattle.px_unify.specs.Changes.{variables_of}
@@ -24,9 +26,6 @@ use Rattle.px_stack.specs.Ranges.{NeverFact, ComesFact}
 use Rattle.px_stack.specs.Ancestors.{NeverAncestor, ComesAncestor}
 use Rattle.px_prover.proofs.StepTurns.{none-at, none-agree}
 use Rattle.px_prover.proofs.Turns.{stands-closed}
-
-some_same : {X : Type 0} {a b : X} → Some a ≡ Some b → a ≡ b
-some_same e = cc
 
 -- under objects of the problem each term of a goal is one of them
 term-object : (objects : ℕ) (chosen : List ℕ) (n : ℕ) → n ≤ length chosen → All (λ o. o < objects) chosen → (t : Term) → IsName objects n t → IsObjectBelow objects (substitute (object_terms chosen) t)
@@ -48,14 +47,6 @@ ground-same tau [] ground = refl
 ground-same tau (Obj o ∷ ts) ground = ap (λ ys. Obj o ∷ ys) (ground-same tau ts ground.1)
 ground-same tau (Var v ∷ ts) ground = absurd ground.0
 ground-same tau (Any ∷ ts) ground = absurd ground.0
-
-all-read : {X : Type 0} (P : X → Type 0) (xs : List X) → AllByRecursion P xs → All P xs
-all-read P [] all = λ k d within. absurd (omega (arith, within))
-all-read P (x ∷ xs) all = λ k d within. at (all-read P xs all.1) k d within
-  where
-    at : All P xs → (k : ℕ) (d : _) → k < length (x ∷ xs) → P (get_or (x ∷ xs) k d)
-    at later zero d within = all.0
-    at later (suc k) d within = later k d (omega (arith, within))
 
 module _ (loose : Bool) (s : Setting) (valid : IsSetting s) (formula : List Atom) (vars : ℕ) (ticks : List Tick) (old new : StackValue) (stands : Stands loose s formula vars ticks old)
     (g : OpenGoal) (goal : Goal) (goals : List Goal) (open_is : goals_at old.goals old.first ≡ goal ∷ goals) (rest_is : goals_at old.goals g.next ≡ goals) (lit_is : g.lit ≡ goal.lit) where
@@ -90,10 +81,10 @@ module _ (loose : Bool) (s : Setting) (valid : IsSetting s) (formula : List Atom
       go (Some fact) at (p, after, (objects, enough, below, solves)) =
           let is : closing_at loose s (variables_of old.changes) goal (Fact k) ≡ Some (record { equal_to = positive_of fact; parts = [] }) = rw at refl in
           let pushed = open_after-push loose s (Fact k) goal goals (variables_of old.changes) ticks vars (goals_of s formula) (record { equal_to = positive_of fact; parts = [] }) now is in
-          let count : p.variables ≡ variables_of old.changes + 0 = ap (λ (q : Pending). q.variables) (some_same (sym after ∙ pushed)) in
+          let count : p.variables ≡ variables_of old.changes + 0 = ap (λ (q : Pending). q.variables) (some_same _ _ (sym after ∙ pushed)) in
           let both = (solves-push loose s (Fact k) goal goals (variables_of old.changes) (object_terms objects) ticks vars (goals_of s formula) now).0 solves in
           let equal : substitute_literal (object_terms objects) goal.lit ≡ substitute_literal (object_terms objects) (positive_of fact) = rw is at both.1 in
           let args : map (substitute (object_terms objects)) goal.lit.atom.args ≡ fact.args =
           ap (λ (l : Lit). l.atom.args) equal ∙ ground-same (object_terms objects) fact.args (valid.facts k fact at) in
           let in_range : AllByRecursion (IsObjectBelow s.objects) fact.args = rw args at (args-objects s.objects objects (variables_of old.changes) (omega (arith, enough, count)) below goal.lit.atom.args scope) in
-          (rw lit_is at (never fact at (all-read (IsObjectBelow s.objects) fact.args in_range))) (object_terms objects) ((stands.matched (object_terms objects)).1 both.0) equal
+          (rw lit_is at (never fact at (All-from_recursion (IsObjectBelow s.objects) fact.args in_range))) (object_terms objects) ((stands.matched (object_terms objects)).1 both.0) equal

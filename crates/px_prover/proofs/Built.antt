@@ -1,6 +1,7 @@
 -- The derivations of a list of finished proofs are those that its ticks and its chosen objects stand for.
 use Rattle.std.proofs.Common.{◌≡◌, ℕ, zero, suc, ◌-◌, ◌<◌, ◌≤◌, Some, List, [], ◌∷◌, ◌++◌, length, map, take, drop, get_or, slice_get, refl, ap, sym, ◌∙◌, arith, append_assoc, length-append}
 use Rattle.std.specs.Prelude.{All}
+use Rattle.std.proofs.Math.Seq.{drop-append_seam, take-append_seam}
 use Rattle.std.proofs.lemmas.List.{length-map}
 use Rattle.std.proofs.lemmas.List.Elements.{All-head, All-tail}
 use Rattle.px_prover.specs.Building.{built}
@@ -98,16 +99,10 @@ terms-of n (t ∷ theta) are = λ i. one t (All-head (IsObjectBelow n) t theta a
     one Any is = absurd is
 
 take-front : {X : Type 0} (n : ℕ) (xs ys : List X) → length xs ≡ n → take n (xs ++ ys) ≡ xs
-take-front zero [] ys long = refl
-take-front zero (x ∷ xs) ys long = absurd (omega (arith, long))
-take-front (suc n) [] ys long = absurd (omega (arith, long))
-take-front (suc n) (x ∷ xs) ys long = ap (λ zs. x ∷ zs) (take-front n xs ys (omega (arith, long)))
+take-front n xs ys long = ap (λ m. take m (xs ++ ys)) (sym long) ∙ take-append_seam xs ys
 
 drop-front : {X : Type 0} (n : ℕ) (xs ys : List X) → length xs ≡ n → drop n (xs ++ ys) ≡ ys
-drop-front zero [] ys long = refl
-drop-front zero (x ∷ xs) ys long = absurd (omega (arith, long))
-drop-front (suc n) [] ys long = absurd (omega (arith, long))
-drop-front (suc n) (x ∷ xs) ys long = drop-front n xs ys (omega (arith, long))
+drop-front n xs ys long = ap (λ m. drop m (xs ++ ys)) (sym long) ∙ drop-append_seam xs ys
 
 ticks-pos : (s : Setting) (d : Derivation) → 0 < length (ticks d)
 ticks-pos s (fact leaf) = omega arith

@@ -1,12 +1,14 @@
 -- A closing makes a sound state of the longer list, and keeps what was there.
 use Rattle.std.proofs.Common.{◌≡◌, ℕ, ◌+◌, ◌≤◌, Bool, true, Some, List, [], ◌∷◌, ◌++◌, length, take, slice_get, refl, ap, sym, ◌∙◌, arith, length-append}
 use Rattle.std.specs.Prelude.{All}
+use Rattle.std.proofs.Math.Seq.{take-append_seam, take-length}
 use Rattle.px_prover.specs.Tries.{IsReady, IsLonger}
 use Rattle.px_prover.proofs.Ready.{ready-next}
 use Rattle.px_proof.specs.Proves.{IsName}
 use Rattle.px_proof.specs.PlaceLaws.{some_same}
 use Rattle.px_proof.specs.declared.shape.Tick.{Tick}
 use Rattle.px_proof.specs.declared.shape.Tick.TheVariants.{Fact}
+use Rattle.px_question.proofs.RowLaws.{IsName-from_object}
 use Rattle.px_question.specs.Settings.{Setting, IsObjectBelow}
 use Rattle.px_stack.specs.Matches.{ClosesBy}
 use Rattle.px_stack.specs.Steps.{ClosesByStep}
@@ -15,30 +17,15 @@ use Rattle.px_stack.specs.declared.open.OpenGoal.{OpenGoal}
 use Rattle.px_terms.specs.declared.atom.Atom.{Atom}
 use Rattle.px_terms.specs.declared.clause.Clause.{Clause}
 use Rattle.px_terms.specs.declared.clause.Lit.{Lit}
-use Rattle.px_terms.specs.declared.term.Term.{Term}
-use Rattle.px_terms.specs.declared.term.Term.TheVariants.{Obj, Var, Any}
 use Rattle.px_walk.specs.Possible.{IsClosing}
 use Rattle.px_walk.proofs.Every.{all-push, all-recursion, all-weaker}
 use Rattle.px_walk.proofs.Objects.{FactIsIn}
-
-take-front : {X : Type 0} (xs ys : List X) → take (length xs) (xs ++ ys) ≡ xs
-take-front [] ys = refl
-take-front (x ∷ xs) ys = ap (λ zs. x ∷ zs) (take-front xs ys)
-
-take-whole : {X : Type 0} (xs : List X) → take (length xs) xs ≡ xs
-take-whole [] = refl
-take-whole (x ∷ xs) = ap (λ zs. x ∷ zs) (take-whole xs)
-
-object-name : (objects : ℕ) (t : Term) → IsObjectBelow objects t → IsName objects 0 t
-object-name objects (Obj n) h = h
-object-name objects (Var v) h = absurd h
-object-name objects Any h = h
 
 -- a fact over the objects
 pub fact-in : (s : Setting) (k : ℕ) (fact : Atom) → slice_get s.facts k ≡ Some fact → All (IsObjectBelow s.objects) fact.args → FactIsIn s (Fact k)
 fact-in s k fact at below a is =
     let same : fact ≡ a = some_same _ _ (sym at ∙ is) in
-    rw (← same) (all-weaker (IsObjectBelow s.objects) (IsName s.objects 0) fact.args (object-name s.objects) (all-recursion (IsObjectBelow s.objects) fact.args below))
+    rw (← same) (all-weaker (IsObjectBelow s.objects) (IsName s.objects 0) fact.args (IsName-from_object s.objects) (all-recursion (IsObjectBelow s.objects) fact.args below))
 
 module _ (loose : Bool) (s : Setting) (formula : List Atom) (vars : ℕ) (ticks : List Tick) (old new : StackValue) (goal : OpenGoal) (ready : IsReady loose s formula vars ticks old goal) (tick : Tick)
     (closes_place : IsClosing tick) (fact_is_in : FactIsIn s tick) (stands : Stands loose s formula vars (ticks ++ tick ∷ []) new) where
@@ -65,7 +52,7 @@ module _ (loose : Bool) (s : Setting) (formula : List Atom) (vars : ℕ) (ticks 
         chosen = ap (λ (v : StackValue). v.choices) pushed;
         changes = grows.prefix;
         more_changes = grows.grown;
-        goals = ap (take (length old.goals)) goals_same ∙ take-whole old.goals;
+        goals = ap (take (length old.goals)) goals_same ∙ take-length old.goals;
         more_goals = rw goals_same (omega arith);
       }
 
@@ -86,6 +73,6 @@ module _ (loose : Bool) (s : Setting) (formula : List Atom) (vars : ℕ) (ticks 
         chosen = closes.chosen refl;
         changes = closes.is_match.prefix refl;
         more_changes = closes.is_match.grown refl;
-        goals = ap (take (length old.goals)) grown.1 ∙ take-front old.goals grown.0;
+        goals = ap (take (length old.goals)) grown.1 ∙ take-append_seam old.goals grown.0;
         more_goals = rw grown.1 (omega (arith, length-append old.goals grown.0));
       }

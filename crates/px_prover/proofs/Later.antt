@@ -1,9 +1,10 @@
 -- Which ticks come after the last one that was tried.
-use Rattle.std.proofs.Common.{◌≡◌, ◌⊎◌, ℕ, zero, suc, ◌+◌, ◌<◌, ◌≤◌, Bool, false, Option, Some, None, List, [], ◌∷◌, ◌++◌, refl, ap, sym, arith, inl, inr}
+use Rattle.std.proofs.Common.{◌≡◌, ◌⊎◌, ℕ, zero, suc, ◌+◌, ◌<◌, ◌≤◌, Bool, false, Option, Some, None, List, [], ◌∷◌, ◌++◌, refl, ap, sym, ◌∙◌, arith, inl, inr}
 use Rattle.std.specs.List.{AllByRecursion}
+use Rattle.std.proofs.lemmas.Bool.{cases_lt}
 use Rattle.px_prover.specs.Tries.{IsSince, TriesAmong}
 use Rattle.px_prover.proofs.Since.{kind-since, fact-since, anc-since}
-use Rattle.px_proof.specs.Shapes.{TickBefore}
+use Rattle.px_proof.specs.Shapes.{TickBefore, tick_kind, tick_number}
 use Rattle.px_proof.specs.declared.shape.Tick.{Tick}
 use Rattle.px_proof.specs.declared.shape.Tick.TheVariants.{Fact, Anc, Step, Gap, Open}
 use Rattle.px_question.specs.Settings.{Setting}
@@ -34,8 +35,16 @@ begins-none = record { to = λ u closing after. from-first u closing; back = λ 
 pub begins-open : Begins (Some Open) (Fact 0)
 begins-open = record { to = λ u closing after. from-first u closing; back = λ u since. inl (omega (arith, kind-since (Fact 0) u since)) }
 
+-- what is since a tick with the next number comes after the tick
+before-next : (a b u : Tick) → tick_kind a ≡ tick_kind b → tick_number b ≡ tick_number a + 1 → IsSince b u → TickBefore a u
+before-next a b u kind next (inl e) = rw (sym e) (inr (inl (kind, omega (arith, next))))
+before-next a b u kind next (inr (inl h)) = inl (omega (arith, kind, h))
+before-next a b u kind next (inr (inr (inl h))) = inr (inl (kind ∙ h.0, omega (arith, h.1, next)))
+before-next a b u kind next (inr (inr (inr h))) = inr (inl (kind ∙ h.0, omega (arith, h.1, next)))
+
+-- Alike: `begins-ancestor` below has the same cases, one kind later.
 pub begins-fact : (i next : ℕ) → next ≡ i + 1 → Begins (Some (Fact i)) (Fact next)
-begins-fact i next is = record { to = to; back = back }
+begins-fact i next is = record { to = to; back = λ u since. before-next (Fact i) (Fact next) u refl is since }
   where
     to : (u : Tick) → IsClosing u → TickBefore (Fact i) u → IsSince (Fact next) u
     to Open closing after = absurd closing
@@ -46,14 +55,8 @@ begins-fact i next is = record { to = to; back = back }
     to (Step c p) closing after = inr (inl (omega arith))
     to Gap closing after = inr (inl (omega arith))
 
-    back : (u : Tick) → IsSince (Fact next) u → TickBefore (Fact i) u
-    back u (inl e) = rw (sym e) (inr (inl (refl, omega (arith, is))))
-    back u (inr (inl h)) = inl h
-    back u (inr (inr (inl h))) = inr (inl (h.0, omega (arith, h.1, is)))
-    back u (inr (inr (inr h))) = inr (inl (h.0, omega (arith, h.1, is)))
-
 pub begins-ancestor : (i next : ℕ) → next ≡ i + 1 → Begins (Some (Anc i)) (Anc next)
-begins-ancestor i next is = record { to = to; back = back }
+begins-ancestor i next is = record { to = to; back = λ u since. before-next (Anc i) (Anc next) u refl is since }
   where
     to : (u : Tick) → IsClosing u → TickBefore (Anc i) u → IsSince (Anc next) u
     to Open closing after = absurd closing
@@ -66,27 +69,14 @@ begins-ancestor i next is = record { to = to; back = back }
     to (Step c p) closing after = inr (inl (omega arith))
     to Gap closing after = inr (inl (omega arith))
 
-    back : (u : Tick) → IsSince (Anc next) u → TickBefore (Anc i) u
-    back u (inl e) = rw (sym e) (inr (inl (refl, omega (arith, is))))
-    back u (inr (inl h)) = inl h
-    back u (inr (inr (inl h))) = inr (inl (h.0, omega (arith, h.1, is)))
-    back u (inr (inr (inr h))) = inr (inl (h.0, omega (arith, h.1, is)))
-
 pub begins-step : (c p next : ℕ) → next ≡ p + 1 → Begins (Some (Step c p)) (Step c next)
 begins-step c p next is = record { to = to; back = back }
   where
     same_axiom : (d q : ℕ) → c ≡ d → p < q → IsSince (Step c next) (Step d q)
-    same_axiom d q e past = at (split next q (omega (arith, past, is)))
-      where
-        split : (m n : ℕ) → m ≤ n → (m ≡ n) ⊎ (m < n)
-        split zero zero le = inl refl
-        split zero (suc n) le = inr (omega arith)
-        split (suc m) zero le = absurd (omega (arith, le))
-        split (suc m) (suc n) le = elim (split m n (omega (arith, le))) [ inl h ↦ inl (ap suc h) | inr h ↦ inr (omega (arith, h)) ]
-
-        at : (next ≡ q) ⊎ (next < q) → IsSince (Step c next) (Step d q)
-        at (inl h) = inl (λ i. Step (e i) (h i))
-        at (inr h) = inr (inr (inr (refl, e, h)))
+    same_axiom d q e past = elim (cases_lt next q) [
+      | inl h ↦ inr (inr (inr (refl, e, h)))
+      | inr h ↦ let at : next ≡ q = omega (arith, h, past, is) in inl (λ i. Step (e i) (at i))
+    ]
 
     to : (u : Tick) → IsClosing u → TickBefore (Step c p) u → IsSince (Step c next) u
     to Open closing after = absurd closing

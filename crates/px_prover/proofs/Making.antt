@@ -2,7 +2,8 @@
 use Rattle.std.proofs.Common.{◌≡◌, ◌⊎◌, ℕ, zero, suc, ◌+◌, ◌-◌, ◌<◌, ◌≤◌, Some, IfOk, Result, Ok, Err, List, [], ◌∷◌, ◌++◌, length, take, drop, map, get_or, slice_get, refl, ap, sym, subst, ◌∙◌, arith, inl, inr, length-append, reverse}
 use Rattle.std.specs.Prelude.{slice_index}
 use Rattle.std.specs.List.{AllByRecursion}
-use Rattle.std.proofs.lemmas.List.{reverse-append}
+use Rattle.std.proofs.lemmas.List.{drop_all, get_or_append_left, get_or_push, reverse-append}
+use Rattle.px_prover.proofs.Noting.{below-or-last}
 use Rattle.px_prover.specs.Building.{IsLeastAt, IsThere, built, extended, fresh_sum, parts_count}
 use Rattle.px_proof.specs.LayerLaws.{derivation_of-step}
 use Rattle.px_proof.specs.Derivation.{Derivation, derivations, step}
@@ -22,28 +23,13 @@ use Rattle.px_walk.specs.Pending.{fresh_of, vars_of}
 
 -- ---- objects
 
-index-front : (xs : List ℕ) (x k : ℕ) → k < length xs → slice_index (xs ++ x ∷ []) k ≡ slice_index xs k
-index-front [] x k within = absurd (omega (arith, within))
-index-front (y ∷ xs) x zero within = refl
-index-front (y ∷ xs) x (suc k) within = index-front xs x k (omega (arith, within))
-
-index-last : (xs : List ℕ) (x : ℕ) → slice_index (xs ++ x ∷ []) (length xs) ≡ x
-index-last [] x = refl
-index-last (y ∷ xs) x = index-last xs x
-
-below-or-last : (k n : ℕ) → k < n + 1 → (k < n) ⊎ (k ≡ n)
-below-or-last zero zero less = inr refl
-below-or-last zero (suc n) less = inl (omega arith)
-below-or-last (suc k) zero less = absurd (omega (arith, less))
-below-or-last (suc k) (suc n) less = elim (below-or-last k n (omega (arith, less))) [ inl h ↦ inl (omega (arith, h)) | inr e ↦ inr (ap suc e) ]
-
 pub least-push : (changes : List Change) (objects new : List ℕ) (v object : ℕ) → length objects ≡ v → ((k : ℕ) → k < length objects → IsLeastAt changes k (slice_index objects k)) → IsLeastAt changes v object → new ≡ objects ++ object ∷ [] →
     (length new ≡ v + 1) × ((k : ℕ) → k < length new → IsLeastAt changes k (slice_index new k))
 least-push changes objects new v object long each one is = rw is (length-append objects (object ∷ []) ∙ omega (arith, long), λ k within. go k (below-or-last k (length objects) (omega (arith, within, length-append objects (object ∷ [])))))
   where
     go : (k : ℕ) → (k < length objects) ⊎ (k ≡ length objects) → IsLeastAt changes k (slice_index (objects ++ object ∷ []) k)
-    go k (inl h) = rw (index-front objects object k h) (each k h)
-    go k (inr e) = rw (e, index-last objects object, long) one
+    go k (inl h) = let here : slice_index (objects ++ object ∷ []) k ≡ slice_index objects k = get_or_append_left objects (object ∷ []) 0 k h in rw here (each k h)
+    go k (inr e) = let last : slice_index (objects ++ object ∷ []) (length objects) ≡ object = get_or_push objects object 0 (length objects) refl in rw (e, last, long) one
 
 -- ---- taking off the end
 
@@ -98,12 +84,6 @@ there-at s [] k c at all = absurd (cc)
 there-at s (d ∷ choices) zero c at all = let same : d ≡ c = cc in subst (λ (x : Choice). IsThere s x.tick) same all.0
 there-at s (d ∷ choices) (suc k) c at all = there-at s choices k c at all.1
 
-drop-all : {X : Type 0} (xs : List X) (k : ℕ) → length xs ≤ k → drop k xs ≡ []
-drop-all [] zero past = refl
-drop-all [] (suc k) past = refl
-drop-all (x ∷ xs) zero past = absurd (omega (arith, past))
-drop-all (x ∷ xs) (suc k) past = drop-all xs k (omega (arith, past))
-
 abbrev no_numbers : List ℕ
 no_numbers = []
 
@@ -119,7 +99,7 @@ drop-more k (suc n) (x ∷ xs) = let e : suc n + k ≡ suc (n + k) = omega arith
 module _ (s : Setting) (choices : List Choice) (objects : List ℕ) where
   pub built-start : (k end : ℕ) → k ≡ length choices → end ≡ length objects →
       (end + fresh_sum s (map (λ (d : Choice). d.tick) (drop k choices)) ≡ length objects) × ([] ≡ built s (map (λ (d : Choice). d.tick) (drop k choices)) (drop end objects))
-  built-start k end k_is end_is = let none : drop k choices ≡ [] = drop-all choices k (omega (arith, k_is)) in rw none (omega (arith, end_is), refl)
+  built-start k end k_is end_is = let none : drop k choices ≡ [] = drop_all k choices (omega (arith, k_is)) in rw none (omega (arith, end_is), refl)
 
   module _ (j k end : ℕ) (c : Choice) (after : j ≡ suc k) (at : slice_get choices k ≡ Some c) (sum : end + fresh_sum s (map (λ (d : Choice). d.tick) (drop j choices)) ≡ length objects) where
     more : fresh_sum s (map (λ (d : Choice). d.tick) (drop k choices)) ≡ fresh_of s c.tick + fresh_sum s (map (λ (d : Choice). d.tick) (drop j choices))
@@ -191,15 +171,6 @@ vars-are axioms number vars within are = are no_clause ∙ ap vars_of (sym (slic
 -- the objects of a step
 pub objects-are : (objects : List ℕ) (start vars end : ℕ) → start + vars ≡ end → take (end - start) (drop start objects) ≡ take vars (drop start objects)
 objects-are objects start vars end is = ap (λ n. take n (drop start objects)) (omega (arith, is))
-
-pub none-left : {X : Type 0} (xs : List X) → length xs ≡ 0 → xs ≡ []
-none-left [] e = refl
-none-left (x ∷ xs) e = absurd (omega (arith, e))
-
--- what follows where there was memory
-pub if_ok_any : {A E : Type 0} (r : Result A E) (P Q : A → Type 0) → ((x : A) → P x → Q x) → IfOk r P → IfOk r Q
-if_ok_any (Ok x) P Q f h = f x h
-if_ok_any (Err e) P Q f h = tt
 
 -- an axiom has a literal
 pub lits-some : (axioms : List Clause) (number : ℕ) (lits : List Lit) → IsArena axioms → number < length axioms → ((d : Clause) → lits ≡ (get_or axioms number d).lits) → 1 ≤ length lits

@@ -1,7 +1,7 @@
 -- How the state of a question goes on, and how it goes back.
 use Rattle.std.proofs.Common.{◌≡◌, ◌↔◌, ℕ, zero, suc, ◌+◌, ◌-◌, ◌<◌, ◌≤◌, Bool, true, false, Option, Some, None, List, [], ◌∷◌, ◌++◌, length, take, map, replicate, slice_get, refl, ap, sym, subst, ◌∙◌, arith, append_assoc}
 use Rattle.std.specs.Prelude.{reverse}
-use Rattle.std.proofs.lemmas.List.{append-nil, reverse-append}
+use Rattle.std.proofs.lemmas.List.{append-nil, reverse-append, take_all}
 use Rattle.std.proofs.lemmas.List.Elements.{All-replicate}
 use Rattle.px_prover.specs.Standing.{ticks_in, IsAsked, IsSound, WasSound, IsStanding}
 use Rattle.px_prover.specs.Tries.{IsReady, IsLonger, TriesAmong}
@@ -24,7 +24,8 @@ use Rattle.px_unify.specs.declared.change.Change.{Change}
 use Rattle.px_unify.specs.declared.change.Change.TheVariants.{Fresh}
 use Rattle.px_unify.specs.Changes.{Meets, variables_of}
 use Rattle.px_walk.specs.Order.{IsAfter, TriesAfter}
-use Rattle.px_walk.specs.Pending.{Goal, Pending, Solves, open_after, goals_of, IsFeasible}
+use Rattle.px_walk.specs.Pending.{Goal, Pending, Solves, open_after, goals_of, IsFeasible, Closing, closing_at, fresh_of}
+use Rattle.px_walk.proofs.Lifting.{open_after-step}
 use Rattle.px_walk.specs.Possible.{IsPossible, IsFinished, open_count, left_of, shape_of}
 use Rattle.px_walk.proofs.Objects.{feasible-from_bindings}
 
@@ -91,14 +92,13 @@ module _ (loose : Bool) (s : Setting) (formula : List Atom) (vars : ℕ) where
   none-long [] u n [] p q now empty later = cc
   none-long [] u n (g ∷ goals) p q now empty later = let same : (g ∷ goals) ≡ p.goals = ap (λ (r : Pending). r.goals) (some_same _ _ now) in cc
   none-long (t ∷ ticks) u n [] p q now empty later = cc
-  none-long (t ∷ ticks) u n (g ∷ goals) p q now empty later = go (Rattle.px_walk.specs.Pending.closing_at loose s n g t) refl (λ closing. none-long ticks u (n + Rattle.px_walk.specs.Pending.fresh_of s t) (closing.parts ++ goals) p q)
+  none-long (t ∷ ticks) u n (g ∷ goals) p q now empty later = go (closing_at loose s n g t) refl (λ closing. none-long ticks u (n + fresh_of s t) (closing.parts ++ goals) p q)
     where
-      go : (o : Option Rattle.px_walk.specs.Pending.Closing) → Rattle.px_walk.specs.Pending.closing_at loose s n g t ≡ o →
-          ((closing : Rattle.px_walk.specs.Pending.Closing) → open_after loose s (n + Rattle.px_walk.specs.Pending.fresh_of s t) (closing.parts ++ goals) ticks ≡ Some p → p.goals ≡ [] →
-          ¬ (open_after loose s (n + Rattle.px_walk.specs.Pending.fresh_of s t) (closing.parts ++ goals) (ticks ++ u ∷ []) ≡ Some q)) → ⊥
+      go : (o : Option Closing) → closing_at loose s n g t ≡ o →
+          ¬ ((closing : Closing) → open_after loose s (n + fresh_of s t) (closing.parts ++ goals) ticks ≡ Some p → p.goals ≡ [] → ¬ (open_after loose s (n + fresh_of s t) (closing.parts ++ goals) (ticks ++ u ∷ []) ≡ Some q))
       go None is next = let none = rw is at now in cc
       go (Some closing) is next =
-          next closing (sym (Rattle.px_walk.proofs.Lifting.open_after-step loose s n g goals t ticks closing is) ∙ now) empty (sym (Rattle.px_walk.proofs.Lifting.open_after-step loose s n g goals t (ticks ++ u ∷ []) closing is) ∙ later)
+          next closing (sym (open_after-step loose s n g goals t ticks closing is) ∙ now) empty (sym (open_after-step loose s n g goals t (ticks ++ u ∷ []) closing is) ∙ later)
 
   -- where nothing is open nothing comes
   pub finished-tried : (v : StackValue) (last : Option Tick) → IsStanding loose s formula vars v → v.first ≡ 0 → TriesAfter (IsPossible loose s formula vars) (ticks_in v.choices) (ticks_in v.choices) last false
@@ -216,15 +216,9 @@ open-moved items total new m n is more all = rw is (append_assoc items (Open ∷
 pub open-ended : (arena : List OpenGoal) (at : ℕ) (items total : List Tick) → at ≡ 0 → items ++ replicate (length (goals_at arena at)) Open ≡ total → items ≡ total
 open-ended arena at items total none all = sym (append-nil items) ∙ ap (λ gs. items ++ replicate (length gs) Open) (sym (ap (goals_at arena) none ∙ goals_at-nothing arena)) ∙ all
 
-take-whole : {X : Type 0} (n : ℕ) (xs : List X) → length xs ≤ n → take n xs ≡ xs
-take-whole zero [] past = refl
-take-whole (suc n) [] past = refl
-take-whole zero (x ∷ xs) past = absurd (omega (arith, past))
-take-whole (suc n) (x ∷ xs) past = ap (λ ys. x ∷ ys) (take-whole n xs (omega (arith, past)))
-
 -- the shape has the ticks of the choices, then a tick for each open place
 pub shape-made : (loose : Bool) (s : Setting) (formula : List Atom) (vars : ℕ) (v : StackValue) → IsStanding loose s formula vars v → (choices : List Choice) → reverse choices ≡ v.choices → (front whole : List Tick) (n : ℕ) →
     length choices ≤ n → front ≡ map (λ (c : Choice). c.tick) (take n choices) → whole ≡ front ++ replicate (length (goals_at v.goals v.first)) Open → whole ≡ shape_of loose s formula vars (ticks_in v.choices)
 shape-made loose s formula vars v standing choices are front whole n past front_is whole_is =
-    let ticks_are : front ≡ ticks_in v.choices = front_is ∙ ap (map (λ (c : Choice). c.tick)) (take-whole n choices past) ∙ sym (ticks-map choices) ∙ ap ticks_in are in
+    let ticks_are : front ≡ ticks_in v.choices = front_is ∙ ap (map (λ (c : Choice). c.tick)) (take_all n choices past) ∙ sym (ticks-map choices) ∙ ap ticks_in are in
     whole_is ∙ ap (λ ts. ts ++ replicate (length (goals_at v.goals v.first)) Open) ticks_are ∙ ap (λ k. ticks_in v.choices ++ replicate k Open) (sym (count-open loose s formula vars v standing))

@@ -1,6 +1,7 @@
 -- Lists of variables that grow by the ends of bindings.
 use Rattle.std.proofs.Common.{◌≡◌, ◌∙◌, ◌⊎◌, ◌↔◌, ℕ, suc, zero, ◌+◌, ◌<◌, ◌≤◌, Some, List, [], ◌∷◌, ◌++◌, length, take, get_or, slice_get, refl, ap, sym, subst, inl, inr, arith}
 use Rattle.std.specs.Prelude.{All, Contains}
+use Rattle.std.proofs.lemmas.Bool.{cases_lt}
 use Rattle.std.proofs.lemmas.List.{take_all, take_more}
 use Rattle.std.proofs.lemmas.List.Elements.{Contains-append_left, Contains-push, Contains-push_cases}
 use Rattle.px_base.specs.ListLaws.{Contains-none}
@@ -86,10 +87,7 @@ pub first-start : (roots : List Term) (old : List ℕ) → NotesEnds (IsFirstVar
 first-start roots old = ends-none (IsFirstVariable 0) roots old (λ t w such end. omega (arith, such.1))
 
 pub below-or-last : (k n : ℕ) → k < n + 1 → (k < n) ⊎ (k ≡ n)
-below-or-last zero zero less = inr refl
-below-or-last zero (suc n) less = inl (omega arith)
-below-or-last (suc k) zero less = absurd (omega (arith, less))
-below-or-last (suc k) (suc n) less = elim (below-or-last k n (omega (arith, less))) [ inl h ↦ inl (omega (arith, h)) | inr e ↦ inr (ap suc e) ]
+below-or-last k n less = elim (cases_lt k n) [ inl h ↦ inl h | inr above ↦ inr (omega (arith, above, less)) ]
 
 pub first-next : (roots : List Term) (v : ℕ) (old mid new : List ℕ) → NotesEnds (IsFirstVariable v) roots old mid → NotesEnds (λ t. Var v ≡ t) roots mid new → NotesEnds (IsFirstVariable (v + 1)) roots old new
 first-next roots v old mid new first second = ends-both (IsFirstVariable v) (λ t. Var v ≡ t) (IsFirstVariable (v + 1)) roots old mid new first second (λ t. (

@@ -4,7 +4,7 @@ use Rattle.std.specs.Prelude.{All}
 use Rattle.std.specs.List.{AllByRecursion}
 use Rattle.px_prover.specs.Tries.{IsReady}
 use Rattle.px_prover.proofs.Scopes.{open-in, open-near, goals-near, lit-plain, lits-plain, IsNear}
-use Rattle.px_proof.specs.PlaceLaws.{All-got}
+use Rattle.px_proof.specs.PlaceLaws.{All-got, slice_get-read}
 use Rattle.px_proof.specs.declared.shape.Tick.{Tick}
 use Rattle.px_question.specs.Settings.{Setting}
 use Rattle.px_stack.specs.Arena.{goals_at, path_at}
@@ -81,8 +81,3 @@ module _ (loose : Bool) (s : Setting) (formula : List Atom) (vars : ℕ) (ticks 
 
   pub ready-fit : All (IsFit (variables_of old.changes)) s.axioms
   ready-fit k d within = fit-at k (get_or s.axioms k d) (slice_get-read s.axioms k d within)
-    where
-      slice_get-read : {X : Type 0} (xs : List X) (k : ℕ) (d : X) → k < length xs → slice_get xs k ≡ Some (get_or xs k d)
-      slice_get-read [] k d within = absurd (omega (arith, within))
-      slice_get-read (x ∷ xs) zero d within = refl
-      slice_get-read (x ∷ xs) (suc k) d within = slice_get-read xs k d (omega (arith, within))

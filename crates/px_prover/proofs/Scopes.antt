@@ -2,6 +2,7 @@
 use Rattle.std.proofs.Common.{◌≡◌, ℕ, zero, suc, ◌+◌, ◌<◌, ◌≤◌, Bool, true, false, ◌&&◌, cond, Option, Some, None, List, [], ◌∷◌, ◌++◌, length, slice_get, refl, ap, sym, ◌∙◌, arith}
 use Rattle.std.specs.Prelude.{All, nat_eq}
 use Rattle.std.specs.List.{AllByRecursion, list_any}
+use Rattle.std.proofs.lemmas.List.Elements.{All-from_recursion}
 use Rattle.px_proof.specs.PlaceLaws.{some_same}
 use Rattle.px_proof.specs.Proves.{IsName, instance_of, parts_of}
 use Rattle.px_proof.specs.declared.shape.Tick.{Tick}
@@ -24,16 +25,11 @@ name-plain objects n (Obj o) h = tt
 name-plain objects n (Var v) h = h
 name-plain objects n Any h = h
 
-all-read : {X : Type 0} (P : X → Type 0) (xs : List X) → AllByRecursion P xs → All P xs
-all-read P [] all k d within = absurd (omega (arith, within))
-all-read P (x ∷ xs) all zero d within = all.0
-all-read P (x ∷ xs) all (suc k) d within = all-read P xs all.1 k d (omega (arith, within))
-
 pub lit-plain : (objects n : ℕ) (l : Lit) → IsLitIn objects n l → All (IsPlainBelow n) l.atom.args
-lit-plain objects n l h = all-read (IsPlainBelow n) l.atom.args (all-weaker (IsName objects n) (IsPlainBelow n) l.atom.args (name-plain objects n) h)
+lit-plain objects n l h = All-from_recursion (IsPlainBelow n) l.atom.args (all-weaker (IsName objects n) (IsPlainBelow n) l.atom.args (name-plain objects n) h)
 
 pub lits-plain : (objects n : ℕ) (ls : List Lit) → AllByRecursion (IsLitIn objects n) ls → All (λ (l : Lit). All (IsPlainBelow n) l.atom.args) ls
-lits-plain objects n ls h = all-read (λ (l : Lit). All (IsPlainBelow n) l.atom.args) ls (all-weaker (IsLitIn objects n) (λ (l : Lit). All (IsPlainBelow n) l.atom.args) ls (lit-plain objects n) h)
+lits-plain objects n ls h = All-from_recursion (λ (l : Lit). All (IsPlainBelow n) l.atom.args) ls (all-weaker (IsLitIn objects n) (λ (l : Lit). All (IsPlainBelow n) l.atom.args) ls (lit-plain objects n) h)
 
 module _ (loose : Bool) (s : Setting) (valid : IsSetting s) where
   -- the goals that are open have the problem's objects and the variables

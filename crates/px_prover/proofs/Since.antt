@@ -2,7 +2,8 @@
 use Rattle.std.proofs.Common.{◌≡◌, ◌⊎◌, ℕ, zero, suc, ◌<◌, ◌≤◌, Bool, true, false, ◌&&◌, Some, List, [], ◌∷◌, ◌++◌, length, slice_get, refl, ap, sym, ◌∙◌, arith, inl, inr}
 use Rattle.std.specs.Prelude.{nat_eq}
 use Rattle.std.specs.List.{list_any}
-use Rattle.px_prover.specs.Tries.{IsReady, IsSince, TriesAmong}
+use Rattle.std.proofs.lemmas.Bool.{cases_lt}
+use Rattle.px_prover.specs.Tries.{IsLonger, IsReady, IsSince, TriesAmong}
 use Rattle.px_prover.proofs.Attempted.{fact-stands, fact-nowhere, ancestor-stands, ancestor-nowhere}
 use Rattle.px_prover.proofs.AttemptedSteps.{axiom-first, axiom-nowhere}
 use Rattle.px_prover.proofs.Growing.{fact-in, longer-closed, longer-stepped}
@@ -119,10 +120,7 @@ since-earlier : (start later u : Tick) → tick_kind start < tick_kind later →
 since-earlier start later u less since = inr (by-kind start u (omega (arith, less, kind-since later u since)))
 
 less_same_more : (m n : ℕ) → (m < n) ⊎ ((m ≡ n) ⊎ (n < m))
-less_same_more zero zero = inr (inl refl)
-less_same_more zero (suc n) = inl (omega arith)
-less_same_more (suc m) zero = inr (inr (omega arith))
-less_same_more (suc m) (suc n) = elim (less_same_more m n) [ inl h ↦ inl (omega (arith, h)) | inr (inl e) ↦ inr (inl (ap suc e)) | inr (inr h) ↦ inr (inr (omega (arith, h))) ]
+less_same_more m n = grind arith
 
 pub fact-since : (from k : ℕ) → from ≤ k → IsSince (Fact from) (Fact k)
 fact-since from k after = elim (less_same_more from k) [
@@ -180,100 +178,74 @@ module _ (loose : Bool) (s : Setting) (formula : List Atom) (vars : ℕ) (ticks 
   abbrev pub Tried : Tick → StackValue → Bool → Type 0
   Tried start new found = TriesAmong (IsSince start) loose s formula vars ticks old new found
 
+  -- the first number of a kind that leads to a list comes before the later numbers and the later kinds
+  found-number : (kind : ℕ → Tick) (from k : ℕ) (after : Tick) (new : StackValue) → from ≤ k → ((u : Tick) → IsSince (kind from) u → ((j : ℕ) × (u ≡ kind j) × (from ≤ j)) ⊎ IsSince after u) →
+      ((i j : ℕ) → i ≤ j → IsSince (kind i) (kind j)) → IsLonger loose s formula vars ticks old (kind k) new → ((j : ℕ) → from ≤ j → j < k → ¬ Leads (kind j)) → tick_kind (kind k) < tick_kind after → Tried (kind from) new true
+  found-number kind from k after new reached split since longer never earlier = record {
+    least = λ is_found. (kind k, since from k reached, longer, λ u start leads. go u (split u start) leads);
+    no_more = λ is_not. absurd (cc);
+  }
+    where
+      go : (u : Tick) → ((j : ℕ) × (u ≡ kind j) × (from ≤ j)) ⊎ IsSince after u → Leads u → IsSince (kind k) u
+      go u (inl (j, e, past)) leads = elim (cases_lt j k) [ inl before ↦ absurd (never j past before (rw e at leads)) | inr later ↦ rw e (since k j later) ]
+      go u (inr later) leads = since-earlier (kind k) after u earlier later
+
+  -- where no tick before a later start leads to a list, trying from the later start on is trying from the earlier one on
+  joined : (start after : Tick) (Here : Tick → Type 0) → ((u : Tick) → IsSince start u → Here u ⊎ IsSince after u) → ((u : Tick) → Here u → ¬ Leads u) → tick_kind start < tick_kind after →
+      (new : StackValue) (found : Bool) → Tried after new found → Tried start new found
+  joined start after Here split none earlier new found later = record {
+    least = λ is_found.
+        let h = later.least is_found in
+        (h.0, since-earlier start after h.0 earlier h.1, h.2, λ u since leads. go (IsSince h.0 u) u (h.3 u) (split u since) leads);
+    no_more = λ is_not. let h = later.no_more is_not in (h.0, λ u since leads. go ⊥ u (h.1 u) (split u since) leads);
+  }
+    where
+      go : (G : Type 0) (u : Tick) → (IsSince after u → Leads u → G) → Here u ⊎ IsSince after u → Leads u → G
+      go G u next (inl here) leads = absurd (none u here leads)
+      go G u next (inr since) leads = next since leads
+
   -- ---- facts
 
   fact-off : (from j : ℕ) → ((i : ℕ) → from ≤ i → i < length s.facts → NeverFact s.objects s.facts old goal i) → from ≤ j → ¬ Leads (Fact j)
   fact-off from j never after leads =
       fact-nowhere loose s ready.asked.setting formula vars ticks old old ready.sound.stands goal (goal_in old goal) (goals_at old.goals goal.next) open_is refl refl
       (ready-in loose s formula vars ticks old goal ready).lit j
-      (elim (less_same_more j (length s.facts)) [
-        | inl h ↦ never j after h
-        | inr (inl e) ↦ λ fact at. absurd (past-none s.facts j fact (omega (arith, e)) at)
-        | inr (inr h) ↦ λ fact at. absurd (past-none s.facts j fact (omega (arith, h)) at)
-      ])
+      (elim (cases_lt j (length s.facts)) [ inl h ↦ never j after h | inr past ↦ λ fact at. absurd (past-none s.facts j fact past at) ])
       leads.1
 
   pub fact-found : (from : ℕ) (new : StackValue) → TriesRange (NeverFact s.objects s.facts old goal) (ComesFact s.objects s.facts old goal) from (length s.facts) old new true → Tried (Fact from) new true
-  fact-found from new range = record {
-    least = λ is_found.
-        let h = range.least refl in
-        let stands = fact-stands loose s ready.asked.setting formula vars ticks old new ready.sound.stands goal (goal_in old goal) (goals_at old.goals goal.next) open_is refl refl h.0 h.3 in (
-          Fact h.0,
-          fact-since from h.0 h.1,
-          longer-closed loose s formula vars ticks old new goal ready (Fact h.0) tt (fact-in s h.0 h.3.0 h.3.1 h.3.2) stands (positive_of h.3.0) h.3.3,
-          λ u since leads. go h.0 (λ j after before. fact-nowhere loose s ready.asked.setting formula vars ticks old old ready.sound.stands goal (goal_in old goal) (goals_at old.goals goal.next) open_is refl refl (ready-in loose s formula vars ticks old goal ready).lit j (h.4 j after before)) u (since-fact from u since) leads,
-        );
-    no_more = λ is_not. absurd (cc);
-  }
-    where
-      go : (k : ℕ) → ((j : ℕ) → from ≤ j → j < k → ¬ IsFeasible loose s formula vars (ticks ++ Fact j ∷ [])) → (u : Tick) → ((j : ℕ) × (u ≡ Fact j) × (from ≤ j)) ⊎ IsSince (Anc 0) u → Leads u → IsSince (Fact k) u
-      go k never u (inl (j, e, after)) leads = rw e (elim (less_same_more k j) [
-        | inl h ↦ inr (inr (inl (refl, h)))
-        | inr (inl same) ↦ inl (ap (λ (i : ℕ). Fact i) same)
-        | inr (inr h) ↦ absurd (never j after h (rw e at leads).1)
-      ])
-      go k never u (inr later) leads = inr (by-kind (Fact k) u (omega (arith, kind-since (Anc 0) u later)))
+  fact-found from new range =
+      let h = range.least refl in
+      let stands = fact-stands loose s ready.asked.setting formula vars ticks old new ready.sound.stands goal (goal_in old goal) (goals_at old.goals goal.next) open_is refl refl h.0 h.3 in
+      found-number (λ j. Fact j) from h.0 (Anc 0) new h.1 (since-fact from) fact-since (longer-closed loose s formula vars ticks old new goal ready (Fact h.0) tt (fact-in s h.0 h.3.0 h.3.1 h.3.2) stands (positive_of h.3.0) h.3.3)
+      (λ j after before leads. fact-nowhere loose s ready.asked.setting formula vars ticks old old ready.sound.stands goal (goal_in old goal) (goals_at old.goals goal.next) open_is refl refl (ready-in loose s formula vars ticks old goal ready).lit j (h.4 j after before) leads.1) (omega arith)
 
   pub fact-join : (from : ℕ) (mid : StackValue) → TriesRange (NeverFact s.objects s.facts old goal) (ComesFact s.objects s.facts old goal) from (length s.facts) old mid false →
       (new : StackValue) (found : Bool) → Tried (Anc 0) new found → Tried (Fact from) new found
-  fact-join from mid range new found later = record {
-    least = λ is_found.
-        let h = later.least is_found in
-        (h.0, since-earlier (Fact from) (Anc 0) h.0 (omega arith) h.1, h.2, λ u since leads. go (IsSince h.0 u) u (h.3 u) (since-fact from u since) leads);
-    no_more = λ is_not. let h = later.no_more is_not in (h.0, λ u since leads. go ⊥ u (h.1 u) (since-fact from u since) leads);
-  }
-    where
-      go : (G : Type 0) (u : Tick) → (IsSince (Anc 0) u → Leads u → G) → ((j : ℕ) × (u ≡ Fact j) × (from ≤ j)) ⊎ IsSince (Anc 0) u → Leads u → G
-      go G u next (inl (j, e, after)) leads = absurd (fact-off from j (range.no_more refl).1 after (rw e at leads))
-      go G u next (inr since) leads = next since leads
+  fact-join from mid range new found later =
+      joined (Fact from) (Anc 0) (λ u. (j : ℕ) × (u ≡ Fact j) × (from ≤ j)) (since-fact from) (λ u h leads. fact-off from h.0 (range.no_more refl).1 h.2 (rw h.1 at leads)) (omega arith) new found later
 
   -- ---- ancestors
 
   ancestor-off : (from j : ℕ) → ((i : ℕ) → from ≤ i → i < length (path_at old.goals goal.above) → NeverAncestor (path_at old.goals goal.above) old goal i) → from ≤ j → ¬ Leads (Anc j)
   ancestor-off from j never after leads =
       ancestor-nowhere loose s ready.asked.setting formula vars ticks old old ready.sound.stands goal (goal_in old goal) (goals_at old.goals goal.next) open_is refl refl j
-      (elim (less_same_more j (length (path_at old.goals goal.above))) [
-        | inl h ↦ never j after h
-        | inr (inl e) ↦ λ above at. absurd (past-none (path_at old.goals goal.above) j above (omega (arith, e)) at)
-        | inr (inr h) ↦ λ above at. absurd (past-none (path_at old.goals goal.above) j above (omega (arith, h)) at)
-      ])
+      (elim (cases_lt j (length (path_at old.goals goal.above))) [ inl h ↦ never j after h | inr past ↦ λ above at. absurd (past-none (path_at old.goals goal.above) j above past at) ])
       leads.1
 
   pub ancestor-found : (from : ℕ) (new : StackValue) →
       TriesRange (NeverAncestor (path_at old.goals goal.above) old goal) (ComesAncestor (path_at old.goals goal.above) old goal) from (length (path_at old.goals goal.above)) old new true → Tried (Anc from) new true
-  ancestor-found from new range = record {
-    least = λ is_found.
-        let h = range.least refl in
-        let stands = ancestor-stands loose s ready.asked.setting formula vars ticks old new ready.sound.stands goal (goal_in old goal) (goals_at old.goals goal.next) open_is refl refl h.0 h.3 in (
-          Anc h.0,
-          anc-since from h.0 h.1,
-          longer-closed loose s formula vars ticks old new goal ready (Anc h.0) tt tt stands (complement_of h.3.0) h.3.2,
-          λ u since leads. go h.0 (λ j after before. ancestor-nowhere loose s ready.asked.setting formula vars ticks old old ready.sound.stands goal (goal_in old goal) (goals_at old.goals goal.next) open_is refl refl j (h.4 j after before)) u (since-ancestor from u since) leads,
-        );
-    no_more = λ is_not. absurd (cc);
-  }
-    where
-      go : (k : ℕ) → ((j : ℕ) → from ≤ j → j < k → ¬ IsFeasible loose s formula vars (ticks ++ Anc j ∷ [])) → (u : Tick) → ((j : ℕ) × (u ≡ Anc j) × (from ≤ j)) ⊎ IsSince (Step 0 0) u → Leads u → IsSince (Anc k) u
-      go k never u (inl (j, e, after)) leads = rw e (elim (less_same_more k j) [
-        | inl h ↦ inr (inr (inl (refl, h)))
-        | inr (inl same) ↦ inl (ap (λ (i : ℕ). Anc i) same)
-        | inr (inr h) ↦ absurd (never j after h (rw e at leads).1)
-      ])
-      go k never u (inr later) leads = inr (by-kind (Anc k) u (omega (arith, kind-since (Step 0 0) u later)))
+  ancestor-found from new range =
+      let h = range.least refl in
+      let stands = ancestor-stands loose s ready.asked.setting formula vars ticks old new ready.sound.stands goal (goal_in old goal) (goals_at old.goals goal.next) open_is refl refl h.0 h.3 in
+      found-number (λ j. Anc j) from h.0 (Step 0 0) new h.1 (since-ancestor from) anc-since (longer-closed loose s formula vars ticks old new goal ready (Anc h.0) tt tt stands (complement_of h.3.0) h.3.2)
+      (λ j after before leads. ancestor-nowhere loose s ready.asked.setting formula vars ticks old old ready.sound.stands goal (goal_in old goal) (goals_at old.goals goal.next) open_is refl refl j (h.4 j after before) leads.1) (omega arith)
 
   pub ancestor-join : (from : ℕ) (mid : StackValue) →
       TriesRange (NeverAncestor (path_at old.goals goal.above) old goal) (ComesAncestor (path_at old.goals goal.above) old goal) from (length (path_at old.goals goal.above)) old mid false →
       (new : StackValue) (found : Bool) → Tried (Step 0 0) new found → Tried (Anc from) new found
-  ancestor-join from mid range new found later = record {
-    least = λ is_found.
-        let h = later.least is_found in
-        (h.0, since-earlier (Anc from) (Step 0 0) h.0 (omega arith) h.1, h.2, λ u since leads. go (IsSince h.0 u) u (h.3 u) (since-ancestor from u since) leads);
-    no_more = λ is_not. let h = later.no_more is_not in (h.0, λ u since leads. go ⊥ u (h.1 u) (since-ancestor from u since) leads);
-  }
-    where
-      go : (G : Type 0) (u : Tick) → (IsSince (Step 0 0) u → Leads u → G) → ((j : ℕ) × (u ≡ Anc j) × (from ≤ j)) ⊎ IsSince (Step 0 0) u → Leads u → G
-      go G u next (inl (j, e, after)) leads = absurd (ancestor-off from j (range.no_more refl).1 after (rw e at leads))
-      go G u next (inr since) leads = next since leads
+  ancestor-join from mid range new found later =
+      joined (Anc from) (Step 0 0) (λ u. (j : ℕ) × (u ≡ Anc j) × (from ≤ j)) (since-ancestor from) (λ u h leads. ancestor-off from h.0 (range.no_more refl).1 h.2 (rw h.1 at leads)) (omega arith) new found later
 
   -- ---- axioms
 
@@ -315,23 +287,12 @@ module _ (loose : Bool) (s : Setting) (formula : List Atom) (vars : ℕ) (ticks 
 
   pub axiom-join : (from place : ℕ) (mid : StackValue) → TriesRange (NeverAxiom s.axioms old goal from place) (ComesAxiom s.axioms old goal from place) from (length s.axioms) old mid false →
       (new : StackValue) (found : Bool) → Tried Gap new found → Tried (Step from place) new found
-  axiom-join from place mid range new found later = record {
-    least = λ is_found.
-        let h = later.least is_found in
-        (h.0, since-earlier (Step from place) Gap h.0 (omega arith) h.1, h.2, λ u since leads. go (IsSince h.0 u) u (h.3 u) (since-step from place u since) leads);
-    no_more = λ is_not. let h = later.no_more is_not in (h.0, λ u since leads. go ⊥ u (h.1 u) (since-step from place u since) leads);
-  }
+  axiom-join from place mid range new found later =
+      joined (Step from place) Gap (λ u. (c : ℕ) × (q : ℕ) × (u ≡ Step c q) × StandsAt from place c q) (since-step from place)
+      (λ u h leads. axiom-off from place h.0 h.1 (never h.0 (at-least from place h.0 h.1 h.3)) h.3 (rw h.2 at leads)) (omega arith) new found later
     where
       never : (c : ℕ) → from ≤ c → NeverAxiom s.axioms old goal from place c
-      never c after = elim (less_same_more c (length s.axioms)) [
-        | inl h ↦ (range.no_more refl).1 c after h
-        | inr (inl e) ↦ λ clause at. absurd (past-none s.axioms c clause (omega (arith, e)) at)
-        | inr (inr h) ↦ λ clause at. absurd (past-none s.axioms c clause (omega (arith, h)) at)
-      ]
-
-      go : (G : Type 0) (u : Tick) → (IsSince Gap u → Leads u → G) → ((c : ℕ) × (q : ℕ) × (u ≡ Step c q) × StandsAt from place c q) ⊎ IsSince Gap u → Leads u → G
-      go G u next (inl (c, q, e, at)) leads = absurd (axiom-off from place c q (never c (at-least from place c q at)) at (rw e at leads))
-      go G u next (inr since) leads = next since leads
+      never c after = elim (cases_lt c (length s.axioms)) [ inl h ↦ (range.no_more refl).1 c after h | inr past ↦ λ clause at. absurd (past-none s.axioms c clause past at) ]
 
   -- ---- a gap
 

@@ -1,13 +1,8 @@
 -- What the bindings of a finished state give.
-use Rattle.std.specs.Prelude.{◌≡◌, ◌↔◌, ℕ, ◌<◌, List, ◌⊎◌, true, All, length, map, take, replicate, slice_get, Some, Contains}
-use Rattle.px_prover.specs.Tuples.{chosen_by}
-use Rattle.px_question.specs.Answers.{object_terms}
-use Rattle.px_question.specs.declared.gap_list.GapList.{GapList}
-use Rattle.px_terms.specs.AtomSets.{IsAtomSet}
+use Rattle.std.specs.Prelude.{◌≡◌, ◌↔◌, ℕ, ◌<◌, List, ◌⊎◌, true, All, length, slice_get, Some, Contains}
 use Rattle.px_proof.specs.declared.shape.Tick.{Tick}
 use Rattle.px_question.specs.Settings.{Setting}
 use Rattle.px_terms.specs.Language.{IsVariableBelow}
-use Rattle.px_terms.specs.Substitution.{substitute_atom}
 use Rattle.px_terms.specs.declared.atom.Atom.{Atom}
 use Rattle.px_terms.specs.declared.term.Term.{Term}
 use Rattle.px_terms.specs.declared.term.Term.TheVariants.{Obj, Var, Any}
@@ -15,7 +10,6 @@ use Rattle.px_unify.specs.declared.change.Change.{Change}
 use Rattle.px_unify.specs.Changes.{AreOneUnder, IsRoot, variables_of}
 use Rattle.px_walk.specs.GapAtoms.{gap_atoms}
 use Rattle.px_walk.specs.Pending.{goals_of}
-use Rattle.px_walk.specs.Values.{value_of}
 
 -- the bindings of the variable end in the term
 pub record IsEnd (changes : List Change) (v : ℕ) (root : Term) : Type 0 where
@@ -26,20 +20,6 @@ pub record IsEnd (changes : List Change) (v : ℕ) (root : Term) : Type 0 where
 pub record AreEnds (changes : List Change) (roots : List Term) : Type 0 where
   pub count : length roots ≡ variables_of changes
   pub each : (v : ℕ) (root : Term) → slice_get roots v ≡ Some root → IsEnd changes v root
-
--- the values of all variables where the tuple is chosen for the free ones, and object 0 for the others
-abbrev pub values_by : List Term → List ℕ → List ℕ → List ℕ
-values_by roots free tuple = map (value_of (chosen_by free tuple (replicate (length roots) 0))) roots
-
--- the gap list is that of the values: their first so many, and the set of the atoms under them
-pub record IsGapListBy (vars : ℕ) (missing : List Atom) (values : List ℕ) (list : GapList) : Type 0 where
-  pub objects : list.objects ≡ take vars values
-  pub is_set : IsAtomSet list.gaps
-  pub atoms : (atom : Atom) → Contains list.gaps atom ↔ Contains (map (substitute_atom (object_terms values)) missing) atom
-
--- the gap lists are the old ones and those of the tuples, which are chosen for the free variables
-pub record ListsEach (vars : ℕ) (missing : List Atom) (roots : List Term) (free : List ℕ) (tuples : List (List ℕ)) (old new : List GapList) : Type 0 where
-  pub members : (list : GapList) → Contains new list ↔ (Contains old list ⊎ ((tuple : List ℕ) × Contains tuples tuple × IsGapListBy vars missing (values_by roots free tuple) list))
 
 -- the atoms are those that the ticks close by gaps, over the first so many variables
 pub record AreMissing (s : Setting) (formula : List Atom) (vars : ℕ) (ticks : List Tick) (variables : ℕ) (missing : List Atom) : Type 0 where

@@ -12,7 +12,7 @@ use px_proof::Tick;
 use px_stack::{OpenGoal, Stack, close_by_gap, try_ancestors, try_axioms, try_facts};
 use px_terms::{Atom, Schema};
 
-/// Does the operator add the predicate?
+/// Does one of the added atoms have the predicate?
 fn adds(atoms: &[Atom], pred: u32) -> bool
     ensures { result ≡ list_any (λ (atom : AtomValue). nat_eq pred atom.pred) atoms.now }
 {
@@ -28,7 +28,7 @@ fn is_added(schemas: &[Schema], pred: u32) -> bool
         .any(|schema| adds(schema.add.as_slice(), pred))
 }
 
-/// Closes the first goal by a gap, where that is allowed.
+/// Closes the first goal by a gap, if that is allowed.
 fn try_gap(stack: &mut Stack, question: &Question, goal: &OpenGoal) -> Result<bool, NoMemory>
     requires { IsReadyIn question.now stack.old goal.now }
     ensures { IfOk result (λ found. TriesSince question.now Tick.Gap stack.old stack.new found) }
@@ -45,7 +45,7 @@ fn try_gap(stack: &mut Stack, question: &Question, goal: &OpenGoal) -> Result<bo
     close_by_gap(stack, goal)
 }
 
-/// Closes the first goal by the first literal of an axiom from there on, or by a gap.
+/// Closes the first goal by the first literal of an axiom from that place on, or by a gap.
 fn try_since_axiom(
     stack: &mut Stack,
     question: &Question,
@@ -64,7 +64,8 @@ fn try_since_axiom(
     try_gap(stack, question, goal)
 }
 
-/// Closes the first goal by the first ancestor from there on, or by what comes after ancestors.
+// Alike: `try_since_fact` has the same frame: facts, ancestors, axioms and the gap are the four links of one chain.
+/// Closes the first goal by the first ancestor from that number on, or by what comes after ancestors.
 fn try_since_ancestor(
     stack: &mut Stack,
     question: &Question,
@@ -82,7 +83,7 @@ fn try_since_ancestor(
     try_since_axiom(stack, question, goal, 0, 0)
 }
 
-/// Closes the first goal by the first fact from there on, or by what comes after facts.
+/// Closes the first goal by the first fact from that number on, or by what comes after facts.
 fn try_since_fact(
     stack: &mut Stack,
     question: &Question,

@@ -10,8 +10,7 @@ ghost use Rattle.px_stack.specs.declared.open.Choice.{Choice as ChoiceValue};
 ghost use Rattle.px_walk.specs.Pending.{fresh_of};
 ghost use Rattle.px_prover.specs.Building.{AreLeast, IsThere, built, extended, fresh_sum, parts_count};
 
-use crate::keep::keep;
-use px_base::{NoMemory, Sequence};
+use px_base::{NoMemory, Sequence, push};
 use px_proof::{Leaf, Proof, Tick};
 use px_stack::Choice;
 use px_terms::{Atom, Problem, Term};
@@ -36,7 +35,7 @@ pub(crate) fn least_objects(alloc: Global, bind: &Bind) -> Result<Vec<u32>, NoMe
     let mut objects = Vec::new(alloc);
     for variable in 0..bind.variables() {
         let root = bind.resolve(Term::Var(variable));
-        keep(&mut objects, object_of(root))?;
+        push(&mut objects, object_of(root))?;
     }
     Ok(objects)
 }
@@ -47,12 +46,12 @@ pub(crate) fn terms_of(alloc: Global, objects: &[u32]) -> Result<Vec<Term>, NoMe
 {
     let mut terms = Vec::new(alloc);
     for object in objects {
-        keep(&mut terms, Term::Obj(*object))?;
+        push(&mut terms, Term::Obj(*object))?;
     }
     Ok(terms)
 }
 
-/// Takes so many proofs off the end, and answers them, the last one first.
+/// Takes `count` proofs off the end and returns them, the last one first.
 fn take_last(alloc: Global, made: &mut Vec<Proof>, count: usize) -> Result<Vec<Proof>, NoMemory>
     ensures parts { IfOk result (λ parts. parts.items ≡ take count (reverse made.old.items)) }
     ensures rest { IfOk result (λ parts. reverse made.new.items ≡ drop count (reverse made.old.items)) }
@@ -60,7 +59,7 @@ fn take_last(alloc: Global, made: &mut Vec<Proof>, count: usize) -> Result<Vec<P
     let mut parts = Vec::new(alloc);
     for taken in 0..count {
         match made.pop() {
-            Some(part) => keep(&mut parts, part)?,
+            Some(part) => push(&mut parts, part)?,
             None => {}
         }
     }
@@ -83,18 +82,17 @@ fn push_step(
     let count = problem.axioms.lits(clause).len() - 1;
     let theta = terms_of(alloc, theta)?;
     let subs = take_last(alloc, made, count)?;
-    keep(
-        made,
-        Proof::Step {
-            clause,
-            theta: Sequence::from_vec(theta),
-            place,
-            subs: Sequence::from_vec(subs),
-        },
-    )
+    let step = Proof::Step {
+        clause,
+        theta: Sequence::from_vec(theta),
+        place,
+        subs: Sequence::from_vec(subs),
+    };
+    push(made, step)?;
+    Ok(())
 }
 
-/// Puts the proof that the tick closes before those after it, and answers where the objects of its step begin.
+/// Puts the proof that the tick closes before those after it, and returns where the objects of its step begin.
 fn push_proof(
     alloc: Global,
     problem: &Problem,
@@ -117,12 +115,12 @@ fn push_proof(
                 index,
                 atom: facts[index as usize],
             };
-            match keep(made, Proof::Fact(leaf)) {
+            match push(made, Proof::Fact(leaf)) {
                 Ok(()) => Ok(end),
                 Err(NoMemory) => Err(NoMemory),
             }
         }
-        Tick::Anc(number) => match keep(made, Proof::Anc(number)) {
+        Tick::Anc(number) => match push(made, Proof::Anc(number)) {
             Ok(()) => Ok(end),
             Err(NoMemory) => Err(NoMemory),
         },

@@ -23,7 +23,7 @@ use px_terms::{Atom, Problem};
 use px_walk::{End, walk_to_finished};
 use std::alloc::Global;
 
-/// What a state in which no place is open answers.
+/// The answer of a state in which no place is open.
 fn answer(alloc: Global, question: &Question, stack: &Stack) -> Result<Answer, NoMemory>
     requires strict { question.now.loose ≡ false }
     requires stands { IsStanding question.now.loose (setting_in question.now) question.now.formula.now question.now.vars stack.now }
@@ -51,8 +51,8 @@ fn answer(alloc: Global, question: &Question, stack: &Stack) -> Result<Answer, N
 /// variable.
 ///
 /// # Errors
-/// `Unprovable` where there is none, `ShapeLimit` where as many shapes of unfinished lists as the shape limit come
-/// first, and `NoMemory`. The clauses say that each of the first two comes only there, and exclude each other.
+/// `Unprovable` if there is none, `ShapeLimit` if as many shapes of unfinished lists as the shape limit come first, and
+/// `NoMemory`. The clauses say that the first two come only then, and exclude each other.
 pub fn prove(
     alloc: Global,
     problem: &Problem,

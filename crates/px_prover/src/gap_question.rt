@@ -19,7 +19,7 @@ pub(crate) struct GapQuestion<'a> {
 }
 
 impl<'a> GapQuestion<'a> {
-    /// The same, over finished lists too.
+    /// The question whose walk visits finished lists, too.
     pub(crate) fn loose(&self) -> Question<'a>
         ensures { result ≡ record { problem = self.now.problem; formula = self.now.formula; vars = self.now.vars; facts = self.now.facts; loose = true } }
     {
@@ -33,7 +33,7 @@ impl<'a> GapQuestion<'a> {
     }
 }
 
-/// The tick, of which it is known that its numbers have 32 bits.
+/// The tick, with the fact that its numbers have 32 bits.
 pub(crate) fn sized(tick: Tick) -> Tick
     ensures same { result ≡ tick }
     ensures small { IsSmall result }

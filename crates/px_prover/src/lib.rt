@@ -6,7 +6,7 @@
 //! there is a variable, the problem has an object. They ask for objects that make each atom of the formula provable: by a
 //! fact of the model, or by linear resolution with ancestors from the problem's axioms, within the problem's height.
 //!
-//! [`prove`] is for at most twelve variables. It answers one of these.
+//! [`prove`] is for at most twelve variables. It returns one of these.
 //!
 //! - [`Answer`]: the first finished list of proofs, one for each atom, with the objects for the variables. Lists are
 //!   ordered by their shapes: at the first place that is closed otherwise, a fact comes before an ancestor and an ancestor
@@ -17,11 +17,11 @@
 //!   support.
 //! - `Unprovable`: there is no finished list, and fewer unfinished ones than the shape limit.
 //! - `ShapeLimit`: as many shapes of unfinished lists as the shape limit stand before the first finished one, or exist at
-//!   all where there is none. The answer has the first so many.
+//!   all where there is none. The answer has the first of them, as many as the limit.
 //! - `NoMemory`, of which nothing more is said.
 //!
 //! [`gap_lists`] is for at most 4,096 variables. Here an atom may also be left as a gap, if some operator of the problem
-//! adds its predicate; it need not be unprovable. A denied atom is never a gap, and one under an axiom may be. It answers
+//! adds its predicate; it need not be unprovable. A denied atom is never a gap, and one under an axiom may be. It returns
 //! one of these.
 //!
 //! - The gap lists, ascending by their objects and then by their atoms, each once. A `GapList` of `px_question` has
@@ -32,10 +32,10 @@
 //!   atoms that may be gaps, asks for very many lists, and so does one where an axiom has variables over predicates that
 //!   operators add.
 //! - `ShapeLimit`: as many shapes of unfinished lists as the shape limit exist, whether finished ones come before them or
-//!   not. The answer has the first so many, in the order above, in which a gap comes after the axioms.
+//!   not. The answer has the first of them, as many as the limit, in the order above, in which a gap comes after the axioms.
 //! - `NoMemory`, of which nothing more is said.
 //!
-//! [`gap_patterns`] has the conditions and the errors of `gap_lists`, and answers the same gap lists by patterns, which
+//! [`gap_patterns`] has the conditions and the errors of `gap_lists`, and returns the same gap lists as patterns, which
 //! keep variables. A [`GapPattern`] has an object or a variable for each variable of the formula, and atoms. Under each
 //! choice of objects for the pattern's variables its terms and atoms are the objects and atoms of a gap list, and each gap
 //! list comes about so. No clause says how many patterns there are, or in which order. [`patterns_are_lists`] is a law for
@@ -46,33 +46,22 @@
 //! holds, and the answers of a call exclude each other.
 //!
 //! Internally places are closed from left to right, over variables whose bindings are undone (`px_stack`), in the order
-//! of the shapes (`px_walk`). [`prove`] stops at the first finished list. The calls for gaps visit the unfinished ones, and
-//! at each gather what the finished lists one closing later give: `gap_lists` under all objects for the variables that are
-//! still free, `gap_patterns` one pattern for each finished list, of which equal ones are kept once.
+//! of the shapes (`px_walk`). [`prove`] stops at the first finished list. `gap_patterns` visits the unfinished ones, and at
+//! each gathers a pattern for each list that one more closing finishes; equal patterns are kept once. `gap_lists` puts all
+//! objects in the place of their variables.
 #![tactic(auto)]
 
 mod attempts;
 mod building;
 mod first;
 mod gap_question;
-#[cfg(test)]
-mod gap_tests;
 mod gathering;
-mod keep;
 mod laws;
 mod listing;
 mod outcome;
 mod pattern;
-#[cfg(test)]
-mod pattern_tests;
 mod patterns;
 mod question;
-#[cfg(test)]
-mod reference;
-#[cfg(test)]
-mod samples;
-#[cfg(test)]
-mod tests;
 mod tuples;
 mod walking;
 

@@ -1,23 +1,114 @@
-//! The gap lists of a formula.
-ghost use Rattle.std.specs.Prelude.{◌≤◌, ◌<◌, ◌↔◌, IfOk, All, Contains};
+//! The gap lists of a formula: those that its patterns stand for.
+ghost use Rattle.std.specs.Prelude.{◌≡◌, ◌≤◌, ◌<◌, ◌↔◌, ◌++◌, ℕ, List, IfOk, All, Contains, length, map as map_list};
 ghost use Rattle.std.specs.List.Sorted.{IsStrictlySortedBy};
 ghost use Rattle.px_question.specs.Gaps.{AreGapLists, gap_list_cmp};
 ghost use Rattle.px_question.specs.declared.gap_list.GapList.{GapList as GapListValue};
 ghost use Rattle.px_question.specs.Limits.{AreFewGapShapes, IsGapLimited};
 ghost use Rattle.px_question.specs.Settings.{setting_of};
+ghost use Rattle.px_terms.specs.AtomSets.{IsAtomSet};
+ghost use Rattle.px_terms.specs.Language.{IsVariableBelow};
 ghost use Rattle.px_terms.specs.Validity.{IsValid, IsAtomOf};
+ghost use Rattle.px_terms.specs.declared.atom.Atom.{Atom as AtomValue};
+ghost use Rattle.px_walk.specs.Values.{value_of as value_by};
 ghost use Rattle.px_prover.specs.Outcomes.{IfGapLimit};
+ghost use Rattle.px_prover.specs.PatternLists.{all_under as all_lists_under, list_under as list_by};
+ghost use Rattle.px_prover.specs.Patterns.{IsOverItsVariables};
 
-use crate::gap_question::GapQuestion;
-use crate::gathering::{Gathered, without_atoms};
+use crate::building::terms_of;
+use crate::gathering::atoms_under;
 use crate::outcome::GapErr;
-use px_base::NoMemory;
+use crate::pattern::GapPattern;
+use crate::patterns::gap_patterns;
+use crate::tuples::tuples;
+use px_base::{NoMemory, Sequence, push};
 use px_ops::Model;
 use px_question::GapList;
-use px_stack::Stack;
-use px_terms::{Atom, Problem};
-use px_walk::walk_to_end;
+use px_terms::{Atom, Problem, Term};
 use std::alloc::Global;
+
+/// The object that the term is, or that its variable has.
+fn value_of(values: &[u32], term: Term) -> u32
+    requires { IsVariableBelow (length values.now) term }
+    ensures { result ≡ value_by values.now term }
+{
+    match term {
+        Term::Obj(number) => number,
+        Term::Var(variable) => values[variable as usize],
+        Term::Any => 0,
+    }
+}
+
+/// The objects of the terms under the values.
+fn values_of(alloc: Global, terms: &[Term], values: &[u32]) -> Result<Vec<u32>, NoMemory>
+    requires { All (IsVariableBelow (length values.now)) terms.now }
+    ensures { IfOk result (λ objects. objects.items ≡ map_list (value_by values.now) terms.now) }
+{
+    let mut objects = Vec::new(alloc);
+    for term in terms {
+        let value = value_of(values, *term);
+        push(&mut objects, value)?;
+    }
+    Ok(objects)
+}
+
+/// The atoms ascending, each once.
+fn as_set(mut atoms: Vec<Atom>) -> Vec<Atom>
+    ensures order { IsAtomSet result.items }
+    ensures members { (atom : AtomValue) → Contains result.items atom ↔ Contains atoms.items atom }
+{
+    atoms.sort_unstable();
+    atoms.dedup();
+    atoms
+}
+
+/// The gap list of the pattern under the values.
+fn list_under(alloc: Global, pattern: &GapPattern, values: &[u32]) -> Result<GapList, NoMemory>
+    requires closed { IsOverItsVariables pattern.now }
+    requires count { length values.now ≡ pattern.now.vars }
+    ensures { IfOk result (λ list. list ≡ list_by pattern.now values.now) }
+{
+    let terms = pattern.terms.as_slice();
+    let atoms = pattern.atoms.as_slice();
+    let objects = values_of(alloc, terms, values)?;
+    let under = terms_of(alloc, values)?;
+    let gaps = as_set(atoms_under(alloc, &under, atoms)?);
+    Ok(GapList {
+        objects: Sequence::from_vec(objects),
+        gaps: Sequence::from_vec(gaps),
+    })
+}
+
+/// Appends the gap list of the pattern under each of the tuples.
+fn push_under(
+    alloc: Global,
+    lists: &mut Vec<GapList>,
+    pattern: &GapPattern,
+    tuples: &[Sequence<u32>],
+) -> Result<(), NoMemory>
+    requires closed { IsOverItsVariables pattern.now }
+    requires tuples { All (λ (tuple : List ℕ). length tuple ≡ pattern.now.vars) tuples.now }
+    ensures { IfOk result (λ _. lists.new.items ≡ lists.old.items ++ map_list (list_by pattern.now) tuples.now) }
+{
+    for tuple in tuples {
+        let list = list_under(alloc, pattern, tuple.as_slice())?;
+        push(lists, list)?;
+    }
+    Ok(())
+}
+
+/// The gap lists of the patterns under all values.
+fn all_under(alloc: Global, objects: u32, patterns: &[GapPattern]) -> Result<Vec<GapList>, NoMemory>
+    requires { All IsOverItsVariables patterns.now }
+    ensures { IfOk result (λ lists. lists.items ≡ all_lists_under objects patterns.now) }
+{
+    let mut lists = Vec::new(alloc);
+    for pattern in patterns {
+        let made = tuples(alloc, objects, pattern.vars as usize)?;
+        let each = made.as_slice();
+        push_under(alloc, &mut lists, pattern, each)?;
+    }
+    Ok(lists)
+}
 
 /// The lists in order, each once.
 fn ordered(mut lists: Vec<GapList>) -> Vec<GapList>
@@ -29,11 +120,12 @@ fn ordered(mut lists: Vec<GapList>) -> Vec<GapList>
     lists
 }
 
+// Alike: the contract is that of `gap_patterns` in `patterns`, with lists for patterns, so that callers meet both in the same way.
 /// The gap lists of the formula: each list of objects for its variables with the atoms, ascending, that a list of loose
 /// gap proofs then closes by gaps, where a gap may close each atom whose predicate some operator adds. The lists ascend.
 ///
 /// # Errors
-/// `ShapeLimit` where as many shapes of unfinished lists exist as the problem allows, and `NoMemory`.
+/// Those of [`gap_patterns`](crate::gap_patterns).
 pub fn gap_lists(
     alloc: Global,
     problem: &Problem,
@@ -49,29 +141,12 @@ pub fn gap_lists(
     ensures few { IfOk result (λ lists. AreFewGapShapes (setting_of problem.now model.now.atoms) formula.now vars) }
     ensures limited { IfGapLimit result (IsGapLimited (setting_of problem.now model.now.atoms) formula.now vars) }
 {
-    let facts = model.atoms();
-    if formula.is_empty() {
-        return match without_atoms(alloc, problem.objects, vars) {
+    match gap_patterns(alloc, problem, formula, vars, model) {
+        Ok(patterns) => match all_under(alloc, problem.objects, &patterns) {
             Ok(lists) => Ok(ordered(lists)),
             Err(NoMemory) => Err(GapErr::NoMemory),
-        };
-    }
-    let question = GapQuestion {
-        problem,
-        formula,
-        vars,
-        facts,
-    };
-    let mut stack = match Stack::new(alloc, formula, vars, problem.height) {
-        Ok(stack) => stack,
-        Err(NoMemory) => return Err(GapErr::NoMemory),
-    };
-    let mut gathered = Gathered {
-        lists: Vec::new(alloc),
-    };
-    match walk_to_end(alloc, &question, &mut stack, &mut gathered, problem.shapes) {
-        Ok(None) => Ok(ordered(gathered.lists)),
-        Ok(Some(shapes)) => Err(GapErr::ShapeLimit(shapes)),
-        Err(NoMemory) => Err(GapErr::NoMemory),
+        },
+        Err(GapErr::ShapeLimit(shapes)) => Err(GapErr::ShapeLimit(shapes)),
+        Err(GapErr::NoMemory) => Err(GapErr::NoMemory),
     }
 }

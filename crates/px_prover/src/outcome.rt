@@ -1,4 +1,4 @@
-//! What the prover answers, and why it doesn't.
+//! What the prover returns: answers and errors.
 use px_base::{NoMemory, Sequence};
 use px_proof::{Proof, Shape};
 use std::fmt;
@@ -13,7 +13,7 @@ pub struct Answer {
     pub proofs: Sequence<Proof>,
 }
 
-/// Why no proof is answered.
+/// Why there is no answer.
 #[derive(Drop, Error)]
 pub enum ProveErr {
     /// No objects make each atom provable, and fewer shapes of unfinished lists exist than the shape limit.
@@ -22,7 +22,7 @@ pub enum ProveErr {
     /// As many shapes of unfinished lists as the shape limit come first. These are they, in order.
     #[error("as many unfinished lists as the shape limit come first")]
     ShapeLimit(Vec<Shape>),
-    /// There is no memory.
+    /// Memory ran out.
     #[error("out of memory")]
     NoMemory,
 }
@@ -37,13 +37,13 @@ impl fmt::Debug for ProveErr {
     }
 }
 
-/// Why gap lists aren't answered.
+/// Why there are no gap lists.
 #[derive(Drop, Error)]
 pub enum GapErr {
     /// As many shapes of unfinished lists as the problem allows exist. These are the first of them, in order.
     #[error("as many unfinished lists as the problem allows exist")]
     ShapeLimit(Vec<Shape>),
-    /// There is no memory.
+    /// Memory ran out.
     #[error("out of memory")]
     NoMemory,
 }

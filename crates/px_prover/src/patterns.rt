@@ -14,17 +14,16 @@ ghost use Rattle.px_prover.specs.Standing.{ticks_in, IsStanding};
 
 use crate::gap_question::{GapQuestion, sized};
 use crate::gathering::{atoms_under, free_of, missing_atoms, roots_of};
-use crate::keep::keep;
 use crate::outcome::GapErr;
 use crate::pattern::GapPattern;
-use px_base::{NoMemory, Sequence};
+use px_base::{NoMemory, Sequence, push};
 use px_ops::Model;
 use px_stack::Stack;
 use px_terms::{Atom, Problem, Term};
 use px_walk::{Gather, Walk, walk_to_end};
 use std::alloc::Global;
 
-/// The place of the variable in the list, which has so many.
+/// The place of the variable in the list of `count` variables, or `count` if it is not there.
 fn place(free: &[u32], count: u32, variable: u32) -> u32
     requires { count ≡ length free.now }
     ensures { result ≡ place_of free.now variable }
@@ -37,7 +36,7 @@ fn place(free: &[u32], count: u32, variable: u32) -> u32
     count
 }
 
-/// The term, in which a variable has its place in the list as its number.
+/// The term, with the variable's place in the list as its number if it is a variable.
 fn renamed_term(free: &[u32], count: u32, root: Term) -> Term
     requires { count ≡ length free.now }
     ensures { result ≡ renamed free.now root }
@@ -62,7 +61,7 @@ fn renamed_ends(
     let mut ends = Vec::new(alloc);
     for root in roots {
         let end = renamed_term(free, count, *root);
-        keep(&mut ends, end)?;
+        push(&mut ends, end)?;
     }
     Ok(ends)
 }
@@ -78,7 +77,7 @@ fn pattern_by(
     requires missing { All (λ (atom : AtomValue). All (IsVariableBelow (length roots.now)) atom.args) missing.now }
     ensures { IfOk result (λ pattern. IsPatternBy vars missing.now roots.now free.now pattern) }
 {
-    // no list is as long as that
+    // no list has more variables than a `u32` counts
     let count = match u32::try_from(free.len()) {
         Ok(count) => count,
         Err(_) => return Err(NoMemory),
@@ -117,11 +116,11 @@ fn gather_finished(
     let variables = free_of(alloc, roots, question.vars, missing)?;
     let free = variables.as_slice();
     let pattern = pattern_by(alloc, question.vars, roots, missing, free)?;
-    keep(found, pattern)?;
+    push(found, pattern)?;
     Ok(())
 }
 
-/// The same, where no place is open.
+/// Gathers the pattern of a state if no place is open in it.
 fn gather_here(
     found: &mut Vec<GapPattern>,
     question: &GapQuestion,
@@ -164,7 +163,7 @@ fn without_atoms(alloc: Global, vars: u32) -> Result<GapPattern, NoMemory>
 {
     let mut terms = Vec::new(alloc);
     for variable in 0..vars {
-        keep(&mut terms, Term::Var(variable))?;
+        push(&mut terms, Term::Var(variable))?;
     }
     Ok(GapPattern {
         vars,
@@ -173,7 +172,7 @@ fn without_atoms(alloc: Global, vars: u32) -> Result<GapPattern, NoMemory>
     })
 }
 
-/// The patterns, equal ones once.
+/// The patterns, each once.
 fn distinct(mut patterns: Vec<GapPattern>) -> Vec<GapPattern>
     ensures { (pattern : PatternValue) → Contains result.items pattern ↔ Contains patterns.items pattern }
 {
@@ -187,7 +186,7 @@ fn distinct(mut patterns: Vec<GapPattern>) -> Vec<GapPattern>
 /// is that of a pattern with some objects.
 ///
 /// # Errors
-/// Those of `gap_lists`.
+/// `ShapeLimit` if at least as many shapes of unfinished lists exist as the problem allows, and `NoMemory`.
 pub fn gap_patterns(
     alloc: Global,
     problem: &Problem,
@@ -212,7 +211,7 @@ pub fn gap_patterns(
             Ok(pattern) => pattern,
             Err(NoMemory) => return Err(GapErr::NoMemory),
         };
-        return match keep(&mut patterns.found, pattern) {
+        return match push(&mut patterns.found, pattern) {
             Ok(()) => Ok(patterns.found),
             Err(NoMemory) => Err(GapErr::NoMemory),
         };

@@ -1,7 +1,7 @@
 //! What is asked of the prover.
 use px_terms::{Atom, Problem};
 
-/// What is asked: a formula over so many variables, of a problem and the facts of a model.
+/// What is asked: a formula over `vars` variables, of a problem and the facts of a model.
 #[derive(Clone, Copy)]
 pub(crate) struct Question<'a> {
     pub problem: &'a Problem,

@@ -1,21 +1,20 @@
-//! All lists of so many objects.
+//! All lists of a given number of objects.
 ghost use Rattle.std.specs.Prelude.{◌≡◌, ◌++◌, ◌∷◌, [], IfOk};
 ghost use Rattle.px_prover.specs.Tuples.{longer_by, all_longer_by, tuples_of};
 
-use crate::keep::keep;
-use px_base::{NoMemory, Sequence};
+use px_base::{NoMemory, Sequence, push};
 use std::alloc::Global;
 
-/// The list with one more object behind.
+/// The list with one more object at its end.
 fn longer(tuple: &Sequence<u32>, object: u32) -> Result<Sequence<u32>, NoMemory>
     ensures { IfOk result (λ more. more ≡ tuple.now ++ object ∷ []) }
 {
     let mut items = tuple.try_copy()?.into_vec();
-    keep(&mut items, object)?;
+    push(&mut items, object)?;
     Ok(Sequence::from_vec(items))
 }
 
-/// Puts last the list with each object behind.
+/// Appends the list with each object at its end.
 fn push_longer(
     made: &mut Vec<Sequence<u32>>,
     tuple: &Sequence<u32>,
@@ -25,12 +24,12 @@ fn push_longer(
 {
     for object in 0..objects {
         let more = longer(tuple, object)?;
-        keep(made, more)?;
+        push(made, more)?;
     }
     Ok(())
 }
 
-/// Each of the lists with each object behind.
+/// Each of the lists with each object at its end.
 fn all_longer(
     alloc: Global,
     tuples: &[Sequence<u32>],
@@ -45,7 +44,7 @@ fn all_longer(
     Ok(made)
 }
 
-/// All lists of so many objects.
+/// All lists of `count` objects.
 pub(crate) fn tuples(
     alloc: Global,
     objects: u32,
@@ -54,7 +53,7 @@ pub(crate) fn tuples(
     ensures { IfOk result (λ made. made.items ≡ tuples_of objects count) }
 {
     let mut made = Vec::new(alloc);
-    keep(&mut made, Sequence::from_vec(Vec::new(alloc)))?;
+    push(&mut made, Sequence::from_vec(Vec::new(alloc)))?;
     for _place in 0..count {
         made = all_longer(alloc, &made, objects)?;
     }

@@ -3,9 +3,8 @@ ghost use Rattle.std.specs.Prelude.{◌≡◌, ◌≤◌, ◌++◌, ◌∷◌, [
 ghost use Rattle.px_stack.specs.Arena.{goals_at, AreOlder};
 
 use crate::attempts::try_later;
-use crate::keep::keep;
 use crate::question::Question;
-use px_base::NoMemory;
+use px_base::{NoMemory, push};
 use px_proof::{Shape, Tick};
 use px_stack::Stack;
 use px_walk::Walk;
@@ -18,7 +17,7 @@ fn push_open(stack: &Stack, ticks: &mut Vec<Tick>) -> Result<(), NoMemory>
 {
     let mut at = stack.first();
     while at > 0 {
-        keep(ticks, Tick::Open)?;
+        push(ticks, Tick::Open)?;
         at = stack.goal_at(at).next;
     }
     Ok(())
@@ -63,7 +62,7 @@ impl<'a> Walk<Question<'a>> for Stack {
     fn shape(&self, _question: &Question<'a>) -> Result<Shape, NoMemory> {
         let mut ticks = Vec::new(*self.allocator());
         for choice in self.choices() {
-            keep(&mut ticks, choice.tick)?;
+            push(&mut ticks, choice.tick)?;
         }
         push_open(self, &mut ticks)?;
         Ok(Shape::from_ticks(ticks))

@@ -49,7 +49,7 @@ place_in-at (x ∷ xs) atom has =
     ] refl
 
 -- and in a set it stands nowhere else
-place_in-one : (atoms : List Atom) → IsAtomSet atoms → (i : ℕ) (atom : Atom) → slice_get atoms i ≡ Some atom → place_in atoms atom ≡ i
+pub place_in-one : (atoms : List Atom) → IsAtomSet atoms → (i : ℕ) (atom : Atom) → slice_get atoms i ≡ Some atom → place_in atoms atom ≡ i
 unfolding IsStrictlySortedBy
 place_in-one [] set i atom at = absurd (cc)
 place_in-one (x ∷ xs) set zero atom at = ap (λ b. cond b 0 (suc (place_in xs atom))) ((atom_eq-decides x atom).1 (some_same x atom at))

@@ -29,39 +29,34 @@ use Rattle.px_question.specs.Settings.{IsObjectBelow, proofs_in, setting_of}
 
 -- ---- kinds of terms
 
-name-term : (problem : Problem) (t : Term) → IsTermOf problem 0 t → IsName problem.objects 0 t
-name-term problem (Obj n) h = h
-name-term problem (Var v) h = h
-name-term problem Any h = h
+pub IsName-from_term : (problem : Problem) (t : Term) → IsTermOf problem 0 t → IsName problem.objects 0 t
+IsName-from_term problem (Obj n) h = h
+IsName-from_term problem (Var v) h = h
+IsName-from_term problem Any h = h
 
-term-name : (problem : Problem) (t : Term) → IsName problem.objects 0 t → IsTermOf problem 0 t
-term-name problem (Obj n) h = h
-term-name problem (Var v) h = h
-term-name problem Any h = h
+pub IsTermOf-from_name : (problem : Problem) (t : Term) → IsName problem.objects 0 t → IsTermOf problem 0 t
+IsTermOf-from_name problem (Obj n) h = h
+IsTermOf-from_name problem (Var v) h = h
+IsTermOf-from_name problem Any h = h
 
-object-name : (objects : ℕ) (t : Term) → IsName objects 0 t → IsObject t
-object-name objects (Obj n) h = tt
-object-name objects (Var v) h = absurd (omega (arith, h))
-object-name objects Any h = h
+pub IsObject-from_name : (objects : ℕ) (t : Term) → IsName objects 0 t → IsObject t
+IsObject-from_name objects (Obj n) h = tt
+IsObject-from_name objects (Var v) h = absurd (omega (arith, h))
+IsObject-from_name objects Any h = h
 
-term-chosen : (problem : Problem) (t : Term) → IsObjectBelow problem.objects t → IsTermOf problem 0 t
-term-chosen problem (Obj n) h = h
-term-chosen problem (Var v) h = absurd h
-term-chosen problem Any h = h
-
-name-chosen : (objects : ℕ) (t : Term) → IsObjectBelow objects t → IsName objects 0 t
-name-chosen objects (Obj n) h = h
-name-chosen objects (Var v) h = absurd h
-name-chosen objects Any h = h
+pub IsName-from_object : (objects : ℕ) (t : Term) → IsObjectBelow objects t → IsName objects 0 t
+IsName-from_object objects (Obj n) h = h
+IsName-from_object objects (Var v) h = absurd h
+IsName-from_object objects Any h = h
 
 all_names : (problem : Problem) (ts : List Term) → All (IsTermOf problem 0) ts → All (IsName problem.objects 0) ts
-all_names problem ts all k d below = name-term problem _ (all k d below)
+all_names problem ts all k d below = IsName-from_term problem _ (all k d below)
 
 all_terms : (problem : Problem) (ts : List Term) → All (IsName problem.objects 0) ts → All (IsTermOf problem 0) ts
-all_terms problem ts all k d below = term-name problem _ (all k d below)
+all_terms problem ts all k d below = IsTermOf-from_name problem _ (all k d below)
 
 objects_named : (objects : ℕ) (ts : List Term) → All (IsName objects 0) ts → All IsObject ts
-objects_named objects ts all k d below = object-name objects _ (all k d below)
+objects_named objects ts all k d below = IsObject-from_name objects _ (all k d below)
 
 -- ---- a tree over the problem's objects is one for a row
 
@@ -69,7 +64,7 @@ tree-row : (problem : Problem) (atom : Atom) (d : Derivation) → All (IsAtomOf 
 tree-row problem atom d leaves tree = record {
   tree = tree;
   proves = proves_by problem.axioms (from_atoms (IsName problem.objects 0) (leaf_atoms (leaves_of d))) (from_atoms IsObject (leaf_atoms (leaves_of d)))
-      (record { choices = object-name problem.objects; gaps = λ atom h. h; opens = λ h. h }) [] (positive_of atom) d (λ leaf has h. (h.0, objects_named problem.objects leaf.atom.args h.1)) tree.proves;
+      (record { choices = IsObject-from_name problem.objects; gaps = λ atom h. h; opens = λ h. h }) [] (positive_of atom) d (λ leaf has h. (h.0, objects_named problem.objects leaf.atom.args h.1)) tree.proves;
   all_objects = objects_named problem.objects atom.args tree.terms;
   of_problem = record { leaves = leaves; terms = all_terms problem (terms_of d) (terms_from (IsName problem.objects 0) problem.axioms (leaf_atoms (leaves_of d)) [] (positive_of atom) d tree.proves) };
   leaves_are = refl;
@@ -143,11 +138,11 @@ module _ (problem : Problem) (atoms : List Atom) (axioms : All (IsAxiomOf proble
   proof-answers : (atom : Atom) (d : Derivation) → IsAtomOf problem 0 atom → Proves (proofs_in (setting_of problem atoms)) problem.axioms [] (positive_of atom) d → IsAnswerProof problem atoms atom d
   proof-answers atom d is proved =
       let rules = proofs_in (setting_of problem atoms) in
-      let leaves = leaves_of_problem problem 0 axioms rules (term-chosen problem) [] (positive_of atom) d is proved in
+      let leaves = leaves_of_problem problem 0 axioms rules (λ t h. IsTermOf-from_name problem t (IsName-from_object problem.objects t h)) [] (positive_of atom) d is proved in
       let placed : All IsPlaced (leaves_of d) = leaves_allowed rules problem.axioms [] (positive_of atom) d proved in
       let tree : IsTree problem.axioms problem.objects 0 (positive_of atom) d = record {
         proves = proves_by problem.axioms rules (from_atoms (IsName problem.objects 0) (leaf_atoms (leaves_of d)))
-            (record { choices = name-chosen problem.objects; gaps = λ a h. h; opens = λ h. h }) [] (positive_of atom) d
+            (record { choices = IsName-from_object problem.objects; gaps = λ a h. h; opens = λ h. h }) [] (positive_of atom) d
             (λ leaf has h.
             let there = Contains-mapped (λ (l : Leaf). l.atom) (leaves_of d) leaf has in
             (there, all_names problem leaf.atom.args (All-at (IsAtomOf problem 0) (leaf_atoms (leaves_of d)) leaf.atom leaves there).1))

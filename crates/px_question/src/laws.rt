@@ -37,8 +37,8 @@ pub fn limits_are_one()
     ensures { LimitsAreOne }
 {}
 
-/// A limit isn't met where the shapes are fewer: those that exist, or those before a finished proof. Where those of loose
-/// gap proofs are fewer, those of proofs are, too. This is a law about the definitions.
+/// A limit is not met where there are fewer shapes: those that exist, or those before a finished proof. Where there are fewer
+/// of loose gap proofs, there are fewer of proofs, too. This is a law about the definitions.
 pub fn few_or_limited()
     ensures { FewOrLimited }
 {}

@@ -1,35 +1,20 @@
 -- Tests of the code's atoms, as tests of a line's.
-use Rattle.std.proofs.Common.{◌≡◌, ℕ, Bool, List, [], ◌∷◌, ◌++◌, map, length, refl, sym, ap, ◌∙◌}
-use Rattle.std.specs.Prelude.{◌||◌, ◌==◌, not, slice_index}
-use Rattle.std.specs.List.{list_any, flat_map}
-use Rattle.std.proofs.lemmas.List.{append-nil, length-map}
-use Rattle.std.proofs.lemmas.List.Folds.{list_any-append}
-use Rattle.px_names.specs.Lists.{has_name}
-use Rattle.px_script.specs.Causes.{has_wrong_arity, is_known_argument}
-use Rattle.px_script.specs.Declarations.{Declared, number_in}
-use Rattle.px_script.specs.Forms.{atoms_of, arguments_of}
+use Rattle.px_reader.proofs.Common.{◌≡◌, ℕ, Bool, List, [], ◌∷◌, ◌++◌, map, length, refl, sym, ap, ◌∙◌, ◌||◌, ◌==◌, not, slice_index, list_any, flat_map, append-nil, length-map, list_any-append, has_name, has_wrong_arity, is_known_argument, Declared, number_in, atoms_of, arguments_of, wanted_by_edit, Line, list_any-map, list_any_flat, argument_view, signed_view, room_edit_view, binding_view, lacks, lacks_argument, WrittenBinding, list_all-map}
 use Rattle.px_script.specs.Items as items
-use Rattle.px_script.specs.Items.{wanted_by_edit}
-use Rattle.px_script.specs.Statements.{Line}
-use Rattle.px_script.proofs.ListLemmas.{list_any_map, list_any_flat}
-use Rattle.px_reader.specs.StatementViews.{argument_view, signed_view, room_edit_view, binding_view}
-use Rattle.px_reader.specs.Checks.{lacks, lacks_argument}
 use Rattle.px_reader.specs.declared.statement.Argument.{Argument}
 use Rattle.px_reader.specs.declared.statement.SignedAtom.{SignedAtom}
-use Rattle.px_reader.specs.declared.statement.WrittenBinding.{WrittenBinding}
 use Rattle.px_reader.specs.declared.statement.WrittenRoomEdit.{WrittenRoomEdit}
+
+-- a test of all, of items seen otherwise
+pub ruleset all_maps = (list_all-map)
 
 -- the arguments of atoms, one atom after another
 abbrev pub arguments : List items.SignedAtom → List items.Argument
 arguments atoms = flat_map (λ x. x.atom.arguments) atoms
 
--- the only list of a line
-pub one-list : {A : Type 0} (f : List A → Bool) (xs : List A) (b : Bool) → b ≡ f xs → b ≡ f (xs ++ [])
-one-list f xs b e = e ∙ ap f (sym (append-nil xs))
-
 one-more : (p : items.Argument → Bool) (args : List Argument) (rest : List items.Argument)
     → list_any p (map argument_view args ++ rest) ≡ (list_any (λ a. p (argument_view a)) args || list_any p rest)
-one-more p args rest = list_any-append p (map argument_view args) rest ∙ ap (λ b. b || list_any p rest) (list_any_map p argument_view args)
+one-more p args rest = list_any-append p (map argument_view args) rest ∙ ap (λ b. b || list_any p rest) (list_any-map p argument_view args)
 
 -- a test of arguments, atom by atom
 pub atoms-any : (p : items.Argument → Bool) (atoms : List SignedAtom)
@@ -46,7 +31,7 @@ module _ (l : Line) (atoms : List SignedAtom) where
   pub predicates-lack : (names : List (List ℕ)) → map signed_view atoms ≡ atoms_of l
       → list_any (λ atom. not (has_name atom.predicate.now names)) atoms
       ≡ list_any (λ x. not (has_name x.atom.predicate names)) (atoms_of l)
-  predicates-lack names are = sym (list_any_map (λ x. not (has_name x.atom.predicate names)) signed_view atoms)
+  predicates-lack names are = sym (list_any-map (λ x. not (has_name x.atom.predicate names)) signed_view atoms)
       ∙ ap (list_any (λ x. not (has_name x.atom.predicate names))) are
 
   pub arities-differ : (d : Declared) → map signed_view atoms ≡ atoms_of l
@@ -77,7 +62,7 @@ pub places-lack : (d : Declared) (edits : List WrittenRoomEdit)
     → list_any (λ edit. list_any (lacks d) (wanted_by_edit (room_edit_view edit))) edits
     ≡ list_any (lacks d) (flat_map wanted_by_edit (map room_edit_view edits) ++ [])
 places-lack d edits =
-    sym (list_any_map (λ e. list_any (lacks d) (wanted_by_edit e)) room_edit_view edits)
+    sym (list_any-map (λ e. list_any (lacks d) (wanted_by_edit e)) room_edit_view edits)
     ∙ sym (list_any_flat (lacks d) wanted_by_edit (map room_edit_view edits))
     ∙ ap (list_any (lacks d)) (sym (append-nil (flat_map wanted_by_edit (map room_edit_view edits))))
 
@@ -85,6 +70,6 @@ pub objects-lack : (d : Declared) (bindings : List WrittenBinding)
     → list_any (λ b. lacks d (items.an_object, b.object.now)) bindings
     ≡ list_any (lacks d) (map (λ b. (items.an_object, b.object)) (map binding_view bindings) ++ [])
 objects-lack d bindings =
-    sym (list_any_map (λ (b : items.Binding). lacks d (items.an_object, b.object)) binding_view bindings)
-    ∙ sym (list_any_map (lacks d) (λ (b : items.Binding). (items.an_object, b.object)) (map binding_view bindings))
+    sym (list_any-map (λ (b : items.Binding). lacks d (items.an_object, b.object)) binding_view bindings)
+    ∙ sym (list_any-map (lacks d) (λ (b : items.Binding). (items.an_object, b.object)) (map binding_view bindings))
     ∙ ap (list_any (lacks d)) (sym (append-nil (map (λ (b : items.Binding). (items.an_object, b.object)) (map binding_view bindings))))

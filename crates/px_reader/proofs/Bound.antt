@@ -1,18 +1,6 @@
 -- Parameters that are bound, as names of one character each.
-use Rattle.std.proofs.Common.{◌≡◌, ℕ, suc, Bool, true, false, List, [], ◌∷◌, map, length, refl, ap, ◌∙◌, arith}
-use Rattle.std.specs.Prelude.{◌==◌, nat_lt, cond}
-use Rattle.std.specs.List.{list_any, filter}
-use Rattle.std.specs.Ordering.{nat_cmp, is_eq, ordering_then}
-use Rattle.std.specs.declared.cmp.Ordering.{Ordering}
-use Rattle.std.specs.declared.cmp.Ordering.TheVariants.{Less, Equal, Greater}
-use Rattle.std.proofs.lemmas.Bool.Decides.{nat_tests}
-use Rattle.std.proofs.lemmas.Map.Text.{is_eq-slice_cmp}
-use Rattle.std.specs.Str.{bytes_eq}
-use Rattle.px_script.specs.Causes.{repeats, stands_twice}
-use Rattle.px_script.specs.Faults.{binds_twice}
+use Rattle.px_reader.proofs.Common.{◌≡◌, ℕ, suc, Bool, true, false, List, [], ◌∷◌, map, length, refl, ap, ◌∙◌, arith, ◌==◌, nat_lt, cond, list_any, filter, nat_cmp, is_eq, ordering_then, Ordering, Less, Equal, Greater, nat_tests, is_eq-slice_cmp, bytes_eq, repeats, stands_twice, binds_twice, binding_view, WrittenBinding}
 use Rattle.px_script.specs.Items as items
-use Rattle.px_reader.specs.StatementViews.{binding_view}
-use Rattle.px_reader.specs.declared.statement.WrittenBinding.{WrittenBinding}
 
 -- a number as a name
 abbrev pub as_name : ℕ → List ℕ

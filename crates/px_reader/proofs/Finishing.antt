@@ -1,22 +1,14 @@
 -- What a script is about, made of what its lines have declared.
-use Rattle.std.proofs.Common.{◌≡◌, ◌<◌, ◌≤◌, ◌+◌, ℕ, List, map, length, refl, sym, ap, ◌∙◌, subst, arith}
-use Rattle.std.specs.Prelude.{IfSome, Option, None, Some}
-use Rattle.std.specs.Option.{option_map}
+use Rattle.px_reader.proofs.Common.{◌≡◌, ◌<◌, ◌≤◌, ◌+◌, ℕ, List, map, length, refl, sym, ap, ◌∙◌, subst, arith, IfSome, Option, None, Some, option_map, Atom, Problem, ScriptValue, content_of, facts_of, own_problem, problem_of, Declared, greatest, command_view, script_of}
 use Rattle.px_ops.specs.ModelValue.{ModelValue}
 use Rattle.px_rooms.specs.declared.building.Building.{Building}
 use Rattle.px_rooms.specs.Domain.{building_problem}
 use Rattle.px_rooms.specs.States.{IsBuilding, first_state, rendering, standings}
 use Rattle.px_rooms.proofs.Starting.{objects_are}
-use Rattle.px_terms.specs.declared.atom.Atom.{Atom}
-use Rattle.px_terms.specs.declared.problem.Problem.{Problem}
 use Rattle.px_world.specs.declared.thing.Thing.{Thing}
 use Rattle.px_script.specs.Commands as spec
-use Rattle.px_script.specs.Content.{ScriptValue, content_of, facts_of, own_problem, problem_of}
-use Rattle.px_script.specs.Declarations.{Declared}
 use Rattle.px_script.specs.Limits as limit
-use Rattle.px_script.specs.Limits.{greatest}
 use Rattle.px_script.specs.Ranges.{IsBuildingOf, IsInRange}
-use Rattle.px_reader.specs.CommandViews.{command_view, script_of}
 use Rattle.px_reader.specs.declared.command.Command.{Command}
 
 abbrev pub things_of : Option Building → Option (List Thing)
@@ -50,7 +42,8 @@ module _ (d : Declared) (r : IsInRange (content_of d)) (b : Option Building) (is
       (λ t of_things. omega (arith, few, of_things.objects, objects_are t of_things.is_building.0))
 
   pub has-objects : (own : Problem) → own ≡ own_problem d → IfSome b (λ building. own.objects ≡ length (standings building.things) + 1)
-  has-objects own own_is = each (λ t. own.objects ≡ length (standings t) + 1) (λ t of_things. ap (λ p. p.objects) own_is ∙ of_things.objects)
+  has-objects own own_is = each (λ t. own.objects ≡ length (standings t) + 1) (λ t of_things. ap (λ p. p.objects) own_is
+      ∙ of_things.objects)
 
 -- the limits of the problem are the script's
 same-limits : (own : Problem) (things : Option (List Thing)) → ((problem_of own things).height ≡ own.height)

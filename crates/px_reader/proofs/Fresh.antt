@@ -1,32 +1,13 @@
 -- The names that a line without a fault declares are welcome: they are names, they are new, and there is room for them.
-use Rattle.std.proofs.Common.{◌≡◌, ◌<◌, ◌≤◌, ◌+◌, ℕ, zero, suc, Bool, true, false, List, [], ◌∷◌, ◌++◌, map, take, length, get_or, refl, sym, ap, ◌∙◌, subst, arith, append_assoc}
-use Rattle.std.specs.Prelude.{None, Result, Err, nat_lt, All, Contains}
-use Rattle.std.proofs.lemmas.Bool.Decides.{nat_tests}
-use Rattle.std.proofs.lemmas.List.{append-nil, length-append, length-map, length-take-le, map-append, take_more}
-use Rattle.std.proofs.lemmas.List.Elements.{All-head}
-use Rattle.px_names.specs.Lists.{NameLists, IsOneTooMany, names_of, limit_of, has_name, refusal, with_name}
-use Rattle.px_names.specs.Name.{IsName, is_name_text}
+use Rattle.px_reader.proofs.Common.{◌≡◌, ◌<◌, ◌≤◌, ◌+◌, ℕ, zero, suc, true, false, List, [], ◌∷◌, ◌++◌, map, take, length, get_or, refl, sym, ap, ◌∙◌, subst, arith, append_assoc, None, Result, Err, nat_lt, All, Contains, nat_tests, append-nil, length-map, length-take-le, map-append, take_more, All-head, NameLists, IsOneTooMany, limit_of, has_name, refusal, with_name, IsName, is_name_text, repeats, Declared, greatest, object, is-new, AreInRange, at-most, repeats-none, with_more, Reader, text_of}
+use Rattle.std.proofs.lemmas.List.{length-append}
+use Rattle.px_names.specs.Lists.{names_of}
 use Rattle.px_names.specs.NameLaws.{refusal-none}
 use Rattle.px_names.specs.declared.kind.Kind.{Kind}
 use Rattle.px_names.specs.declared.kind.NameErr.{NameErr}
 use Rattle.px_names.specs.declared.kind.NameErr.TheVariants.{BadName, Duplicate, Full, NoMemory}
 use Rattle.px_names.specs.declared.kind.Kind.TheVariants as kind
-use Rattle.px_script.specs.Causes.{repeats}
-use Rattle.px_script.specs.Declarations.{Declared, variables_of}
-use Rattle.px_script.specs.Items.{SignedAtom}
 use Rattle.px_script.specs.Limits as limit
-use Rattle.px_script.specs.Limits.{greatest}
-use Rattle.px_script.specs.Statements.{line_of, object, predicate, operator, building, room, door, box, plan, learn}
-use Rattle.px_script.proofs.Faultless.{IsFaultless, stands-right}
-use Rattle.px_script.proofs.KeptDomain.{no-building}
-use Rattle.px_script.proofs.KeptNames.{is-new}
-use Rattle.px_script.proofs.States.{AreInRange, HasNoDomain}
-use Rattle.px_script.proofs.Tests.{or-false, at-most, passes-test}
-use Rattle.px_script.proofs.Twice.{repeats-none}
-use Rattle.px_reader.specs.Checks.{DeclaresNames}
-use Rattle.px_reader.specs.Readers.{with_more}
-use Rattle.px_reader.specs.declared.reader.Reader.{Reader}
-use Rattle.px_reader.specs.StatementViews.{text_of}
 use denote.Ref.{Bor}
 
 within : (n most : ℕ) → n < most → nat_lt n most ≡ true
@@ -47,97 +28,67 @@ new-at others (n ∷ ns) (suc k) x single below =
     subst P (append_assoc others (n.now ∷ []) (map text_of (take k ns))) (new-at (others ++ n.now ∷ []) ns k x more (omega (arith, below)))
 
 module _ (d : Declared) (r : AreInRange d) where
-  few-objects : (more : ℕ) → length d.names.objects + more ≤ greatest d.version limit.objects → length d.names.objects + more ≤ 256
-  few-objects more few = let P : ℕ → Type 0 = λ v. length d.names.objects + more ≤ greatest v limit.objects in subst P r.version few
+  few-objects : (more : ℕ) → nat_lt (greatest d.version limit.objects) (length d.names.objects + more) ≡ false
+      → length d.names.objects + more ≤ 256
+  few-objects more few =
+      let P : ℕ → Type 0 = λ v. length d.names.objects + more ≤ greatest v limit.objects in subst P r.version (at-most _ _ few)
 
   -- one more object
-  object-fresh : (name : List ℕ) → is_name_text name ≡ true → repeats d.names.objects (name ∷ []) ≡ false
-      → length d.names.objects + 1 ≤ greatest d.version limit.objects → refusal kind.Object d.names name ≡ None
+  pub object-fresh : (name : List ℕ) → All (λ n. is_name_text n ≡ true) (name ∷ []) → repeats d.names.objects (name ∷ []) ≡ false
+      → nat_lt (greatest d.version limit.objects) (length d.names.objects + 1) ≡ false → refusal kind.Object d.names name ≡ None
   object-fresh name named single few =
-      let most = few-objects 1 few in welcome kind.Object d.names name named (is-new d.names.objects name single) (omega (arith, most))
+      let most = few-objects 1 few in
+      welcome kind.Object d.names name (All-head (λ n. is_name_text n ≡ true) name [] named) (is-new d.names.objects name single)
+      (omega (arith, most))
 
   -- one more result, with a command more
-  result-fresh : (name : List ℕ) → is_name_text name ≡ true → repeats d.names.results (name ∷ []) ≡ false
-      → length d.commands + 1 ≤ greatest d.version limit.commands → refusal kind.Result d.names name ≡ None
+  pub result-fresh : (name : List ℕ) → All (λ n. is_name_text n ≡ true) (name ∷ []) → repeats d.names.results (name ∷ []) ≡ false
+      → nat_lt (greatest d.version limit.commands) (length d.commands + 1) ≡ false → refusal kind.Result d.names name ≡ None
   result-fresh name named single few =
       let P : ℕ → Type 0 = λ v. length d.commands + 1 ≤ greatest v limit.commands in
-      let most : length d.commands + 1 ≤ 512 = subst P r.version few in
+      let most : length d.commands + 1 ≤ 512 = subst P r.version (at-most _ _ few) in
       let results = r.results.few in
-      welcome kind.Result d.names name named (is-new d.names.results name single) (omega (arith, most, results))
+      welcome kind.Result d.names name (All-head (λ n. is_name_text n ≡ true) name [] named) (is-new d.names.results name single)
+      (omega (arith, most, results))
 
-  pub objects-single : (ns : List (List ℕ)) → IsFaultless d (object ns) → repeats d.names.objects ns ≡ false
-  objects-single ns f = (or-false _ false (or-false _ false f.right.single).0).0
+  pub predicate-fresh : (name : List ℕ) → All (λ n. is_name_text n ≡ true) (name ∷ []) → repeats d.names.predicates (name ∷ []) ≡ false
+      → nat_lt 64 (length d.names.predicates + 1) ≡ false → refusal kind.Predicate d.names name ≡ None
+  predicate-fresh name named single full =
+      let few = at-most _ _ full in
+      welcome kind.Predicate d.names name (All-head (λ n. is_name_text n ≡ true) name [] named) (is-new d.names.predicates name single)
+      (omega (arith, few))
 
-  pub objects-few : (ns : List (List ℕ)) → IsFaultless d (object ns) → length d.names.objects + length ns ≤ 256
-  objects-few ns f = few-objects (length ns)
-      (at-most (greatest d.version limit.objects) (length d.names.objects + length ns) (passes-test _ _ _ f.limits).0)
+  pub operator-fresh : (name : List ℕ) → All (λ n. is_name_text n ≡ true) (name ∷ []) → repeats d.names.operators (name ∷ []) ≡ false
+      → nat_lt 32 (length d.names.operators + 1) ≡ false → refusal kind.Operator d.names name ≡ None
+  operator-fresh name named single full =
+      let few = at-most _ _ full in
+      welcome kind.Operator d.names name (All-head (λ n. is_name_text n ≡ true) name [] named) (is-new d.names.operators name single)
+      (omega (arith, few))
 
-  pub predicate-fresh : (name : List ℕ) (arity : ℕ) → IsFaultless d (predicate name arity) → DeclaresNames (predicate name arity)
-      → refusal kind.Predicate d.names name ≡ None
-  predicate-fresh name arity f named =
-      let single = (or-false (repeats d.names.predicates (name ∷ [])) false (or-false _ false f.right.single).0).0 in
-      let few = at-most 64 (length d.names.predicates + 1) (passes-test _ _ _ f.limits).0 in
-      welcome kind.Predicate d.names name (All-head (λ n. is_name_text n ≡ true) name [] named.0)
-      (is-new d.names.predicates name single) (omega (arith, few))
-
-  pub operator-fresh : (name : List ℕ) (ps : List (List ℕ)) → IsFaultless d (operator name ps) → DeclaresNames (operator name ps)
-      → refusal kind.Operator d.names name ≡ None
-  operator-fresh name ps f named =
-      let single = (or-false (repeats d.names.operators (name ∷ [])) _ (or-false _ false f.right.single).0).0 in
-      let few = at-most 32 (length d.names.operators + 1) (passes-test _ _ _ f.limits).0 in
-      welcome kind.Operator d.names name (All-head (λ n. is_name_text n ≡ true) name [] named.0)
-      (is-new d.names.operators name single) (omega (arith, few))
-
-  pub room-fresh : (name : List ℕ) → IsFaultless d (room name) → DeclaresNames (room name) → refusal kind.Object d.names name ≡ None
-  room-fresh name f named = object-fresh name (All-head (λ n. is_name_text n ≡ true) name [] named.0)
-      (or-false (repeats d.names.objects (name ∷ [])) false (or-false _ false f.right.single).0).0
-      (at-most (greatest d.version limit.objects) (length d.names.objects + 1) (passes-test _ _ _ f.limits).0)
-
-  pub door-fresh : (name one other : List ℕ) (is_open : Bool) → IsFaultless d (door name one other is_open)
-      → DeclaresNames (door name one other is_open) → refusal kind.Object d.names name ≡ None
-  door-fresh name one other is_open f named = object-fresh name (All-head (λ n. is_name_text n ≡ true) name [] named.0)
-      (or-false (repeats d.names.objects (name ∷ [])) false (or-false _ _ f.right.single).0).0
-      (at-most (greatest d.version limit.objects) (length d.names.objects + 1) (passes-test _ _ _ f.limits).0)
-
-  pub box-fresh : (name in_room : List ℕ) → IsFaultless d (box name in_room) → DeclaresNames (box name in_room)
-      → refusal kind.Object d.names name ≡ None
-  box-fresh name in_room f named = object-fresh name (All-head (λ n. is_name_text n ≡ true) name [] named.0)
-      (or-false (repeats d.names.objects (name ∷ [])) false (or-false _ false f.right.single).0).0
-      (at-most (greatest d.version limit.objects) (length d.names.objects + 1) (passes-test _ _ _ f.limits).0)
-
-  pub plan-fresh : (name : List ℕ) (xs : List SignedAtom) → IsFaultless d (plan name xs) → DeclaresNames (plan name xs)
-      → refusal kind.Result d.names name ≡ None
-  plan-fresh name xs f named =
-      let atoms = passes-test (nat_lt (greatest d.version limit.variables) (length (variables_of xs))) _ _ f.limits in
-      let commands = passes-test (nat_lt (greatest d.version limit.goal_atoms) (length xs)) _ _ atoms.1 in
-      result-fresh name (All-head (λ n. is_name_text n ≡ true) name [] named.0)
-      (or-false (repeats d.names.results (name ∷ [])) false (or-false _ false f.right.single).0).0
-      (at-most (greatest d.version limit.commands) (length d.commands + 1) (passes-test (nat_lt (greatest d.version limit.commands) (length d.commands + 1)) _ _ commands.1).0)
-
-  pub learn-fresh : (name source : List ℕ) → IsFaultless d (learn name source) → DeclaresNames (learn name source)
-      → refusal kind.Result d.names name ≡ None
-  learn-fresh name source f named = result-fresh name (All-head (λ n. is_name_text n ≡ true) name [] named.0)
-      (or-false (repeats d.names.results (name ∷ [])) false (or-false _ false f.right.single).0).0
-      (at-most (greatest d.version limit.commands) (length d.commands + 1) (passes-test _ _ _ f.limits).0)
-
-  -- a building stands where nothing of a domain does
-  pub building-alone : IsFaultless d building → HasNoDomain d.names d.arities
-  building-alone f = r.own_domain (stands-right d (line_of building) f.right.order).domains (no-building d f.right.single)
+  pub objects-few : (ns : List (List ℕ)) → nat_lt (greatest d.version limit.objects) (length d.names.objects + length ns) ≡ false
+      → length d.names.objects + length ns ≤ 256
+  objects-few ns few = few-objects (length ns) few
 
 -- the names of a kind with more of them
 
 pub more-none : (k : Kind) (names : NameLists) → names ≡ with_more k [] names
 more-none kind.Object names = let P : List (List ℕ) → NameLists = λ t. record names { objects = t } in ap P (sym (append-nil names.objects))
-more-none kind.Predicate names = let P : List (List ℕ) → NameLists = λ t. record names { predicates = t } in ap P (sym (append-nil names.predicates))
-more-none kind.Operator names = let P : List (List ℕ) → NameLists = λ t. record names { operators = t } in ap P (sym (append-nil names.operators))
+more-none kind.Predicate names = let P : List (List ℕ)
+    → NameLists = λ t. record names { predicates = t } in ap P (sym (append-nil names.predicates))
+more-none kind.Operator names = let P : List (List ℕ)
+    → NameLists = λ t. record names { operators = t } in ap P (sym (append-nil names.operators))
 more-none kind.Result names = let P : List (List ℕ) → NameLists = λ t. record names { results = t } in ap P (sym (append-nil names.results))
 
 pub more-next : (k : Kind) (ns : List (List ℕ)) (n : List ℕ) (names : NameLists)
     → with_name k n (with_more k ns names) ≡ with_more k (ns ++ n ∷ []) names
-more-next kind.Object ns n names = let P : List (List ℕ) → NameLists = λ t. record names { objects = t } in ap P (append_assoc names.objects ns (n ∷ []))
-more-next kind.Predicate ns n names = let P : List (List ℕ) → NameLists = λ t. record names { predicates = t } in ap P (append_assoc names.predicates ns (n ∷ []))
-more-next kind.Operator ns n names = let P : List (List ℕ) → NameLists = λ t. record names { operators = t } in ap P (append_assoc names.operators ns (n ∷ []))
-more-next kind.Result ns n names = let P : List (List ℕ) → NameLists = λ t. record names { results = t } in ap P (append_assoc names.results ns (n ∷ []))
+more-next kind.Object ns n names = let P : List (List ℕ)
+    → NameLists = λ t. record names { objects = t } in ap P (append_assoc names.objects ns (n ∷ []))
+more-next kind.Predicate ns n names = let P : List (List ℕ)
+    → NameLists = λ t. record names { predicates = t } in ap P (append_assoc names.predicates ns (n ∷ []))
+more-next kind.Operator ns n names = let P : List (List ℕ)
+    → NameLists = λ t. record names { operators = t } in ap P (append_assoc names.operators ns (n ∷ []))
+more-next kind.Result ns n names = let P : List (List ℕ)
+    → NameLists = λ t. record names { results = t } in ap P (append_assoc names.results ns (n ∷ []))
 
 more-names : (k : Kind) (ns : List (List ℕ)) (names : NameLists) → names_of k (with_more k ns names) ≡ names_of k names ++ ns
 more-names kind.Object ns names = refl

@@ -1,10 +1,9 @@
+pub mod Common
 -- characters and tokens
 pub mod Texts
 pub mod Numbers
 pub mod LineFronts
-pub mod TokenLemmas
 -- lists of tokens
-pub mod Steps
 pub mod Walks
 pub mod Parameters
 -- tests of a line
@@ -12,13 +11,13 @@ pub mod AtomTests
 pub mod Variables
 pub mod Seen
 pub mod Bound
-pub mod FactSets
 pub mod Facts
 -- what a line adds
 pub mod Named
 pub mod Right
 pub mod Fresh
 -- lines, and the whole input
+pub mod Late
 pub mod Finishing
 pub mod LineLemmas
 pub mod LineSteps

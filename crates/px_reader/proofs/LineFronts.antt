@@ -1,14 +1,5 @@
 -- A line that is read from its front.
-use Rattle.std.proofs.Common.{◌≡◌, ℕ, List, [], ◌∷◌, ◌++◌, refl, sym, ap, ◌∙◌, subst, append_assoc}
-use Rattle.std.proofs.lemmas.List.{append-nil}
-use Rattle.px_script.specs.Lexemes.{Lexeme, Lexes, Begins}
-use Rattle.px_script.proofs.Scanning.{found, ignored, bad, first}
-use Rattle.px_reader.specs.Progress.{ReadSoFar}
-use Rattle.px_script.proofs.Firsts.{begins-found, ignored-scanned, found-begins, scanned-ignored}
-use Rattle.px_script.proofs.Readings.{Begins-same, Begins-not-ignored}
-
-pub nothing-read : (line : List ℕ) → ReadSoFar line [] line
-nothing-read line = record { goes_on = λ more is. is; only = λ all is. (all, refl, is) }
+use Rattle.px_reader.proofs.Common.{◌≡◌, ℕ, List, [], ◌∷◌, ◌++◌, sym, ap, ◌∙◌, subst, append_assoc, append-nil, Lexeme, Lexes, Begins, found, ignored, bad, first, ReadSoFar, begins-found, ignored-scanned, found-begins, scanned-ignored, Begins-same, Begins-not-ignored}
 
 step-only : (rest after : List ℕ) (l : Lexeme) → Begins rest l after → (more : List Lexeme) → Lexes rest more
     → (fewer : List Lexeme) × (more ≡ l ∷ fewer) × Lexes after fewer

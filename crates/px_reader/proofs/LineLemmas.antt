@@ -1,28 +1,9 @@
 -- Lines without what ends them, and what reading a line shows.
-use Rattle.std.proofs.Common.{◌≡◌, ◌≢◌, ℕ, ◌+◌, ◌-◌, ◌<◌, true, List, [], ◌∷◌, ◌++◌, take, drop, length, get_or, refl, sym, ap, ◌∙◌, subst, inl, inr, arith}
-use Rattle.std.specs.Prelude.{Option, None, Some, Result, Ok, Err, OnOk, IfErr, encode_utf8, slice_index, ◌==◌}
-use Rattle.std.specs.Str.{all_scalars, bytes_eq}
+use Rattle.px_reader.proofs.Common.{◌≡◌, ◌≢◌, ℕ, ◌+◌, ◌-◌, ◌<◌, true, List, [], ◌∷◌, ◌++◌, take, drop, length, get_or, refl, sym, ap, ◌∙◌, subst, inl, inr, arith, Option, None, Some, Result, Ok, Err, OnOk, IfErr, slice_index, ◌==◌, all_scalars, bytes_eq, eqb-true, take-append-drop, take_more, take_all, bytes_eq-Decides, Lexeme, name, Lexes, mark, without_mark, without_return, Statement, line_of, Forms, begins_with_word, is_formed, Declared, after_line, fault_at, coded, Stage, Passes, Fails, parse-sound, parse-complete, by_test, parse, Token, lexemes_of, DeclaresNames, StatementFails, LineFails}
+use Rattle.std.specs.Prelude.{encode_utf8}
 use Rattle.std.specs.Str.Pattern.{HasCharAt}
-use Rattle.std.proofs.lemmas.Bool.{eqb-true}
-use Rattle.std.proofs.lemmas.List.{take-append-drop, take_more, take_all}
-use Rattle.std.proofs.lemmas.Slice.Eq.{bytes_eq-Decides}
-use Rattle.px_script.specs.Lexemes.{Lexeme, name, Lexes}
-use Rattle.px_script.specs.Lines.{mark, without_mark, without_return}
-use Rattle.px_script.specs.Statements.{Statement, line_of}
-use Rattle.px_script.specs.Forms.{Forms, begins_with_word, is_formed}
-use Rattle.px_script.specs.Declarations.{Declared, after_line}
-use Rattle.px_script.specs.Faults.{fault_at, coded}
-use Rattle.px_script.specs.Stages.{Stage}
-use Rattle.px_script.specs.Scripts.{Passes, Fails}
-use Rattle.px_script.proofs.Forms.{parse-sound, parse-complete}
-use Rattle.px_script.proofs.Fronts.{by_test}
-use Rattle.px_script.proofs.Parsing.{parse}
 use Rattle.px_reader.specs.declared.fault.LineErr.{LineErr}
 use Rattle.px_reader.specs.declared.fault.LineErr.TheVariants.{Fault, NoMemory}
-use Rattle.px_reader.specs.declared.token.Token.{Token}
-use Rattle.px_reader.specs.StatementViews.{lexemes_of}
-use Rattle.px_reader.specs.Checks.{DeclaresNames}
-use Rattle.px_reader.specs.LineReads.{StatementFails, LineFails}
 use Rattle.px_reader.proofs.Named.{declared-named}
 use lib.Utf8.{encode}
 

@@ -1,19 +1,14 @@
 -- Reading line after line.
-use Rattle.std.proofs.Common.{◌≡◌, ℕ, ◌+◌, ◌<◌, ◌≤◌, List, ◌∷◌, map, drop, length, get_or, refl, sym, ap, ◌∙◌, subst, inl, inr}
-use Rattle.std.proofs.lemmas.List.{drop_more, drop_all}
-use Rattle.px_script.specs.Declarations.{Declared, nothing_declared}
-use Rattle.px_script.specs.Faults.{Refusal}
-use Rattle.px_script.proofs.States.{AreInRange}
-use Rattle.px_script.specs.Stages.{Stage}
-use Rattle.px_script.specs.Scripts.{Passes, Fails, PassAll, FailsIn}
-use Rattle.px_script.proofs.Kept.{passes-kept, start-in-range}
+use Rattle.px_reader.proofs.Common.{◌≡◌, ℕ, ◌+◌, ◌<◌, ◌≤◌, List, ◌∷◌, map, drop, length, get_or, refl, sym, ap, ◌∙◌, subst, inl, inr, drop_more, drop_all, Declared, nothing_declared, Refusal, AreInRange, Stage, Passes, Fails, PassAll, FailsIn, passes-kept, start-in-range}
 
 module _ {X : Type 0} (stage : Stage) (text : X → List ℕ) (xs : List X) where
   -- The lines before line k + 1 have declared this: what the rest shows, all lines show.
   pub record HasRead (d : Declared) (k : ℕ) : Type 0 where
     pub in_range : AreInRange d
-    pub passes : (last : Declared) → PassAll stage (k + 1) d (map text (drop k xs)) last → PassAll stage 1 nothing_declared (map text xs) last
-    pub fails : (at : ℕ) (r : Refusal) → FailsIn stage (k + 1) d (map text (drop k xs)) at r → FailsIn stage 1 nothing_declared (map text xs) at r
+    pub passes : (last : Declared) → PassAll stage (k + 1) d (map text (drop k xs)) last
+        → PassAll stage 1 nothing_declared (map text xs) last
+    pub fails : (at : ℕ) (r : Refusal) → FailsIn stage (k + 1) d (map text (drop k xs)) at r
+        → FailsIn stage 1 nothing_declared (map text xs) at r
 
   pub none-read : (d : Declared) → d ≡ nothing_declared → HasRead d 0
   none-read d e = subst (λ d. HasRead d 0) (sym e)
@@ -27,7 +22,8 @@ module _ {X : Type 0} (stage : Stage) (text : X → List ℕ) (xs : List X) wher
   more-read d after k e t below is so passes = record {
     in_range = passes-kept stage (k + 1) d passes.0 after so.in_range passes.2;
     passes = λ last rest. so.passes last (subst (λ ls. PassAll stage (k + 1) d ls last) (sym (next k e t below is)) (after, passes, rest));
-    fails = λ at r rest. so.fails at r (subst (λ ls. FailsIn stage (k + 1) d ls at r) (sym (next k e t below is)) (inr (after, passes, rest)));
+    fails = λ at r rest. so.fails at r (subst (λ ls. FailsIn stage (k + 1) d ls at r) (sym (next k e t below is))
+        (inr (after, passes, rest)));
   }
 
   pub all-read : (d : Declared) (k : ℕ) → length xs ≤ k → HasRead d k → PassAll stage 1 nothing_declared (map text xs) d

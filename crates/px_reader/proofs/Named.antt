@@ -1,18 +1,5 @@
 -- The names in the lexemes of a line are names, and so are those that a line declares.
-use Rattle.std.proofs.Common.{◌≡◌, ℕ, true, List, [], ◌∷◌, ◌++◌, map, refl, sym, ap, ◌∙◌, subst, arith}
-use Rattle.std.specs.Prelude.{All}
-use Rattle.std.specs.List.{AllByRecursion, flat_map}
-use Rattle.std.specs.Str.{chars, all_scalars}
-use Rattle.std.proofs.lemmas.List.Elements.{All-cons}
-use Rattle.std.proofs.lemmas.Str.{chars-encodes}
-use Rattle.px_names.specs.Name.{is_name, is_name_text}
-use Rattle.px_script.specs.Lexemes.{Lexeme, IsLexeme, name, variable, number, sign, Begins, Lexes}
-use Rattle.px_script.specs.Items.{Item, the, amounts, declared, listed, wanted, atoms, bindings, room_edits, arguments, terms, pairs, with_commas, spell, declared_in}
-use Rattle.px_script.specs.Statements.{Statement, line_of}
-use Rattle.px_script.specs.Declarations.{Declared}
-use Rattle.px_script.specs.Forms.{Forms}
-use Rattle.px_script.proofs.Firsts.{and_both}
-use Rattle.px_reader.specs.Checks.{IsNamedGroup, DeclaresNames}
+use Rattle.px_reader.proofs.Common.{◌≡◌, ℕ, true, List, [], ◌∷◌, ◌++◌, map, refl, sym, ap, ◌∙◌, subst, All, AllByRecursion, flat_map, chars, all_scalars, All-cons, chars-encodes, is_name, is_name_text, Lexeme, IsLexeme, name, sign, Begins, Lexes, Item, declared, listed, with_commas, spell, declared_in, Statement, line_of, Declared, Forms, and_parts, IsNamedGroup, DeclaresNames, All-nil}
 
 abbrev pub IsRightName : Lexeme → Type 0
 IsRightName (name text) = is_name_text text ≡ true
@@ -21,13 +8,11 @@ IsRightName _ = Unit {0}
 scalars-parts : (xs ys : List ℕ) → all_scalars (xs ++ ys) ≡ true → (all_scalars xs ≡ true) × (all_scalars ys ≡ true)
 scalars-parts [] ys e = (refl, e)
 scalars-parts (x ∷ xs) ys e =
-    let both = and_both _ (all_scalars (xs ++ ys)) e in let more = scalars-parts xs ys both.1 in (rw (both.0, more.0) refl, more.1)
+    let both = and_parts _ (all_scalars (xs ++ ys)) e in let more = scalars-parts xs ys both.1 in (rw (both.0, more.0) refl, more.1)
 
 text-right : (l : Lexeme) (text : List ℕ) → IsLexeme l text → all_scalars text ≡ true → IsRightName l
 text-right (name n) text is scalars = ap is_name (ap chars is.1 ∙ chars-encodes text scalars) ∙ is.0
-text-right (variable v) text is scalars = tt
-text-right (number v) text is scalars = tt
-text-right (sign v) text is scalars = tt
+text-right _ text is scalars = tt
 
 right-name : (l : Lexeme) (line rest : List ℕ) → all_scalars line ≡ true → Begins line l rest → IsRightName l × (all_scalars rest ≡ true)
 right-name l line rest scalars begins =
@@ -50,31 +35,20 @@ joined : {A : Type 0} (P : A → Type 0) (xs ys : List A) → AllByRecursion P x
 joined P [] ys h g = g
 joined P (x ∷ xs) ys h g = (h.0, joined P xs ys h.1 g)
 
-none-named : All (λ n. is_name_text n ≡ true) []
-none-named = λ k d below. absurd (omega (arith, below))
-
 all-named : (ns : List (List ℕ)) → AllByRecursion IsRightName (map name ns) → All (λ n. is_name_text n ≡ true) ns
-all-named [] h = none-named
+all-named [] h = All-nil _
 all-named (n ∷ ns) h = All-cons (λ m. is_name_text m ≡ true) n ns h.0 (all-named ns h.1)
 
 listed-named : (n : List ℕ) (ns : List (List ℕ)) → AllByRecursion IsRightName (with_commas (map name (n ∷ ns)) ++ sign 41 ∷ [])
     → All (λ m. is_name_text m ≡ true) (n ∷ ns)
-listed-named n [] h = All-cons (λ m. is_name_text m ≡ true) n [] h.0 none-named
+listed-named n [] h = All-cons (λ m. is_name_text m ≡ true) n [] h.0 (All-nil _)
 listed-named n (m ∷ ns) h = All-cons (λ m. is_name_text m ≡ true) n (m ∷ ns) h.0 (listed-named m ns h.1.1)
 
 item-named : (item : Item) → AllByRecursion IsRightName (spell item) → AllByRecursion IsNamedGroup (declared_in item)
 item-named (declared kind ns) h = (all-named ns h, tt)
-item-named (listed kind []) h = (none-named, tt)
+item-named (listed kind []) h = (All-nil _, tt)
 item-named (listed kind (n ∷ ns)) h = (listed-named n ns h.1, tt)
-item-named (the word) h = tt
-item-named (amounts ns) h = tt
-item-named (wanted kind ns) h = tt
-item-named (atoms xs) h = tt
-item-named (bindings bs) h = tt
-item-named (room_edits es) h = tt
-item-named (arguments ts) h = tt
-item-named (terms ts) h = tt
-item-named (pairs ps) h = tt
+item-named _ h = tt
 
 items-named : (items : List Item) → AllByRecursion IsRightName (flat_map spell items)
     → AllByRecursion IsNamedGroup (flat_map declared_in items)

@@ -1,15 +1,5 @@
 -- The number of decimal digits, up to 32 bits.
-use Rattle.std.proofs.Common.{◌≡◌, ℕ, ◌<◌, ◌^◌, ◌-◌, true, List, [], ◌∷◌, length, min, refl, sym, ◌∙◌, subst, inl, inr, arith}
-use Rattle.std.proofs.lemmas.Bool.{cases_lt}
-use Rattle.std.proofs.lemmas.Str.{encode_ascii, encodes-chars}
-use Rattle.std.specs.Char.{is_ascii_digit}
-use Rattle.std.specs.Prelude.{Result, Ok, Err, encode_utf8_all}
-use Rattle.std.specs.Result.{OkIff, result_unwrap_or}
-use Rattle.std.specs.Str.{IsUtf8, chars, all_ascii_digits}
-use Rattle.std.specs.Str.Parse.{ParsesUnsigned, digits_value}
-use Rattle.std.proofs.lemmas.Str.Parse.{IsNumeralModel, parse_digits, numerals_by_value, tells_all_ascii_digits}
-use Rattle.px_script.specs.Lexemes.{number_value}
-use Rattle.px_script.proofs.Firsts.{and_both, digit-range}
+use Rattle.px_reader.proofs.Common.{◌≡◌, ℕ, ◌<◌, ◌^◌, ◌-◌, true, List, [], ◌∷◌, length, min, refl, sym, ◌∙◌, subst, inl, inr, arith, cases_lt, encode_ascii, encodes-chars, is_ascii_digit, Result, Ok, Err, encode_utf8_all, OkIff, result_unwrap_or, IsUtf8, chars, all_ascii_digits, ParsesUnsigned, digits_value, IsNumeralModel, parse_digits, numerals_by_value, tells_all_ascii_digits, number_value, and_parts, digit-range}
 
 pub own : IsNumeralModel (λ ds. all_ascii_digits ds ≡ true) (digits_value 10)
 own = numerals_by_value (λ ds. all_ascii_digits ds ≡ true) tells_all_ascii_digits
@@ -23,7 +13,7 @@ capped (Err e) value P p is = elim (cases_lt value (2 ^ 32)) [ inl small ↦ abs
 pub encodes-digits : (cs : List ℕ) → all_ascii_digits cs ≡ true → encode_utf8_all cs ≡ cs
 encodes-digits [] all = refl
 encodes-digits (c ∷ cs) all =
-    let both = and_both (is_ascii_digit c) (all_ascii_digits cs) all in
+    let both = and_parts (is_ascii_digit c) (all_ascii_digits cs) all in
     let range = digit-range c both.0 in
     rw (encode_ascii c (omega (arith, range.1)), encodes-digits cs both.1) refl
 

@@ -1,27 +1,11 @@
 -- What reading a text, and bytes, ends with.
-use Rattle.std.proofs.Common.{◌≡◌, ℕ, ◌+◌, ◌≤◌, List, [], ◌∷◌, map, take, length, refl, sym, ap, ◌∙◌, subst, inr, arith}
-use Rattle.std.specs.Prelude.{Some, Result, Ok, Err, IfOk, IfErr, count_by, ◌==◌}
-use Rattle.std.specs.Result.{IsErrAnd}
-use Rattle.std.specs.List.{slice_split}
-use Rattle.std.specs.Str.{IsUtf8, bytes_eq, chars}
-use Rattle.std.proofs.lemmas.List.{length-map, length-drop}
-use Rattle.std.proofs.lemmas.Simd.{map-map}
-use Rattle.std.proofs.lemmas.List.Sums.{count_by-le-length}
+use Rattle.px_reader.proofs.Common.{◌≡◌, ℕ, ◌+◌, ◌≤◌, List, [], ◌∷◌, map, take, length, refl, sym, ap, ◌∙◌, subst, inr, arith, Some, Result, Ok, Err, IfOk, IfErr, count_by, ◌==◌, IsErrAnd, slice_split, IsUtf8, bytes_eq, chars, length-map, length-drop, map-map, count_by-le-length, ScriptValue, Declared, OpenBlock, Refusal, mark, without_mark, without_return, lines_of, Stage, PassAll, FailsIn, IsScript, FirstFault, ReadsOneWay, by_test, of-stage, characters_of, LinesFail, HasFirstFault, IsRead, IsRefused, NamesFault, content, refusal_told}
 use Rattle.std.proofs.lemmas.List.Splits.{length-slice_split}
-use Rattle.px_script.specs.Content.{ScriptValue}
-use Rattle.px_script.specs.Declarations.{Declared, OpenBlock}
-use Rattle.px_script.specs.Faults.{Refusal}
-use Rattle.px_script.specs.Lines.{mark, without_mark, without_return, lines_of}
 use Rattle.px_script.specs.StageRanges.{IsOfStage}
-use Rattle.px_script.specs.Stages.{Stage}
-use Rattle.px_script.specs.Scripts.{PassAll, FailsIn, IsScript, FirstFault, ReadsOneWay}
-use Rattle.px_script.proofs.Fronts.{by_test}
 use Rattle.px_script.proofs.Law.{reads-one-way}
-use Rattle.px_script.proofs.Stage.{of-stage}
 use Rattle.px_reader.specs.declared.script.Script.{Script}
 use Rattle.px_reader.specs.declared.script.ScriptErr.{ScriptErr}
 use Rattle.px_reader.specs.declared.script.ScriptErr.TheVariants.{Refused, NoMemory}
-use Rattle.px_reader.specs.LineReads.{characters_of, LinesFail, HasFirstFault, IsRead, IsRefused, NamesFault, content, refusal_told}
 use denote.Ref.{Bor}
 
 pub text-fails : (stage : Stage) (text : List ℕ) (error : ScriptErr) → IsUtf8 text → LinesFail stage (lines_of text) error
@@ -30,7 +14,8 @@ text-fails stage text (Refused refused) utf8 fails = inr (utf8, fails)
 text-fails stage text NoMemory utf8 fails = tt
 
 -- after lines without a fault an open block is the first
-pub left-open : (stage : Stage) (n : ℕ) (d : Declared) (lines : List (List ℕ)) (last : Declared) (block : OpenBlock) → PassAll stage n d lines last
+pub left-open : (stage : Stage) (n : ℕ) (d : Declared) (lines : List (List ℕ)) (last : Declared) (block : OpenBlock)
+    → PassAll stage n d lines last
     → last.block ≡ Some block → FailsIn stage n d lines block.line (record { code = 10; limit = 0 })
 left-open stage n d [] last block same opened = (block, ap (λ e. e.block) (sym same) ∙ opened, refl, refl)
 left-open stage n d (line ∷ lines) last block passes opened
@@ -83,6 +68,7 @@ module _ (stage : Stage) (bytes : List ℕ) where
   all-faults (Err error) script fault line refusal first = error-named error fault line refusal first
 
   -- what a script has of the stage
-  pub of-stage-read : (r : Result Script ScriptErr) → IfOk r (λ s. IsScript stage bytes (content s)) → IfOk r (λ s. IsOfStage stage (content s))
+  pub of-stage-read : (r : Result Script ScriptErr) → IfOk r (λ s. IsScript stage bytes (content s))
+      → IfOk r (λ s. IsOfStage stage (content s))
   of-stage-read (Ok s) script = of-stage stage bytes (content s) script
   of-stage-read (Err error) script = tt

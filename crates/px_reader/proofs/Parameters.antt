@@ -1,19 +1,7 @@
 -- Names of parameters and their numbers.
-use Rattle.std.proofs.Common.{◌≡◌, ◌≢◌, ℕ, ◌+◌, ◌<◌, ◌≤◌, ◌/◌, ◌%◌, ◌^◌, true, List, [], ◌∷◌, ◌++◌, length, get_or, drop, refl, sym, ap, ◌∙◌, subst, inl, inr, arith, length-append}
-use Rattle.std.specs.Prelude.{None, Some, Result, Ok, nat_lt}
+use Rattle.px_reader.proofs.Common.{◌≡◌, ◌≢◌, ℕ, ◌+◌, ◌<◌, ◌≤◌, ◌/◌, ◌%◌, ◌^◌, true, List, [], ◌∷◌, ◌++◌, length, get_or, drop, refl, sym, ap, ◌∙◌, subst, inl, inr, arith, length-append, None, Some, Result, Ok, nat_lt, bytes_eq, all_ascii_digits, digits_value, ParsesUnsigned, ltb-true, cases_lt, nat_tests, OkIff, bytes_eq-Decides, parse_plain, is_parameter_number, parameter_name, parameter_if, parameter_of, by_test, and_parts}
 use Rattle.std.specs.Fmt.{decimal}
-use Rattle.std.specs.Str.{bytes_eq, all_ascii_digits}
-use Rattle.std.specs.Str.Parse.{digits_value, ParsesUnsigned}
-use Rattle.std.proofs.lemmas.Bool.{ltb-true, cases_lt}
-use Rattle.std.proofs.lemmas.Bool.Decides.{nat_tests}
-use Rattle.std.specs.Result.{OkIff}
 use Rattle.std.proofs.lemmas.Fmt.{decimal_by_steps, decimal-digits_value, decimal_digit, parse-decimal}
-use Rattle.std.proofs.lemmas.Slice.Eq.{bytes_eq-Decides}
-use Rattle.std.proofs.lemmas.Str.Parse.{parse_plain}
-use Rattle.px_script.specs.Items.{is_parameter_number, parameter_name}
-use Rattle.px_script.proofs.Parsing.{parameter_if, parameter_of}
-use Rattle.px_script.proofs.Fronts.{by_test}
-use Rattle.px_script.proofs.Firsts.{and_both}
 use Rattle.px_reader.proofs.Numbers.{own}
 
 -- the text of a number above 0 doesn't begin with a zero or a sign
@@ -21,7 +9,7 @@ abbrev BeginsAbove : ℕ → List ℕ → Type 0
 BeginsAbove n ds = (0 < length ds) × (0 < n → 48 < get_or ds 0 0)
 
 first-kept : (ds es : List ℕ) → 0 < length ds → get_or (ds ++ es) 0 0 ≡ get_or ds 0 0
-first-kept [] es some = let no : ⊥ = omega (arith, some) in elim no [ ]
+first-kept [] es some = absurd (omega (arith, some))
 first-kept (d ∷ ds) es some = refl
 
 decimal-begins : (n : ℕ) → n < 2 ^ 64 → BeginsAbove n (decimal n)
@@ -35,7 +23,7 @@ decimal-begins = decimal_by_steps BeginsAbove (λ n small. (omega arith, λ some
 pub no-parameter : (w : List ℕ) (k : ℕ) → (0 < k → k < 10000 → w ≡ parameter_name k → ⊥) → parameter_if w k ≡ None
 no-parameter w k not = by_test (bytes_eq w (parameter_name k))
     (λ e. by_test (is_parameter_number k)
-    (λ f. let both = and_both (nat_lt 0 k) (nat_lt k 10000) f in elim
+    (λ f. let both = and_parts (nat_lt 0 k) (nat_lt k 10000) f in elim
     (not (ltb-true 0 k both.0) (ltb-true k 10000 both.1) ((bytes_eq-Decides w (parameter_name k)).0 e)) [ ])
     (λ f. rw (e, f) refl))
     (λ e. rw e refl)

@@ -1,21 +1,8 @@
 -- Names, and other keys, that were seen, as a set.
-use Rattle.std.proofs.Common.{◌≡◌, ℕ, ◌+◌, ◌<◌, Bool, true, false, List, [], ◌∷◌, ◌++◌, map, take, drop, length, get_or, refl, sym, ap, ◌∙◌, append_assoc}
-use Rattle.std.specs.Prelude.{◌||◌, not}
+use Rattle.px_reader.proofs.Common.{◌≡◌, ℕ, ◌+◌, ◌<◌, Bool, true, false, List, [], ◌∷◌, ◌++◌, map, take, drop, length, get_or, refl, sym, ap, ◌∙◌, append_assoc, ◌||◌, not, list_any, nat_cmp, is_eq, match_ordering, bytes_eq, Ordering, Less, Equal, Greater, list_any-append, is_eq-slice_cmp, bytes_eq-Decides, has_name, repeats, repeats-cons, map-append, take_more, drop_more}
 use Rattle.std.specs.BTreeMap.{is_at}
 use Rattle.std.specs.BTreeSet.{insert_key}
 use Rattle.std.specs.Cmp.Lexicographic.{slice_cmp}
-use Rattle.std.specs.List.{list_any}
-use Rattle.std.specs.Ordering.{nat_cmp, is_eq, match_ordering}
-use Rattle.std.specs.Str.{bytes_eq}
-use Rattle.std.specs.declared.cmp.Ordering.{Ordering}
-use Rattle.std.specs.declared.cmp.Ordering.TheVariants.{Less, Equal, Greater}
-use Rattle.std.proofs.lemmas.List.Folds.{list_any-append}
-use Rattle.std.proofs.lemmas.Map.Text.{is_eq-slice_cmp}
-use Rattle.std.proofs.lemmas.Slice.Eq.{bytes_eq-Decides}
-use Rattle.px_names.specs.Lists.{has_name}
-use Rattle.px_script.specs.Causes.{repeats}
-use Rattle.px_script.proofs.Twice.{repeats-cons}
-use Rattle.std.proofs.lemmas.List.{map-append, take_more, drop_more}
 use denote.Ref.{Bor}
 
 abbrev pub text_cmp : Bor (List ℕ) → Bor (List ℕ) → Ordering

@@ -1,14 +1,6 @@
 -- A text that is gone through character by character.
-use Rattle.std.proofs.Common.{◌≡◌, ℕ, Bool, true, false, List, [], ◌∷◌, ◌++◌, length, take, refl, sym, ap, ◌∙◌, ◌-◌, subst, append_assoc, length-append, arith}
-use Rattle.std.specs.Prelude.{encode_utf8, ◌&&◌}
-use Rattle.std.specs.List.{list_all}
-use Rattle.std.specs.Str.{IsUtf8, IsCharBoundary, chars, all_scalars}
-use Rattle.std.proofs.lemmas.Str.{IsUtf8-take, IsUtf8-encode, IsCharBoundary-at_seam, chars-append, chars_past_char, chars-nil, cons_from_encodes}
-use Rattle.std.proofs.Math.Seq.{take-append_seam}
-use Rattle.std.proofs.lemmas.List.{append-nil}
-use Rattle.std.proofs.lemmas.List.Folds.{list_all-append}
-use Rattle.px_script.proofs.Scanning.{front_while, after_while, stops}
-use Rattle.px_script.proofs.Fronts.{front-is, after-is}
+use Rattle.px_reader.proofs.Common.{◌≡◌, ℕ, Bool, true, List, [], ◌∷◌, ◌++◌, length, take, refl, sym, ap, ◌∙◌, ◌-◌, subst, append_assoc, length-append, arith, list_all, IsUtf8, IsCharBoundary, chars, all_scalars, IsUtf8-take, IsUtf8-encode, IsCharBoundary-at_seam, chars-append, chars_past_char, chars-nil, cons_from_encodes, take-append_seam, append-nil, list_all-append, front_while, after_while, stops, front-is, after-is, and_parts}
+use Rattle.std.specs.Prelude.{encode_utf8}
 
 -- what stands before a text in a text is text
 pub IsUtf8-front : (text front rest : List ℕ) → IsUtf8 text → text ≡ front ++ rest → IsUtf8 rest → IsUtf8 front
@@ -17,16 +9,12 @@ IsUtf8-front text front rest u whole v =
     let taken : take (length front) text ≡ front = rw whole (take-append_seam front rest) in
     subst P taken (IsUtf8-take text (length front) u (IsCharBoundary-at_seam text front rest whole v))
 
-and_left : (a b : Bool) → (a && b) ≡ true → a ≡ true
-and_left true b h = refl
-and_left false b h = h
-
 -- the first character of a text is a text
 IsUtf8-first : (text rest : List ℕ) (c : ℕ) → IsUtf8 text → text ≡ encode_utf8 c ++ rest → IsUtf8 (encode_utf8 c)
 IsUtf8-first text rest c u whole =
     let parts = cons_from_encodes u.0 rest c (u.1.1 ∙ whole) in
     let scalars : all_scalars (c ∷ parts.0) ≡ true = sym (ap all_scalars parts.1) ∙ u.1.0 in
-    IsUtf8-encode c (and_left _ _ scalars)
+    IsUtf8-encode c (and_parts _ _ scalars).0
 
 -- a front that passes grows by a character that passes
 pub front-grows : (p : ℕ → Bool) (text front rest after : List ℕ) (c : ℕ) → IsUtf8 text → text ≡ front ++ rest → IsUtf8 rest
@@ -53,7 +41,8 @@ pub front-ends : (p : ℕ → Bool) (text front rest : List ℕ) → IsUtf8 text
     → list_all p (chars front) ≡ true → stops p (chars rest) ≡ true
     → (chars front ≡ front_while p (chars text)) × (chars rest ≡ after_while p (chars text))
 front-ends p text front rest u whole v all stop =
-    let characters : chars text ≡ chars front ++ chars rest = rw whole (chars-append front rest (IsUtf8-front text front rest u whole v)) in (
+    let characters : chars text ≡ chars front ++ chars rest = rw whole (chars-append front rest (IsUtf8-front text front rest u whole v))
+    in (
       sym (ap (front_while p) characters ∙ front-is p (chars front) (chars rest) all stop),
       sym
           (ap (after_while p) characters ∙ after-is p (chars front) (chars rest) all stop),

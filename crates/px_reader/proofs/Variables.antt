@@ -1,18 +1,7 @@
 -- The first thirteen variables of atoms.
-use Rattle.std.proofs.Common.{◌≡◌, ℕ, ◌+◌, ◌<◌, ◌≤◌, Bool, true, false, List, [], ◌∷◌, ◌++◌, map, take, length, get_or, refl, sym, ap, ◌∙◌, append_assoc, arith}
-use Rattle.std.specs.Prelude.{fold, nat_lt, if◌then◌else◌}
-use Rattle.std.proofs.lemmas.List.{append-nil, length-append, length-take, take_all, take-append-le, take_more, map-append}
-use Rattle.std.proofs.lemmas.List.Sums.{fold-append}
+use Rattle.px_reader.proofs.Common.{◌≡◌, ℕ, ◌<◌, ◌≤◌, Bool, true, false, List, [], ◌∷◌, ◌++◌, map, take, length, refl, sym, ap, ◌∙◌, append_assoc, arith, fold, nat_lt, if◌then◌else◌, append-nil, length-take, take_all, take-append-le, nat_tests, has_name, with_variable, variables_of, Argument, open_variable, by_test, at-most, with_early_variable, early_variables, signed_view}
+use Rattle.std.proofs.lemmas.List.{length-append}
 use borrow.Author.Tests.{ltb-true}
-use Rattle.std.proofs.lemmas.Bool.Decides.{nat_tests}
-use Rattle.px_names.specs.Lists.{has_name}
-use Rattle.px_script.specs.Declarations.{with_variable, variables_of}
-use Rattle.px_script.specs.Items as items
-use Rattle.px_script.specs.Items.{Argument, open_variable}
-use Rattle.px_script.proofs.Fronts.{by_test}
-use Rattle.px_script.proofs.Tests.{at-most}
-use Rattle.px_reader.specs.Checks.{with_early_variable, early_variables}
-use Rattle.px_reader.specs.StatementViews.{argument_view, signed_view}
 use Rattle.px_reader.specs.declared.statement.SignedAtom.{SignedAtom}
 use Rattle.px_reader.proofs.AtomTests.{arguments}
 
@@ -36,9 +25,6 @@ grows seen (a ∷ xs) =
     let one = grown seen a in
     let more = grows (with_variable seen a) xs in
     (one.new ++ more.0, more.1 ∙ ap (λ t. t ++ more.0) one.is ∙ append_assoc seen one.new more.0)
-
-full-front : (seen : List (List ℕ)) (xs : List Argument) → length seen ≡ 13 → take 13 (fold with_variable seen xs) ≡ take 13 seen
-full-front seen xs full = let more = grows seen xs in ap (take 13) more.1 ∙ take-append-le 13 seen more.0 (omega (arith, full))
 
 still-full : (seen : List (List ℕ)) (a : Argument) → length seen ≡ 13 → with_early_variable seen a ≡ seen
 still-full seen a full = let over : nat_lt 12 (length seen) ≡ true = ap (nat_lt 12) full in rw over refl
@@ -66,26 +52,6 @@ early-are seen (a ∷ xs) few = by_test (nat_lt 12 (length seen))
     let size : length (with_variable seen a) ≤ 13 = omega (arith, ap length one.is, length-append seen one.new, one.few, room) in
     rw under (early-are (with_variable seen a) xs size))
 
--- the variables of atoms, as far as they were read
-pub early-more : (atoms : List SignedAtom) (i : ℕ) (d : SignedAtom) → i < length atoms
-    → early_variables (early_variables [] (arguments (map signed_view (take i atoms))))
-    (map argument_view (get_or atoms i d).arguments.items)
-    ≡ early_variables [] (arguments (map signed_view (take (i + 1) atoms)))
-early-more atoms i d below =
-    sym (fold-append with_early_variable [] (arguments (map signed_view (take i atoms)))
-    (map argument_view (get_or atoms i d).arguments.items)) ∙ ap (early_variables []) (sym more)
-  where
-    flat-snoc : (xs : List items.SignedAtom) (x : items.SignedAtom) → arguments (xs ++ x ∷ []) ≡ arguments xs ++ x.atom.arguments
-    flat-snoc [] x = append-nil x.atom.arguments
-    flat-snoc (y ∷ xs) x = ap (λ t. y.atom.arguments ++ t) (flat-snoc xs x)
-        ∙ sym (append_assoc y.atom.arguments (arguments xs) x.atom.arguments)
-
-    more : arguments (map signed_view (take (i + 1) atoms))
-        ≡ arguments (map signed_view (take i atoms)) ++ map argument_view (get_or atoms i d).arguments.items
-    more = ap (λ t. arguments (map signed_view t)) (take_more atoms i d below)
-        ∙ ap arguments (map-append signed_view (take i atoms) (get_or atoms i d ∷ []))
-        ∙ flat-snoc (map signed_view (take i atoms)) (signed_view (get_or atoms i d))
-
 pub early-all : (atoms : List SignedAtom)
     → early_variables [] (arguments (map signed_view atoms)) ≡ take 13 (variables_of (map signed_view atoms))
 early-all atoms = early-are [] (arguments (map signed_view atoms)) (omega arith)
@@ -93,16 +59,6 @@ early-all atoms = early-are [] (arguments (map signed_view atoms)) (omega arith)
 -- one variable more, by the tests of the code
 pub early-full : (seen : List (List ℕ)) (v : List ℕ) → 12 < length seen → seen ≡ with_early_variable seen (open_variable v)
 early-full seen v long = let over : nat_lt 12 (length seen) ≡ true = grind (arith, nat_tests) in rw over refl
-
-module _ (seen : List (List ℕ)) (v : List ℕ) (short : length seen ≤ 12) where
-  under : nat_lt 12 (length seen) ≡ false
-  under = grind (arith, nat_tests)
-
-  pub early-known : has_name v seen ≡ true → seen ≡ with_early_variable seen (open_variable v)
-  early-known known = rw (under, known) refl
-
-  pub early-new : has_name v seen ≡ false → seen ++ v ∷ [] ≡ with_early_variable seen (open_variable v)
-  early-new new = rw (under, new) refl
 
 -- more than twelve are still more than twelve of the first thirteen
 pub many-taken : (all : List (List ℕ)) (n : ℕ) → n ≡ length (take 13 all) → nat_lt 12 n ≡ nat_lt 12 (length all)

@@ -1,13 +1,30 @@
--- Things of one kind, read one after another to the end of a line.
-use Rattle.std.proofs.Common.{◌≡◌, ℕ, ◌≤◌, ◌<◌, suc, zero, Bool, List, [], ◌∷◌, ◌++◌, length, refl, sym, ap, ◌∙◌, arith, length-append, append_assoc}
-use Rattle.std.specs.Prelude.{Option, None, Some}
-use Rattle.std.specs.Option.{option_map, option_and_then}
-use Rattle.std.proofs.lemmas.List.{append-nil}
-use Rattle.px_script.specs.Lexemes.{Lexeme}
-use Rattle.px_script.proofs.Parsing.{all_within, all_of, atom_at, room_edit_at, binding_at}
-use Rattle.px_script.proofs.Repeats.{ReadsBack, ReadsSpelled}
-use Rattle.px_script.proofs.ReadBack.{atoms-back, room-edits-back, bindings-back}
-use Rattle.px_script.proofs.SoundItems.{atom-sound, room-edit-sound, binding-sound}
+-- Lists of tokens, read from left to right: things of one kind to the end of a line, and items in parentheses.
+use Rattle.px_reader.proofs.Common.{◌≡◌, ℕ, zero, suc, ◌+◌, ◌-◌, ◌≤◌, ◌<◌, Bool, true, false, ◌==◌, List, [], ◌∷◌, ◌++◌, map, take, drop, length, refl, sym, ap, ◌∙◌, arith, append_assoc, append-nil, length-append, take_all, Option, None, Some, Result, Ok, Err, IfOk, option_map, option_and_then, if◌then◌else◌, map-append, drop-drop, drop-map, length-drop, length-map, drop_all, Lexeme, name, sign, ReadsBack, ReadsSpelled, atom-sound, atoms-back, binding-sound, bindings-back, room-edit-sound, room-edits-back, all_within, all_of, atom_at, room_edit_at, binding_at, items_after, item_at, items_at, opens, names_at, operator_form, lexemes_of, lexeme_of, Token}
+
+-- ---- answers
+
+-- what is equal for an Ok may be exchanged
+pub ok-same : {T E X : Type 0} (r : Result T E) (view : T → X) (a b : X) → IfOk r (λ t. view t ≡ a) → a ≡ b → IfOk r (λ t. view t ≡ b)
+ok-same (Ok t) view a b h e = h ∙ e
+ok-same (Err x) view a b h e = h
+
+-- what follows from it for an Ok
+pub ok-then : {T E X : Type 0} (r : Result T E) (view : T → X) (a : X) (P : T → Type 0) → ((t : T) → view t ≡ a → P t)
+    → IfOk r (λ t. view t ≡ a) → IfOk r P
+ok-then (Ok t) view a P f h = f t h
+ok-then (Err x) view a P f h = h
+
+pub lexemes-drop : (n m : ℕ) (tokens : List Token) → drop n (lexemes_of (drop m tokens)) ≡ lexemes_of (drop (m + n) tokens)
+lexemes-drop n m tokens = drop-map lexeme_of n (drop m tokens) ∙ ap lexemes_of (drop-drop n m tokens)
+
+-- parameters that aren't the end of the line
+pub no-operator : (n : List ℕ) (rest : List Lexeme) (parameters : List (List ℕ)) (after : List Lexeme)
+    → Some (parameters, after) ≡ names_at rest → 0 < length after
+    → None ≡ operator_form (name n ∷ rest)
+no-operator n rest parameters [] e more = absurd (omega (arith, more))
+no-operator n rest parameters (x ∷ xs) e more = rw (← e) refl
+
+-- ---- things of one kind
 
 -- a reader of one thing takes at least one lexeme
 abbrev pub Advances : {A : Type 0} → (List Lexeme → Option (A × List Lexeme)) → Type 0
@@ -38,10 +55,6 @@ before-more : {A : Type 0} (got : List A) (a : A) (found : Option (List A))
 before-more got a None = refl
 before-more got a (Some more) = ap Some (sym (append_assoc got (a ∷ []) more))
 
-before-none : {A : Type 0} (found : Option (List A)) → found ≡ before [] found
-before-none None = refl
-before-none (Some more) = refl
-
 module _ {A : Type 0} (one : List Lexeme → Option (A × List Lexeme)) (advances : Advances one) where
   -- what the rest leads to, by what the first thing is
   abbrev after_one : (List Lexeme → Option (List A)) → Option (A × List Lexeme) → Option (List A)
@@ -55,15 +68,17 @@ module _ {A : Type 0} (one : List Lexeme → Option (A × List Lexeme)) (advance
       let fewer = advances xs front e in
       ap (option_map (λ more. front.0 ∷ more)) (recur front.1 (omega (arith, fewer, short)) (omega (arith, fewer, less)))
 
+  all-ended : (n : ℕ) → all_within one n [] ≡ Some []
+  unfolding all_within
+  all-ended zero = refl
+  all-ended (suc n) = refl
+
   -- enough steps are enough
   fuel : (n m : ℕ) (xs : List Lexeme) → length xs ≤ n → length xs ≤ m → all_within one n xs ≡ all_within one m xs
   unfolding all_within
-  fuel zero zero [] short less = refl
-  fuel zero (suc m) [] short less = refl
-  fuel (suc n) zero [] short less = refl
-  fuel (suc n) (suc m) [] short less = refl
-  fuel zero m (x ∷ xs) short less = let no : ⊥ = omega (arith, short) in elim no [ ]
-  fuel (suc n) zero (x ∷ xs) short less = let no : ⊥ = omega (arith, less) in elim no [ ]
+  fuel n m [] short less = all-ended n ∙ sym (all-ended m)
+  fuel zero m (x ∷ xs) short less = absurd (omega (arith, short))
+  fuel (suc n) zero (x ∷ xs) short less = absurd (omega (arith, less))
   fuel (suc n) (suc m) (x ∷ xs) short less = fuel-step n m (x ∷ xs) (one (x ∷ xs)) refl short less (λ ys s l. fuel n m ys s l)
 
   first-step : (n : ℕ) (x : Lexeme) (xs : List Lexeme) → all_within one (suc n) (x ∷ xs) ≡ after_one (all_within one n) (one (x ∷ xs))
@@ -73,31 +88,108 @@ module _ {A : Type 0} (one : List Lexeme → Option (A × List Lexeme)) (advance
   -- the first thing, and then the others
   all-first : (xs : List Lexeme) (a : A) (after : List Lexeme) → Some (a, after) ≡ one xs
       → all_of one xs ≡ option_map (λ more. a ∷ more) (all_of one after)
-  all-first [] a after e = let fewer = advances [] (a, after) (sym e) in let no : ⊥ = omega (arith, fewer) in elim no [ ]
+  all-first [] a after e = let fewer = advances [] (a, after) (sym e) in absurd (omega (arith, fewer))
   all-first (x ∷ xs) a after e =
       let fewer = advances (x ∷ xs) (a, after) (sym e) in
       first-step (length xs) x xs ∙ ap (after_one (all_within one (length xs))) (sym e)
       ∙ ap (option_map (λ more. a ∷ more)) (fuel (length xs) (length after) after (omega (arith, fewer)) (omega arith))
 
   all-none : (xs : List Lexeme) → 0 < length xs → None ≡ one xs → None ≡ all_of one xs
-  all-none [] some e = let no : ⊥ = omega (arith, some) in elim no [ ]
+  all-none [] some e = absurd (omega (arith, some))
   all-none (x ∷ xs) some e = ap (after_one (all_within one (length xs))) e ∙ sym (first-step (length xs) x xs)
 
-  all-ended : all_of one [] ≡ Some []
-  unfolding all_within
-  all-ended = refl
+module _ {T A : Type 0} (view : T → A) (one : List Lexeme → Option (A × List Lexeme)) (advances : Advances one) (tokens : List Token)
+    (at : ℕ) (got : List T)
+    (whole : all_of one (lexemes_of tokens) ≡ before (map view got) (all_of one (lexemes_of (drop at tokens)))) where
+  abbrev piece : List Token
+  piece = take (length tokens - at) (drop at tokens)
 
-  pub walk-more : (all rest : List Lexeme) (got : List A) (a : A) (after : List Lexeme) → all_of one all ≡ before got (all_of one rest)
-      → Some (a, after) ≡ one rest
-      → all_of one all ≡ before (got ++ a ∷ []) (all_of one after)
-  walk-more all rest got a after whole e = whole ∙ ap (before got) (all-first rest a after e) ∙ before-more got a (all_of one after)
+  piece-is : piece ≡ drop at tokens
+  piece-is = take_all (length tokens - at) (drop at tokens) (omega (arith, length-drop at tokens))
 
-  pub walk-stuck : (all rest : List Lexeme) (got : List A) → all_of one all ≡ before got (all_of one rest) → 0 < length rest
-      → None ≡ one rest → None ≡ all_of one all
-  walk-stuck all rest got whole some e = ap (before got) (all-none rest some e) ∙ sym whole
+  pub things-more : at < length tokens → (thing : T) (count : ℕ) → Some (view thing, lexemes_of (drop count piece)) ≡ one (lexemes_of piece)
+      → (0 < count) × (count ≤ length piece) → (new : List T) → new ≡ got ++ thing ∷ []
+      → (all_of one (lexemes_of tokens) ≡ before (map view new) (all_of one (lexemes_of (drop (at + count) tokens))))
+      × (at + count ≤ length tokens)
+  things-more below thing count e within new is =
+      let rest : Some (view thing, lexemes_of (drop (at + count) tokens)) ≡ one (lexemes_of (drop at tokens)) =
+      ap (λ t. Some (view thing, lexemes_of t)) (sym (drop-drop count at tokens))
+      ∙ ap (λ t. Some (view thing, lexemes_of (drop count t))) (sym piece-is) ∙ e ∙ ap (λ t. one (lexemes_of t)) piece-is in (
+        whole ∙ ap (before (map view got)) (all-first one advances (lexemes_of (drop at tokens)) (view thing)
+            (lexemes_of (drop (at + count) tokens)) rest)
+            ∙ before-more (map view got) (view thing) (all_of one (lexemes_of (drop (at + count) tokens)))
+            ∙ ap (λ t. before t (all_of one (lexemes_of (drop (at + count) tokens))))
+            (sym (ap (map view) is ∙ map-append view got (thing ∷ []))),
+        omega (arith, within.1, ap length piece-is, length-drop at tokens, below),
+      )
 
-  pub walk-end : (all rest : List Lexeme) (got : List A) → all_of one all ≡ before got (all_of one rest) → rest ≡ []
-      → Some got ≡ all_of one all
-  walk-end all rest got whole ended =
-      let empty : all_of one rest ≡ Some [] = ap (all_of one) ended ∙ all-ended in
-      sym (whole ∙ ap (before got) empty ∙ ap Some (append-nil got))
+  pub things-none : at < length tokens → None ≡ one (lexemes_of piece) → None ≡ all_of one (lexemes_of tokens)
+  things-none below e =
+      let long : 0 < length (lexemes_of (drop at tokens)) = omega
+      (arith, length-map (drop at tokens) lexeme_of, length-drop at tokens, below) in
+      ap (before (map view got)) (all-none one advances (lexemes_of (drop at tokens)) long (e ∙ ap (λ t. one (lexemes_of t)) piece-is))
+      ∙ sym whole
+
+  pub things-end : length tokens ≤ at → Some (map view got) ≡ all_of one (lexemes_of tokens)
+  things-end ended = sym (whole ∙ ap (λ t. before (map view got) (all_of one (lexemes_of t))) (drop_all at tokens ended)
+      ∙ ap (before (map view got)) (all-ended one advances 0) ∙ ap Some (append-nil (map view got)))
+
+-- ---- items
+
+-- what an item and the sign after it lead to
+abbrev pub after_item : {A : Type 0} → (Lexeme → Option A) → A × ℕ × List Lexeme → Option (List A × List Lexeme)
+after_item item step = if step.1 == 41 then Some (step.0 ∷ [], step.2)
+    else (if step.1 == 44 then option_map (λ more. (step.0 ∷ more.0, more.1)) (items_after item step.2) else None)
+
+and_then-map : {A B C : Type 0} (f : B → Option C) (g : A → B) (o : Option A)
+    → option_and_then f (option_map g o) ≡ option_and_then (λ a. f (g a)) o
+and_then-map f g None = refl
+and_then-map f g (Some x) = refl
+
+pub items_step : {A : Type 0} (item : Lexeme → Option A) (lexemes : List Lexeme)
+    → items_after item lexemes ≡ option_and_then (after_item item) (item_at item lexemes)
+unfolding items_after
+items_step item (x ∷ sign s ∷ rest) = rw and_then-map refl
+items_step item _ = refl
+
+-- items that were read, put before what a list leads to
+abbrev pub in_front : {A : Type 0} → List A → Option (List A × List Lexeme) → Option (List A × List Lexeme)
+in_front got found = option_map (λ r. (got ++ r.0, r.1)) found
+
+in_front-more : {A : Type 0} (got : List A) (a : A) (found : Option (List A × List Lexeme))
+    → in_front got (option_map (λ more. (a ∷ more.0, more.1)) found) ≡ in_front (got ++ a ∷ []) found
+in_front-more got a None = refl
+in_front-more got a (Some r) = ap (λ t. Some (t, r.1)) (sym (append_assoc got (a ∷ []) r.0))
+
+stepped : {A : Type 0} (item : Lexeme → Option A) (all rest : List Lexeme) (got : List A) (step : A × ℕ × List Lexeme)
+    → items_after item all ≡ in_front got (items_after item rest) → Some step ≡ item_at item rest
+    → items_after item all ≡ in_front got (after_item item step)
+stepped item all rest got step whole at = whole ∙ ap (in_front got) (items_step item rest ∙ ap (option_and_then (after_item item)) (sym at))
+
+pub items-closed : {A : Type 0} (item : Lexeme → Option A) (all rest : List Lexeme) (got : List A) (a : A) (s : ℕ) (after : List Lexeme)
+    → items_after item all ≡ in_front got (items_after item rest) → Some (a, s, after) ≡ item_at item rest → s ≡ 41
+    → Some (got ++ a ∷ [], after) ≡ items_after item all
+items-closed item all rest got a s after whole at close =
+    let e = stepped item all rest got (a, s, after) whole at in sym (e ∙ rw close refl)
+
+pub items-wrong : {A : Type 0} (item : Lexeme → Option A) (all rest : List Lexeme) (got : List A) (a : A) (s : ℕ) (after : List Lexeme)
+    → items_after item all ≡ in_front got (items_after item rest) → Some (a, s, after) ≡ item_at item rest → (s == 41) ≡ false
+    → (s == 44) ≡ false → None ≡ items_after item all
+items-wrong item all rest got a s after whole at not_close not_comma =
+    let e = stepped item all rest got (a, s, after) whole at in sym (e ∙ rw (not_close, not_comma) refl)
+
+pub items-more : {A : Type 0} (item : Lexeme → Option A) (all rest : List Lexeme) (got : List A) (a : A) (s : ℕ) (after : List Lexeme)
+    → items_after item all ≡ in_front got (items_after item rest) → Some (a, s, after) ≡ item_at item rest → s ≡ 44
+    → items_after item all ≡ in_front (got ++ a ∷ []) (items_after item after)
+items-more item all rest got a s after whole at comma = let e = stepped item all rest got (a, s, after) whole at in e
+    ∙ rw comma (in_front-more got a (items_after item after))
+
+pub items-none : {A : Type 0} (item : Lexeme → Option A) (all rest : List Lexeme) (got : List A)
+    → items_after item all ≡ in_front got (items_after item rest) → None ≡ item_at item rest → None ≡ items_after item all
+items-none item all rest got whole at =
+    sym (whole ∙ ap (in_front got) (items_step item rest ∙ ap (option_and_then (after_item item)) (sym at)))
+
+pub items-opened : {A : Type 0} (item : Lexeme → Option A) (lexemes : List Lexeme) → opens lexemes ≡ true
+    → items_at item lexemes ≡ items_after item (drop 1 lexemes)
+items-opened item (sign s ∷ rest) e = rw e refl
+items-opened item _ e = cc

@@ -1,12 +1,14 @@
 -- Tests of the code's statements, and of what it has of them.
-use Rattle.std.specs.Prelude.{◌≡◌, ◌≤◌, ℕ, Bool, true, List, All, length, not, nat_lt, if◌then◌else◌, fold, Option}
+use Rattle.std.specs.Prelude.{◌≡◌, ◌≤◌, ℕ, Bool, true, false, List, [], ◌∷◌, All, length, not, nat_lt, if◌then◌else◌, fold, Option}
 use Rattle.std.specs.List.{AllByRecursion, list_any}
 use Rattle.px_names.specs.Lists.{has_name}
 use Rattle.px_names.specs.Name.{is_name_text}
-use Rattle.px_script.specs.Causes.{is_known_argument, takes}
+use Rattle.px_script.specs.Causes.{has_long_name, is_known_argument, takes}
+use Rattle.px_script.specs.Limits.{name_bytes, number_of}
 use Rattle.px_script.specs.Declarations.{Declared, OpenOperator, parameters_here, names_here, declared_by, with_variable}
-use Rattle.px_script.specs.Faults.{grown}
-use Rattle.px_script.specs.Statements.{Statement, Manner, line_of, pre, delete, add}
+use Rattle.px_script.specs.Faults.{Refusal, causes_with, first_of, grown, own_limits}
+use Rattle.px_script.specs.Stages.{Stage}
+use Rattle.px_script.specs.Statements.{Statement, Manner, line_of, pre, delete, add, fact}
 use Rattle.px_script.specs.Items as spec
 use Rattle.px_reader.specs.StatementViews.{argument_view}
 use Rattle.px_reader.specs.declared.statement.SignedAtom.{SignedAtom}
@@ -54,3 +56,20 @@ grown_by o _ = 0
 pub record AreReadable (d : Declared) (atoms : List SignedAtom) : Type 0 where
   pub few : length (parameters_here d) ≤ 8
   pub sizes : All (λ atom. length atom.arguments.items ≤ 6) atoms
+
+-- a line of facts, which are counted once they are added
+abbrev pub is_fact : Statement → Bool
+is_fact (fact xs) = true
+is_fact _ = false
+
+-- the limits of a line but for that of facts
+abbrev pub early_own : Declared → Statement → List (Bool × ℕ)
+early_own d (fact xs) = []
+early_own d s = own_limits d s
+
+abbrev pub early_limits : Declared → Statement → List (Bool × ℕ)
+early_limits d s = (has_long_name d (line_of s), number_of name_bytes) ∷ early_own d s
+
+-- the first fault of a line but for the limit of facts
+abbrev pub early_fault : Stage → Declared → Statement → Option Refusal
+early_fault stage d s = first_of (causes_with stage d s (early_limits d s))

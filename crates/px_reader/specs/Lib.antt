@@ -5,7 +5,6 @@ pub mod LineViews
 pub mod Progress
 pub mod Tokens
 pub mod Views
-pub mod Words
 pub mod Roles
 pub mod Readers
 pub mod Checks

@@ -11,9 +11,9 @@ ghost use Rattle.px_script.specs.Causes.{repeats};
 ghost use Rattle.px_script.specs.Forms.{is_formed};
 ghost use Rattle.px_script.specs.Statements as spec;
 ghost use Rattle.px_script.specs.Statements.{line_of};
-ghost use Rattle.px_script.proofs.Faultless.{IsFaultless};
+ghost use Rattle.px_script.proofs.Faultless.{IsFaultless, IsRight};
 ghost use Rattle.px_script.proofs.States.{AreInRange};
-ghost use Rattle.px_reader.specs.Checks.{AreReadable, DeclaresNames};
+ghost use Rattle.px_reader.specs.Checks.{AreReadable, DeclaresNames, is_fact};
 ghost use Rattle.px_reader.specs.Readers.{declared_of, leaves, with_more};
 ghost use Rattle.px_reader.specs.StatementViews.{signed_view, statement_view, text_of};
 
@@ -27,11 +27,12 @@ use px_names::{Kind, NameErr};
 use px_terms::Atom;
 
 impl Reader {
-    /// Adds what the line says, where it has no fault.
+    /// Adds what the line says, where it has no fault but that there may be too many facts.
     pub fn declare(&mut self, line: u32, statement: Statement<'_>) -> Result<(), NoMemory>
         requires range { AreInRange (declared_of self.old) }
         requires formed { is_formed (declared_of self.old) (line_of (statement_view statement)) ≡ true }
-        requires faultless { IsFaultless (declared_of self.old) (statement_view statement) }
+        requires right { IsRight (declared_of self.old) (statement_view statement) }
+        requires faultless { is_fact (statement_view statement) ≡ false → IsFaultless (declared_of self.old) (statement_view statement) }
         requires named { DeclaresNames (statement_view statement) }
         ensures { OnOk result (declared_of self.new ≡ leaves line (declared_of self.old) (statement_view statement.entry)) }
     {

@@ -24,7 +24,7 @@
 //! may stand, what its atoms may be, and which they are (`line`). `Reader` has what the lines so far have declared, field by
 //! field as `Declared` of `px_script` (`declared_of` in `specs/Readers`). The causes to refuse a line are tests of the reader, in
 //! the order of their codes (`order`, `naming`, `duplicates`, `limits`), and a line without a fault is declared (`declaring`,
-//! `blocks`, `commands`, over `terms`).
+//! `blocks`, `commands`, over `terms`). Facts alone are counted once they are added.
 #![tactic(auto)]
 
 mod block;

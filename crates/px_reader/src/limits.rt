@@ -1,19 +1,16 @@
 //! The limits of a script.
-ghost use Rattle.std.specs.Prelude.{◌≡◌, ◌≤◌, ◌<◌, ◌+◌, ◌^◌, ◌++◌, [], ◌∷◌, length, map, nat_lt, All, Contains, IfOk, OnOk, if◌then◌else◌, Some, None};
+ghost use Rattle.std.specs.Prelude.{◌≡◌, ◌<◌, ◌+◌, ◌^◌, ◌&&◌, [], ◌∷◌, length, map, nat_lt, IfOk, if◌then◌else◌, Some, None};
 ghost use Rattle.std.specs.List.{list_any};
 ghost use Rattle.std.specs.Option.{option_map};
-ghost use Rattle.px_terms.specs.AtomSets.{atom_set, with_atom, IsAtomSet};
-ghost use Rattle.px_terms.specs.Instances.{IsGround};
 ghost use Rattle.px_script.specs.Causes.{has_long_name};
-ghost use Rattle.px_script.specs.Declarations.{Declared, parameters_here, operator_here, atom_of, variables_of};
-ghost use Rattle.px_script.specs.Faults.{first_of, passed, limits, own_limits, over, outside, disturbance_limits};
+ghost use Rattle.px_script.specs.Declarations.{Declared, operator_here, variables_of};
+ghost use Rattle.px_script.specs.Faults.{first_of, passed, own_limits, over, outside, disturbance_limits};
 ghost use Rattle.px_script.specs.Limits as limit;
 ghost use Rattle.px_script.specs.Limits.{Bounds};
 ghost use Rattle.px_script.specs.Statements as spec;
 ghost use Rattle.px_script.specs.Statements.{line_of};
 ghost use Rattle.px_script.proofs.States.{AreInRange};
-ghost use Rattle.px_script.proofs.Faultless.{IsRight};
-ghost use Rattle.px_reader.specs.Checks.{AreReadable, grown_by};
+ghost use Rattle.px_reader.specs.Checks.{early_limits, grown_by};
 ghost use Rattle.px_reader.specs.FaultViews.{limit_number, limit_refusal};
 ghost use Rattle.px_reader.specs.Readers.{declared_of};
 ghost use Rattle.px_reader.specs.StatementViews.{signed_view, statement_view};
@@ -24,8 +21,6 @@ use crate::statement::{SignedAtom, Statement};
 use crate::terms::has_many_variables;
 use px_base::NoMemory;
 use px_names::Kind;
-use px_ops::Model;
-use px_terms::Atom;
 
 /// How many bytes a name has at most that has a number in its kind.
 const NAME_BYTES: usize = 64;
@@ -76,12 +71,11 @@ fn outside(number: u32, least: u32, most: u32) -> Option<Limit>
 }
 
 impl Reader {
-    /// The least number of the limits that the line passes.
+    /// The least number of the limits that the line passes, but for that of facts.
     pub fn passed_limit(&self, statement: &Statement<'_>) -> Result<Option<Limit>, NoMemory>
-        requires range { AreInRange (declared_of self.now) }
-        requires right { IsRight (declared_of self.now) (statement_view statement.now) }
+        requires { AreInRange (declared_of self.now) }
         ensures { IfOk result (λ found. option_map limit_refusal found
-            ≡ first_of (map passed (limits (declared_of self.now) (statement_view statement.now)))) }
+            ≡ first_of (map passed (early_limits (declared_of self.now) (statement_view statement.now)))) }
     {
         if statement.has_long_name() {
             return Ok(Some(Limit::NameBytes));
@@ -98,7 +92,6 @@ impl Reader {
             Statement::Pre(_) | Statement::Delete(_) | Statement::Add(_) => {
                 passed(self.grown(statement) > 16, Limit::OperatorAtoms)
             }
-            Statement::Fact(atoms) => passed(self.has_too_many_facts(atoms)?, Limit::Facts),
             Statement::Height(height) => outside(*height, 1, 8),
             Statement::Nodes(nodes) => outside(*nodes, 1, 50_000),
             Statement::Shapes(shapes) => outside(*shapes, 2, 70_000),
@@ -107,7 +100,7 @@ impl Reader {
             Statement::DisturbRooms(turn, _, edits) => self.disturbance_limit(*turn, edits.len()),
             Statement::Learn(_, _) | Statement::Show(_) | Statement::Run(_, _) | Statement::Facts =>
                 { self.commands_limit() }
-            Statement::Building | Statement::Robot(_) | Statement::End => None,
+            Statement::Building | Statement::Robot(_) | Statement::End | Statement::Fact(_) => None,
         };
         Ok(limit)
     }
@@ -221,36 +214,10 @@ impl Reader {
         }
     }
 
-    /// There are more than 512 different facts with these.
-    fn has_too_many_facts(&self, atoms: &[SignedAtom<'_>]) -> Result<bool, NoMemory>
-        requires readable { AreReadable (declared_of self.now) atoms.now }
-        requires fact_set { IsAtomSet self.now.facts.atoms }
-        requires few_facts { length self.now.facts.atoms ≤ 512 }
-        requires all_ground { All (λ atom. IsGround (atom_of (declared_of self.now) [] (signed_view atom))) atoms.now }
-        ensures { IfOk result (λ found. found
-            ≡ nat_lt 512 (length (atom_set (map (atom_of (declared_of self.now) [])
-            (map signed_view atoms.now) ++ self.now.facts.atoms)))) }
+    /// The line is one of facts, and with it there are more than 512 different facts.
+    pub fn has_too_many_facts(&self, is_fact: bool) -> bool
+        ensures { result ≡ (is_fact && nat_lt 512 (length self.now.facts.atoms)) }
     {
-        let mut new = Model::new(self.alloc);
-        for atom in atoms {
-            self.add_new(&mut new, self.atom(&[], atom))?;
-            if self.facts.atoms().len() + new.atoms().len() > 512 {
-                return Ok(true);
-            }
-        }
-        Ok(false)
-    }
-
-    /// Adds a fact that isn't there yet to the new ones.
-    fn add_new(&self, new: &mut Model, fact: Atom) -> Result<(), NoMemory>
-        requires { IsGround fact }
-        ensures old { Contains self.now.facts.atoms fact → OnOk result (new.new.atoms ≡ new.old.atoms) }
-        ensures new { (¬ Contains self.now.facts.atoms fact) → OnOk result (new.new.atoms ≡ with_atom fact new.old.atoms) }
-    {
-        if self.facts.holds(&fact) {
-            return Ok(());
-        }
-        new.insert(fact)?;
-        Ok(())
+        is_fact && self.facts.atoms().len() > 512
     }
 }

@@ -6,6 +6,7 @@ ghost use Rattle.px_script.specs.Declarations.{Declared, excludes_building};
 ghost use Rattle.px_script.specs.Forms.{atoms_of, arguments_of, is_signed};
 ghost use Rattle.px_script.specs.Items.{is_variable};
 ghost use Rattle.px_script.specs.Statements.{line_of};
+ghost use Rattle.px_reader.specs.Checks.{is_fact};
 ghost use Rattle.px_reader.specs.LineViews.{place_view, manner_view};
 ghost use Rattle.px_reader.specs.StatementViews.{argument_view, sign_view, signed_view, statement_view};
 
@@ -151,6 +152,12 @@ impl<'a> Statement<'a> {
             | Statement::Run(_, _)
             | Statement::Facts => Place::Command,
         }
+    }
+
+    pub fn is_fact(&self) -> bool
+        ensures { result ≡ is_fact (statement_view self.now) }
+    {
+        matches!(self, Statement::Fact(_))
     }
 
     pub fn manner(&self) -> Manner

@@ -10,7 +10,6 @@ ghost use Rattle.px_script.specs.Statements.{line_of};
 ghost use Rattle.px_script.proofs.Parsing.{rest_form, parse};
 ghost use Rattle.px_reader.specs.LineViews.{manner_view};
 ghost use Rattle.px_reader.specs.StatementViews.{lexemes_of, sign_view, statement_view};
-ghost use Rattle.px_reader.specs.Words.{word_text};
 
 use crate::forms::{
     Role, Setting, alone, atoms_as, box_in, disturb, door, learn, object, operator, plan,
@@ -19,7 +18,6 @@ use crate::forms::{
 use crate::line::Manner;
 use crate::statement::{SignedAtom, Statement, WrittenBinding};
 use crate::token::Token;
-use crate::word::Word;
 use px_base::NoMemory;
 use std::alloc::Global;
 
@@ -27,36 +25,37 @@ use std::alloc::Global;
 fn form<'a>(
     alloc: Global,
     with_building: bool,
-    word: Word,
+    word: &str,
     rest: &[Token<'a>],
 ) -> Result<Option<Statement<'a>>, NoMemory>
-    ensures { IfOk result (λ found. option_map statement_view found ≡ rest_form with_building (word_text word) (lexemes_of rest.now)) }
+    ensures { IfOk result (λ found. option_map statement_view found ≡ rest_form with_building word.now (lexemes_of rest.now)) }
 {
     match word {
-        Word::Script => Ok(set(Setting::Version, rest)),
-        Word::Object => object(alloc, rest),
-        Word::Predicate => Ok(predicate(rest)),
-        Word::Axiom => atoms_as(alloc, Role::Axiom, rest),
-        Word::Operator => operator(alloc, rest),
-        Word::Pre => atoms_as(alloc, Role::Pre, rest),
-        Word::Delete => atoms_as(alloc, Role::Delete, rest),
-        Word::Add => atoms_as(alloc, Role::Add, rest),
-        Word::Building => Ok(alone(Statement::Building, rest)),
-        Word::Room => Ok(room(rest)),
-        Word::Door => Ok(door(rest)),
-        Word::Box => Ok(box_in(rest)),
-        Word::Robot => Ok(robot(rest)),
-        Word::End => Ok(alone(Statement::End, rest)),
-        Word::Fact => atoms_as(alloc, Role::Fact, rest),
-        Word::Height => Ok(set(Setting::Height, rest)),
-        Word::Nodes => Ok(set(Setting::Nodes, rest)),
-        Word::Shapes => Ok(set(Setting::Shapes, rest)),
-        Word::Plan => plan(alloc, rest),
-        Word::Learn => Ok(learn(rest)),
-        Word::Show => Ok(show(rest)),
-        Word::Disturb => disturb(alloc, with_building, rest),
-        Word::Run => run(alloc, rest),
-        Word::Facts => Ok(alone(Statement::Facts, rest)),
+        "script" => Ok(set(Setting::Version, rest)),
+        "object" => object(alloc, rest),
+        "predicate" => Ok(predicate(rest)),
+        "axiom" => atoms_as(alloc, Role::Axiom, rest),
+        "operator" => operator(alloc, rest),
+        "pre" => atoms_as(alloc, Role::Pre, rest),
+        "delete" => atoms_as(alloc, Role::Delete, rest),
+        "add" => atoms_as(alloc, Role::Add, rest),
+        "building" => Ok(alone(Statement::Building, rest)),
+        "room" => Ok(room(rest)),
+        "door" => Ok(door(rest)),
+        "box" => Ok(box_in(rest)),
+        "robot" => Ok(robot(rest)),
+        "end" => Ok(alone(Statement::End, rest)),
+        "fact" => atoms_as(alloc, Role::Fact, rest),
+        "height" => Ok(set(Setting::Height, rest)),
+        "nodes" => Ok(set(Setting::Nodes, rest)),
+        "shapes" => Ok(set(Setting::Shapes, rest)),
+        "plan" => plan(alloc, rest),
+        "learn" => Ok(learn(rest)),
+        "show" => Ok(show(rest)),
+        "disturb" => disturb(alloc, with_building, rest),
+        "run" => run(alloc, rest),
+        "facts" => Ok(alone(Statement::Facts, rest)),
+        _ => Ok(None),
     }
 }
 
@@ -78,7 +77,7 @@ impl Statement<'_> {
     }
 
     /// Where an item is one or more things, there is one, and parameters have their numbers.
-    #[tactic(auto, using(px_script::proofs::ListLemmas::list_all_map))]
+    #[tactic(auto, using(crate::proofs::AtomTests::all_maps))]
     fn is_filled(&self) -> bool
         ensures { result ≡ list_all is_filled (line_of (statement_view self.now)).items }
     {
@@ -126,11 +125,11 @@ fn is_of_script(manner: Manner, with_building: bool) -> bool
 pub fn statement<'a>(
     alloc: Global,
     with_building: bool,
-    word: Word,
+    word: &str,
     rest: &[Token<'a>],
 ) -> Result<Option<Statement<'a>>, NoMemory>
     ensures { (d : Declared) → d.version ≡ 1 → has_building d ≡ with_building
-        → IfOk result (λ found. option_map statement_view found ≡ parse d (name (word_text word) ∷ lexemes_of rest.now)) }
+        → IfOk result (λ found. option_map statement_view found ≡ parse d (name word.now ∷ lexemes_of rest.now)) }
 {
     match form(alloc, with_building, word, rest)? {
         Some(statement) if statement.is_formed(with_building) => Ok(Some(statement)),

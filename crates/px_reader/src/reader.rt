@@ -12,23 +12,22 @@ ghost use Rattle.px_script.specs.Ranges.{IsInRange};
 ghost use Rattle.px_script.specs.Scripts.{Passes};
 ghost use Rattle.px_script.specs.Statements.{line_of};
 ghost use Rattle.px_script.proofs.States.{AreInRange};
-ghost use Rattle.px_reader.specs.Checks.{DeclaresNames};
+ghost use Rattle.px_reader.specs.Checks.{DeclaresNames, early_fault};
 ghost use Rattle.px_reader.specs.FaultViews.{refusal_of};
 ghost use Rattle.px_reader.specs.LineReads.{StatementFails, LineFails, content, stage_view};
 ghost use Rattle.px_reader.specs.Readers.{declared_of};
 ghost use Rattle.px_reader.specs.StatementViews.{lexemes_of, statement_view};
-ghost use Rattle.px_reader.specs.Words.{word_text};
 
 use crate::block::OpenBlock;
 use crate::command::Command;
-use crate::fault::{Fault, LineErr};
+use crate::fault::{Fault, Limit, LineErr};
 use crate::first_facts::first_facts;
 use crate::lexing::tokens;
 use crate::parsing::statement;
 use crate::script::Script;
 use crate::statement::Statement;
 use crate::token::Token;
-use crate::word::Word;
+use crate::word::is_word;
 use px_base::{NoMemory, Sequence};
 use px_names::{Kind, Names};
 use px_ops::Model;
@@ -98,16 +97,16 @@ impl Reader {
     }
 
     /// The word that begins a line.
-    fn word_of(&self, tokens: &[Token<'_>]) -> Option<Word>
+    fn word_of<'a>(&self, tokens: &[Token<'a>]) -> Option<&'a str>
         requires { self.now.version ≡ 1 }
         ensures { MatchOption result (begins_with_word (declared_of self.now) (lexemes_of tokens.now) ≡ false)
             (λ word. (begins_with_word (declared_of self.now) (lexemes_of tokens.now) ≡ true)
-            × (lexemes_of tokens.now ≡ name (word_text word) ∷ lexemes_of (drop 1 tokens.now))) }
+            × (lexemes_of tokens.now ≡ name word.now ∷ lexemes_of (drop 1 tokens.now))) }
     {
-        match tokens {
-            [Token::Name(name), ..] => Word::named(name),
-            _ => None,
-        }
+        let [Token::Name(name), ..] = tokens else {
+            return None;
+        };
+        if is_word(name) { Some(*name) } else { None }
     }
 
     /// Reads the next line.
@@ -146,19 +145,23 @@ impl Reader {
             Some(fault) => Err(LineErr::Fault(fault)),
             None => {
                 let own_domain = self.own_domain || statement.place().excludes_building();
+                let is_fact = statement.is_fact();
                 self.declare(number, statement)?;
                 self.own_domain = own_domain;
                 self.begun = true;
+                if self.has_too_many_facts(is_fact) {
+                    return Err(LineErr::Fault(Fault::Limit(Limit::Facts)));
+                }
                 Ok(())
             }
         }
     }
 
-    /// The first fault of a line by what it says, in the order of the causes.
+    /// The first fault of a line by what it says, in the order of the causes, but for the limit of facts.
     fn fault(&self, stage: &[&str], statement: &Statement<'_>) -> Result<Option<Fault>, NoMemory>
         requires { AreInRange (declared_of self.now) }
         ensures { IfOk result (λ fault. option_map refusal_of fault
-            ≡ fault_at (stage_view stage.now) (declared_of self.now) (statement_view statement.now)) }
+            ≡ early_fault (stage_view stage.now) (declared_of self.now) (statement_view statement.now)) }
     {
         if self.is_out_of_order(statement) {
             return Ok(Some(Fault::Order));

@@ -13,36 +13,12 @@ use crate::fault::{Fault, LineErr};
 use crate::lines::{parts, without_mark, without_return};
 use crate::reader::Reader;
 use crate::script::{Refused, Script, ScriptErr};
+use crate::word::WORDS;
 use std::alloc::Global;
 use std::str;
 
-/// The words that are built.
-const STAGE: [&str; 24] = [
-    "script",
-    "object",
-    "predicate",
-    "axiom",
-    "operator",
-    "pre",
-    "delete",
-    "add",
-    "building",
-    "room",
-    "door",
-    "box",
-    "robot",
-    "end",
-    "fact",
-    "height",
-    "nodes",
-    "shapes",
-    "plan",
-    "learn",
-    "show",
-    "disturb",
-    "run",
-    "facts",
-];
+/// The words that are built: all of version 1.
+const STAGE: [&str; 24] = WORDS;
 
 fn refused(line: u32, fault: Fault) -> ScriptErr
     ensures { result ≡ told line fault }

@@ -102,7 +102,7 @@ named_goal-more names own first (suc k) (a ∷ goal) d below =
 
 -- ---- with variables for the objects
 
-read-variable : (first count k : ℕ) → k < count → slice_index_or (variables_from first count) k WildCard ≡ Var (first + k)
+pub read-variable : (first count k : ℕ) → k < count → slice_index_or (variables_from first count) k WildCard ≡ Var (first + k)
 read-variable first zero k below = absurd (omega (arith, below))
 read-variable first (suc count) zero below = ap Var (omega arith)
 read-variable first (suc count) (suc k) below = read-variable (suc first) count k (omega (arith, below)) ∙ ap Var (omega arith)

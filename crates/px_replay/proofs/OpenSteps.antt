@@ -15,10 +15,6 @@ use Rattle.px_replay.specs.FreshVariables.{all_fresh_in, fresh_in}
 use Rattle.px_replay.specs.Opened.{atom_in, opened_row, opened_rows, opened_steps, step_variables}
 use Rattle.px_replay.specs.Replay.{all_opened, opened}
 
-pub length-variables : (first count : ℕ) → length (variables_from first count) ≡ count
-length-variables first zero = refl
-length-variables first (suc count) = ap suc (length-variables (suc first) count)
-
 pub variables_from-push : (first count : ℕ) → variables_from first (count + 1) ≡ variables_from first count ++ Var (first + count) ∷ []
 variables_from-push first zero =
     let a : zero + 1 ≡ suc zero = omega arith in

@@ -1,7 +1,7 @@
 -- The replay of a proof, step by step.
 use Rattle.std.specs.Prelude.{◌≡◌, ◌<◌, ◌≤◌, ◌+◌, ℕ, Some, List, [], ◌∷◌, ◌++◌, map, drop, length, slice_get, slice_index_or, All}
 use Rattle.std.proofs.Common.{zero, suc, refl, sym, ap, ◌∙◌, subst, arith}
-use Rattle.std.proofs.lemmas.List.{length-map}
+use Rattle.std.proofs.lemmas.List.{length-map, drop_all}
 use Rattle.std.proofs.lemmas.List.Elements.{All-nil, All-cons, All-head, All-tail, All-map, All-append}
 use Rattle.px_terms.specs.Clauses.{ArePlainBelow, IsArena}
 use Rattle.px_terms.specs.declared.atom.Atom.{Atom}
@@ -9,7 +9,7 @@ use Rattle.px_terms.specs.declared.clause.Clause.{Clause}
 use Rattle.px_terms.specs.declared.clause.Lit.{Lit}
 use Rattle.px_terms.specs.declared.term.Term.{Term}
 use Rattle.px_terms.specs.declared.term.Term.TheVariants.{Obj, Var, Any as WildCard}
-use Rattle.px_terms.specs.Language.{substitute, IsPlainBelow, IsVariableBelow}
+use Rattle.px_terms.specs.Language.{substitute, IsPlainBelow}
 use Rattle.px_terms.specs.Substitution.{substitute_atom}
 use Rattle.px_unify.specs.declared.change.Change.{Change}
 use Rattle.px_unify.specs.Changes.{Binds, Fits, HasSolutions, MakesEqual, MakesPairEqual, MakesEachEqual, NarrowedBy, variables_of}
@@ -74,11 +74,6 @@ module _ (axioms : List Clause) (path : List Lit) (lit : Lit) (changes : List Ch
   ancestor_replayed new i above at is = subst (λ (a : Atom). IsReplayOf changes new ((lit.atom, a) ∷ [])) (sym (atom_at-is path i above at)) is
 
 -- ---- steps
-
-pub variable_below : (n : ℕ) (t : Term) → IsPlainBelow n t → IsVariableBelow n t
-variable_below n (Obj m) h = tt
-variable_below n (Var v) h = h
-variable_below n WildCard h = tt
 
 pub below_under : (n : ℕ) (theta : List Term) → All (IsPlainBelow n) theta → (t : Term) → IsPlainBelow (length theta) t → IsPlainBelow n (substitute theta t)
 below_under n theta all (Obj m) h = tt
@@ -194,12 +189,6 @@ drop-at [] k x at = absurd (cc)
 drop-at (y ∷ xs) zero x at = ap (λ z. z ∷ xs) (some_same y x at)
 drop-at (y ∷ xs) (suc k) x at = drop-at xs k x at
 
-pub drop-end : {X : Type 0} (xs : List X) (k : ℕ) → length xs ≤ k → drop k xs ≡ []
-drop-end [] zero past = refl
-drop-end [] (suc k) past = refl
-drop-end (x ∷ xs) zero past = absurd (omega (arith, past))
-drop-end (x ∷ xs) (suc k) past = drop-end xs k (omega (arith, past))
-
 module _ (axioms : List Clause) (path lits : List Lit) (ds : List Derivation) (start now : List Change) (k : ℕ) (lit : Lit) (d : Derivation)
     (at_lit : slice_get lits k ≡ Some lit) (at_d : slice_get ds k ≡ Some d) (goes : Goes axioms path lits ds start now k) where
   here : CanReplayEach axioms path (lit ∷ drop (suc k) lits) (also d (derivations (drop (suc k) ds))) now
@@ -243,7 +232,7 @@ module _ (axioms : List Clause) (path lits : List Lit) (ds : List Derivation) (s
       subst (Goes axioms path lits ds start next) (omega arith) later
 
 pub goes-last : (axioms : List Clause) (path lits : List Lit) (ds : List Derivation) (start now : List Change) (k : ℕ) → Goes axioms path lits ds start now k → length ds ≤ k → IsReplayOf start now (all_pairs_of axioms path lits (derivations ds))
-goes-last axioms path lits ds start now k goes past = goes.whole now (at_end (drop k lits) (drop k ds) (drop-end ds k past) goes.can.forms)
+goes-last axioms path lits ds start now k goes past = goes.whole now (at_end (drop k lits) (drop k ds) (drop_all k ds past) goes.can.forms)
   where
     at_end : (ls : List Lit) (es : List Derivation) → es ≡ [] → HaveForms axioms path ls (derivations es) → IsReplayOf now now (all_pairs_of axioms path ls (derivations es))
     at_end [] [] is forms = none_replayed now goes.can.solvable

@@ -2,6 +2,7 @@
 use Rattle.std.specs.Prelude.{◌≡◌, ◌≤◌, ◌+◌, ℕ, Some, List, [], ◌∷◌, drop, length, flat_map, slice_get, All}
 use Rattle.std.proofs.Common.{suc, refl, sym, ap, ◌∙◌, subst, arith}
 use Rattle.std.proofs.lemmas.List.Elements.{All-head, All-tail, All-nil}
+use Rattle.std.proofs.lemmas.List.{drop_all}
 use Rattle.px_terms.specs.declared.atom.Atom.{Atom}
 use Rattle.px_terms.specs.declared.clause.Clause.{Clause}
 use Rattle.px_terms.specs.declared.clause.Lit.{Lit}
@@ -18,7 +19,7 @@ use Rattle.px_proof.specs.PlaceLaws.{All-front, All-back}
 use Rattle.px_replay.specs.Opened.{row_pairs, rows_pairs}
 use Rattle.px_replay.specs.Replay.{pairs_of}
 use Rattle.px_replay.specs.Replaying.{ArePlainAtoms, CanReplay, CanReplayRow, CanReplayRows, IsReplayOf, PlanForms, RowForms}
-use Rattle.px_replay.proofs.ReplaySteps.{drop-at, drop-end, none_replayed, then_replayed}
+use Rattle.px_replay.proofs.ReplaySteps.{drop-at, none_replayed, then_replayed}
 
 -- ---- one row
 
@@ -78,7 +79,7 @@ module _ (axioms : List Clause) (atoms : List Atom) (row : List Derivation) (sta
       subst (GoesRow axioms atoms row start next) (omega arith) later
 
 pub row-last : (axioms : List Clause) (atoms : List Atom) (row : List Derivation) (start now : List Change) (k : ℕ) → GoesRow axioms atoms row start now k → length row ≤ k → IsReplayOf start now (row_pairs axioms atoms row)
-row-last axioms atoms row start now k goes past = goes.whole now (at_end (drop k atoms) (drop k row) (drop-end row k past) goes.can.forms)
+row-last axioms atoms row start now k goes past = goes.whole now (at_end (drop k atoms) (drop k row) (drop_all k row past) goes.can.forms)
   where
     at_end : (left : List Atom) (ds : List Derivation) → ds ≡ [] → RowForms axioms left ds → IsReplayOf now now (row_pairs axioms left ds)
     at_end [] [] is forms = none_replayed now goes.can.solvable
@@ -150,11 +151,11 @@ module _ (problem : Problem) (steps : List OpInst) (goal : List Atom) (rows : Li
 module _ (problem : Problem) (steps : List OpInst) (goal : List Atom) (rows : List (List Derivation)) (start now : List Change) (k : ℕ) (row : List Derivation)
     (past : k ≡ length steps) (at_row : slice_get rows k ≡ Some row) (long : length rows ≡ suc (length steps)) (goes : GoesRows problem steps goal rows start now k) where
   last_row : drop k rows ≡ row ∷ []
-  last_row = drop-at rows k row at_row ∙ ap (λ l. row ∷ l) (drop-end rows (suc k) (omega (arith, past, long)))
+  last_row = drop-at rows k row at_row ∙ ap (λ l. row ∷ l) (drop_all (suc k) rows (omega (arith, past, long)))
 
   at_last : CanReplayRows problem [] goal (row ∷ []) now
   at_last = subst (λ (l : List (List Derivation)). CanReplayRows problem [] goal l now) last_row
-      (subst (λ (l : List OpInst). CanReplayRows problem l goal (drop k rows) now) (drop-end steps k (omega (arith, past))) goes.can)
+      (subst (λ (l : List OpInst). CanReplayRows problem l goal (drop k rows) now) (drop_all k steps (omega (arith, past))) goes.can)
 
   pub last_can : CanReplayRow problem.axioms goal row now
   last_can = record {
@@ -167,5 +168,5 @@ module _ (problem : Problem) (steps : List OpInst) (goal : List Atom) (rows : Li
 
   pub rows-last : (new : List Change) → IsReplayOf now new (row_pairs problem.axioms goal row) → IsReplayOf start new (rows_pairs problem steps goal rows)
   rows-last new is = goes.whole new
-      (subst (λ (l : List OpInst). IsReplayOf now new (rows_pairs problem l goal (drop k rows))) (sym (drop-end steps k (omega (arith, past))))
+      (subst (λ (l : List OpInst). IsReplayOf now new (rows_pairs problem l goal (drop k rows))) (sym (drop_all k steps (omega (arith, past))))
       (subst (λ (l : List (List Derivation)). IsReplayOf now new (rows_pairs problem [] goal l)) (sym last_row) is))

@@ -14,7 +14,7 @@ use std::alloc::Global;
 /// number `own` on.
 ///
 /// # Errors
-/// `NoMemory` where there is none for the list.
+/// `NoMemory` where there is no memory for the list.
 pub fn open_goal(alloc: Global, goal: &[Atom], first: u32, own: u32) -> Result<Vec<Atom>, NoMemory>
     requires objects { first + goal_objects goal.now ≤ own }
     requires few { own ≤ 1000000 }
@@ -29,7 +29,7 @@ pub fn open_goal(alloc: Global, goal: &[Atom], first: u32, own: u32) -> Result<V
 /// those from number `own` on.
 ///
 /// # Errors
-/// `NoMemory` where there is none for the list.
+/// `NoMemory` where there is no memory for the list.
 pub fn named_goal(
     alloc: Global,
     names: &[Term],

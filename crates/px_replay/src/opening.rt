@@ -18,10 +18,10 @@ use px_table::Row;
 use px_terms::{Atom, OpInst, Problem, Term, apply};
 use std::alloc::Global;
 
-/// Returns so many variables, from number `first` on.
+/// Returns `count` variables, from number `first` on.
 ///
 /// # Errors
-/// `NoMemory` where there is none for the list.
+/// `NoMemory` where there is no memory for the list.
 pub fn variables(alloc: Global, first: u32, count: u32) -> Result<Vec<Term>, NoMemory>
     requires { first + count ≤ 1000000 }
     ensures { IfOk result (λ terms. terms.items ≡ variables_from first count) }
@@ -101,6 +101,7 @@ fn open_leaf(
 }
 
 /// The atom with fresh variables from number `first` on for its arguments.
+// Alike: `open_step`, since atoms and steps have no constructor in common.
 fn fresh_atom(alloc: Global, first: u32, atom: &Atom) -> Result<Atom, NoMemory>
     requires { first + length atom.now.args ≤ 1000000 }
     ensures { IfOk result (λ made. made ≡ record { pred = atom.now.pred; args = variables_from first (length atom.now.args) }) }
@@ -113,6 +114,7 @@ fn fresh_atom(alloc: Global, first: u32, atom: &Atom) -> Result<Atom, NoMemory>
 }
 
 /// The proof with fresh variables from number `next` on for all that its form leaves open.
+// Alike: `Proof::try_copy` of `px_proof`, which says why.
 #[cycle(opens)]
 fn open_proof(
     proof: &Proof,
@@ -178,7 +180,7 @@ fn open_each(
 /// leaves of later columns have the adds of these steps that they name.
 ///
 /// # Errors
-/// `NoMemory` where there is none for the rows.
+/// `NoMemory` where there is no memory for the rows.
 pub fn open_rows(
     alloc: Global,
     problem: &Problem,
@@ -215,7 +217,7 @@ fn open_step(alloc: Global, first: u32, inst: &OpInst) -> Result<OpInst, NoMemor
 /// Returns the steps with fresh variables, from number 0 on, for their arguments.
 ///
 /// # Errors
-/// `NoMemory` where there is none for the list.
+/// `NoMemory` where there is no memory for the list.
 pub fn open_steps(alloc: Global, steps: &[OpInst]) -> Result<Vec<OpInst>, NoMemory>
     requires { step_variables steps.now ≤ 1000000 }
     ensures { IfOk result (λ made. made.items ≡ opened_steps 0 steps.now) }

@@ -1,5 +1,5 @@
 //! The replay of one proof.
-ghost use Rattle.std.specs.Prelude.{◌≡◌, ◌<◌, ◌+◌, List, Some, ◌∷◌, map, length, slice_get, All};
+ghost use Rattle.std.specs.Prelude.{◌<◌, ◌+◌, List, ◌∷◌, map, length, All};
 ghost use Rattle.px_terms.specs.Clauses.{ArePlainBelow};
 ghost use Rattle.px_terms.specs.declared.term.Term.{Term};
 ghost use Rattle.px_terms.specs.Language.{IsPlainBelow};
@@ -11,7 +11,7 @@ ghost use Rattle.px_proof.specs.Path.{literals_of};
 ghost use Rattle.px_replay.specs.Replay.{all_pairs_of, pairs_of};
 ghost use Rattle.px_replay.specs.Replaying.{CanReplay, CanReplayEach, IsReplayOf};
 
-use px_proof::{Path, Proof, apply_literal, complement, literal_at};
+use px_proof::{Path, Proof, literal_at, part_at};
 use px_terms::{Atom, ClauseArena, Lit, Term, apply};
 use px_unify::{Bind, Clash, unify};
 
@@ -102,19 +102,4 @@ fn replay_each(
         let part = part_at(lits, theta, place, k);
         replay(sub, bind, arena, path, &part);
     }
-}
-
-/// What the part of that number of a step has to prove.
-fn part_at(lits: &[Lit], theta: &[Term], place: u32, part: usize) -> Lit
-    requires place { place < length lits.now }
-    requires part { part + 1 < length lits.now }
-    requires plain { ArePlainBelow (length theta.now) lits.now }
-    ensures { slice_get (parts_of lits.now theta.now place) part ≡ Some result }
-{
-    let other = if part < place as usize {
-        part
-    } else {
-        part + 1
-    };
-    complement(&apply_literal(theta, &lits[other]))
 }

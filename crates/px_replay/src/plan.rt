@@ -31,7 +31,7 @@ pub struct Opened {
 /// Returns the plan of the table, which has no parameters, with fresh variables for all that its shape leaves open.
 ///
 /// # Errors
-/// `NoMemory` where there is none for the plan.
+/// `NoMemory` where there is no memory for the plan.
 pub fn open_plan(alloc: Global, problem: &Problem, table: &Table) -> Result<Opened, NoMemory>
     requires problem { IsValid problem.now }
     requires table { IsTable problem.now table.now }

@@ -47,7 +47,7 @@ fn needs(alloc: Global, problem: &Problem, inst: &OpInst) -> Result<Vec<Atom>, N
 /// Makes all pairs of the opened plan equal.
 ///
 /// # Errors
-/// `NoMemory` where there is none for the atoms of a precondition.
+/// `NoMemory` where there is no memory for the atoms of a precondition.
 pub fn replay_rows(
     alloc: Global,
     problem: &Problem,

@@ -1,5 +1,5 @@
 -- Each action and each edit: the facts that it leaves, and that it leaves a state.
-use Rattle.std.specs.Prelude.{◌≡◌, ◌⊎◌, ◌↔◌, ◌≤◌, ◌+◌, ◌==◌, ℕ, Bool, true, false, Option, Some, None, List, [], ◌∷◌, length, map, slice_get, Contains, if◌then◌else◌}
+use Rattle.std.specs.Prelude.{◌≡◌, ◌⊎◌, ◌↔◌, ◌≤◌, ◌+◌, ◌==◌, ℕ, Bool, true, false, Option, Some, None, List, [], length, map, slice_get, if◌then◌else◌}
 use Rattle.std.proofs.Common.{zero, suc, refl, sym, ap, ◌∙◌, subst, inl, inr, arith}
 use Rattle.std.proofs.lemmas.List.{length-set}
 use Rattle.px_base.specs.ListLaws.{All-at}
@@ -16,6 +16,7 @@ use Rattle.px_rooms.specs.Changes.{IsAdmitted, acted, edit_schema, facts_edited,
 use Rattle.px_rooms.specs.Domain.{building_problem, in_room, robot}
 use Rattle.px_rooms.specs.Following.{ActionsAreResults, EditsAreEdits, IsMet}
 use Rattle.px_rooms.specs.States.{IsBoxAt, IsBoxOrDoorOrNone, IsDoorAt, IsRoomAt, IsRoomState, RoomState, StandsRight, building_rules, rendering}
+use Rattle.px_rooms.proofs.Effects.{has_at}
 use Rattle.px_rooms.proofs.ThingKinds.{admitted-same, kind_of}
 use Rattle.px_rooms.proofs.Kept.{KeepsKinds, all-right, box-stays, door-stays, put_beside-keeps, put_into-keeps, robot-stays, room-stays, same-kinds, turned-keeps, was-right}
 use Rattle.px_rooms.proofs.Steps.{beside-facts, box-facts, door-facts, into-facts, push-through-facts, push-to-facts}
@@ -23,7 +24,7 @@ use Rattle.px_rooms.proofs.Telling.{IsBetween, box-fact, connects-fact, door-fac
 
 -- ---- what is left is a state of the building
 
--- the state has so many things, each number names a thing of the kind that is wanted there
+-- the state has as many things, each number names a thing of the kind that is wanted there
 pub record IsLeft (old new : RoomState) : Type 0 where
   pub state : IsRoomState new
   pub count : length new.things ≡ length old.things
@@ -32,11 +33,6 @@ pub record IsLeft (old new : RoomState) : Type 0 where
 between-door : (state : RoomState) (d x y : ℕ) → IsBetween state d x y → IsDoorAt state.things d
 between-door state d x y (is_open, inl is) = (x, y, is_open, is)
 between-door state d x y (is_open, inr is) = (y, x, is_open, is)
-
-has_at : {X : Type 0} (xs : List X) (k : ℕ) (x : X) → slice_get xs k ≡ Some x → Contains xs x
-has_at [] k x is = absurd (cc)
-has_at (y ∷ xs) zero x is = (0, omega arith, cc)
-has_at (y ∷ xs) (suc k) x is = let found = has_at xs k x is in (suc found.0, omega (arith, found.1), found.2)
 
 -- both rooms of a door are rooms
 between-room : (state : RoomState) (d x y : ℕ) → IsRoomState state → IsBetween state d x y → IsRoomAt state.things y

@@ -17,6 +17,7 @@ use Rattle.px_rooms.specs.declared.standing.Standing.TheVariants.{Room as a_room
 use Rattle.px_rooms.specs.Domain.{connects, in_room, is_box, is_door, is_room, robot}
 use Rattle.px_rooms.specs.States.{IsRoomState, RoomState, StandsRight, all_atoms, atoms_from, beside_atoms, door_atom, rendering, robot_atoms, thing_atoms}
 use Rattle.px_rooms.proofs.About.{IsAbout, all-about, thing-about}
+use Rattle.px_rooms.proofs.Effects.{all_of}
 use Rattle.px_rooms.proofs.Telling.{about-same, second_number}
 
 -- no atom stands in the list twice
@@ -63,9 +64,6 @@ door-kind : (k : ℕ) (is_open : Bool) (pred : ℕ) → 3 ≢ pred → 4 ≢ pre
 door-kind k true pred three four = three
 door-kind k false pred three four = four
 
-none-in : (atom : Atom) → ¬ Contains [] atom
-none-in atom has = Contains-none atom has
-
 door-once : (k x y : ℕ) (is_open : Bool) → x ≢ y → AreOnce (thing_atoms k (a_door x y is_open))
 door-once k x y is_open differ =
     let way = connects (Obj k) (Obj x) (Obj y) in
@@ -79,12 +77,12 @@ door-once k x y is_open differ =
           | inl is ↦ differ (sym (ap (λ (a : Atom). second_number a.args) is))
           | inr later ↦ other-kind way (last ∷ []) (not_last, tt) later
         ]),
-        (other-kind back (last ∷ []) (not_last, tt), (none-in last, tt)),
+        (other-kind back (last ∷ []) (not_last, tt), (Contains-none last, tt)),
       ),
     )
 
 thing-once : (things : List Standing) (k : ℕ) (one : Standing) → StandsRight things one → AreOnce (thing_atoms k one)
-thing-once things k a_room right = (none-in (is_room (Obj k)), tt)
+thing-once things k a_room right = (Contains-none (is_room (Obj k)), tt)
 thing-once things k (a_door x y is_open) right = door-once k x y is_open right.2
 thing-once things k (a_box r beside) right = (
   other-kind (is_box (Obj k)) (in_room (Obj k) (Obj r) ∷ beside_atoms k beside) ((λ e. omega (arith, e)), beside-kind k beside 7 (λ e. omega (arith, e))),
@@ -99,7 +97,7 @@ from-later n (one ∷ things) atom has = elim (Contains-append_cases (thing_atom
   | inr later ↦ let found = from-later (n + 1) things atom later in (found.0, omega (arith, found.1), found.2)
 ]
 
-apart : (n k : ℕ) (atom : Atom) → n < k → IsAbout n atom → IsAbout k atom → ⊥
+apart : (n k : ℕ) (atom : Atom) → n < k → IsAbout n atom → ¬ IsAbout k atom
 apart n k atom less (terms, is) at = let same = about-same k n atom terms at is in omega (arith, less, same)
 
 from-once : (all : List Standing) (n : ℕ) (things : List Standing) → AllByRecursion (StandsRight all) things → AreOnce (atoms_from n things)
@@ -109,15 +107,11 @@ from-once all n (one ∷ things) (here, right) =
     (λ a has later. let found = from-later (n + 1) things a later in
     apart n found.0 a (omega (arith, found.1)) (AllByRecursion-at (IsAbout n) (thing_atoms n one) a (thing-about n one) has) found.2)
 
-all-by : {X : Type 0} (P : X → Type 0) (xs : List X) → ((x : X) → Contains xs x → P x) → AllByRecursion P xs
-all-by P [] each = tt
-all-by P (x ∷ xs) each = (each x (Contains-first x xs), all-by P xs (λ q has. each q (Contains-later x xs q has)))
-
 pub rendering-length : (state : RoomState) → IsRoomState state → length (rendering state) ≡ length (all_atoms state)
 rendering-length state is = set-of-once (all_atoms state)
     (append-once (robot_atoms state) (atoms_from 1 state.things)
     (other-kind (in_room robot (Obj state.robot_room)) (beside_atoms 0 state.robot_beside) (beside-kind 0 state.robot_beside 0 (λ e. omega (arith, e))), beside-once 0 state.robot_beside)
-    (from-once state.things 1 state.things (all-by (StandsRight state.things) state.things (λ q has. All-at (StandsRight state.things) state.things q is.things has)))
+    (from-once state.things 1 state.things (all_of (StandsRight state.things) state.things (λ q has. All-at (StandsRight state.things) state.things q is.things has)))
     (λ a has later. let found = from-later 1 state.things a later in
     apart 0 found.0 a (omega (arith, found.1)) (AllByRecursion-at (IsAbout 0) (robot_atoms state) a (all-about state 0) has) found.2))
 

@@ -1,9 +1,10 @@
 -- What is to be shown of an operator so that the facts afterwards are its result, object by object.
-use Rattle.std.specs.Prelude.{◌≡◌, ◌≢◌, ◌↔◌, ◌⊎◌, ◌==◌, ◌&&◌, ℕ, Bool, true, false, List, [], ◌∷◌, Contains}
-use Rattle.std.proofs.Common.{refl, inl, inr, arith}
+use Rattle.std.specs.Prelude.{◌≡◌, ◌≢◌, ◌↔◌, ◌⊎◌, ◌==◌, ◌&&◌, ℕ, Bool, true, false, Some, List, [], ◌∷◌, Contains, slice_get}
+use Rattle.std.proofs.Common.{zero, suc, refl, inl, inr, arith}
 use Rattle.std.specs.List.{AllByRecursion, list_any}
 use Rattle.std.proofs.lemmas.Bool.{eqb-true}
 use Rattle.std.proofs.lemmas.Bool.Decides.{nat_tests}
+use Rattle.px_base.specs.Answers.{both_answers}
 use Rattle.px_base.specs.ListLaws.{Contains-first, Contains-later, AllByRecursion-at}
 use Rattle.px_base.specs.SetLaws.{set_of-is_sorted, same_set}
 use Rattle.px_terms.specs.declared.atom.Atom.{Atom}
@@ -22,9 +23,6 @@ use Rattle.px_rooms.proofs.About.{IsAbout, about-rendering, rendering-about}
 
 -- ---- numbers
 
-pub both_ways : {G : Type 0} (b : Bool) → b ≡ true → b ≡ false → G
-both_ways b t f = cc
-
 pub other-number : (m n : ℕ) → m ≢ n → (m == n) ≡ false
 other-number m n differ = elim (m == n) as (λ b. (m == n) ≡ b → b ≡ false) [ true ↦ λ is. absurd (differ (eqb-true m n is)) | false ↦ λ _. refl ] refl
 
@@ -36,6 +34,11 @@ same-number n = grind (arith, nat_tests)
 pub all_of : {X : Type 0} (P : X → Type 0) (xs : List X) → ((x : X) → Contains xs x → P x) → AllByRecursion P xs
 all_of P [] each = tt
 all_of P (x ∷ xs) each = (each x (Contains-first x xs), all_of P xs (λ q has. each q (Contains-later x xs q has)))
+
+pub has_at : {X : Type 0} (xs : List X) (k : ℕ) (x : X) → slice_get xs k ≡ Some x → Contains xs x
+has_at [] k x is = absurd (cc)
+has_at (y ∷ xs) zero x is = (0, omega arith, cc)
+has_at (y ∷ xs) (suc k) x is = let found = has_at xs k x is in (suc found.0, omega (arith, found.1), found.2)
 
 -- ---- what is deleted
 
@@ -95,7 +98,7 @@ result-by-changes schema inst old new changes added =
         | inl was ↦
             let found = rendering-about old a was.0 in
             elim (AllByRecursion-at _ (atoms_about old found.0) a (changes found.0).goes found.1) [
-              | inl gone ↦ both_ways (is_deleted schema inst a) gone was.1
+              | inl gone ↦ both_answers (is_deleted schema inst a) was.1 gone
               | inr stays ↦ about-rendering new found.0 a stays
             ]
         | inr is_added ↦ let found = AllByRecursion-at _ (atoms_of schema.add inst) a added is_added in about-rendering new found.0 a found.1

@@ -15,7 +15,8 @@ use Rattle.px_world.specs.Worlds.{IsRefused}
 use Rattle.px_rooms.specs.Following.{FactsAreFew, IsMet, RefusalsAreAllowed}
 use Rattle.px_rooms.specs.States.{IsRoomWorld, RoomState, building_rules, rendering}
 use Rattle.px_rooms.proofs.Meeting.{HaveBelow, have-all, have-not}
-use Rattle.px_rooms.proofs.Refusing.{has_at, refused}
+use Rattle.px_rooms.proofs.Effects.{has_at}
+use Rattle.px_rooms.proofs.Refusing.{refused}
 use Rattle.px_rooms.proofs.Counting.{rendering-few}
 use Rattle.px_rooms.proofs.Valid.{buildings_are_valid}
 use Rattle.px_rooms.proofs.Worlds.{rendering-ground, rules-valid}

@@ -1,12 +1,13 @@
 -- States stay states where one thing changes and keeps its kind.
 use Rattle.std.specs.Prelude.{◌≡◌, ◌⊎◌, ◌==◌, ℕ, Bool, true, false, Option, Some, None, List, [], ◌∷◌, map, set, slice_get, Contains, All}
-use Rattle.std.proofs.Common.{zero, suc, refl, sym, ap, ◌∙◌, subst, inl, inr, arith}
+use Rattle.std.proofs.Common.{zero, suc, refl, sym, ap, ◌∙◌, subst, inl, inr}
 use Rattle.std.proofs.lemmas.Bool.{eqb-true}
 use Rattle.px_base.specs.ListLaws.{All-at, All-each, Contains-cases, Contains-first, Contains-later}
 use Rattle.px_rooms.specs.declared.standing.Standing.{Standing}
 use Rattle.px_rooms.specs.declared.standing.Standing.TheVariants.{Room as a_room, Door as a_door, Box as a_box}
 use Rattle.px_rooms.specs.Changes.{put_beside, put_into, things_with, turned}
 use Rattle.px_rooms.specs.States.{IsBoxAt, IsBoxOrDoorOrNone, IsDoorAt, IsDoorOrNone, IsRoomAt, StandsRight, thing_at}
+use Rattle.px_rooms.proofs.Effects.{has_at}
 use Rattle.px_rooms.proofs.ThingKinds.{kind_of, set-kind}
 use Rattle.px_rooms.proofs.Touched.{changed-here, changed-there, differing, read-or}
 
@@ -17,29 +18,23 @@ pub record KeepsKinds (change : Standing → Standing) : Type 0 where
   pub door : (x y : ℕ) (was : Bool) → (is : Bool) × (change (a_door x y was) ≡ a_door x y is)
   pub box : (r : ℕ) (beside : Option ℕ) → (s : ℕ) × (after : Option ℕ) × (change (a_box r beside) ≡ a_box s after)
 
-turned-kind : (is_open : Bool) (one : Standing) → kind_of (turned is_open one) ≡ kind_of one
-turned-kind is_open a_room = refl
-turned-kind is_open (a_door x y was) = refl
-turned-kind is_open (a_box r beside) = refl
+-- what it makes of each kind of thing is enough
+keeping : (change : Standing → Standing) → change a_room ≡ a_room → ((x y : ℕ) (was : Bool) → (is : Bool) × (change (a_door x y was) ≡ a_door x y is))
+    → ((r : ℕ) (beside : Option ℕ) → (s : ℕ) × (after : Option ℕ) × (change (a_box r beside) ≡ a_box s after)) → KeepsKinds change
+keeping change room door box = record { kind = kind; room = room; door = door; box = box } where
+  kind : (one : Standing) → kind_of (change one) ≡ kind_of one
+  kind a_room = ap kind_of room
+  kind (a_door x y was) = ap kind_of (door x y was).1
+  kind (a_box r beside) = ap kind_of (box r beside).2
 
 pub turned-keeps : (is_open : Bool) → KeepsKinds (turned is_open)
-turned-keeps is_open = record { kind = turned-kind is_open; room = refl; door = λ x y was. (is_open, refl); box = λ r beside. (r, beside, refl) }
-
-put_beside-kind : (d : ℕ) (one : Standing) → kind_of (put_beside d one) ≡ kind_of one
-put_beside-kind d a_room = refl
-put_beside-kind d (a_door x y was) = refl
-put_beside-kind d (a_box r beside) = refl
+turned-keeps is_open = keeping (turned is_open) refl (λ x y was. (is_open, refl)) (λ r beside. (r, beside, refl))
 
 pub put_beside-keeps : (d : ℕ) → KeepsKinds (put_beside d)
-put_beside-keeps d = record { kind = put_beside-kind d; room = refl; door = λ x y was. (was, refl); box = λ r beside. (r, Some d, refl) }
-
-put_into-kind : (s : ℕ) (one : Standing) → kind_of (put_into s one) ≡ kind_of one
-put_into-kind s a_room = refl
-put_into-kind s (a_door x y was) = refl
-put_into-kind s (a_box r beside) = refl
+put_beside-keeps d = keeping (put_beside d) refl (λ x y was. (was, refl)) (λ r beside. (r, Some d, refl))
 
 pub put_into-keeps : (s : ℕ) → KeepsKinds (put_into s)
-put_into-keeps s = record { kind = put_into-kind s; room = refl; door = λ x y was. (was, refl); box = λ r beside. (s, None, refl) }
+put_into-keeps s = keeping (put_into s) refl (λ x y was. (was, refl)) (λ r beside. (s, None, refl))
 
 set-members : {X : Type 0} (xs : List X) (k : ℕ) (x q : X) → Contains (set xs k x) q → Contains xs q ⊎ (x ≡ q)
 set-members [] k x q has = inl has
@@ -101,8 +96,4 @@ module _ (change : Standing → Standing) (keeps : KeepsKinds change) (things : 
   same-kinds = set-kind things t was _ here (keeps.kind _ ∙ ap kind_of (read-or things t was a_room here))
 
   pub was-right : All (StandsRight things) things → StandsRight things was
-  was-right each = All-at (StandsRight things) things was each (has things t here) where
-    has : (xs : List Standing) (k : ℕ) → slice_get xs k ≡ Some was → Contains xs was
-    has [] k is = absurd (cc)
-    has (x ∷ xs) zero is = (0, omega arith, cc)
-    has (x ∷ xs) (suc k) is = Contains-later x xs was (has xs k is)
+  was-right each = All-at (StandsRight things) things was each (has_at things t was here)

@@ -8,9 +8,6 @@ module _ {X : Type 0} (P : X → Type 0) (xs : List X) where
   abbrev pub HaveBelow : ℕ → Type 0
   HaveBelow k = (j : ℕ) (y : X) → j < k → slice_get xs j ≡ Some y → P y
 
-  pub have-none : HaveBelow 0
-  have-none j y below is = absurd (omega (arith, below))
-
   pub have-more : (k : ℕ) (x : X) → HaveBelow k → slice_get xs k ≡ Some x → P x → HaveBelow (k + 1)
   have-more k x have is here j y below at = either (split j k below) where
     split : (j k : ℕ) → j < k + 1 → (j < k) ⊎ (j ≡ k)

@@ -7,6 +7,7 @@ use Rattle.std.proofs.lemmas.Bool.{eqb-true}
 use Rattle.std.proofs.lemmas.List.Elements.{All-cons, All-head, All-nil, All-tail}
 use Rattle.std.proofs.lemmas.Option.{slice_get_within}
 use Rattle.std.proofs.lemmas.Map.Views.{list_any-from_Contains, Contains-from_any}
+use Rattle.px_base.specs.Answers.{both_answers}
 use Rattle.px_base.specs.ListLaws.{All-at, All-each, AllByRecursion-at, Contains-cases, Contains-first, Contains-later, Contains-none}
 use Rattle.px_terms.specs.declared.atom.Atom.{Atom}
 use Rattle.px_terms.specs.declared.clause.Clause.{Clause}
@@ -29,7 +30,7 @@ use Rattle.px_rooms.specs.Domain.{both_ways, connects}
 use Rattle.px_rooms.specs.Looking.{atoms_about, atoms_of_thing}
 use Rattle.px_rooms.specs.States.{IsBoxAt, IsBoxOrDoorOrNone, IsDoorAt, IsDoorOrNone, IsRoomAt, IsRoomState, RoomState, StandsRight, beside_atoms, building_rules, door_atom, rendering, thing_at, thing_atoms}
 use Rattle.px_rooms.proofs.About.{rendering-about}
-use Rattle.px_rooms.proofs.Effects.{same-number}
+use Rattle.px_rooms.proofs.Effects.{has_at, same-number}
 use Rattle.px_rooms.proofs.Telling.{connects-back}
 use Rattle.px_rooms.proofs.Worlds.{rendering-ground}
 use Rattle.px_rooms.proofs.Numbers.{number_of}
@@ -64,9 +65,6 @@ tuples_of : ℕ → List Atom → List (List ℕ)
 tuples_of pred [] = []
 tuples_of pred (atom ∷ atoms) = put_tuple (atom.pred == pred) (map number_of atom.args) (tuples_of pred atoms)
 
-clash : {G : Type 0} (b : Bool) → b ≡ true → b ≡ false → G
-clash b t f = cc
-
 put-there : (b : Bool) (pred : ℕ) (x atom : Atom) (tuples : List (List ℕ)) → (x.pred == pred) ≡ b → atom.pred ≡ pred → (x ≡ atom) ⊎ Contains tuples (map number_of atom.args)
     → Contains (put_tuple b (map number_of x.args) tuples) (map number_of atom.args)
 unfolding put_tuple
@@ -74,7 +72,7 @@ put-there true pred x atom tuples equal is (inl same) =
     subst (λ (a : Atom). Contains (map number_of x.args ∷ tuples) (map number_of a.args)) same (Contains-first (map number_of x.args) tuples)
 put-there true pred x atom tuples equal is (inr later) = Contains-later (map number_of x.args) tuples (map number_of atom.args) later
 put-there false pred x atom tuples other is (inl same) =
-    clash (x.pred == pred) (subst (λ n. (n == pred) ≡ true) (sym is ∙ ap (λ (a : Atom). a.pred) (sym same)) (same-number pred)) other
+    both_answers (x.pred == pred) other (subst (λ n. (n == pred) ≡ true) (sym is ∙ ap (λ (a : Atom). a.pred) (sym same)) (same-number pred))
 put-there false pred x atom tuples other is (inr later) = later
 
 tuple-there : (pred : ℕ) (atoms : List Atom) (atom : Atom) → Contains atoms atom → atom.pred ≡ pred → Contains (tuples_of pred atoms) (map number_of atom.args)
@@ -97,7 +95,7 @@ there-tuple pred (x ∷ xs) tuple has = elim (there-put (x.pred == pred) pred x 
   | inr later ↦ let found = there-tuple pred xs tuple later in (found.0, Contains-later x xs found.0 found.1, found.2, found.3)
 ]
 
--- those of so many predicates from a number on
+-- those of `count` predicates from a number on
 tables : ℕ → ℕ → List Atom → List (List (List ℕ))
 tables zero first atoms = []
 tables (suc n) first atoms = tuples_of first atoms ∷ tables n (suc first) atoms
@@ -146,11 +144,6 @@ objects-by-numbers (Obj m ∷ xs) (WildCard ∷ ys) all_x all_y is = absurd (All
 
 no_literal : Lit
 no_literal = record { positive = true; atom = record { pred = 0; args = [] } }
-
-pub has_at : {X : Type 0} (xs : List X) (k : ℕ) (x : X) → slice_get xs k ≡ Some x → Contains xs x
-has_at [] k x is = absurd (cc)
-has_at (y ∷ xs) zero x is = (0, omega arith, cc)
-has_at (y ∷ xs) (suc k) x is = let found = has_at xs k x is in (suc found.0, omega (arith, found.1), found.2)
 
 module _ (state : RoomState) where
   abbrev size : ℕ
@@ -280,13 +273,10 @@ module _ (state : RoomState) where
     -- the door connects in no way, or in both
     either-way : (d x y : ℕ) → (¬ Contains (rendering state) (connects (Obj d) (Obj x) (Obj y))) ⊎ Contains (rendering state) (connects (Obj d) (Obj y) (Obj x))
     either-way d x y = by_test (list_any (atom_eq (connects (Obj d) (Obj x) (Obj y))) (rendering state)) refl where
-      clash : (b : Bool) → b ≡ true → b ≡ false → ⊥
-      clash b t f = cc
-
       by_test : (b : Bool) → list_any (atom_eq (connects (Obj d) (Obj x) (Obj y))) (rendering state) ≡ b
           → (¬ Contains (rendering state) (connects (Obj d) (Obj x) (Obj y))) ⊎ Contains (rendering state) (connects (Obj d) (Obj y) (Obj x))
       by_test true found = inr (connects-back state d x y (Contains-from_any (λ p q. (atom_eq-decides p q).0) (connects (Obj d) (Obj x) (Obj y)) (rendering state) found))
-      by_test false none = inl (λ has. clash _ (list_any-from_Contains atom_eq-equivalence (connects (Obj d) (Obj x) (Obj y)) (rendering state) has) none)
+      by_test false none = inl (λ has. both_answers _ none (list_any-from_Contains atom_eq-equivalence (connects (Obj d) (Obj x) (Obj y)) (rendering state) has))
 
     connects-ground : (d x y : ℕ) → IsGround (connects (Obj d) (Obj x) (Obj y))
     connects-ground d x y = All-cons IsObject (Obj d) (Obj x ∷ Obj y ∷ []) tt (All-cons IsObject (Obj x) (Obj y ∷ []) tt (All-cons IsObject (Obj y) [] tt (All-nil IsObject)))

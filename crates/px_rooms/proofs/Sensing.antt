@@ -183,10 +183,3 @@ no-atoms = refl
 -- none of them is taken at first
 pub none-yet : (state : RoomState) (atoms : List Atom) → atoms ≡ [] → atoms ≡ atom_set (below 0 (all_atoms state))
 none-yet state atoms is = is ∙ no-atoms ∙ ap atom_set (sym (below-none (all_atoms state)))
-
--- the robot's facts of a predicate and then those of the things
-pub facts-parts : (state : RoomState) (pred : ℕ) → of_pred pred (all_atoms state) ≡ of_pred pred (robot_atoms state) ++ of_pred pred (atoms_from 1 state.things)
-facts-parts state pred = filter-append (λ (a : Atom). a.pred == pred) (robot_atoms state) (atoms_from 1 state.things)
-
-pub facts-split : (state : RoomState) (pred : ℕ) → length (of_pred pred (all_atoms state)) ≡ length (of_pred pred (robot_atoms state)) + length (of_pred pred (atoms_from 1 state.things))
-facts-split state pred = ap length (facts-parts state pred) ∙ length-append (of_pred pred (robot_atoms state)) (of_pred pred (atoms_from 1 state.things))

@@ -1,5 +1,5 @@
 -- What a fact tells of the state.
-use Rattle.std.specs.Prelude.{◌≡◌, ◌≢◌, ◌⊎◌, ℕ, Bool, true, false, Option, Some, None, List, [], ◌∷◌, slice_get, Contains}
+use Rattle.std.specs.Prelude.{◌≡◌, ◌≢◌, ◌≤◌, ◌⊎◌, ℕ, Bool, true, false, Option, Some, None, List, [], ◌∷◌, slice_get, Contains}
 use Rattle.std.proofs.Common.{zero, suc, refl, sym, ap, ◌∙◌, subst, inl, inr, arith}
 use Rattle.std.specs.List.{AllByRecursion}
 use Rattle.px_base.specs.ListLaws.{AllByRecursion-at}
@@ -38,43 +38,44 @@ beside-tells : (P : Atom → Type 0) (k : ℕ) (beside : Option ℕ) (pred : ℕ
 beside-tells P k None pred other = tt
 beside-tells P k (Some x) pred other = ((λ e. absurd (other (sym e))), tt)
 
+-- what each thing's facts of a kind tell of it, a fact tells of the thing that it is about, unless it says where something is
+told : (P : Option Standing → Atom → Type 0) (pred : ℕ) → 2 ≤ pred → ((k : ℕ) (one : Standing) → AllByRecursion (Tells pred (P (Some one))) (thing_atoms k one))
+    → (state : RoomState) (atom : Atom) (d : ℕ) (terms : List Term) → atom.args ≡ Obj d ∷ terms → atom.pred ≡ pred → Contains (rendering state) atom
+    → P (thing_at state.things d) atom
+told P pred kind of_thing state atom d terms args is has = at d (found-about state atom d terms args has) where
+  of_option : (k : ℕ) (one : Option Standing) → Contains (atoms_of_thing k one) atom → P one atom
+  of_option k None (place, below, here) = absurd (omega (arith, below))
+  of_option k (Some one) here = AllByRecursion-at (Tells pred (P (Some one))) (thing_atoms k one) atom (of_thing k one) here is
+
+  of_robot : AllByRecursion (Tells pred (P (thing_at state.things 0))) (atoms_about state 0)
+  of_robot = ((λ e. absurd (omega (arith, e, kind))), beside-tells (P (thing_at state.things 0)) 0 state.robot_beside pred (λ e. omega (arith, e, kind)))
+
+  at : (k : ℕ) → Contains (atoms_about state k) atom → P (thing_at state.things k) atom
+  at zero here = AllByRecursion-at (Tells pred (P (thing_at state.things 0))) (atoms_about state 0) atom of_robot here is
+  at (suc k) here = of_option (suc k) (slice_get state.things k) here
+
+-- a box, or a door, is there, whatever the atom
+abbrev BoxThere : Option Standing → Atom → Type 0
+BoxThere one atom = (r : ℕ) × (beside : Option ℕ) × (one ≡ Some (a_box r beside))
+
+abbrev DoorThere : Option Standing → Atom → Type 0
+DoorThere one atom = (x : ℕ) × (y : ℕ) × (is_open : Bool) × (one ≡ Some (a_door x y is_open))
+
 pub box-fact : (state : RoomState) (b : ℕ) → Contains (rendering state) (is_box (Obj b)) → IsBoxAt state.things b
-box-fact state b has = at b (found-about state (is_box (Obj b)) b [] refl has) where
-  of_thing : (k : ℕ) (one : Standing) → AllByRecursion (Tells 7 (λ atom. (r : ℕ) × (beside : Option ℕ) × (Some one ≡ Some (a_box r beside)))) (thing_atoms k one)
+box-fact state b has = told BoxThere 7 (omega arith) of_thing state (is_box (Obj b)) b [] refl refl has where
+  of_thing : (k : ℕ) (one : Standing) → AllByRecursion (Tells 7 (BoxThere (Some one))) (thing_atoms k one)
   of_thing k a_room = ((λ e. absurd (omega (arith, e))), tt)
   of_thing k (a_door x y true) = ((λ e. absurd (omega (arith, e))), ((λ e. absurd (omega (arith, e))), ((λ e. absurd (omega (arith, e))), ((λ e. absurd (omega (arith, e))), tt))))
   of_thing k (a_door x y false) = ((λ e. absurd (omega (arith, e))), ((λ e. absurd (omega (arith, e))), ((λ e. absurd (omega (arith, e))), ((λ e. absurd (omega (arith, e))), tt))))
   of_thing k (a_box r beside) = ((λ e. (r, beside, refl)), ((λ e. absurd (omega (arith, e))), beside-tells _ k beside 7 (λ e. omega (arith, e))))
 
-  of_option : (k : ℕ) (one : Option Standing) → Contains (atoms_of_thing k one) (is_box (Obj b)) → (r : ℕ) × (beside : Option ℕ) × (one ≡ Some (a_box r beside))
-  of_option k None (place, below, is) = absurd (omega (arith, below))
-  of_option k (Some one) here = AllByRecursion-at _ (thing_atoms k one) (is_box (Obj b)) (of_thing k one) here refl
-
-  of_robot : AllByRecursion (Tells 7 (λ atom. IsBoxAt state.things 0)) (atoms_about state 0)
-  of_robot = ((λ e. absurd (omega (arith, e))), beside-tells _ 0 state.robot_beside 7 (λ e. omega (arith, e)))
-
-  at : (k : ℕ) → Contains (atoms_about state k) (is_box (Obj b)) → IsBoxAt state.things k
-  at zero here = AllByRecursion-at _ (atoms_about state 0) (is_box (Obj b)) of_robot here refl
-  at (suc k) here = of_option (suc k) (slice_get state.things k) here
-
 pub door-fact : (state : RoomState) (d : ℕ) → Contains (rendering state) (is_door (Obj d)) → IsDoorAt state.things d
-door-fact state d has = at d (found-about state (is_door (Obj d)) d [] refl has) where
-  of_thing : (k : ℕ) (one : Standing) → AllByRecursion (Tells 6 (λ atom. (x : ℕ) × (y : ℕ) × (is_open : Bool) × (Some one ≡ Some (a_door x y is_open)))) (thing_atoms k one)
+door-fact state d has = told DoorThere 6 (omega arith) of_thing state (is_door (Obj d)) d [] refl refl has where
+  of_thing : (k : ℕ) (one : Standing) → AllByRecursion (Tells 6 (DoorThere (Some one))) (thing_atoms k one)
   of_thing k a_room = ((λ e. absurd (omega (arith, e))), tt)
   of_thing k (a_door x y true) = ((λ e. (x, y, true, refl)), ((λ e. absurd (omega (arith, e))), ((λ e. absurd (omega (arith, e))), ((λ e. absurd (omega (arith, e))), tt))))
   of_thing k (a_door x y false) = ((λ e. (x, y, false, refl)), ((λ e. absurd (omega (arith, e))), ((λ e. absurd (omega (arith, e))), ((λ e. absurd (omega (arith, e))), tt))))
   of_thing k (a_box r beside) = ((λ e. absurd (omega (arith, e))), ((λ e. absurd (omega (arith, e))), beside-tells _ k beside 6 (λ e. omega (arith, e))))
-
-  of_option : (k : ℕ) (one : Option Standing) → Contains (atoms_of_thing k one) (is_door (Obj d)) → (x : ℕ) × (y : ℕ) × (is_open : Bool) × (one ≡ Some (a_door x y is_open))
-  of_option k None (place, below, is) = absurd (omega (arith, below))
-  of_option k (Some one) here = AllByRecursion-at _ (thing_atoms k one) (is_door (Obj d)) (of_thing k one) here refl
-
-  of_robot : AllByRecursion (Tells 6 (λ atom. IsDoorAt state.things 0)) (atoms_about state 0)
-  of_robot = ((λ e. absurd (omega (arith, e))), beside-tells _ 0 state.robot_beside 6 (λ e. omega (arith, e)))
-
-  at : (k : ℕ) → Contains (atoms_about state k) (is_door (Obj d)) → IsDoorAt state.things k
-  at zero here = AllByRecursion-at _ (atoms_about state 0) (is_door (Obj d)) of_robot here refl
-  at (suc k) here = of_option (suc k) (slice_get state.things k) here
 
 -- ---- a door and its two rooms
 
@@ -95,23 +96,14 @@ abbrev Between : Option Standing → Atom → Type 0
 Between one atom = (is_open : Bool) × ((one ≡ Some (a_door (second_number atom.args) (third_number atom.args) is_open)) ⊎ (one ≡ Some (a_door (third_number atom.args) (second_number atom.args) is_open)))
 
 pub connects-fact : (state : RoomState) (d x y : ℕ) → Contains (rendering state) (connects (Obj d) (Obj x) (Obj y)) → IsBetween state d x y
-connects-fact state d x y has = at d (found-about state (connects (Obj d) (Obj x) (Obj y)) d (Obj x ∷ Obj y ∷ []) refl has) where
-  of_thing : (k : ℕ) (one : Standing) → AllByRecursion (Tells 2 (Between (Some one))) (thing_atoms k one)
-  of_thing k a_room = ((λ e. absurd (omega (arith, e))), tt)
-  of_thing k (a_door x y true) = ((λ e. absurd (omega (arith, e))), ((λ e. (true, inl refl)), ((λ e. (true, inr refl)), ((λ e. absurd (omega (arith, e))), tt))))
-  of_thing k (a_door x y false) = ((λ e. absurd (omega (arith, e))), ((λ e. (false, inl refl)), ((λ e. (false, inr refl)), ((λ e. absurd (omega (arith, e))), tt))))
-  of_thing k (a_box r beside) = ((λ e. absurd (omega (arith, e))), ((λ e. absurd (omega (arith, e))), beside-tells _ k beside 2 (λ e. omega (arith, e))))
-
-  of_option : (k : ℕ) (one : Option Standing) → Contains (atoms_of_thing k one) (connects (Obj d) (Obj x) (Obj y)) → Between one (connects (Obj d) (Obj x) (Obj y))
-  of_option k None (place, below, is) = absurd (omega (arith, below))
-  of_option k (Some one) here = AllByRecursion-at _ (thing_atoms k one) (connects (Obj d) (Obj x) (Obj y)) (of_thing k one) here refl
-
-  of_robot : AllByRecursion (Tells 2 (λ atom. IsBetween state 0 x y)) (atoms_about state 0)
-  of_robot = ((λ e. absurd (omega (arith, e))), beside-tells _ 0 state.robot_beside 2 (λ e. omega (arith, e)))
-
-  at : (k : ℕ) → Contains (atoms_about state k) (connects (Obj d) (Obj x) (Obj y)) → IsBetween state k x y
-  at zero here = AllByRecursion-at _ (atoms_about state 0) (connects (Obj d) (Obj x) (Obj y)) of_robot here refl
-  at (suc k) here = of_option (suc k) (slice_get state.things k) here
+connects-fact state d x y has =
+    told Between 2 (omega arith) of_thing state (connects (Obj d) (Obj x) (Obj y)) d (Obj x ∷ Obj y ∷ []) refl refl has
+  where
+    of_thing : (k : ℕ) (one : Standing) → AllByRecursion (Tells 2 (Between (Some one))) (thing_atoms k one)
+    of_thing k a_room = ((λ e. absurd (omega (arith, e))), tt)
+    of_thing k (a_door x y true) = ((λ e. absurd (omega (arith, e))), ((λ e. (true, inl refl)), ((λ e. (true, inr refl)), ((λ e. absurd (omega (arith, e))), tt))))
+    of_thing k (a_door x y false) = ((λ e. absurd (omega (arith, e))), ((λ e. (false, inl refl)), ((λ e. (false, inr refl)), ((λ e. absurd (omega (arith, e))), tt))))
+    of_thing k (a_box r beside) = ((λ e. absurd (omega (arith, e))), ((λ e. absurd (omega (arith, e))), beside-tells _ k beside 2 (λ e. omega (arith, e))))
 
 -- a door that connects two rooms connects them the other way
 pub connects-back : (state : RoomState) (d x y : ℕ) → Contains (rendering state) (connects (Obj d) (Obj x) (Obj y)) → Contains (rendering state) (connects (Obj d) (Obj y) (Obj x))

@@ -12,11 +12,12 @@ use Rattle.px_rooms.specs.declared.standing.Standing.TheVariants.{Room as a_room
 use Rattle.px_rooms.specs.Changes.{things_with}
 use Rattle.px_rooms.specs.Looking.{atoms_about, atoms_of_thing}
 use Rattle.px_rooms.specs.States.{RoomState, rendering, robot_atoms, thing_atoms}
+use Rattle.px_base.specs.Answers.{both_answers}
 use Rattle.px_rooms.proofs.About.{all-about}
-use Rattle.px_rooms.proofs.Effects.{Changes, IsSpared, both_ways, same-number, result-by-changes, same-facts}
+use Rattle.px_rooms.proofs.Effects.{Changes, IsSpared, same-number, result-by-changes, same-facts}
 
 pub differing : (k t : ℕ) → (k == t) ≡ false → k ≢ t
-differing k t is e = both_ways (k == t) (rw e (same-number t)) is
+differing k t is e = both_answers (k == t) is (rw e (same-number t))
 
 -- ---- one thing of a list is changed
 

@@ -3,6 +3,8 @@ use Rattle.std.specs.Prelude.{◌≡◌, ◌↔◌, ◌+◌, ℕ, Bool, true, fa
 use Rattle.std.proofs.Common.{zero, suc, sym, ap, ◌∙◌, subst, arith}
 use Rattle.std.proofs.lemmas.List.Elements.{All-cons, All-nil}
 use Rattle.std.specs.List.{AllByRecursion}
+use Rattle.px_base.proofs.Loops.{is_false}
+use Rattle.px_base.specs.Answers.{some_or_none}
 use Rattle.px_base.specs.ListLaws.{All-each, AllByRecursion-at}
 use Rattle.px_base.specs.SetLaws.{set_of-is_sorted}
 use Rattle.px_terms.specs.declared.atom.Atom.{Atom}
@@ -85,9 +87,7 @@ first-is (Var v ∷ terms) n is = absurd (cc)
 first-is (WildCard ∷ terms) n is = absurd (cc)
 
 first-not : (terms : List Term) (n : ℕ) (rest : List Term) → number_first terms ≡ None → ¬ (terms ≡ Obj n ∷ rest)
-first-not terms n rest none is = clash (sym none ∙ ap number_first is) where
-  clash : ◌≡◌ {A = Option ℕ} None (Some n) → ⊥
-  clash e = cc
+first-not terms n rest none is = some_or_none (sym (ap number_first is) ∙ none)
 
 pub has-some : (state : RoomState) (atom : Atom) (n : ℕ) (b : Bool) → number_first atom.args ≡ Some n → IsTrue b ↔ Contains (atoms_about state n) atom → IsTrue b ↔ Contains (rendering state) atom
 has-some state atom n b first test =
@@ -96,10 +96,7 @@ has-some state atom n b first test =
     ((λ t. fact.0 (test.0 t)), (λ has. test.1 (fact.1 has)))
 
 pub has-none : (state : RoomState) (atom : Atom) → number_first atom.args ≡ None → IsTrue false ↔ Contains (rendering state) atom
-has-none state atom none =
-    ((λ t. absurd (untrue t)), (λ has. let first = first-is-object state atom has in absurd (first-not atom.args first.0 first.1 none first.2))) where
-      untrue : IsTrue false → ⊥
-      untrue t = cc
+has-none state atom none = is_false (λ has. let first = first-is-object state atom has in first-not atom.args first.0 first.1 none first.2)
 
 -- what a world keeps, of its state
 pub world-state : (problem : Problem) (inside state : RoomState) → inside ≡ state → IsRoomWorld problem inside → IsRoomWorld problem state

@@ -13,6 +13,8 @@ use Rattle.px_rooms.specs.declared.action.RoomAction.{RoomAction}
 use Rattle.px_rooms.specs.declared.action.RoomAction.TheVariants as act
 use Rattle.px_rooms.specs.declared.standing.Standing.{Standing}
 use Rattle.px_rooms.specs.declared.standing.Standing.TheVariants.{Room as a_room, Door as a_door, Box as a_box}
+use Rattle.px_rooms.specs.declared.change.Change.{Change}
+use Rattle.px_rooms.specs.declared.change.Change.TheVariants.{Turned, Beside, Into}
 use Rattle.px_rooms.specs.States.{IsBoxAt, IsDoorAt, IsRoomAt, RoomState}
 
 -- ---- changes of a thing
@@ -42,6 +44,12 @@ abbrev pub put_into : ℕ → Standing → Standing
 put_into r a_room = a_room
 put_into r (a_door x y is_open) = a_door x y is_open
 put_into r (a_box old beside) = a_box r None
+
+-- what that change makes of a thing
+abbrev pub changed_by : Change → Standing → Standing
+changed_by (Turned is_open) = turned is_open
+changed_by (Beside d) = put_beside d
+changed_by (Into r) = put_into r
 
 -- ---- actions
 

@@ -28,6 +28,8 @@ room_predicates =
     ∷ record { name = codes "BOX"; arity = 1 }
     ∷ []
 
+-- Alike: `WorkedDanger` of `px_match` and `Lamps` of `px_terms` name their own predicates, too; each example is read by itself
+
 abbrev pub in_room : Term → Term → Atom
 in_room x r = record { pred = 0; args = x ∷ r ∷ [] }
 
@@ -80,6 +82,8 @@ pub record RoomOperator : Type 0 where
   pub pre : List Atom
   pub del : List Atom
   pub add : List Atom
+
+-- Alike: the operators from `go_to_box` to `push_through` are written out one by one, each to be read by itself
 
 -- the robot goes to box b in room r
 abbrev pub go_to_box : RoomOperator
@@ -165,7 +169,7 @@ room_schemas = schemas_from 0 room_operators
 
 -- ---- the problem
 
--- with so many objects, the robot among them, and these limits
+-- with this number of objects, the robot among them, and these limits
 abbrev pub building_problem : ℕ → ℕ → ℕ → ℕ → Problem
 building_problem objects height nodes shapes = record {
   objects = objects;

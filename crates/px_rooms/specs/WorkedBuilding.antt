@@ -1,6 +1,7 @@
 -- A small building: its facts, each action and the edits.
 use Rattle.std.specs.Prelude.{◌≡◌, ℕ, Bool, true, false, Option, Some, None, List, [], ◌∷◌}
 use Rattle.std.specs.List.{list_all, list_any}
+use Rattle.px_terms.specs.declared.atom.Atom.{Atom}
 use Rattle.px_terms.specs.declared.term.Term.TheVariants.{Obj}
 use Rattle.px_terms.specs.Operators.{precondition, result_of}
 use Rattle.px_terms.specs.Order.{atom_eq}
@@ -46,34 +47,26 @@ pub record EditGives (state : RoomState) (one : RoomEdit) (next : RoomState) : T
 
 -- ---- the facts
 
+-- the facts that are ordered after where things are: the ways through the door, whether it is open, and the kinds of the things
+abbrev pub ways_and_kinds : Atom → List Atom
+ways_and_kinds door =
+    connects (Obj 3) (Obj 1) (Obj 2)
+    ∷ connects (Obj 3) (Obj 2) (Obj 1)
+    ∷ door
+    ∷ is_room (Obj 1)
+    ∷ is_room (Obj 2)
+    ∷ is_door (Obj 3)
+    ∷ is_box (Obj 4)
+    ∷ []
+
 -- the building's state and facts at first, and the facts where the robot is beside the box and the box beside the open door
 pub record StateFacts : Type 0 where
   pub building : IsBuilding two_rooms
   pub first : first_state two_rooms ≡ standing 1 None false 1 None
   pub first_facts : rendering (standing 1 None false 1 None) ≡
-      in_room (Obj 0) (Obj 1)
-      ∷ in_room (Obj 4) (Obj 1)
-      ∷ connects (Obj 3) (Obj 1) (Obj 2)
-      ∷ connects (Obj 3) (Obj 2) (Obj 1)
-      ∷ closed (Obj 3)
-      ∷ is_room (Obj 1)
-      ∷ is_room (Obj 2)
-      ∷ is_door (Obj 3)
-      ∷ is_box (Obj 4)
-      ∷ []
+      in_room (Obj 0) (Obj 1) ∷ in_room (Obj 4) (Obj 1) ∷ ways_and_kinds (closed (Obj 3))
   pub later_facts : rendering (standing 1 (Some 4) true 1 (Some 3)) ≡
-      in_room (Obj 0) (Obj 1)
-      ∷ in_room (Obj 4) (Obj 1)
-      ∷ next_to (Obj 0) (Obj 4)
-      ∷ next_to (Obj 4) (Obj 3)
-      ∷ connects (Obj 3) (Obj 1) (Obj 2)
-      ∷ connects (Obj 3) (Obj 2) (Obj 1)
-      ∷ opened (Obj 3)
-      ∷ is_room (Obj 1)
-      ∷ is_room (Obj 2)
-      ∷ is_door (Obj 3)
-      ∷ is_box (Obj 4)
-      ∷ []
+      in_room (Obj 0) (Obj 1) ∷ in_room (Obj 4) (Obj 1) ∷ next_to (Obj 0) (Obj 4) ∷ next_to (Obj 4) (Obj 3) ∷ ways_and_kinds (opened (Obj 3))
 
 -- the things may stand in any order; what is no building
 pub record KindFacts : Type 0 where

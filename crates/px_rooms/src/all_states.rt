@@ -20,7 +20,7 @@ struct Arranged {
     is_box_beside: bool,
 }
 
-/// The state of that number below 48, if there is one: the robot is beside the box only in its room.
+/// Returns the state of that number below 48, if there is one: the robot is beside the box only in its room.
 fn arranged_by(number: u32) -> Option<Arranged> {
     let robot_room = number % 2 + 1;
     let box_room = number / 2 % 2 + 1;
@@ -67,7 +67,7 @@ fn arrange(pair: &mut Pair, state: &Arranged) -> bool {
     edits && pushes && moves && goes
 }
 
-/// The action of the operator with arguments that are the digits of a number to the base of five.
+/// Returns the action of the operator with arguments that are the digits of a number to the base of five.
 fn action(op: usize, number: u32) -> RoomAction {
     let [a, b] = [number % 5, number / 5 % 5];
     let [c, d] = [number / 25 % 5, number / 125 % 5];
@@ -82,7 +82,7 @@ fn action(op: usize, number: u32) -> RoomAction {
     }
 }
 
-/// The edit of that number below 40, each of its numbers below five.
+/// Returns the edit of that number below 40, each of its numbers below five.
 fn edit(number: u32) -> RoomEdit {
     let [a, b] = [number % 5, number / 5 % 5];
     match number / 5 {

@@ -40,7 +40,8 @@ impl Dice {
         }
     }
 
-    /// A number below `sides`.
+    // Alike: `roll` of `px_bench_match`, which cannot use what stands in the tests of this crate.
+    /// Returns a number below `sides`.
     fn roll(&mut self, sides: u32) -> u32
         requires { 1 ≤ sides }
         ensures { result < sides }
@@ -52,7 +53,7 @@ impl Dice {
         (self.state >> 33) as u32 % sides
     }
 
-    /// The number of a thing of that kind, and now and then any number.
+    /// Returns the number of a thing of that kind, and now and then any number.
     fn number(&mut self, kind: Kind) -> u32 {
         if self.roll(20) == 0 {
             return self.roll(10);
@@ -109,7 +110,7 @@ impl Dice {
         }
     }
 
-    /// An action, mostly one that the robot may do.
+    /// Returns an action, mostly one that the robot may do.
     pub(crate) fn action(&mut self, plain: &Plain) -> RoomAction {
         let mut action = self.any_action(plain);
         for _more in 0..self.roll(40) {
@@ -152,7 +153,7 @@ impl Dice {
     }
 }
 
-/// The action as an instance of its operator.
+/// Returns the action as an instance of its operator.
 pub(crate) fn instance(action: &RoomAction) -> Option<OpInst> {
     match *action {
         RoomAction::GoToBox(a, b) => OpInst::new(0, &[Term::Obj(a), Term::Obj(b)]),

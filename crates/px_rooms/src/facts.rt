@@ -28,7 +28,7 @@ pub(crate) const IS_DOOR: u32 = 6;
 /// The predicate that a thing is a box.
 pub(crate) const IS_BOX: u32 = 7;
 
-/// The atom of a predicate with these arguments.
+/// Returns the atom of a predicate with these arguments.
 pub(crate) fn atom(pred: u32, args: &[Term]) -> Atom
     requires { length args.now ≤ 6 }
     ensures { result ≡ record { pred = pred; args = args.now } }
@@ -38,6 +38,8 @@ pub(crate) fn atom(pred: u32, args: &[Term]) -> Atom
         None => unreachable!(),
     }
 }
+
+// Alike: the functions of this part are one for each predicate, as in `specs/Domain`, so that facts are written in the domain's words.
 
 /// Something is in a room.
 pub(crate) fn in_room(thing: Term, room: Term) -> Atom
@@ -114,7 +116,7 @@ impl Model for FewAtoms {
 }
 
 impl FewAtoms {
-    /// These atoms.
+    /// Returns these atoms.
     pub(crate) fn of(given: &[Atom]) -> FewAtoms
         requires { length given.now ≤ 4 }
         ensures { result ≡ given.now }
@@ -127,7 +129,7 @@ impl FewAtoms {
         }
     }
 
-    /// The atoms.
+    /// Returns the atoms.
     pub(crate) fn as_slice(&self) -> &[Atom]
         ensures value { result.now ≡ self.now }
         ensures few { length self.now ≤ 4 }
@@ -136,7 +138,7 @@ impl FewAtoms {
     }
 }
 
-/// The facts about the thing of that number.
+/// Returns the facts about the thing of that number.
 pub(crate) fn thing_atoms(number: u32, standing: &Standing) -> FewAtoms
     ensures { result ≡ atoms_of_thing number standing.now }
 {
@@ -160,7 +162,7 @@ pub(crate) fn thing_atoms(number: u32, standing: &Standing) -> FewAtoms
     }
 }
 
-/// Whether a door is open.
+/// Returns the fact that says whether a door is open.
 fn door_atom(number: u32, is_open: bool) -> Atom
     ensures { result ≡ atom_of_door number is_open }
 {

@@ -30,6 +30,7 @@ mod adding;
 #[cfg(test)]
 mod all_states;
 mod building;
+mod change;
 #[cfg(test)]
 mod drawing;
 mod errors;

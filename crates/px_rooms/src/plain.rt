@@ -65,7 +65,7 @@ impl Plain {
         self.robots.first().copied().unwrap_or(0)
     }
 
-    /// The room of a box.
+    /// Returns the room of a box.
     fn room_of(&self, number: u32) -> Option<u32> {
         match self.thing(number) {
             Some(Thing::Box { room }) => Some(room),
@@ -73,7 +73,7 @@ impl Plain {
         }
     }
 
-    /// The two rooms of a door, and whether it is open.
+    /// Returns the two rooms of a door, and whether it is open.
     pub(crate) fn door(&self, number: u32) -> Option<(u32, u32, bool)> {
         match self.thing(number) {
             Some(Thing::Door { a, b, is_open }) => Some((a, b, is_open)),
@@ -207,7 +207,7 @@ impl Plain {
         true
     }
 
-    /// What is true.
+    /// Returns what is true.
     pub(crate) fn facts(&self, alloc: Global) -> Result<Vec<Atom>, NoMemory> {
         let mut facts = Vec::new(alloc);
         add(&mut facts, 0, &[Term::Obj(0), Term::Obj(self.robot_room())])?;

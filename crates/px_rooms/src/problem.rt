@@ -21,7 +21,7 @@ const ARITIES: [u8; PREDICATES] = [2, 2, 3, 1, 1, 1, 1, 1];
 /// domain of buildings (`specs/Domain`, after Fikes, Hart and Nilsson 1972), and the limits are the given ones.
 ///
 /// # Errors
-/// `NoMemory` where there is none for the problem.
+/// `NoMemory` where there is no memory for the problem.
 pub fn rooms_problem(
     alloc: Global,
     building: &Building,
@@ -41,7 +41,7 @@ pub fn rooms_problem(
     problem_of(alloc, objects, height, nodes, shapes)
 }
 
-/// The problem of a building with so many objects, the robot among them.
+/// Returns the problem of a building with this number of objects, the robot among them.
 pub(crate) fn problem_of(
     alloc: Global,
     objects: u32,
@@ -62,7 +62,7 @@ pub(crate) fn problem_of(
     })
 }
 
-/// A door that connects two rooms connects them the other way, too.
+/// Returns the axiom that a door which connects two rooms connects them the other way, too.
 fn axioms(alloc: Global) -> Result<ClauseArena, NoMemory>
     ensures { IfOk result (λ axioms. axioms ≡ room_axioms) }
 {
@@ -83,7 +83,7 @@ fn axioms(alloc: Global) -> Result<ClauseArena, NoMemory>
     }
 }
 
-/// The operators by number.
+/// Returns the operators by number.
 fn schemas(alloc: Global) -> Result<Sequence<Schema>, NoMemory>
     ensures { IfOk result (λ schemas. schemas ≡ room_schemas) }
 {
@@ -98,7 +98,9 @@ fn schemas(alloc: Global) -> Result<Sequence<Schema>, NoMemory>
     Ok(Sequence::from_vec(schemas))
 }
 
-/// An operator.
+// Alike: `schema_of` of `px_bench_relevance`, which stands on its own operators and on none of this crate.
+
+/// Returns an operator.
 fn schema(
     alloc: Global,
     op: u32,
@@ -117,6 +119,8 @@ fn schema(
         add: Sequence::from_slice(alloc, add)?,
     })
 }
+
+// Alike: the operators from `go_to_box` to `push_through` are written out one by one, as in `specs/Domain`, to be read beside them.
 
 /// The robot goes to a box in a room.
 fn go_to_box(alloc: Global) -> Result<Schema, NoMemory>

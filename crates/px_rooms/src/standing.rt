@@ -1,4 +1,5 @@
 //! Things as they stand in a building.
+// Alike: `Thing` of `px_world`, which is what a building is made of: there a box is beside no door, and the robot is a thing.
 
 /// A thing as it stands. The numbers are those of objects.
 #[derive(Clone, Copy, PartialEq, Eq, Debug)]

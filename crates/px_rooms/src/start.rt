@@ -10,7 +10,7 @@ use px_terms::NoMemory;
 use px_world::Thing;
 use std::alloc::Global;
 
-/// The robots among the things.
+/// Returns the robots among the things.
 pub(crate) fn robots_of(things: &[Thing]) -> Robots
     ensures { AreRobots result (robot_rooms things.now) }
 {
@@ -21,7 +21,7 @@ pub(crate) fn robots_of(things: &[Thing]) -> Robots
     robots
 }
 
-/// The robots where a thing comes to those before.
+/// Returns the robots where a thing comes to those before.
 fn with_thing(robots: Robots, thing: &Thing) -> Robots
     ensures { (before : List ℕ) → AreRobots robots before → AreRobots result (before ++ robot_rooms (thing.now ∷ [])) }
 {
@@ -31,7 +31,7 @@ fn with_thing(robots: Robots, thing: &Thing) -> Robots
     }
 }
 
-/// The robot's room, where the thing is one.
+/// Returns the robot's room, where the thing is one.
 fn room_of_robot(thing: &Thing) -> Option<u32>
     ensures { MatchOption result (robot_rooms (thing.now ∷ []) ≡ []) (λ room. robot_rooms (thing.now ∷ []) ≡ room ∷ []) }
 {
@@ -41,7 +41,7 @@ fn room_of_robot(thing: &Thing) -> Option<u32>
     }
 }
 
-/// The robots where one more comes.
+/// Returns the robots where one more comes.
 fn one_more(robots: Robots, room: u32) -> Robots
     ensures { (before : List ℕ) → AreRobots robots before → AreRobots result (before ++ room ∷ []) }
 {
@@ -52,7 +52,7 @@ fn one_more(robots: Robots, room: u32) -> Robots
     }
 }
 
-/// The things but the robot, as they stand at first.
+/// Returns the things but the robot, as they stand at first.
 pub(crate) fn first_things(alloc: Global, things: &[Thing]) -> Result<Vec<Standing>, NoMemory>
     ensures { IfOk result (λ first. first.items ≡ standings things.now) }
 {

@@ -97,7 +97,7 @@ enum Trial {
     Differs,
     /// Both say that it is no building.
     IsRefused,
-    /// They agree, and so many boxes were pushed through doors.
+    /// They agree, and this many boxes were pushed through doors.
     Agrees(u32),
 }
 

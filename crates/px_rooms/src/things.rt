@@ -1,11 +1,12 @@
 //! The things of a building by their numbers, which begin with 1.
 ghost use Rattle.std.specs.Prelude.{◌≡◌, ◌↔◌, ◌<◌, length, IsTrue, All};
-ghost use Rattle.px_rooms.specs.Changes.{put_beside as placed_beside, put_into as placed_into, things_with, turned};
+ghost use Rattle.px_rooms.specs.Changes.{changed_by, things_with};
 ghost use Rattle.px_rooms.specs.States.{IsBoxAt, IsBoxOrDoorOrNone, IsDoorAt, IsDoorOrNone, IsRoomAt, StandsRight, thing_at as at_number};
 
+use crate::change::Change;
 use crate::standing::Standing;
 
-/// The thing of that number, or `None` where there is none.
+/// Returns the thing of that number, or `None` where there is none.
 pub(crate) fn thing_at(things: &[Standing], number: u32) -> Option<Standing>
     ensures { result ≡ at_number things.now number }
 {
@@ -64,65 +65,35 @@ pub(crate) fn all_stand_right(things: &[Standing]) -> bool
     things.iter().all(|standing| stands_right(things, standing))
 }
 
-/// Opens or closes a door.
-pub(crate) fn turn(things: &mut [Standing], door: u32, is_open: bool)
-    ensures { things.new ≡ things_with door (turned is_open) things.old }
+/// Changes the thing of that number, where there is one.
+pub(crate) fn change_thing(things: &mut [Standing], number: u32, change: Change)
+    ensures { things.new ≡ things_with number (changed_by change) things.old }
 {
-    let number = door as usize;
-    if 1 <= number && number <= things.len() {
-        things[number - 1] = turned_to(things[number - 1], is_open);
+    let place = number as usize;
+    if 1 <= place && place <= things.len() {
+        things[place - 1] = changed(things[place - 1], change);
     }
 }
 
-/// The thing, open or closed where it is a door.
-fn turned_to(standing: Standing, is_open: bool) -> Standing
-    ensures { result ≡ turned is_open standing }
+/// Returns the thing after the change.
+fn changed(standing: Standing, change: Change) -> Standing
+    ensures { result ≡ changed_by change standing }
 {
-    match standing {
-        Standing::Door { a, b, .. } => Standing::Door { a, b, is_open },
-        other => other,
-    }
-}
-
-/// Puts a box beside a door.
-pub(crate) fn put_beside(things: &mut [Standing], target: u32, door: u32)
-    ensures { things.new ≡ things_with target (placed_beside door) things.old }
-{
-    let number = target as usize;
-    if 1 <= number && number <= things.len() {
-        things[number - 1] = beside_door(things[number - 1], door);
-    }
-}
-
-/// The thing, beside a door where it is a box.
-fn beside_door(standing: Standing, door: u32) -> Standing
-    ensures { result ≡ placed_beside door standing }
-{
-    match standing {
-        Standing::Box { room, .. } => Standing::Box {
-            room,
-            beside: Some(door),
+    match change {
+        Change::Turned(is_open) => match standing {
+            Standing::Door { a, b, .. } => Standing::Door { a, b, is_open },
+            other => other,
         },
-        other => other,
-    }
-}
-
-/// Puts a box into a room, beside no door.
-pub(crate) fn put_into(things: &mut [Standing], target: u32, room: u32)
-    ensures { things.new ≡ things_with target (placed_into room) things.old }
-{
-    let number = target as usize;
-    if 1 <= number && number <= things.len() {
-        things[number - 1] = into_room(things[number - 1], room);
-    }
-}
-
-/// The thing, in a room and beside no door where it is a box.
-fn into_room(standing: Standing, room: u32) -> Standing
-    ensures { result ≡ placed_into room standing }
-{
-    match standing {
-        Standing::Box { .. } => Standing::Box { room, beside: None },
-        other => other,
+        Change::Beside(door) => match standing {
+            Standing::Box { room, .. } => Standing::Box {
+                room,
+                beside: Some(door),
+            },
+            other => other,
+        },
+        Change::Into(room) => match standing {
+            Standing::Box { .. } => Standing::Box { room, beside: None },
+            other => other,
+        },
     }
 }

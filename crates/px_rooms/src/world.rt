@@ -14,13 +14,14 @@ ghost use Rattle.px_rooms.specs.States.{IsBuilding, IsRoomState, all_atoms, buil
 use crate::action::RoomAction;
 use crate::adding::{add_placed, add_things};
 use crate::building::Building;
+use crate::change::Change;
 use crate::errors::{NoSuchThing, RoomErr};
 use crate::facts::{FewAtoms, ROBOT, in_room, next_to, thing_atoms};
 use crate::problem::{PREDICATES, problem_of};
 use crate::robots::Robots;
 use crate::standing::Standing;
 use crate::start::{first_things, robots_of};
-use crate::things::{all_stand_right, is_box, is_door, is_room, put_beside, put_into, turn};
+use crate::things::{all_stand_right, change_thing, is_box, is_door, is_room};
 use px_ops::{Model, pre, schema_of};
 use px_terms::{Atom, NoMemory, OpInst, Problem, Term};
 use px_world::{Guard, RoomEdit, World};
@@ -49,11 +50,11 @@ impl std::marker::Model for RoomWorld {
 }
 
 impl RoomWorld {
-    /// The world of a building, in which nothing is beside anything.
+    /// Returns the world of a building, in which nothing is beside anything.
     ///
     /// # Errors
     /// `NoSuchThing` where a number names no thing of the kind that is wanted there, a door has one room on both sides, or
-    /// there isn't exactly one robot; `NoMemory` where there is none for the world.
+    /// there isn't exactly one robot; `NoMemory` where there is no memory for the world.
     pub fn new(alloc: Global, building: &Building) -> Result<RoomWorld, RoomErr>
         requires short { length building.now.things < 4294967295 }
         ensures state { IfOk result (λ world. world ≡ first_state building.now.things) }
@@ -83,10 +84,10 @@ impl RoomWorld {
         }
     }
 
-    /// The model of all facts.
+    /// Returns the model of all facts.
     ///
     /// # Errors
-    /// `NoMemory` where there is none for four atoms a thing and two more.
+    /// `NoMemory` where there is no memory for four atoms a thing and two more.
     pub fn render(&self, alloc: Global) -> Result<Model, NoMemory>
         ensures { IfOk result (λ model. model.atoms ≡ rendering self.now) }
     {
@@ -97,7 +98,7 @@ impl RoomWorld {
         Ok(model)
     }
 
-    /// Changes the building from outside. Takes no memory.
+    /// Changes the building from outside. Does not allocate.
     ///
     /// # Errors
     /// `NoSuchThing` exactly where a number names no thing of the kind that is wanted. The world is then as it was.
@@ -137,7 +138,7 @@ impl RoomWorld {
         }
     }
 
-    /// The facts about the robot.
+    /// Returns the facts about the robot.
     fn robot_atoms(&self) -> FewAtoms
         ensures { result ≡ atoms_of_robot self.now }
     {
@@ -148,7 +149,7 @@ impl RoomWorld {
         }
     }
 
-    /// The facts about an object: those of which it is the first argument.
+    /// Returns the facts about an object: those of which it is the first argument.
     fn atoms_about(&self, number: u32) -> FewAtoms
         ensures { result ≡ atoms_about self.now number }
     {
@@ -200,7 +201,7 @@ impl RoomWorld {
         self.take(&action);
     }
 
-    /// The action of which that is the instance.
+    /// Returns the action of which that is the instance.
     fn action_of(&self, inst: &OpInst) -> RoomAction
         requires { IsInstanceOf (building_rules self.now) inst.now }
         ensures { inst.now ≡ instance_of result }
@@ -242,18 +243,18 @@ impl RoomWorld {
         match *action {
             RoomAction::GoToBox(target, _) => self.robot_beside = Some(target),
             RoomAction::GoToDoor(door, _, _) => self.robot_beside = Some(door),
-            RoomAction::Open(door) => turn(&mut self.things, door, true),
-            RoomAction::Close(door) => turn(&mut self.things, door, false),
+            RoomAction::Open(door) => change_thing(&mut self.things, door, Change::Turned(true)),
+            RoomAction::Close(door) => change_thing(&mut self.things, door, Change::Turned(false)),
             RoomAction::GoThrough(_, _, room) => {
                 self.robot_room = room;
                 self.robot_beside = None;
             }
             RoomAction::PushToDoor(target, door, _, _) => {
-                put_beside(&mut self.things, target, door);
+                change_thing(&mut self.things, target, Change::Beside(door));
                 self.robot_beside = Some(target);
             }
             RoomAction::PushThrough(target, _, _, beyond) => {
-                put_into(&mut self.things, target, beyond);
+                change_thing(&mut self.things, target, Change::Into(beyond));
                 self.robot_room = beyond;
                 self.robot_beside = Some(target);
             }
@@ -272,12 +273,16 @@ impl RoomWorld {
                 self.robot_beside = None;
             }
             RoomEdit::Box(target, room) => {
-                put_into(&mut self.things, target, room);
+                change_thing(&mut self.things, target, Change::Into(room));
                 if self.robot_beside == Some(target) {
                     self.robot_beside = None;
                 }
             }
-            RoomEdit::Door(door, is_open) => turn(&mut self.things, door, is_open),
+            RoomEdit::Door(door, is_open) => change_thing(
+                &mut self.things,
+                door,
+                Change::Turned(is_open),
+            ),
         }
     }
 }
@@ -339,7 +344,7 @@ impl World for RoomWorld {
     }
 }
 
-/// The number of the atom's first argument, if it is an object.
+/// Returns the number of the atom's first argument, if it is an object.
 fn first_object(atom: &Atom) -> Option<u32>
     ensures { result ≡ number_first atom.now.args }
 {
@@ -349,7 +354,7 @@ fn first_object(atom: &Atom) -> Option<u32>
     }
 }
 
-/// The number of the object at a place, where there is one.
+/// Returns the number of the object at a place, where there is one.
 fn number_at(terms: &[Term], place: usize) -> u32
     ensures { (n : ℕ) → slice_get terms.now place ≡ Some (Obj n) → result ≡ n }
 {

@@ -23,20 +23,25 @@ use Rattle.px_run.specs.Transcripts.{IsBegunOf, IsNextOf, IsTextOf}
 use Rattle.px_run.specs.declared.running.AnswerErr.{AnswerErr}
 use Rattle.px_run.specs.declared.running.AnswerErr.TheVariants as answer_err
 
-pub answers-end : (p : Problem) (old : SessionState) (cs : List Command) (answers : List Reply) (here : SessionState) (c : Command) (answer : Reply) (last : SessionState)
+pub answers-end : (p : Problem) (old : SessionState) (cs : List Command) (answers : List Reply) (here : SessionState) (c : Command)
+    (answer : Reply) (last : SessionState)
     → AreAnswers p old cs answers here → Lawful p here c answer last → AreAnswers p old (cs ++ c ∷ []) (answers ++ answer ∷ []) last
-answers-end p old [] [] here c answer last so_far lawful = (last, subst (λ (s : SessionState). Lawful p s c answer last) so_far lawful, refl)
+answers-end p old [] [] here c answer last so_far lawful =
+    (last, subst (λ (s : SessionState). Lawful p s c answer last) so_far lawful, refl)
 answers-end p old [] (a ∷ as') here c answer last so_far lawful = absurd so_far
 answers-end p old (d ∷ ds) [] here c answer last so_far lawful = absurd so_far
-answers-end p old (d ∷ ds) (a ∷ as') here c answer last so_far lawful = (so_far.0, so_far.1, answers-end p so_far.0 ds as' here c answer last so_far.2 lawful)
+answers-end p old (d ∷ ds) (a ∷ as') here c answer last so_far lawful =
+    (so_far.0, so_far.1, answers-end p so_far.0 ds as' here c answer last so_far.2 lawful)
 
-pub texts-end : (names : NameLists) (answers : List Reply) (answer : Reply) → texts names (answers ++ answer ∷ []) ≡ texts names answers ++ reply_text names answer
+pub texts-end : (names : NameLists) (answers : List Reply) (answer : Reply)
+    → texts names (answers ++ answer ∷ []) ≡ texts names answers ++ reply_text names answer
 texts-end names answers answer = rw flat_map-append (ap (λ t. texts names answers ++ t) (append-nil (reply_text names answer)))
 
 pub split-here : (cs : List Command) (i : ℕ) → i < length cs → cs ≡ take i cs ++ get_or cs i Facts ∷ drop (i + 1) cs
 split-here cs i within = sym (take-append-drop i cs) ∙ ap (λ t. take i cs ++ t) (rw add-one (drop-cons cs i Facts within))
 
-no-room-after : (sure : Option ℕ) (w0 w1 : Option (List ℕ)) (done next : List ℕ) → Appends w0 w1 done → HasNoRoomFor sure w1 next → HasNoRoomFor sure w0 (done ++ next)
+no-room-after : (sure : Option ℕ) (w0 w1 : Option (List ℕ)) (done next : List ℕ) → Appends w0 w1 done → HasNoRoomFor sure w1 next
+    → HasNoRoomFor sure w0 (done ++ next)
 no-room-after None w0 w1 done next grown lacks = tt
 no-room-after (Some room) None w1 done next grown lacks = tt
 no-room-after (Some room) (Some h) None done next grown lacks = elim grown [ ]
@@ -48,7 +53,8 @@ pub wrote-both : (w0 w1 w2 : Option (List ℕ)) (f0 f1 f2 : ℕ) (s0 s1 : Option
     → Wrote (record { written = w0; written_after = w1; faults = f0; faults_after = f1; sure = s0 }) done
     → Wrote (record { written = w1; written_after = w2; faults = f1; faults_after = f2; sure = s1 }) next
     → Wrote (record { written = w0; written_after = w2; faults = f0; faults_after = f2; sure = s0 }) (done ++ next)
-wrote-both w0 w1 w2 f0 f1 f2 s0 s1 done next first second = record { appended = Appends-trans w0 w1 w2 done next first.appended second.appended; no_fault = second.no_fault ∙ first.no_fault }
+wrote-both w0 w1 w2 f0 f1 f2 s0 s1 done next first second =
+    record { appended = Appends-trans w0 w1 w2 done next first.appended second.appended; no_fault = second.no_fault ∙ first.no_fault }
 
 pub broke-after : (w0 w1 w2 : Option (List ℕ)) (f0 f1 f2 : ℕ) (s0 s1 : Option ℕ) (done next : List ℕ) → s1 ≡ s0
     → Wrote (record { written = w0; written_after = w1; faults = f0; faults_after = f1; sure = s0 }) done
@@ -75,20 +81,24 @@ answered-of (Ok reply) old new place next lawful frame = record {
 }
 answered-of (Err error) old new place next lawful frame = tt
 
-pub named-of : (result : Result Reply NoMemory) (problem : Problem) (names : NameLists) (commands : List Command) (done : ℕ) (new : SessionValue) → IfOk result (IsNamed names)
-    → OnOk result (new ≡ record { problem = problem; names = names; commands = commands; done = done; state = new.state }) → IfOk result (IsNamed new.names)
-named-of (Ok reply) problem names commands done new named frame = subst (λ (n : NameLists). IsNamed n reply) (sym (ap (λ (s : SessionValue). s.names) frame)) named
+pub named-of : (result : Result Reply NoMemory) (problem : Problem) (names : NameLists) (commands : List Command) (done : ℕ)
+    (new : SessionValue) → IfOk result (IsNamed names)
+    → OnOk result (new ≡ record { problem = problem; names = names; commands = commands; done = done; state = new.state })
+    → IfOk result (IsNamed new.names)
+named-of (Ok reply) problem names commands done new named frame =
+    subst (λ (n : NameLists). IsNamed n reply) (sym (ap (λ (s : SessionValue). s.names) frame)) named
 named-of (Err error) problem names commands done new named frame = tt
 
 -- the text of a lawful reply
-pub text-answers : {T E : Type 0} (result : Result T E) (items : T → List ℕ) (old new : SessionValue) (reply : Reply) → IsAnswered old reply new
+pub text-answers : {T E : Type 0} (result : Result T E) (items : T → List ℕ) (old new : SessionValue) (reply : Reply)
+    → IsAnswered old reply new
     → IfOk result (λ text. items text ≡ reply_text new.names reply) → IfOk result (λ text. IsAnswerText old new (items text))
 text-answers (Ok text) items old new reply answered right = (reply, answered, right)
 text-answers (Err error) items old new reply answered right = tt
 
 -- ---- a session that was at first as `old`, and is now as `now`
 
--- so many commands are done, by these replies, and what is asked of it is the same
+-- that many commands are done, by these replies, and what is asked of it is the same
 pub record IsSoFar (old now : SessionValue) (place : ℕ) (answers : List Reply) : Type 0 where
   pub problem : now.problem ≡ old.problem
   pub names : now.names ≡ old.names
@@ -111,10 +121,13 @@ module _ (old now new : SessionValue) (place : ℕ) (answers : List Reply) (answ
   names-here : IsAnswered now answer new → new.names ≡ old.names
   names-here is = ap (λ (s : SessionValue). s.names) is.frame ∙ so_far.names
 
-  pub text-more : IsAnswered now answer new → texts old.names (answers ++ answer ∷ []) ≡ texts old.names answers ++ reply_text new.names answer
-  text-more is = texts-end old.names answers answer ∙ ap (λ (names : NameLists). texts old.names answers ++ reply_text names answer) (sym (names-here is))
+  pub text-more : IsAnswered now answer new → texts old.names (answers ++ answer ∷ []) ≡ texts old.names answers
+      ++ reply_text new.names answer
+  text-more is = texts-end old.names answers answer ∙ ap (λ (names : NameLists). texts old.names answers ++ reply_text names answer)
+      (sym (names-here is))
 
-  pub next-of : place < length old.commands → IsAnswered now answer new → IsNextOf old (texts old.names answers) (reply_text new.names answer)
+  pub next-of : place < length old.commands → IsAnswered now answer new
+      → IsNextOf old (texts old.names answers) (reply_text new.names answer)
   next-of within is = record {
     before = take place old.commands;
     command = get_or old.commands place Facts;
@@ -136,11 +149,14 @@ module _ (old now new : SessionValue) (place : ℕ) (answers : List Reply) (answ
     names = names-here is;
     commands = ap (λ (s : SessionValue). s.commands) is.frame ∙ so_far.commands;
     done = ap (λ (s : SessionValue). s.done) is.frame ∙ ap (λ (n : ℕ). n + 1) so_far.done;
-    lawful = subst (λ (cs : List Command). AreAnswers old.problem old.state cs (answers ++ answer ∷ []) new.state) (sym (take_more old.commands place Facts within))
-        (answers-end old.problem old.state (take place old.commands) answers now.state (get_or old.commands place Facts) answer new.state so_far.lawful (answered-here is));
+    lawful = subst (λ (cs : List Command). AreAnswers old.problem old.state cs (answers ++ answer ∷ []) new.state)
+        (sym (take_more old.commands place Facts within))
+        (answers-end old.problem old.state (take place old.commands) answers now.state
+        (get_or old.commands place Facts) answer new.state so_far.lawful (answered-here is));
   }
 
-pub begun-of : (old now : SessionValue) (place : ℕ) (answers : List Reply) → IsSoFar old now place answers → IsBegunOf old (texts old.names answers)
+pub begun-of : (old now : SessionValue) (place : ℕ) (answers : List Reply) → IsSoFar old now place answers
+    → IsBegunOf old (texts old.names answers)
 begun-of old now place answers so_far = record {
   before = take place old.commands;
   after = drop place old.commands;
@@ -151,11 +167,13 @@ begun-of old now place answers so_far = record {
   text_is = refl;
 }
 
-pub text-of : (old now : SessionValue) (place : ℕ) (answers : List Reply) → length old.commands ≤ place → IsSoFar old now place answers → IsTextOf old (texts old.names answers)
+pub text-of : (old now : SessionValue) (place : ℕ) (answers : List Reply) → length old.commands ≤ place → IsSoFar old now place answers
+    → IsTextOf old (texts old.names answers)
 text-of old now place answers all so_far = record {
   answers = answers;
   last = now.state;
-  lawful = subst (λ (cs : List Command). AreAnswers old.problem old.state cs answers now.state) (take_all place old.commands all) so_far.lawful;
+  lawful = subst (λ (cs : List Command). AreAnswers old.problem old.state cs answers now.state)
+      (take_all place old.commands all) so_far.lawful;
   text_is = refl;
 }
 
@@ -176,15 +194,26 @@ pub wrote-nothing : (w0 w1 w2 : Option (List ℕ)) (f0 f1 f2 : ℕ) (s0 s1 : Opt
     → Wrote (record { written = w1; written_after = w2; faults = f1; faults_after = f2; sure = s1 }) []
     → Wrote (record { written = w0; written_after = w2; faults = f0; faults_after = f2; sure = s0 }) done
 wrote-nothing w0 w1 w2 f0 f1 f2 s0 s1 done first second =
-    subst (Wrote (record { written = w0; written_after = w2; faults = f0; faults_after = f2; sure = s0 })) (append-nil done) (wrote-both w0 w1 w2 f0 f1 f2 s0 s1 done [] first second)
+    subst (Wrote (record { written = w0; written_after = w2; faults = f0; faults_after = f2; sure = s0 })) (append-nil done)
+    (wrote-both w0 w1 w2 f0 f1 f2 s0 s1 done [] first second)
 
-pub wrote-none : (w : Option (List ℕ)) (f : ℕ) (s : Option ℕ) → Wrote (record { written = w; written_after = w; faults = f; faults_after = f; sure = s }) []
+pub wrote-none : (w : Option (List ℕ)) (f : ℕ) (s : Option ℕ)
+    → Wrote (record { written = w; written_after = w; faults = f; faults_after = f; sure = s }) []
 wrote-none w f s = record { appended = Appends-nil w; no_fault = refl }
 
 pub begun-none : (session : SessionValue) → IsBegunOf session []
-begun-none session = record { before = []; after = session.commands; answers = []; last = session.state; whole = refl; lawful = refl; text_is = refl }
+begun-none session = record {
+  before = [];
+  after = session.commands;
+  answers = [];
+  last = session.state;
+  whole = refl;
+  lawful = refl;
+  text_is = refl;
+}
 
-pub answer-right : {T : Type 0} (old new : SessionValue) (sink : SinkEnds) (text : List ℕ) (result : Result T AnswerErr) → IsAnswerText old new text → PutRight text sink result
+pub answer-right : {T : Type 0} (old new : SessionValue) (sink : SinkEnds) (text : List ℕ) (result : Result T AnswerErr)
+    → IsAnswerText old new text → PutRight text sink result
     → AnswerRight old new sink result
 answer-right old new sink text (Ok done) is put = (is.0, is.1, subst (Wrote sink) is.2 put)
 answer-right old new sink text (Err answer_err.Fault) is put = (is.0, is.1, subst (Broke sink []) is.2 put)

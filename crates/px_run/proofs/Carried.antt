@@ -19,8 +19,10 @@ use Rattle.px_run.specs.Outcomes.{SourceEnds}
 use Rattle.px_run.specs.declared.status.Status.{Status}
 use Rattle.px_run.specs.declared.status.Status.TheVariants as status
 
-plan-carries : (problem : Problem) (old : SessionState) (c : command.Command) (answer : Reply) (new : SessionState) → Lawful problem old c answer new → PlanCarries problem old c answer
-plan-carries problem old (command.Plan name goal vars) (reply.Plan given count steps) new is = sessions_are_kept.plans problem old name goal vars given count steps new is
+plan-carries : (problem : Problem) (old : SessionState) (c : command.Command) (answer : Reply) (new : SessionState)
+    → Lawful problem old c answer new → PlanCarries problem old c answer
+plan-carries problem old (command.Plan name goal vars) (reply.Plan given count steps) new is =
+    sessions_are_kept.plans problem old name goal vars given count steps new is
 plan-carries problem old (command.Plan name goal vars) answer new is = tt
 plan-carries problem old c answer new is = tt
 
@@ -34,22 +36,30 @@ module _ (problem : Problem) where
   carried : (old : SessionState) → IsSession problem old → (commands : List command.Command) (answers : List Reply) (last : SessionState)
       → AreAnswers problem old commands answers last → (done : ℕ) → done ≤ length commands → Carries problem old commands answers done
   carried old session [] [] last are done below = let none : done ≡ 0 = omega (arith, below) in
-      subst (Carries problem old [] []) (sym none) (record { state = old; left = refl; plan = tt; kernels = sessions_are_kept.kernels problem old session })
+      subst (Carries problem old [] []) (sym none)
+      (record { state = old; left = refl; plan = tt; kernels = sessions_are_kept.kernels problem old session })
   carried old session [] (a ∷ answers) last are done below = absurd are
   carried old session (c ∷ commands) [] last are done below = absurd are
   carried old session (c ∷ commands) (a ∷ answers) last are zero below =
-      record { state = old; left = refl; plan = plan-carries problem old c a are.0 are.1; kernels = sessions_are_kept.kernels problem old session }
+      record {
+        state = old;
+        left = refl;
+        plan = plan-carries problem old c a are.0 are.1;
+        kernels = sessions_are_kept.kernels problem old session;
+      }
   carried old session (c ∷ commands) (a ∷ answers) last are (suc done) below =
       let next = sessions_are_kept.kept problem old c a are.0 session are.1 in
       let rest = carried are.0 next commands answers last are.2 done (omega (arith, below)) in
       record { state = rest.state; left = (are.0, are.1, rest.left); plan = rest.plan; kernels = rest.kernels }
 
-carry : (bytes text : List ℕ) → (transcript : Transcript bytes text) → (done : ℕ) → done ≤ length transcript.script.commands → CarriesAfter transcript.script transcript.answers done
+carry : (bytes text : List ℕ) → (transcript : Transcript bytes text) → (done : ℕ) → done ≤ length transcript.script.commands
+    → CarriesAfter transcript.script transcript.answers done
 carry bytes text transcript done below =
     let script = transcript.script in
     let range = in-range stage_now bytes script transcript.spelt in
     let session = sessions_are_kept.opened script.problem script.facts range.facts.fact_set in
-    let is = carried script.problem (opening script.facts) session script.commands transcript.answers transcript.lawful.last transcript.lawful.lawful done below in
+    let is = carried script.problem
+    (opening script.facts) session script.commands transcript.answers transcript.lawful.last transcript.lawful.lawful done below in
     record {
       state = is.state;
       left = is.left;

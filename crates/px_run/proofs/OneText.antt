@@ -29,7 +29,13 @@ record BeginsLike (xs ys : List Reply) : Type 0 where
   alike : AllZip SameReply xs front
 
 begins-more : (a b : Reply) (xs ys : List Reply) → SameReply a b → BeginsLike xs ys → BeginsLike (a ∷ xs) (b ∷ ys)
-begins-more a b xs ys same begins = record { front = b ∷ begins.front; rest = begins.rest; whole = ap (λ (t : List Reply). b ∷ t) begins.whole; alike = (same, begins.alike) }
+begins-more a b xs ys same begins =
+    record {
+      front = b ∷ begins.front;
+      rest = begins.rest;
+      whole = ap (λ (t : List Reply). b ∷ t) begins.whole;
+      alike = (same, begins.alike);
+    }
 
 -- the replies to the first commands begin the replies to all
 module _ (problem : Problem) (valid : IsValid problem) where
@@ -55,15 +61,18 @@ text-begins names xs ys begins = (
 front-text : (bytes begun text : List ℕ) → Begun bytes begun → Transcript bytes text → (rest : List ℕ) × (text ≡ begun ++ rest)
 front-text bytes begun text (script, is, of) whole =
     let same : whole.script ≡ script = (reads-one-way stage_now bytes).one_content whole.script script whole.spelt is in
-    by (subst (λ (s : ScriptValue). (last : SessionState) × AreAnswers s.problem (opening s.facts) s.commands whole.answers last × (text ≡ texts s.names whole.answers)) same (whole.lawful.last, whole.lawful.lawful, whole.text_is))
+    by (subst (λ (s : ScriptValue). (last : SessionState) × AreAnswers s.problem (opening s.facts) s.commands whole.answers last
+    × (text ≡ texts s.names whole.answers)) same (whole.lawful.last, whole.lawful.lawful, whole.text_is))
   where
-    by : ((last : SessionState) × AreAnswers script.problem (opening script.facts) script.commands whole.answers last × (text ≡ texts script.names whole.answers))
+    by : ((last : SessionState) × AreAnswers script.problem (opening script.facts) script.commands whole.answers last
+        × (text ≡ texts script.names whole.answers))
         → (rest : List ℕ) × (text ≡ begun ++ rest)
     by (last, lawful, text_is) =
         let range = in-range stage_now bytes script is in
         let session = sessions_are_kept.opened script.problem script.facts range.facts.fact_set in
         let all = subst (λ (cs : List Command). AreAnswers script.problem (opening script.facts) cs whole.answers last) of.whole lawful in
-        let begins = front-of script.problem range.problem.valid (opening script.facts) session of.before of.after of.answers whole.answers of.last last of.lawful all in
+        let begins = front-of script.problem range.problem.valid
+        (opening script.facts) session of.before of.after of.answers whole.answers of.last last of.lawful all in
         let texts_begin = text-begins script.names of.answers whole.answers begins in
         (texts_begin.0, text_is ∙ texts_begin.1 ∙ ap (λ (t : List ℕ). t ++ texts_begin.0) (sym of.text_is))
 

@@ -31,9 +31,11 @@ PlanCarries problem state _ _ = Unit {0}
 
 -- From the first state of a building the replies leave one state of it after the other, each run by the edits and steps of its turns. In
 -- the last one of these the session is: the world's atoms are its facts.
-pub record AreInBuilding (script : ScriptValue) (things : List Thing) (done : ℕ) (answers : List Reply) (state : SessionState) : Type 0 where
+pub record AreInBuilding (script : ScriptValue) (things : List Thing) (done : ℕ) (answers : List Reply)
+    (state : SessionState) : Type 0 where
   pub building : RoomState
-  pub left : AreAnswersIn script.problem (opening script.facts) (first_state things) (take done script.commands) (take done answers) state building
+  pub left : AreAnswersIn script.problem (opening script.facts) (first_state things) (take done script.commands)
+      (take done answers) state building
   pub inside : IsInBuilding script.problem building state
 
 -- So many commands are done. In the state that their replies leave, the next command is answered by a plan only where the world's atoms

@@ -92,17 +92,21 @@ UsageRight sink _ = ⊥
 -- The outcomes of `run`.
 abbrev pub RunRight : SourceEnds → SinkEnds → Status → Type 0
 RunRight source sink status.Done = (bytes : List ℕ) × (text : List ℕ) × Came source bytes × Transcript bytes text × Wrote sink text
-RunRight source sink (status.Refused refused) = (bytes : List ℕ) × Came source bytes × IsRefused bytes refused × Wrote sink (refusal_text refused)
-RunRight source sink status.ReadFault = Rose source.faults source.faults_after × (source.taken_after ≤ source.taken + limit) × (source.never_fails ≡ false) × Wrote sink []
+RunRight source sink (status.Refused refused) =
+    (bytes : List ℕ) × Came source bytes × IsRefused bytes refused × Wrote sink (refusal_text refused)
+RunRight source sink status.ReadFault =
+    Rose source.faults source.faults_after × (source.taken_after ≤ source.taken + limit) × (source.never_fails ≡ false) × Wrote sink []
 RunRight source sink status.TooLong = (source.taken + limit < source.taken_after) × (source.faults_after ≡ source.faults) × Wrote sink []
-RunRight source sink status.WriteFault = (bytes : List ℕ) × (done : List ℕ) × (next : List ℕ) × Came source bytes × IsWritten bytes done next × Broke sink done next
+RunRight source sink status.WriteFault =
+    (bytes : List ℕ) × (done : List ℕ) × (next : List ℕ) × Came source bytes × IsWritten bytes done next × Broke sink done next
 RunRight source sink status.NoMemory = (source.faults_after ≡ source.faults) × (source.taken_after ≤ source.taken + limit)
     × (Wrote sink [] ⊎ ((bytes : List ℕ) × (text : List ℕ) × Came source bytes × Begun bytes text × Wrote sink text))
 RunRight source sink status.Usage = ⊥
 
 -- what is written in one piece for a demo: where and why its script is refused, or the line that sums it up
 abbrev pub IsDemoText : (rooms seed : ℕ) → List ℕ → Type 0
-IsDemoText rooms seed text = ((refused : Refused) × IsRefused (demo_script rooms seed) refused × (text ≡ refusal_text refused)) ⊎ Summary rooms seed text
+IsDemoText rooms seed text = ((refused : Refused) × IsRefused (demo_script rooms seed) refused × (text ≡ refusal_text refused))
+    ⊎ Summary rooms seed text
 
 -- The outcomes of `demo`, which reads nothing.
 abbrev pub DemoRight : (rooms seed : ℕ) → SinkEnds → Status → Type 0
@@ -120,28 +124,37 @@ StatusRight (Some (Demo rooms seed)) source sink result = DemoRight rooms seed s
 
 -- A script of told bytes, and no count that rose, give the whole transcript, or memory ran out.
 abbrev pub Completes : SourceEnds → SinkEnds → Status → Type 0
-Completes source sink result = (bytes : List ℕ) (script : ScriptValue) → source.left ≡ Some bytes → length bytes ≤ limit → IsScript stage_now bytes script
-    → (Rose source.faults source.faults_after → ⊥) → (Rose sink.faults sink.faults_after → ⊥) → (result ≡ status.Done) ⊎ (result ≡ status.NoMemory)
+Completes source sink result =
+    (bytes : List ℕ) (script : ScriptValue) → source.left ≡ Some bytes → length bytes ≤ limit → IsScript stage_now bytes script
+    → (¬ Rose source.faults source.faults_after) → (¬ Rose sink.faults sink.faults_after)
+    → (result ≡ status.Done) ⊎ (result ≡ status.NoMemory)
 
 -- So do a source that never fails, and a sink that is sure to take all that may be written.
 abbrev pub CompletesSurely : SourceEnds → SinkEnds → Status → Type 0
-CompletesSurely source sink result = (bytes : List ℕ) (script : ScriptValue) (held : List ℕ) (room : ℕ) → source.left ≡ Some bytes → length bytes ≤ limit → IsScript stage_now bytes script
-    → source.never_fails ≡ true → sink.written ≡ Some held → sink.sure ≡ Some room → ((text : List ℕ) → IsBegunOf (opened script) text → length held + length text ≤ room)
+CompletesSurely source sink result =
+    (bytes : List ℕ) (script : ScriptValue) (held : List ℕ) (room : ℕ) → source.left ≡ Some bytes → length bytes ≤ limit
+    → IsScript stage_now bytes script
+    → source.never_fails ≡ true → sink.written ≡ Some held → sink.sure ≡ Some room
+    → ((text : List ℕ) → IsBegunOf (opened script) text → length held + length text ≤ room)
     → (result ≡ status.Done) ⊎ (result ≡ status.NoMemory)
 
 -- Told bytes that are no script are refused, if no read failed, no write failed and memory didn't run out.
 abbrev pub Refuses : SourceEnds → SinkEnds → Status → Type 0
-Refuses source sink result = (bytes : List ℕ) (refused : Refused) → source.left ≡ Some bytes → length bytes ≤ limit → IsRefused bytes refused
-    → (Rose source.faults source.faults_after → ⊥) → (result ≡ status.Refused refused) ⊎ (result ≡ status.NoMemory) ⊎ (result ≡ status.WriteFault)
+Refuses source sink result = (bytes : List ℕ) (refused : Refused) → source.left ≡ Some bytes → length bytes ≤ limit
+    → IsRefused bytes refused
+    → (¬ Rose source.faults source.faults_after) → (result ≡ status.Refused refused) ⊎ (result ≡ status.NoMemory)
+    ⊎ (result ≡ status.WriteFault)
 
 -- Where a demo's script is one, and no write failed, its line is written, or memory ran out.
 abbrev pub DemoCompletes : (rooms seed : ℕ) → SinkEnds → Status → Type 0
-DemoCompletes rooms seed sink result = (script : ScriptValue) → IsScript stage_now (demo_script rooms seed) script → (Rose sink.faults sink.faults_after → ⊥)
+DemoCompletes rooms seed sink result =
+    (script : ScriptValue) → IsScript stage_now (demo_script rooms seed) script → (¬ Rose sink.faults sink.faults_after)
     → (result ≡ status.Done) ⊎ (result ≡ status.NoMemory)
 
 -- So does a sink that is sure to take the line.
 abbrev pub DemoCompletesSurely : (rooms seed : ℕ) → SinkEnds → Status → Type 0
-DemoCompletesSurely rooms seed sink result = (script : ScriptValue) (held : List ℕ) (room : ℕ) → IsScript stage_now (demo_script rooms seed) script
+DemoCompletesSurely rooms seed sink result =
+    (script : ScriptValue) (held : List ℕ) (room : ℕ) → IsScript stage_now (demo_script rooms seed) script
     → sink.written ≡ Some held → sink.sure ≡ Some room → ((text : List ℕ) → Summary rooms seed text → length held + length text ≤ room)
     → (result ≡ status.Done) ⊎ (result ≡ status.NoMemory)
 

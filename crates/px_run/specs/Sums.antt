@@ -30,4 +30,5 @@ IsCounted session counts = (answers : List Reply) × IsAnsweredBy session answer
 
 -- the line that sums up lawful replies to all commands
 abbrev pub IsSumOf : (rooms seed : ℕ) → SessionValue → List ℕ → Type 0
-IsSumOf rooms seed session text = (answers : List Reply) × IsAnsweredBy session answers × (text ≡ summary_line rooms seed (length session.commands) answers)
+IsSumOf rooms seed session text =
+    (answers : List Reply) × IsAnsweredBy session answers × (text ≡ summary_line rooms seed (length session.commands) answers)

@@ -20,8 +20,8 @@ pub(crate) struct Counts {
     pub goals: u64,
 }
 
-/// The counts with those of one reply more. `NoMemory` where a count passes its type, which comes nowhere: a demo has at most 36
-/// commands, and no reply in memory has so many steps.
+/// Returns the counts with those of one reply more. `NoMemory` where a count passes its type, which comes nowhere: a demo has at most 36
+/// commands, and no reply in memory has that many steps.
 fn with_reply(counts: Counts, reply: &Reply) -> Result<Counts, NoMemory>
     ensures plans { IfOk result (λ more. more.plans ≡ counts.plans + cond (is_plan reply.now) 1 0) }
     ensures steps { IfOk result (λ more. more.steps ≡ counts.steps + step_count reply.now) }
@@ -34,7 +34,7 @@ fn with_reply(counts: Counts, reply: &Reply) -> Result<Counts, NoMemory>
     }
 }
 
-/// The counts with those of a plan of so many steps.
+/// Returns the counts with those of a plan of `count` steps.
 fn with_plan(counts: Counts, count: usize) -> Result<Counts, NoMemory>
     ensures plans { IfOk result (λ more. more.plans ≡ counts.plans + 1) }
     ensures steps { IfOk result (λ more. more.steps ≡ counts.steps + count) }
@@ -49,7 +49,7 @@ fn with_plan(counts: Counts, count: usize) -> Result<Counts, NoMemory>
     })
 }
 
-/// The counts with a goal more.
+/// Returns the counts with a goal more.
 fn with_goal(counts: Counts) -> Result<Counts, NoMemory>
     ensures plans { IfOk result (λ more. more.plans ≡ counts.plans) }
     ensures steps { IfOk result (λ more. more.steps ≡ counts.steps) }
@@ -59,7 +59,7 @@ fn with_goal(counts: Counts) -> Result<Counts, NoMemory>
     Ok(Counts { goals, ..counts })
 }
 
-/// The sum, where it fits.
+/// Returns the sum, where it fits.
 fn sum(one: u64, other: u64) -> Result<u64, NoMemory>
     ensures { IfOk result (λ sum. sum ≡ one + other) }
 {

@@ -52,7 +52,7 @@ fn sum_up<K: Sink>(alloc: Global, script: Script, rooms: u32, seed: u32, sink: &
     }
 }
 
-/// The line that sums up the replies to the commands of the script.
+/// Returns the line that sums up the replies to the commands of the script.
 fn summary(alloc: Global, script: Script, rooms: u32, seed: u32) -> Result<Vec<u8>, NoMemory>
     requires stage { IsOfStage stage_now (content script) }
     ensures { IfOk result (λ text. IsSumOf rooms seed (opened (content script)) text.items) }
@@ -63,7 +63,7 @@ fn summary(alloc: Global, script: Script, rooms: u32, seed: u32) -> Result<Vec<u
     }
 }
 
-/// The line that sums up the replies to the commands of a session of which none is done.
+/// Returns the line that sums up the replies to the commands of a session of which none is done.
 #[tactic(auto, using(crate::proofs::DemoLemmas::summed))]
 fn session_summary(
     alloc: Global,
@@ -79,7 +79,7 @@ fn session_summary(
     summary_line(alloc, rooms, seed, commands, &counts)
 }
 
-/// The line of a demo with so many commands and these counts.
+/// Returns the line of a demo with this number of commands and these counts.
 fn summary_line(
     alloc: Global,
     rooms: u32,
@@ -88,7 +88,8 @@ fn summary_line(
     counts: &Counts,
 ) -> Result<Vec<u8>, NoMemory>
     ensures { IfOk result (λ text. text.items ≡ line (codes "demo" ∷ decimal rooms ∷ decimal seed ∷ decimal commands ∷ codes "commands"
-        ∷ decimal counts.now.plans ∷ codes "plans" ∷ decimal counts.now.steps ∷ codes "steps" ∷ decimal counts.now.goals ∷ codes "goals" ∷ [])) }
+        ∷ decimal counts.now.plans ∷ codes "plans" ∷ decimal counts.now.steps ∷ codes "steps" ∷ decimal counts.now.goals ∷ codes "goals"
+        ∷ [])) }
 {
     let Counts {
         plans,

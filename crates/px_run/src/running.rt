@@ -52,7 +52,7 @@ fn put_text<K: Sink>(sink: &mut K, text: &[u8]) -> Result<(), AnswerErr>
     }
 }
 
-/// The text of a lawful reply to the command at the place, the next one.
+/// Returns the text of a lawful reply to the command at the place, the next one.
 fn answer_text(alloc: Global, session: &mut Session, place: usize) -> Result<Vec<u8>, NoMemory>
     requires place { place < length session.old.commands }
     requires next { place ≡ session.old.done }
@@ -62,7 +62,7 @@ fn answer_text(alloc: Global, session: &mut Session, place: usize) -> Result<Vec
     text_of(alloc, &reply, session)
 }
 
-/// A lawful reply to the command at the place, the next one.
+/// Returns a lawful reply to the command at the place, the next one.
 pub(crate) fn lawful_reply(session: &mut Session, place: usize) -> Result<Reply, NoMemory>
     requires place { place < length session.old.commands }
     requires next { place ≡ session.old.done }
@@ -72,7 +72,7 @@ pub(crate) fn lawful_reply(session: &mut Session, place: usize) -> Result<Reply,
     session.execute(place)
 }
 
-/// The text of a reply of the session.
+/// Returns the text of a reply of the session.
 fn text_of(alloc: Global, reply: &Reply, session: &Session) -> Result<Vec<u8>, NoMemory>
     requires named { IsNamed session.now.names reply.now }
     ensures text { IfOk result (λ text. text.items ≡ reply_text session.now.names reply.now) }

@@ -27,7 +27,7 @@ pub enum Status {
 }
 
 impl Status {
-    /// The exit status of the program.
+    /// Returns the exit status of the program.
     pub fn exit(self) -> ExitCode
         ensures { exit_status result ≡ exit_number self }
     {

@@ -25,13 +25,14 @@ use std::alloc::Global;
 /// How many bytes a script has at most.
 const LIMIT: usize = 1_048_576;
 
+// Alike: `obey` and `run` below, since each states its own contract over the same source and sink.
 /// Does all that the program does: `words` are those of the command line, without the program's name. `run` reads a script from the
 /// source and answers it; `demo ROOMS SEED` makes a script, and sums up the replies to it; any other words are `Usage`.
 ///
 /// For every script, with or without a building, the transcript holds one lawful reply for each command (`right`). So each plan
 /// that is told carries the world's atoms to its goal, each table that is kept carries the steps that are left from each proper
-/// instance of each of its kernels, PLANEX acts by the highest kernel that fits, and the replies that there is no plan, that a limit
-/// is met or that no kernel fits come exactly where their definitions hold (`carries`; laws of `px_session`).
+/// instance of each of its kernels, PLANEX acts by the highest kernel that fits, and the replies that no plan was found, that a limit
+/// was met or that no kernel fits come exactly where their definitions hold (`carries`; laws of `px_session`).
 #[tactic(auto, using(crate::proofs::Carried::is_carried))]
 pub fn planex_main<'a, S: Source, K: Sink>(
     alloc: Global,
@@ -68,8 +69,9 @@ pub fn planex_main<'a, S: Source, K: Sink>(
     ensures demo_front { (rooms seed : ℕ) → order_of (map (λ word. word.now) words.now) ≡ Some (Demo rooms seed)
         → HasDemoFront rooms seed (sink_ends K.written K.faults K.sure sink.old sink.new) result }
     ensures carries { IsCarried (source_ends S.left S.taken S.faults S.never_fails source.old source.new) result }
-    ensures gone { (came : List ℕ) × Consumes (S.left source.old) (S.left source.new) came × (S.taken source.new ≡ S.taken source.old + length came) }
-    ensures unread { (order_of (map (λ word. word.now) words.now) ≡ Some Run → ⊥) → source.new ≡ source.old }
+    ensures gone { (came : List ℕ) × Consumes (S.left source.old) (S.left source.new) came
+        × (S.taken source.new ≡ S.taken source.old + length came) }
+    ensures unread { ¬ (order_of (map (λ word. word.now) words.now) ≡ Some Run) → source.new ≡ source.old }
     ensures source_nature { S.never_fails source.new ≡ S.never_fails source.old }
     ensures sink_nature { K.sure sink.new ≡ K.sure sink.old }
 {
@@ -88,8 +90,9 @@ fn obey<'a, S: Source, K: Sink>(
         (source_ends S.left S.taken S.faults S.never_fails source.old source.new)
         (sink_ends K.written K.faults K.sure sink.old sink.new)
         result }
-    ensures gone { (came : List ℕ) × Consumes (S.left source.old) (S.left source.new) came × (S.taken source.new ≡ S.taken source.old + length came) }
-    ensures unread { (order_of (map (λ word. word.now) words.now) ≡ Some Run → ⊥) → source.new ≡ source.old }
+    ensures gone { (came : List ℕ) × Consumes (S.left source.old) (S.left source.new) came
+        × (S.taken source.new ≡ S.taken source.old + length came) }
+    ensures unread { ¬ (order_of (map (λ word. word.now) words.now) ≡ Some Run) → source.new ≡ source.old }
     ensures source_nature { S.never_fails source.new ≡ S.never_fails source.old }
     ensures sink_nature { K.sure sink.new ≡ K.sure sink.old }
 {
@@ -118,7 +121,8 @@ fn run<S: Source, K: Sink>(alloc: Global, source: &mut S, sink: &mut K) -> Statu
         (source_ends S.left S.taken S.faults S.never_fails source.old source.new)
         (sink_ends K.written K.faults K.sure sink.old sink.new)
         result }
-    ensures gone { (came : List ℕ) × Consumes (S.left source.old) (S.left source.new) came × (S.taken source.new ≡ S.taken source.old + length came) }
+    ensures gone { (came : List ℕ) × Consumes (S.left source.old) (S.left source.new) came
+        × (S.taken source.new ≡ S.taken source.old + length came) }
     ensures source_nature { S.never_fails source.new ≡ S.never_fails source.old }
     ensures sink_nature { K.sure sink.new ≡ K.sure sink.old }
 {

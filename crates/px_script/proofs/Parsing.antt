@@ -137,8 +137,7 @@ abbrev pub name_form : (List ℕ → Statement) → List Lexeme → Option State
 name_form f = after_name (λ n. nothing_form (f n))
 
 abbrev pub predicate_form : List Lexeme → Option Statement
-predicate_form (name n ∷ number arity ∷ []) = Some (predicate n arity)
-predicate_form _ = None
+predicate_form = after_name (λ n. after_number (λ arity. nothing_form (predicate n arity)))
 
 -- the names that arguments are, where they are all names
 abbrev pub names_among : List Argument → Option (List (List ℕ))
@@ -164,7 +163,8 @@ abbrev pub box_form : List Lexeme → Option Statement
 box_form = after_name (λ n. after_name (λ r. nothing_form (box n r)))
 
 abbrev pub learn_form : List Lexeme → Option Statement
-learn_form = after_name (λ n. after_name (λ w. after_name (λ source rest. if bytes_eq w (codes "from") then nothing_form (learn n source) rest else None)))
+learn_form = after_name (λ n. after_name
+    (λ w. after_name (λ source rest. if bytes_eq w (codes "from") then nothing_form (learn n source) rest else None)))
 
 abbrev pub run_form : List Lexeme → Option Statement
 run_form = after_name (λ n rest. option_map (run n) (all_of binding_at rest))
@@ -178,6 +178,7 @@ abbrev pub disturb_form : Bool → List Lexeme → Option Statement
 disturb_form with_building =
     after_number (λ turn. after_name (λ w rest. option_and_then (λ between. edits_form with_building turn between rest) (time_of w)))
 
+-- Alike: the lines below, one for each word of the language.
 abbrev pub rest_form : Bool → List ℕ → List Lexeme → Option Statement
 rest_form with_building w rest = if bytes_eq w (codes "script") then number_form script rest
     else (if bytes_eq w (codes "object") then option_map object (names_of rest)

@@ -21,6 +21,7 @@ is_command _ = false
 abbrev pub declares_after_command : Declared → Place → Bool
 declares_after_command d place = not (is_command place) && not (is_empty d.commands)
 
+-- Alike: `is_signed` of Forms. Both are tables of cases, of other things.
 abbrev pub same_block : Block → Block → Bool
 same_block operator_block operator_block = true
 same_block building_block building_block = true
@@ -151,6 +152,8 @@ abbrev pub is_numbered : Named → Bool
 is_numbered a_parameter = false
 is_numbered _ = true
 
+abbrev pub is_long : ℕ → List ℕ → Bool
+is_long version n = nat_lt (greatest version name_bytes) (length n)
+
 abbrev pub has_long_name : Declared → Line → Bool
-has_long_name d l =
-    list_any (λ group. is_numbered group.0 && list_any (λ n. nat_lt (greatest d.version name_bytes) (length n)) group.1) (declared_by l)
+has_long_name d l = list_any (λ group. is_numbered group.0 && list_any (is_long d.version) group.1) (declared_by l)

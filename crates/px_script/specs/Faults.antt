@@ -9,7 +9,7 @@ use Rattle.px_script.specs.Statements.{Statement, line_of, script, object, predi
 use Rattle.px_script.specs.Limits as limit
 use Rattle.px_script.specs.Limits.{Limit, Bounds, greatest, number_of, number_of_numbers, of_version, of_height, of_nodes, of_shapes, of_turn}
 use Rattle.px_script.specs.Declarations.{Declared, OpenOperator, operator_here, has_building, variables_of, atom_of}
-use Rattle.px_script.specs.Stages.{Stage, stage_now, whole_language, is_unbuilt}
+use Rattle.px_script.specs.Stages.{Stage, whole_language, is_unbuilt}
 use Rattle.px_script.specs.Causes.{is_out_of_order, has_unknown_name, repeats_name, has_wrong_arity, is_unbound, has_long_name, has_robot}
 
 pub record Refusal : Type 0 where
@@ -99,16 +99,19 @@ coded code = record { code = code; limit = 0 }
 abbrev pub passed : Bool × ℕ → Bool × Refusal
 passed test = (test.0, record { code = 8; limit = test.1 })
 
--- the causes of what a line says, in their order, and whether they are there, where this much is built
-abbrev pub causes : Stage → Declared → Statement → List (Bool × Refusal)
-causes stage d s = let l = line_of s in
+-- the causes of what a line says, in their order, and whether they are there, where this much is built; after them these limits
+abbrev pub causes_with : Stage → Declared → Statement → List (Bool × ℕ) → List (Bool × Refusal)
+causes_with stage d s last = let l = line_of s in
     (is_out_of_order d l, coded 9)
     ∷ (is_unbuilt stage s, coded 11)
     ∷ (has_unknown_name d l, coded 4)
     ∷ (has_duplicate d s, coded 5)
     ∷ (has_wrong_arity d l, coded 6)
     ∷ (is_unbound d l, coded 7)
-    ∷ map passed (limits d s)
+    ∷ map passed last
+
+abbrev pub causes : Stage → Declared → Statement → List (Bool × Refusal)
+causes stage d s = causes_with stage d s (limits d s)
 
 -- the first that is there
 abbrev pub first_of : List (Bool × Refusal) → Option Refusal
@@ -118,9 +121,6 @@ first_of (cause ∷ more) = if cause.0 then Some cause.1 else first_of more
 -- the first fault of what a line says, where this much is built
 abbrev pub fault_at : Stage → Declared → Statement → Option Refusal
 fault_at stage d s = first_of (causes stage d s)
-
-abbrev pub fault_of : Declared → Statement → Option Refusal
-fault_of = fault_at stage_now
 
 -- A stage only takes away: where this much is built a line has the fault that it has in the whole language, or isn't built.
 abbrev pub OnlyTakesAway : Stage → Declared → Statement → Type 0

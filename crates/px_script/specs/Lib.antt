@@ -14,11 +14,6 @@ pub mod Content
 pub mod Scripts
 -- what it says of small lines
 pub mod WorkedLines
-pub mod WorkedDomains
-pub mod WorkedBuildings
-pub mod WorkedCommands
-pub mod WorkedSpellings
-pub mod WorkedLimits
 pub mod WorkedLater
 pub mod Worked
 -- what a script keeps

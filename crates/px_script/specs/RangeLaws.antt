@@ -10,7 +10,7 @@ use Rattle.px_rooms.specs.States.{IsBoxAt, IsBuilding, IsDoorAt, IsDoorOrNone, R
 use Rattle.px_terms.specs.declared.atom.Atom.{Atom}
 use Rattle.px_terms.specs.declared.problem.Problem.{Problem}
 use Rattle.px_terms.specs.declared.term.Term.{Term}
-use Rattle.px_terms.specs.declared.term.Term.TheVariants.{Obj, Var, Any}
+use Rattle.px_terms.specs.declared.term.Term.TheVariants.{Obj}
 use Rattle.px_terms.specs.Language.{IsPlainBelow}
 use Rattle.px_terms.specs.Validity.{IsTermOf, IsPatternTermOf, IsAtomOf, IsValid}
 use Rattle.px_world.specs.declared.edits.AtomEdit.{AtomEdit}
@@ -19,11 +19,9 @@ use Rattle.px_world.specs.declared.edits.RoomEdit.{RoomEdit}
 use Rattle.px_world.specs.declared.edits.RoomEdit.TheVariants as room_edit
 use Rattle.px_world.specs.declared.thing.Thing.{Thing}
 use Rattle.px_world.specs.declared.thing.Thing.TheVariants as thing
-use Rattle.px_script.specs.Commands.{Command, Plan, Learn, Show, DisturbAtoms, DisturbRooms, Run, Facts}
+use Rattle.px_script.specs.Commands.{Command, Plan, DisturbRooms}
 use Rattle.px_script.specs.Content.{ScriptValue}
 use Rattle.px_script.specs.Ranges.{IsEditOf, IsThingAfter, AreRoomEditsOf, IsCommandOf, NamesEarlier, IsInRange}
-use Rattle.px_script.specs.StageRanges.{IsOfStage}
-use Rattle.px_script.specs.Stages.{Stage}
 
 ruleset sums = (⊎_set, props)
 
@@ -32,18 +30,15 @@ Term-set = Prim.hlevel sums
 
 pub IsTermOf-prop : (problem : Problem) (vars : ℕ) (t : Term) → IsProp (IsTermOf problem vars t)
 IsTermOf-prop problem vars (Obj n) = Prim.hlevel props
-IsTermOf-prop problem vars (Var v) = Prim.hlevel props
-IsTermOf-prop problem vars Any = Prim.hlevel props
+IsTermOf-prop problem vars _ = Prim.hlevel props
 
 pub IsPatternTermOf-prop : (problem : Problem) (vars : ℕ) (t : Term) → IsProp (IsPatternTermOf problem vars t)
 IsPatternTermOf-prop problem vars (Obj n) = Prim.hlevel props
-IsPatternTermOf-prop problem vars (Var v) = Prim.hlevel props
-IsPatternTermOf-prop problem vars Any = Prim.hlevel props
+IsPatternTermOf-prop problem vars _ = Prim.hlevel props
 
 IsPlainBelow-prop : (limit : ℕ) (t : Term) → IsProp (IsPlainBelow limit t)
 IsPlainBelow-prop limit (Obj n) = Prim.hlevel props
-IsPlainBelow-prop limit (Var v) = Prim.hlevel props
-IsPlainBelow-prop limit Any = Prim.hlevel props
+IsPlainBelow-prop limit _ = Prim.hlevel props
 
 ruleset terms = (IsTermOf-prop, IsPatternTermOf-prop, IsPlainBelow-prop, props)
 
@@ -109,14 +104,11 @@ IsBuilding-prop things = Prim.hlevel standing
 
 IsThingAfter-prop : (before : List Thing) (t : Thing) → IsProp (IsThingAfter before t)
 IsThingAfter-prop before thing.Room = Prim.hlevel rooms
-IsThingAfter-prop before (thing.Door one other is_open) = Prim.hlevel rooms
-IsThingAfter-prop before (thing.Box r) = Prim.hlevel rooms
-IsThingAfter-prop before (thing.Robot r) = Prim.hlevel rooms
+IsThingAfter-prop before _ = Prim.hlevel rooms
 
 IsAdmitted-prop : (state : RoomState) (edit : RoomEdit) → IsProp (IsAdmitted state edit)
 IsAdmitted-prop state (room_edit.Robot r) = Prim.hlevel rooms
-IsAdmitted-prop state (room_edit.Box b r) = Prim.hlevel rooms
-IsAdmitted-prop state (room_edit.Door d is_open) = Prim.hlevel rooms
+IsAdmitted-prop state _ = Prim.hlevel rooms
 
 ruleset parts = (IsEditOf-prop, IsAdmitted-prop, IsAtomOf-prop, IsThingAfter-prop, IsBuilding-prop, terms)
 
@@ -128,29 +120,14 @@ ruleset edits_too = (AreRoomEditsOf-prop, parts)
 
 IsCommandOf-prop : (version : ℕ) (problem : Problem) (building : Option (List Thing)) (results : ℕ) (command : Command)
     → IsProp (IsCommandOf version problem building results command)
-IsCommandOf-prop version problem building results (Plan name goal vars) = Prim.hlevel parts
-IsCommandOf-prop version problem building results (Learn name source) = Prim.hlevel parts
-IsCommandOf-prop version problem building results (Show name) = Prim.hlevel parts
-IsCommandOf-prop version problem building results (DisturbAtoms turn between edits) = Prim.hlevel parts
 IsCommandOf-prop version problem building results (DisturbRooms turn between edits) = Prim.hlevel edits_too
-IsCommandOf-prop version problem building results (Run name bindings) = Prim.hlevel parts
-IsCommandOf-prop version problem building results Facts = Prim.hlevel parts
+IsCommandOf-prop version problem building results _ = Prim.hlevel parts
 
 NamesEarlier-prop : (before : List Command) (command : Command) → IsProp (NamesEarlier before command)
 NamesEarlier-prop before (Plan name goal vars) = Prim.hlevel props
-NamesEarlier-prop before (Learn name source) = Prim.hlevel props
-NamesEarlier-prop before (Show name) = Prim.hlevel props
-NamesEarlier-prop before (DisturbAtoms turn between edits) = Prim.hlevel props
-NamesEarlier-prop before (DisturbRooms turn between edits) = Prim.hlevel props
-NamesEarlier-prop before (Run name bindings) = Prim.hlevel props
-NamesEarlier-prop before Facts = Prim.hlevel props
+NamesEarlier-prop before _ = Prim.hlevel props
 
 ruleset all_parts = (IsCommandOf-prop, NamesEarlier-prop, IsValid-prop, Term-set, parts)
 
 pub IsInRange-prop : (script : ScriptValue) → IsProp (IsInRange script)
 IsInRange-prop script = Prim.hlevel all_parts
-
-ruleset built = (Term-set, props)
-
-pub IsOfStage-prop : (stage : Stage) (script : ScriptValue) → IsProp (IsOfStage stage script)
-IsOfStage-prop stage script = Prim.hlevel built

@@ -1,5 +1,6 @@
 -- Small texts, and what the definitions say of them.
 use Rattle.std.specs.Prelude.{ℕ, false, List, [], ◌∷◌, ◌++◌, codes, None, Some}
+use Rattle.std.specs.List.{AllByRecursion}
 use Rattle.px_rooms.specs.Domain.{building_problem, closed, connects, in_room, is_box, is_door, is_room}
 use Rattle.px_terms.specs.declared.atom.Atom.{Atom}
 use Rattle.px_terms.specs.declared.term.Term.{Term}
@@ -145,42 +146,38 @@ pub record WorkedScripts : Type 0 where
   pub shown : IsScript stage_now shown_text shown
   pub door : IsScript stage_now door_text door
 
+-- Each text has its first fault in the line of this number, with this code.
+pub record AreRefused (texts : List (ℕ × ℕ × List ℕ)) : Type 0 where
+  pub each : AllByRecursion (λ t. IsRefused t.2 t.0 t.1 0) texts
+
 -- texts that are no scripts, with the line, the code and the limit of their first fault
 pub record WorkedRefusals : Type 0 where
   pub no_character : IsRefused (0xFF ∷ []) 1 1 0
-  pub no_name : IsRefused (codes "object 9") 1 2 0
-  pub unknown_word : IsRefused (codes "fly R1") 1 3 0
-  pub cut_word : IsRefused (codes "obj") 1 3 0
-  pub unknown_predicate : IsRefused (codes "fact P(a)") 1 4 0
-  pub object_twice : IsRefused (codes "object a a") 1 5 0
-  pub parameter_twice : IsRefused (codes "object a\noperator A(x,x)") 2 5 0
-  pub one_too_many : IsRefused (codes "object a\npredicate P 1\nfact P(a,a)") 3 6 0
-  pub variable_in_fact : IsRefused (codes "object a\npredicate P 1\nfact P(?x)") 3 7 0
-  pub wide_predicate : IsRefused (codes "predicate P 7") 1 8 4
-  pub other_version : IsRefused (codes "script 2") 1 8 16
-  pub late_object : IsRefused (codes "facts\nobject a") 2 9 0
   pub second_mark : IsRefused (mark ++ mark ++ codes "object a") 1 2 0
   pub late_mark : IsRefused (codes "object a\n" ++ mark ++ codes "facts") 2 2 0
-  pub cut_line : IsRefused (codes "object a\n\noperator A(x)\ndelete\n") 4 2 0
-  pub cut_block : IsRefused (codes "object a\n\noperator A(x)\n") 3 10 0
-  pub no_source : IsRefused (codes "learn M of N") 1 2 0
-  pub no_time : IsRefused (codes "disturb 1 while +P") 1 2 0
-  pub no_state : IsRefused (codes "door D R S ajar") 1 2 0
-  pub parameter_zero : IsRefused (codes "run N p0=a") 1 2 0
-  pub zero_before_parameter : IsRefused (codes "run N p01=a") 1 2 0
-  pub no_such_parameter : IsRefused (codes "run N p10000=a") 1 2 0
-  pub sign_of_an_edit : IsRefused (codes "axiom +P") 1 2 0
-  pub token_before_word : IsRefused (codes "fly %") 1 2 0
-  pub form_before_order : IsRefused (codes "operator A\nobject") 2 2 0
-  pub unknown_source : IsRefused (codes "learn M from N") 1 4 0
-  pub name_before_duplicate : IsRefused (codes "object a\npredicate P 1\nplan N P(a)\nplan N P(b)") 4 4 0
-  pub duplicate_before_arity : IsRefused (codes "object a\npredicate P 1\nplan N P(a)\nplan N P(a,a)") 4 5 0
-  pub unbound_before_limit : IsRefused (codes "object a\npredicate P 1\n"
-      ++ codes "plan aaaaaaaaaaaaaaaaaaaaaaaaaaaaaaaaaaaaaaaaaaaaaaaaaaaaaaaaaaaaaaaaa P($)") 3 7 0
-  pub duplicate_before_limit : IsRefused (codes "nodes 5\nnodes 0") 2 5 0
-  pub arity_before_unbound : IsRefused (codes "object a\npredicate P 1\nfact P(?x,a)") 3 6 0
-  pub cut_building : IsRefused (codes "nodes 5\nbuilding\nroom R1\nrobot R1\n") 2 10 0
-  pub no_robot : IsRefused (codes "building\nroom R1\nend") 3 9 0
+  -- no name, source, time or state of a door; no such parameter, or sign; a token that is none, and a form, before what else is wrong
+  pub no_form : AreRefused ((1, 2, codes "object 9") ∷ (1, 2, codes "learn M of N") ∷ (1, 2, codes "disturb 1 while +P")
+      ∷ (1, 2, codes "door D R S ajar") ∷ (1, 2, codes "run N p0=a") ∷ (1, 2, codes "run N p01=a") ∷ (1, 2, codes "run N p10000=a")
+      ∷ (1, 2, codes "axiom +P") ∷ (1, 2, codes "fly %") ∷ (2, 2, codes "operator A\nobject")
+      ∷ (4, 2, codes "object a\n\noperator A(x)\ndelete\n") ∷ [])
+  pub unknown : AreRefused ((1, 3, codes "fly R1") ∷ (1, 3, codes "obj") ∷ (1, 4, codes "fact P(a)") ∷ (1, 4, codes "learn M from N")
+      ∷ (4, 4, codes "object a\npredicate P 1\nplan N P(a)\nplan N P(b)") ∷ [])
+  -- duplicates, also before an arity and before a limit
+  pub duplicate : AreRefused ((1, 5, codes "object a a") ∷ (2, 5, codes "object a\noperator A(x,x)")
+      ∷ (4, 5, codes "object a\npredicate P 1\nplan N P(a)\nplan N P(a,a)") ∷ (2, 5, codes "nodes 5\nnodes 0") ∷ [])
+  -- arities, also before a variable; variables and wild cards, also before a long name
+  pub arity : AreRefused ((3, 6, codes "object a\npredicate P 1\nfact P(a,a)") ∷ (3, 6, codes "object a\npredicate P 1\nfact P(?x,a)")
+      ∷ (3, 7, codes "object a\npredicate P 1\nfact P(?x)") ∷ (
+        3,
+        7,
+        codes "object a\npredicate P 1\n"
+            ++ codes "plan aaaaaaaaaaaaaaaaaaaaaaaaaaaaaaaaaaaaaaaaaaaaaaaaaaaaaaaaaaaaaaaaa P($)",
+      ) ∷ [])
+  pub wide_predicate : IsRefused (codes "predicate P 7") 1 8 4
+  pub other_version : IsRefused (codes "script 2") 1 8 16
+  -- late lines, and blocks that are cut off
+  pub order : AreRefused ((2, 9, codes "facts\nobject a") ∷ (3, 9, codes "building\nroom R1\nend")
+      ∷ (3, 10, codes "object a\n\noperator A(x)\n") ∷ (2, 10, codes "nodes 5\nbuilding\nroom R1\nrobot R1\n") ∷ [])
   -- where only these words are built
   pub not_built : FirstFault (codes "object" ∷ []) (codes "object a\n# not yet\nfacts") 3 (record { code = 11; limit = 0 })
   pub order_before_unbuilt : FirstFault (codes "operator" ∷ []) (codes "operator A\nfacts") 2 (record { code = 9; limit = 0 })

@@ -1,77 +1,71 @@
--- How small lines are worked: after lines that have no fault, what the next one leaves, or its fault, where all of version 1 is built.
-use Rattle.std.specs.Prelude.{◌≡◌, ℕ, ◌+◌, Bool, true, false, ◌&&◌, List, [], ◌∷◌, map, replicate, codes, Option, None, Some}
+-- How small lines are worked: after lines that have no fault, what the next ones leave, or their fault, where all of version 1 is built.
+use Rattle.std.specs.Prelude.{◌≡◌, ℕ, ◌==◌, true, false, List, [], ◌∷◌, map, replicate, codes, Some, ◌++◌}
+use Rattle.std.specs.List.{AllByRecursion, flat_map, range_with_len, slice_split}
 use Rattle.px_terms.specs.declared.atom.Atom.{Atom}
 use Rattle.px_terms.specs.declared.clause.Lit.{Lit}
+use Rattle.px_terms.specs.declared.problem.Schema.{Schema}
 use Rattle.px_terms.specs.declared.term.Term.{Term}
-use Rattle.px_script.specs.Items.{Argument, SignedAtom, Sign, named, open_variable, bare}
-use Rattle.px_script.specs.Statements.{Statement, line_of, object, predicate, building, room, robot, door, box, end}
-use Rattle.px_script.specs.Declarations.{Declared, nothing_declared, after_line}
-use Rattle.px_script.specs.Forms.{is_formed}
+use Rattle.px_terms.specs.declared.term.Term.TheVariants.{Obj, Var, Any}
+use Rattle.px_world.specs.declared.edits.AtomEdit.TheVariants as atom_edit
+use Rattle.px_world.specs.declared.edits.RoomEdit.TheVariants as room_edit
+use Rattle.px_world.specs.declared.thing.Thing.TheVariants as thing
+use Rattle.px_script.specs.Items.{Argument, SignedAtom, Sign, named, open_variable, anything, bare, negated, added, removed, robot_to, box_to, door_to}
+use Rattle.px_script.specs.Statements.{Statement, spelling, building, room, robot, door, box, «axiom», operator, delete, height, shapes, plan, learn, show, disturb_atoms, disturb_rooms, run}
+use Rattle.px_script.specs.Lexemes.{Lexes}
+use Rattle.px_script.specs.Commands.{Facts, Plan, Learn, Show, DisturbAtoms, DisturbRooms, Run}
+use Rattle.px_script.specs.Declarations.{Declared, nothing_declared}
 use Rattle.px_script.specs.Stages.{whole_language}
-use Rattle.px_script.specs.Faults.{Refusal, fault_at}
+use Rattle.px_script.specs.Scripts.{Passes, PassAll, Fails}
 
--- what lines leave, numbered from n
-abbrev pub after_lines : ℕ → Declared → List Statement → Declared
-after_lines n d [] = d
-after_lines n d (s ∷ more) = after_lines (n + 1) (after_line n d s) more
+-- the characters of the lines of a text
+abbrev pub lines : List ℕ → List (List ℕ)
+lines text = slice_split (λ c. c == 10) text
 
-abbrev pub left_by : List Statement → Declared
-left_by lines = after_lines 1 nothing_declared lines
+-- The lines of the text have no fault, and leave this.
+abbrev pub Pass : List ℕ → Declared → Type 0
+Pass text d = PassAll whole_language 1 nothing_declared (lines text) d
 
--- the first fault of lines one after the other
-abbrev first_fault : Declared → List Statement → Option Refusal
-first_fault d [] = None
-first_fault d (s ∷ more) = elim (fault_at whole_language d s) [ None ↦ first_fault (after_line 0 d s) more | Some refusal ↦ Some refusal ]
+-- The lines have no fault, and what they leave is so.
+pub record After (text : List ℕ) (P : Declared → Type 0) : Type 0 where
+  pub left : Declared
+  pub passes : Pass text left
+  pub holds : P left
 
--- the lines have their forms
-abbrev are_formed : Declared → List Statement → Bool
-are_formed d [] = true
-are_formed d (s ∷ more) = is_formed d (line_of s) && are_formed (after_line 0 d s) more
+-- They leave this in one part.
+abbrev pub Leave : {A : Type 0} → List ℕ → (Declared → A) → A → Type 0
+Leave text part value = After text (λ d. part d ≡ value)
 
--- The lines have no fault.
-abbrev pub ArePassed : List Statement → Type 0
-ArePassed lines = (are_formed nothing_declared lines ≡ true) × (first_fault nothing_declared lines ≡ None)
+-- They leave this in one part, and this in another.
+abbrev pub LeaveBoth : {A B : Type 0} → List ℕ → (Declared → A) → A → (Declared → B) → B → Type 0
+LeaveBoth text one value other other_value = After text (λ d. (one d ≡ value) × (other d ≡ other_value))
 
--- The lines have no fault, and leave this.
-abbrev pub Leave : {A : Type 0} → List Statement → (Declared → A) → A → Type 0
-Leave lines part value = ArePassed lines × (part (left_by lines) ≡ value)
+-- After lines that have no fault, and with what they leave changed, each of these lines has no fault.
+pub record Fit (before : List ℕ) (change : Declared → Declared) (cases : List (List ℕ)) : Type 0 where
+  pub left : Declared
+  pub passes : Pass before left
+  pub each : AllByRecursion (λ line. (next : Declared) × Passes whole_language 1 (change left) line next) cases
 
--- The lines have no fault, and leave this in one part, and this in another.
-abbrev pub LeaveBoth : {A B : Type 0} → List Statement → (Declared → A) → A → (Declared → B) → B → Type 0
-LeaveBoth lines one value other other_value = Leave lines one value × (other (left_by lines) ≡ other_value)
+-- The same, where each of them has this code, and passes this limit, or 0.
+pub record RefuseWhere (before : List ℕ) (change : Declared → Declared) (code limit : ℕ) (cases : List (List ℕ)) : Type 0 where
+  pub left : Declared
+  pub passes : Pass before left
+  pub each : AllByRecursion (λ line. Fails whole_language (change left) line (record { code = code; limit = limit })) cases
 
--- These lines have no fault, and after them the next one has its form and this fault.
-abbrev pub FailsAfter : List Statement → Statement → ℕ → ℕ → Type 0
-FailsAfter before s code limit = ArePassed before × (is_formed (left_by before) (line_of s) ≡ true)
-    × (fault_at whole_language (left_by before) s ≡ Some (record { code = code; limit = limit }))
+-- Nothing is changed, and no limit is passed.
+abbrev pub Refuse : List ℕ → ℕ → List (List ℕ) → Type 0
+Refuse before code cases = RefuseWhere before (λ d. d) code 0 cases
 
--- The same of the code alone, which passes no limit.
-abbrev pub Fails : List Statement → Statement → ℕ → Type 0
-Fails before s code = FailsAfter before s code 0
+-- nothing is changed, and this limit is passed
+abbrev pub Exceed : List ℕ → ℕ → List (List ℕ) → Type 0
+Exceed before limit cases = RefuseWhere before (λ d. d) 8 limit cases
 
--- These lines have no fault, and after them the next one hasn't its form.
-abbrev pub HasNoForm : List Statement → Statement → Type 0
-HasNoForm before s = ArePassed before × (is_formed (left_by before) (line_of s) ≡ false)
+-- the text so many times
+abbrev pub times : ℕ → List ℕ → List ℕ
+times n text = flat_map (λ k. text) (range_with_len 0 n)
 
--- The next line has no fault, where so much is declared.
-abbrev pub Fits : Declared → Statement → Type 0
-Fits d s = fault_at whole_language d s ≡ None
-
--- The next line would pass this limit, where so much is declared.
-abbrev pub Exceeds : Declared → Statement → ℕ → Type 0
-Exceeds d s limit = fault_at whole_language d s ≡ Some (record { code = 8; limit = limit })
-
--- an atom with a sign, over these arguments
-abbrev pub with_sign : Sign → List ℕ → List Argument → SignedAtom
-with_sign sign p arguments = record { sign = sign; atom = record { predicate = p; arguments = arguments } }
-
--- an atom over names
-abbrev pub of_names : List ℕ → List (List ℕ) → SignedAtom
-of_names p ns = with_sign bare p (map named ns)
-
--- an atom over variables
-abbrev pub of_variables : List ℕ → List (List ℕ) → SignedAtom
-of_variables p vs = with_sign bare p (map open_variable vs)
+-- 65 letters
+abbrev pub long_name : List ℕ
+long_name = replicate 65 97
 
 -- the atom of a predicate by its number
 abbrev pub numbered : ℕ → List Term → Atom
@@ -83,25 +77,310 @@ asserted atom = record { positive = true; atom = atom }
 abbrev pub denied : Atom → Lit
 denied atom = record { positive = false; atom = atom }
 
--- `object a b`, `predicate P 1`, `predicate Q 0`
-abbrev pub small : List Statement
-small = object (codes "a" ∷ codes "b" ∷ []) ∷ predicate (codes "P") 1 ∷ predicate (codes "Q") 0 ∷ []
+abbrev pub small : List ℕ
+small = codes "object a b\npredicate P 1\npredicate Q 0"
 
-abbrev pub p_of : List ℕ → SignedAtom
-p_of n = of_names (codes "P") (n ∷ [])
+-- a building without its `end`, and the whole of it
+abbrev pub open_building : List ℕ
+open_building = codes "building\nroom R1\nroom R2\ndoor D1 R1 R2 closed\nbox B1 R2\nrobot R1"
+
+abbrev pub closed_building : List ℕ
+closed_building = open_building ++ codes "\nend"
+
+-- ---- lines of a script's own domain, and of its settings
+
+abbrev pub in_operator : List ℕ
+in_operator = small ++ codes "\noperator O(x)"
+
+-- its three lists, and its end
+abbrev whole_operator : List ℕ
+whole_operator = in_operator ++ codes "\npre P(x)\npre Q\ndelete P($)\nadd P(a)\nend"
+
+abbrev the_operator : Schema
+the_operator = record {
+  op = 0;
+  params = 1;
+  pre = numbered 0 (Var 0 ∷ []) ∷ numbered 1 [] ∷ [];
+  del = numbered 0 (Any ∷ []) ∷ [];
+  add = numbered 0 (Obj 0 ∷ []) ∷ [];
+}
+
+-- an object, and a predicate of six arguments; atoms of twelve variables, and of thirteen
+abbrev of_six : List ℕ
+of_six = codes "object a\npredicate P 6"
+
+abbrev twelve : List ℕ
+twelve = codes " P(?a,?b,?c,?d,?e,?f) P(?g,?h,?i,?j,?k,?l)"
+
+abbrev thirteen : List ℕ
+thirteen = twelve ++ codes " P(?m,?a,?b,?c,?d,?e)"
+
+pub record WorkedDomains : Type 0 where
+  -- what lines leave
+  pub version : Leave (codes "script 1") (λ d. d.version) 1
+  pub objects : Leave (codes "object a x\nobject b") (λ d. d.names.objects) (codes "a" ∷ codes "x" ∷ codes "b" ∷ [])
+  pub predicates : LeaveBoth small (λ d. d.names.predicates) (codes "P" ∷ codes "Q" ∷ []) (λ d. d.arities) (1 ∷ 0 ∷ [])
+  pub like_an_object : Leave (codes "object a\npredicate a 0") (λ d. d.names.predicates) (codes "a" ∷ [])
+  pub axioms : Leave (small ++ codes "\naxiom ~P(?x) P(a) P(?x)") (λ d. d.axioms) (record {
+    vars = 1;
+    lits = denied (numbered 0 (Var 0 ∷ [])) ∷ asserted (numbered 0 (Obj 0 ∷ [])) ∷ asserted (numbered 0 (Var 0 ∷ [])) ∷ [];
+  } ∷ [])
+  -- variables are numbered by first occurrence
+  pub numbers_variables : Leave (codes "object a\npredicate R 2\naxiom R(?y,?x) R(?x,?z)") (λ d. d.axioms) (record {
+    vars = 3;
+    lits = asserted (numbered 0 (Var 0 ∷ Var 1 ∷ [])) ∷ asserted (numbered 0 (Var 1 ∷ Var 2 ∷ [])) ∷ [];
+  } ∷ [])
+  pub operators : LeaveBoth whole_operator (λ d. d.names.operators) (codes "O" ∷ []) (λ d. d.schemas) (the_operator ∷ [])
+  pub without_parameters : Leave (codes "operator a\nend\noperator x\nend") (λ d. map (λ schema. schema.op) d.schemas) (0 ∷ 1 ∷ [])
+  pub like_its_operator : Leave (codes "object a\noperator x(x)") (λ d. d.names.operators) (codes "x" ∷ [])
+  pub long_parameter : Leave (codes "object a\noperator x(" ++ long_name ++ codes ")") (λ d. d.names.operators) (codes "x" ∷ [])
+  pub some_facts : Leave (small ++ codes "\nfact Q P(b)\nfact P(a) Q") (λ d. d.facts)
+      (numbered 0 (Obj 0 ∷ []) ∷ numbered 0 (Obj 1 ∷ []) ∷ numbered 1 [] ∷ [])
+  pub settings : LeaveBoth (codes "height 8\nnodes 50000") (λ d. d.height) (Some 8) (λ d. d.nodes) (Some 50000)
+  pub last_setting : Leave (codes "shapes 70000") (λ d. d.shapes) (Some 70000)
+  -- no such form
+  pub no_object : Refuse [] 2 (codes "object" ∷ [])
+  pub no_literal : Refuse small 2 (codes "axiom" ∷ codes "axiom +Q" ∷ [])
+  pub no_precondition : Refuse in_operator 2 (codes "pre" ∷ codes "pre ~Q" ∷ [])
+  -- unknown names
+  pub unknown : Refuse small 4 (codes "axiom R" ∷ codes "axiom P(x)" ∷ codes "fact P(x)" ∷ [])
+  pub unknown_argument : Refuse in_operator 4 (codes "pre P(y)" ∷ [])
+  -- duplicates
+  pub object_twice : Refuse [] 5 (codes "object a a" ∷ [])
+  pub known_object : Refuse (codes "object a") 5 (codes "object x a" ∷ [])
+  pub known_predicate : Refuse small 5 (codes "predicate P 0" ∷ [])
+  pub known_operator : Refuse whole_operator 5 (codes "operator O" ∷ [])
+  pub known_parameter : Refuse small 5 (codes "operator a(x,x)" ∷ codes "operator x(a)" ∷ [])
+  pub second_setting : Refuse (codes "height 4\nnodes 4\nshapes 4") 5 (codes "height 9" ∷ codes "nodes 0" ∷ codes "shapes 1" ∷ [])
+  -- arities, and arguments that may not stand there
+  pub arity : Refuse small 6 (codes "axiom Q(a)" ∷ codes "fact P(a,a)" ∷ [])
+  pub unbound : Refuse small 7 (codes "axiom P($)" ∷ codes "fact P(?x)" ∷ codes "fact P($)" ∷ [])
+  pub unbound_in_lists : Refuse in_operator 7
+      (codes "pre P(?x)" ∷ codes "pre P($)" ∷ codes "delete P(?x)" ∷ codes "add P(?x)" ∷ codes "add P($)" ∷ [])
+  -- lines out of order
+  pub late_version : Refuse (codes "object a") 9 (codes "script 1" ∷ [])
+  pub late : Refuse (codes "facts") 9 (codes "object a" ∷ codes "nodes 5" ∷ [])
+  pub in_block : Refuse in_operator 9 (codes "object c" ∷ codes "operator a" ∷ codes "fact Q" ∷ codes "facts" ∷ codes "nodes 5" ∷ [])
+  pub beside_building : Refuse closed_building 9
+      (codes "object a" ∷ codes "predicate a 0" ∷ codes "axiom BOX(ROBOT)" ∷ codes "operator a" ∷ codes "fact BOX(ROBOT)" ∷ [])
+  pub early_variable : Refuse (codes "predicate P 1") 9 (codes "axiom P(?x)" ∷ codes "operator a(x)" ∷ [])
+  pub no_block : Refuse small 9 (codes "pre Q" ∷ codes "delete Q" ∷ codes "add Q" ∷ codes "end" ∷ [])
+  -- limits
+  pub long_names : Exceed [] 1
+      ((codes "object " ++ long_name) ∷ (codes "predicate " ++ long_name ++ codes " 0") ∷ (codes "operator " ++ long_name) ∷ [])
+  pub wide_predicate : Exceed [] 4 (codes "predicate a 7" ∷ [])
+  pub seven_literals : Exceed small 6 (codes "axiom Q Q Q Q Q Q Q" ∷ [])
+  pub thirteen_variables : Exceed of_six 7 ((codes "axiom" ++ thirteen) ∷ [])
+  pub nine_parameters : Exceed small 9 (codes "operator a(ya,yb,yc,yd,ye,yf,yg,yh,yi)" ∷ [])
+  pub long_lists : Exceed (in_operator ++ times 10 (codes "\npre Q\ndelete Q\nadd Q")) 10
+      (codes "pre Q Q Q Q Q Q Q" ∷ codes "delete Q Q Q Q Q Q Q" ∷ codes "add Q Q Q Q Q Q Q" ∷ [])
+  pub numbers : Exceed [] 16 (codes "script 2" ∷ codes "script 0" ∷ codes "height 0" ∷ codes "height 9" ∷ codes "nodes 0"
+      ∷ codes "nodes 50001" ∷ codes "shapes 1" ∷ codes "shapes 70001" ∷ [])
+
+-- ---- lines of a building
+
+abbrev one_room : List ℕ
+one_room = codes "building\nroom R"
+
+pub record WorkedBuildings : Type 0 where
+  -- what lines leave
+  pub names : LeaveBoth (codes "building") (λ d. d.names.objects) (codes "ROBOT" ∷ [])
+      (λ d. d.arities) (2 ∷ 2 ∷ 3 ∷ 1 ∷ 1 ∷ 1 ∷ 1 ∷ 1 ∷ [])
+  pub predicates : Leave (codes "building") (λ d. d.names.predicates) (codes "INROOM" ∷ codes "NEXTTO" ∷ codes "CONNECTS" ∷ codes "OPENED"
+      ∷ codes "CLOSED" ∷ codes "ROOM" ∷ codes "DOOR" ∷ codes "BOX" ∷ [])
+  pub operators : Leave (codes "building") (λ d. d.names.operators) (codes "GOTOB" ∷ codes "GOTOD" ∷ codes "OPEN" ∷ codes "CLOSE"
+      ∷ codes "GOTHRU" ∷ codes "PUSHD" ∷ codes "PUSHTHRU" ∷ [])
+  pub beside_setting : Leave (codes "height 4\nbuilding") (λ d. d.names.objects) (codes "ROBOT" ∷ [])
+  pub things : Leave closed_building (λ d. d.things)
+      (Some (thing.Room ∷ thing.Room ∷ thing.Door 1 2 false ∷ thing.Box 2 ∷ thing.Robot 1 ∷ []))
+  pub objects : Leave closed_building (λ d. d.names.objects) (codes "ROBOT" ∷ codes "R1" ∷ codes "R2" ∷ codes "D1" ∷ codes "B1" ∷ [])
+  pub roles : LeaveBoth closed_building (λ d. d.roles.doors) (codes "D1" ∷ []) (λ d. d.roles.boxes) (codes "B1" ∷ [])
+  -- what the names of a building are good for afterwards
+  pub goal : Leave (closed_building ++ codes "\nplan N INROOM(B1,R1)") (λ d. d.names.results) (codes "N" ∷ [])
+  pub goal_arity : Refuse closed_building 6 (codes "plan N INROOM(B1)" ∷ [])
+  pub goal_unknown : Refuse closed_building 4 (codes "plan N AT(B1)" ∷ [])
+  -- unknown rooms
+  pub nowhere : Refuse (codes "building") 4 (codes "box B R" ∷ codes "robot R" ∷ [])
+  pub door_to_the_robot : Refuse one_room 4 (codes "door D ROBOT R open" ∷ [])
+  pub in_a_box : Refuse (one_room ++ codes "\nbox B R") 4 (codes "door D R B open" ∷ codes "robot B" ∷ [])
+  -- duplicates
+  pub second_building : Refuse closed_building 5 (codes "building" ∷ [])
+  pub room_like_the_robot : Refuse (codes "building") 5 (codes "room ROBOT" ∷ [])
+  pub door_to_its_room : Refuse one_room 5 (codes "door D R R open" ∷ [])
+  pub known_thing : Refuse open_building 5 (codes "door R1 R1 R2 open" ∷ codes "box D1 R1" ∷ codes "robot R2" ∷ [])
+  -- lines out of order
+  pub beside_object : Refuse (codes "object R") 9 (codes "building" ∷ [])
+  pub beside_predicate : Refuse (codes "predicate R 0") 9 (codes "building" ∷ [])
+  pub late_building : Refuse (codes "facts") 9 (codes "building" ∷ [])
+  pub in_block : Refuse open_building 9 (codes "building" ∷ codes "facts" ∷ [])
+  pub no_block : Refuse [] 9 (codes "room R" ∷ codes "door D R R open" ∷ codes "box B R" ∷ codes "robot R" ∷ [])
+  pub late_room : Refuse closed_building 9 (codes "room R" ∷ [])
+  pub no_robot : Refuse one_room 9 (codes "end" ∷ [])
+  -- limits
+  pub long_names : Exceed open_building 1 ((codes "room " ++ long_name) ∷ (codes "door " ++ long_name ++ codes " R1 R2 open")
+      ∷ (codes "box " ++ long_name ++ codes " R1") ∷ [])
+  pub many_things : RefuseWhere (codes "building\nroom R\nroom S")
+      (λ d. record d { names = record d.names { objects = replicate 256 (codes "x") } }) 8 2
+      (codes "room a" ∷ codes "door a R S open" ∷ codes "box a R" ∷ [])
+
+-- ---- lines at the limits: the greatest that may be, and the least limit of those that are passed
+
+-- so many objects, predicates, operators, axioms, facts of which P(a) is one, commands, disturbances
+abbrev objects : ℕ → Declared → Declared
+objects n d = record d { names = record d.names { objects = replicate n (codes "x") } }
+
+abbrev predicates : ℕ → Declared → Declared
+predicates n d = record d { names = record d.names { predicates = replicate n (codes "x") } }
+
+abbrev operators : ℕ → Declared → Declared
+operators n d = record d { names = record d.names { operators = replicate n (codes "x") } }
+
+abbrev axioms : ℕ → Declared → Declared
+axioms n d = record d { axioms = replicate n (record { vars = 0; lits = [] }) }
+
+abbrev facts : ℕ → Declared → Declared
+facts n d = record d { facts = map (λ k. numbered 0 (Obj k ∷ [])) (range_with_len 0 n) }
+
+abbrev commands : ℕ → Declared → Declared
+commands n d = record d { commands = replicate n Facts }
+
+abbrev disturbs : ℕ → Declared → Declared
+disturbs n d = record d { disturbs = n }
+
+abbrev in_bare_operator : List ℕ
+in_bare_operator = small ++ codes "\noperator O"
+
+-- 17 edits
+abbrev edits : List ℕ
+edits = codes "disturb 0 before" ++ times 17 (codes "+Q")
+
+pub record WorkedLimits : Type 0 where
+  -- the greatest that may be, and the least of numbers
+  pub long_enough : Leave (codes "object " ++ replicate 64 97) (λ d. d.names.objects) (replicate 64 97 ∷ [])
+  pub last_object : Fit [] (objects 255) (codes "object a" ∷ [])
+  pub last_predicate : Fit [] (predicates 63) (codes "predicate a 6" ∷ [])
+  pub last_axiom : Fit small (axioms 63) (codes "axiom Q Q Q Q Q Q" ∷ [])
+  pub variables : Fit of_six (λ d. d) ((codes "axiom" ++ twelve) ∷ (codes "plan a" ++ twelve) ∷ [])
+  pub last_operator : Fit (codes "object o") (operators 31) (codes "operator a(xa,xb,xc,xd,xe,xf,xg,xh)" ∷ [])
+  pub long_lists : Fit in_bare_operator (λ d. d) ((codes "pre" ++ times 16 (codes " Q")) ∷ (codes "delete" ++ times 16 (codes " Q")) ∷ [])
+  pub long_adds : Fit (in_bare_operator ++ codes "\nadd" ++ times 10 (codes " Q")) (λ d. d) (codes "add Q Q Q Q Q Q" ∷ [])
+  -- facts are counted once
+  pub last_fact : Fit small (facts 511) (codes "fact Q" ∷ codes "fact Q P(a) Q" ∷ [])
+  pub fact_that_is_there : Fit small (facts 512) (codes "fact P(a)" ∷ [])
+  pub long_goal : Fit small (λ d. d) ((codes "plan a" ++ times 16 (codes " Q")) ∷ [])
+  pub last_command : Fit [] (commands 511) (codes "facts" ∷ [])
+  pub last_disturbance : Fit small (disturbs 63) ((codes "disturb 9999 before" ++ times 16 (codes "+Q")) ∷ [])
+  pub last_room_edits : Fit closed_building (disturbs 63) ((codes "disturb 1 between" ++ times 16 (codes " robot R1")) ∷ [])
+  pub least_numbers : LeaveBoth (codes "height 1\nnodes 1\nshapes 2") (λ d. d.height) (Some 1) (λ d. d.shapes) (Some 2)
+  -- so many are too many
+  pub many_objects : RefuseWhere [] (objects 256) 8 2 (codes "object a" ∷ [])
+  pub many_axioms : RefuseWhere small (axioms 64) 8 5 (codes "axiom Q" ∷ codes "axiom Q Q Q Q Q Q Q" ∷ [])
+  pub many_predicates : RefuseWhere [] (predicates 64) 8 3 (codes "predicate a 0" ∷ codes "predicate a 7" ∷ [])
+  pub many_operators : RefuseWhere (codes "object o") (operators 32) 8 8
+      (codes "operator a" ∷ codes "operator a(xa,xb,xc,xd,xe,xf,xg,xh,xi)" ∷ [])
+  pub many_facts : RefuseWhere small (facts 512) 8 11 (codes "fact Q" ∷ [])
+  -- the least limit of those that are passed
+  pub literals_first : Exceed of_six 6 ((codes "axiom" ++ thirteen ++ thirteen ++ thirteen) ∷ [])
+  pub name_first : Exceed small 1 ((codes "plan " ++ long_name ++ times 17 (codes " Q")) ∷ [])
+  pub variables_first : Exceed of_six 7 ((codes "plan a" ++ times 15 (codes " P(?y,?y,?y,?y,?y,?y)") ++ thirteen) ∷ [])
+  pub atoms_first : RefuseWhere small (commands 512) 8 12 ((codes "plan a" ++ times 17 (codes " Q")) ∷ [])
+  pub commands_first : RefuseWhere small (λ d. commands 512 (disturbs 64 d)) 8 13 (edits ∷ [])
+  pub disturbs_first : RefuseWhere small (disturbs 64) 8 14 (edits ∷ [])
+  pub edits_first : Exceed small 15 (edits ∷ [])
+
+-- ---- commands
+
+abbrev learned : List ℕ
+learned = small ++ codes "\nplan N Q\nlearn M from N"
+
+pub record WorkedCommands : Type 0 where
+  -- what lines leave
+  pub plans : LeaveBoth (small ++ codes "\nplan N P(?x) P(b) P(?x)\nplan M Q") (λ d. d.names.results) (codes "N" ∷ codes "M" ∷ [])
+      (λ d. d.commands)
+      (Plan 0 (numbered 0 (Var 0 ∷ []) ∷ numbered 0 (Obj 1 ∷ []) ∷ numbered 0 (Var 0 ∷ []) ∷ []) 1 ∷ Plan 1 (numbered 1 [] ∷ []) 0 ∷ [])
+  pub numbers_variables : Leave (codes "object a\npredicate R 2\nplan N R(?y,?x) R(?x,?z)") (λ d. d.commands)
+      (Plan 0 (numbered 0 (Var 0 ∷ Var 1 ∷ []) ∷ numbered 0 (Var 1 ∷ Var 2 ∷ []) ∷ []) 3 ∷ [])
+  pub learns : LeaveBoth learned (λ d. d.names.results) (codes "N" ∷ codes "M" ∷ [])
+      (λ d. d.commands) (Plan 0 (numbered 1 [] ∷ []) 0 ∷ Learn 1 0 ∷ [])
+  pub shows : Leave (learned ++ codes "\nshow M\nshow N") (λ d. d.commands)
+      (Plan 0 (numbered 1 [] ∷ []) 0 ∷ Learn 1 0 ∷ Show 1 ∷ Show 0 ∷ [])
+  pub disturbs : LeaveBoth (small ++ codes "\ndisturb 9999 between +Q -P(a)") (λ d. d.disturbs) 1 (λ d. d.commands)
+      (DisturbAtoms 9999 true (atom_edit.Add (numbered 1 []) ∷ atom_edit.Remove (numbered 0 (Obj 0 ∷ [])) ∷ []) ∷ [])
+  pub disturbs_after_run : Leave (learned ++ codes "\ndisturb 1 before +Q\nrun N") (λ d. d.disturbs) 0
+  pub disturbs_rooms : LeaveBoth (closed_building ++ codes "\ndisturb 1 before robot R2 box B1 R1 door D1 open") (λ d. d.disturbs) 1
+      (λ d. d.commands) (DisturbRooms 1 false (room_edit.Robot 2 ∷ room_edit.Box 4 1 ∷ room_edit.Door 3 true ∷ []) ∷ [])
+  pub runs : Leave (learned ++ codes "\nrun M p2=b p1=a\nrun N") (λ d. d.commands)
+      (Plan 0 (numbered 1 [] ∷ []) 0 ∷ Learn 1 0 ∷ Run 1 ((2, 1) ∷ (1, 0) ∷ []) ∷ Run 0 [] ∷ [])
+  pub last_parameter : Leave (learned ++ codes "\nrun M p9999=a") (λ d. d.disturbs) 0
+  pub tells_facts : Leave (codes "facts") (λ d. d.commands) (Facts ∷ [])
+  -- no such form
+  pub no_form : Refuse small 2 (codes "plan N" ∷ codes "plan N ~Q" ∷ codes "disturb 1 before" ∷ codes "disturb 1 before Q"
+      ∷ codes "disturb 1 before robot a" ∷ [])
+  pub atoms_in_a_building : Refuse closed_building 2 (codes "disturb 1 before +BOX(B1)" ∷ codes "disturb 1 before" ∷ [])
+  pub no_parameter : Refuse learned 2 (codes "run M p0=a" ∷ codes "run M p10000=a" ∷ [])
+  -- unknown names
+  pub unknown : Refuse small 4 (codes "plan N P(c)" ∷ codes "learn M from N" ∷ codes "disturb 1 before +R" ∷ [])
+  pub unknown_result : Refuse learned 4 (codes "learn L from M" ∷ codes "learn L from L" ∷ codes "show L" ∷ codes "run L"
+      ∷ codes "run M p1=c" ∷ [])
+  pub of_other_kinds : Refuse closed_building 4 (codes "disturb 1 before robot B1" ∷ codes "disturb 1 before box ROBOT R1"
+      ∷ codes "disturb 1 before box B1 D1" ∷ codes "disturb 1 before door R1 open" ∷ [])
+  -- duplicates
+  pub known_result : Refuse learned 5 (codes "plan M Q" ∷ codes "learn M from N" ∷ codes "run M p1=a p1=b" ∷ [])
+  -- arities, and arguments that may not stand there
+  pub arity : Refuse small 6 (codes "plan N Q(a)" ∷ codes "disturb 1 before +P" ∷ [])
+  pub unbound : Refuse small 7 (codes "plan N P($)" ∷ codes "disturb 1 before +P(?x)" ∷ codes "disturb 1 before -P($)" ∷ [])
+  -- lines out of order
+  pub early_variable : Refuse (codes "predicate P 1") 9 (codes "plan N P(?x)" ∷ [])
+  pub early_parameter : Refuse (codes "predicate Q 0\nplan N Q") 9 (codes "run N p1=a" ∷ [])
+  -- limits
+  pub long_names : Exceed learned 1 ((codes "plan " ++ long_name ++ codes " Q") ∷ (codes "learn " ++ long_name ++ codes " from N") ∷ [])
+  pub thirteen_variables : Exceed of_six 7 ((codes "plan N" ++ thirteen) ∷ [])
+  pub seventeen_atoms : Exceed small 12 ((codes "plan N" ++ times 17 (codes " Q")) ∷ [])
+  pub many_commands : RefuseWhere learned (commands 512) 8 13 (codes "plan L Q" ∷ codes "learn L from N" ∷ codes "show N" ∷ codes "run N"
+      ∷ codes "disturb 1 before +Q" ∷ codes "facts" ∷ [])
+  pub many_disturbing_rooms : RefuseWhere closed_building (commands 512) 8 13 (codes "disturb 1 before robot R1" ∷ [])
+  pub many_disturbs : Exceed (small ++ times 64 (codes "\ndisturb 1 before +Q")) 14 (codes "disturb 1 before +Q" ∷ [])
+  pub many_disturbed_rooms : RefuseWhere closed_building (λ d. record d { disturbs = 64 }) 8 14 (codes "disturb 1 before robot R1" ∷ [])
+  pub seventeen_edits : Exceed small 15 ((codes "disturb 1 before" ++ times 17 (codes "+Q")) ∷ [])
+  pub seventeen_room_edits : Exceed closed_building 15 ((codes "disturb 1 before" ++ times 17 (codes " robot R1")) ∷ [])
+  pub turns : Exceed small 16 (codes "disturb 0 before +Q" ∷ codes "disturb 10000 before +Q" ∷ [])
+  pub room_turn_too_late : Exceed closed_building 16 (codes "disturb 10000 before robot R1" ∷ [])
+
+-- ---- how lines are written, from their characters
+
+-- The characters spell the statement.
+pub record Spell (characters : List ℕ) (s : Statement) : Type 0 where
+  pub lexes : Lexes characters (spelling s)
+
+-- an atom with a sign, over these arguments
+abbrev pub with_sign : Sign → List ℕ → List Argument → SignedAtom
+with_sign sign p arguments = record { sign = sign; atom = record { predicate = p; arguments = arguments } }
 
 abbrev pub q : SignedAtom
-q = of_names (codes "Q") []
+q = with_sign bare (codes "Q") []
 
--- 65 letters
-abbrev pub long_name : List ℕ
-long_name = replicate 65 97
-
--- `building`, `room R1`, `room R2`, `door D1 R1 R2 closed`, `box B1 R2`, `robot R1`, without its `end`
-abbrev pub open_building : List Statement
-open_building = building ∷ room (codes "R1") ∷ room (codes "R2") ∷ door (codes "D1") (codes "R1") (codes "R2") false
-    ∷ box (codes "B1") (codes "R2") ∷ robot (codes "R1") ∷ []
-
-abbrev pub closed_building : List Statement
-closed_building = building ∷ room (codes "R1") ∷ room (codes "R2") ∷ door (codes "D1") (codes "R1") (codes "R2") false
-    ∷ box (codes "B1") (codes "R2") ∷ robot (codes "R1") ∷ end ∷ []
+pub record WorkedSpellings : Type 0 where
+  pub an_axiom : Spell (codes "axiom ~P(?x,a) Q")
+      («axiom» (with_sign negated (codes "P") (open_variable (codes "x") ∷ named (codes "a") ∷ []) ∷ q ∷ []))
+  pub an_operator : Spell (codes "operator O ( x , y )") (operator (codes "O") (codes "x" ∷ codes "y" ∷ []))
+  pub without_parameters : Spell (codes "operator O") (operator (codes "O") [])
+  pub a_pattern : Spell (codes "delete P($,a)") (delete (with_sign bare (codes "P") (anything ∷ named (codes "a") ∷ []) ∷ []))
+  pub a_building : Spell (codes "building # of rooms") building
+  pub a_room : Spell (codes "room R") (room (codes "R"))
+  pub an_open_door : Spell (codes "door D R S open") (door (codes "D") (codes "R") (codes "S") true)
+  pub a_closed_door : Spell (codes "door D R S closed") (door (codes "D") (codes "R") (codes "S") false)
+  pub a_box : Spell (codes "box B R") (box (codes "B") (codes "R"))
+  pub a_robot : Spell (codes "robot R") (robot (codes "R"))
+  pub a_height : Spell (codes "height 04") (height 4)
+  pub many_shapes : Spell (codes "shapes 99999999999") (shapes 4294967295)
+  pub a_goal : Spell (codes "plan N P(?x) Q") (plan (codes "N") (with_sign bare (codes "P") (open_variable (codes "x") ∷ []) ∷ q ∷ []))
+  pub learning : Spell (codes "learn M from N") (learn (codes "M") (codes "N"))
+  pub showing : Spell (codes "show M") (show (codes "M"))
+  pub edits_before : Spell (codes "disturb 3 before +P(a)-Q")
+      (disturb_atoms 3 false (with_sign added (codes "P") (named (codes "a") ∷ []) ∷ with_sign removed (codes "Q") [] ∷ []))
+  pub edits_between : Spell (codes "disturb 3 between + Q") (disturb_atoms 3 true (with_sign added (codes "Q") [] ∷ []))
+  pub edits_of_rooms : Spell (codes "disturb 1 before robot R box B S door D open door E closed")
+      (disturb_rooms 1 false (robot_to (codes "R") ∷ box_to (codes "B") (codes "S") ∷ door_to (codes "D") true
+      ∷ door_to (codes "E") false ∷ []))
+  pub bindings : Spell (codes "run M p1=a p20 = a") (run (codes "M")
+      (record { parameter = 1; object = codes "a" } ∷ record { parameter = 20; object = codes "a" } ∷ []))

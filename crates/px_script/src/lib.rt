@@ -46,11 +46,7 @@ ghost use Rattle.px_script.specs.Stages.{Stage, whole_language};
 ghost use Rattle.px_script.specs.Statements.{Statement};
 ghost use Rattle.px_script.specs.Scripts.{ReadsOneWay, IsScript};
 ghost use Rattle.px_script.specs.Worked.{WorkedScripts, WorkedRefusals};
-ghost use Rattle.px_script.specs.WorkedDomains.{WorkedDomains};
-ghost use Rattle.px_script.specs.WorkedBuildings.{WorkedBuildings};
-ghost use Rattle.px_script.specs.WorkedCommands.{WorkedCommands};
-ghost use Rattle.px_script.specs.WorkedSpellings.{WorkedSpellings};
-ghost use Rattle.px_script.specs.WorkedLimits.{WorkedLimits};
+ghost use Rattle.px_script.specs.WorkedLines.{WorkedBuildings, WorkedCommands, WorkedDomains, WorkedLimits, WorkedSpellings};
 ghost use Rattle.px_script.specs.WorkedLater.{WorkedLater};
 
 /// Small lines of all of version 1, each behind lines that have no fault: what it leaves, or its first fault; how lines are written; the

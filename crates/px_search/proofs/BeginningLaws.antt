@@ -1,5 +1,5 @@
 -- All moves of a node are the first of them.
-use Rattle.std.proofs.Common.{Bool, true, List, refl, inl}
+use Rattle.std.proofs.Common.{Bool, List, inl}
 use Rattle.px_table.specs.declared.entry.Move.{Move}
 use Rattle.px_table.specs.declared.node.Node.{Node}
 use Rattle.px_numbers.specs.Numbers.{Kept}
@@ -8,22 +8,14 @@ use Rattle.px_search.specs.declared.step.Step.{Step}
 use Rattle.px_search.specs.Going.{AreFirstOf, AreMovesOf, IsBegunOn, IsGoneOn}
 
 module _ (task : Task) where
-  moves-are_first : (node : Node) (moves : List Move) → AreMovesOf task node moves → AreFirstOf task node moves
+  pub moves-are_first : (node : Node) (moves : List Move) → AreMovesOf task node moves → AreFirstOf task node moves
   moves-are_first node moves are = record { allowed = λ m has. (are.all m).1 has; ordered = are.ordered; others = λ m may. inl ((are.all m).0 may) }
 
-  pub all-begun : (kept : Kept) (node : Node) (steps : List Step) (is_all : Bool) → IsGoneOn task kept node steps → IsBegunOn task kept node steps is_all
+  abbrev pub all-begun : (kept : Kept) (node : Node) (steps : List Step) (is_all : Bool) → IsGoneOn task kept node steps → IsBegunOn task kept node steps is_all
   all-begun kept node steps is_all gone = record {
     moves = gone.moves;
     are = moves-are_first node gone.moves gone.are;
     every = λ _ m may. (gone.are.all m).0 may;
     steps_are = gone.steps_are;
     unlimited = gone.unlimited;
-  }
-
-  pub begun-all : (kept : Kept) (node : Node) (steps : List Step) → IsBegunOn task kept node steps true → IsGoneOn task kept node steps
-  begun-all kept node steps begun = record {
-    moves = begun.moves;
-    are = record { all = λ m. (λ may. begun.every refl m may, λ has. begun.are.allowed m has); ordered = begun.are.ordered };
-    steps_are = begun.steps_are;
-    unlimited = begun.unlimited;
   }

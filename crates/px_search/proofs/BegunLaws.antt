@@ -1,6 +1,6 @@
 -- The first of the moves of a node, and all of them.
-use Rattle.std.proofs.Common.{◌≡◌, ◌⊎◌, ℕ, Bool, true, zero, suc, ◌+◌, ◌<◌, ◌≤◌, List, [], ◌∷◌, take, length, refl, sym, ◌∙◌, ap, subst, inl, inr, arith, Some, slice_get, Contains}
-use Rattle.std.specs.Prelude.{All, AllPairs}
+use Rattle.std.proofs.Common.{◌≡◌, ◌⊎◌, ℕ, Bool, true, suc, ◌≤◌, List, [], ◌∷◌, take, length, refl, sym, ◌∙◌, ap, subst, inl, inr, arith, Some, slice_get, Contains}
+use Rattle.std.specs.Prelude.{AllPairs}
 use Rattle.std.specs.declared.cmp.Ordering.TheVariants.{Less, Equal}
 use Rattle.std.specs.Cmp.{tied_itself}
 use Rattle.std.proofs.lemmas.List.{take_all}
@@ -11,7 +11,7 @@ use Rattle.px_proof.specs.declared.shape.Tick.{Tick}
 use Rattle.px_table.specs.declared.entry.Move.{Move}
 use Rattle.px_table.specs.declared.node.Node.{Node}
 use Rattle.px_ends.specs.Order.{move_cmp}
-use Rattle.px_ends.specs.Tasks.{Task, IsAllowed}
+use Rattle.px_ends.specs.Tasks.{Task}
 use Rattle.px_ends.proofs.MoveLaws.{move_cmp-total}
 use Rattle.px_numbers.specs.declared.nodes.NodeKey.{NodeKey}
 use Rattle.px_numbers.specs.Numbers.{Kept, IsKeyOf, KeepsAll}
@@ -20,8 +20,9 @@ use Rattle.px_search.specs.declared.progress.Progress.{Progress}
 use Rattle.px_search.specs.declared.progress.Progress.TheVariants.{Unsolved, Solved, Full}
 use Rattle.px_search.specs.declared.step.Step.{Step}
 use Rattle.px_search.specs.declared.step.Origin.{Origin}
-use Rattle.px_search.specs.Going.{AreFirstOf, AreMovesOf, IsBegunOn, IsGoneOn, LimitsNode}
+use Rattle.px_search.specs.Going.{AreFirstOf, AreMovesOf, IsGoneOn, LimitsNode}
 use Rattle.px_search.specs.Looping.{Going, IsProgress, Trying}
+use Rattle.px_search.proofs.BeginningLaws.{all-begun}
 use Rattle.px_search.proofs.GoingLaws.{going-grows, same_here}
 use Rattle.px_search.proofs.StepLaws.{steps-count}
 
@@ -30,10 +31,10 @@ use Rattle.px_search.proofs.StepLaws.{steps-count}
 abbrev pub AreInOrder : List Move → Type 0
 AreInOrder moves = AllPairs (λ m n. move_cmp m n ≡ Less) moves
 
-never_less : (m : Move) → move_cmp m m ≡ Less → ⊥
+never_less : (m : Move) → ¬ (move_cmp m m ≡ Less)
 never_less m h = let e : Less ≡ Equal = sym h ∙ tied_itself move_cmp-total m in cc
 
-never_both : (m n : Move) → move_cmp m n ≡ Less → move_cmp n m ≡ Less → ⊥
+never_both : (m n : Move) → move_cmp m n ≡ Less → ¬ (move_cmp n m ≡ Less)
 never_both m n h k = never_less m (move_cmp-total.trans m n m h k)
 
 head-less : (m : Move) (ms : List Move) → AreInOrder (m ∷ ms) → (n : Move) → Contains ms n → move_cmp m n ≡ Less
@@ -53,7 +54,7 @@ heads-same x y xs ys xs_ordered ys_ordered inside others = elim (Contains-cases 
   | inr later ↦ absurd (not_later later)
 ]
   where
-    not_later : Contains ys x → ⊥
+    not_later : ¬ Contains ys x
     not_later later = elim (others y (Contains-first y ys)) [
       | inl has ↦ elim (Contains-cases x xs y has) [
         | inl same ↦ never_less y (subst (λ (z : Move). move_cmp y z ≡ Less) same (head-less y ys ys_ordered x later))
@@ -104,28 +105,6 @@ module _ (task : Task) where
   progress-goes kept keys origins P Q Solved goes known = known
   progress-goes kept keys origins P Q (Full moves) goes known = known
 
-  -- ---- all moves are first ones
-
-  pub moves-are_first : (node : Node) (moves : List Move) → AreMovesOf task node moves → AreFirstOf task node moves
-  moves-are_first node moves are = record { allowed = λ m has. (are.all m).1 has; ordered = are.ordered; others = λ m may. inl ((are.all m).0 may) }
-
-  abbrev pub begun-gone : (kept : Kept) (node : Node) (steps : List Step) (is_all : Bool) → IsGoneOn task kept node steps → IsBegunOn task kept node steps is_all
-  begun-gone kept node steps is_all gone = record {
-    moves = gone.moves;
-    are = moves-are_first node gone.moves gone.are;
-    every = λ _ m may. (gone.are.all m).0 may;
-    steps_are = gone.steps_are;
-    unlimited = gone.unlimited;
-  }
-
-  pub gone-begun : (kept : Kept) (node : Node) (steps : List Step) → IsBegunOn task kept node steps true → IsGoneOn task kept node steps
-  gone-begun kept node steps begun = record {
-    moves = begun.moves;
-    are = record { all = λ m. (λ may. begun.every refl m may, λ has. begun.are.allowed m has); ordered = begun.are.ordered };
-    steps_are = begun.steps_are;
-    unlimited = begun.unlimited;
-  }
-
   -- ---- from the first moves to all
 
   -- the first moves are the first of all
@@ -136,7 +115,7 @@ module _ (task : Task) where
   module _ (old new : Kept) (keys : List NodeKey) (origins : List Origin) (next : ℕ) (steps : List Step) (is_all : Bool) (from : ℕ) (key : NodeKey) (t : Trying task old keys origins next steps is_all from)
       (from_is : from ≡ length steps) (at : slice_get keys next ≡ Some key) where
     -- none of the questions of the node meets the limit
-    pub unlimited-here : (formula : List Atom) (shapes : List (List Tick)) → ((node : Node) → IsKeyOf old key node → LimitsNode task node formula shapes) → ⊥
+    pub unlimited-here : (formula : List Atom) (shapes : List (List Tick)) → ¬ ((node : Node) → IsKeyOf old key node → LimitsNode task node formula shapes)
     unlimited-here formula shapes limits =
         let l = limits t.node (same_here task old keys origins next steps is_all from key t at) in
         t.begun.unlimited l.question l.asked formula shapes l.met
@@ -164,6 +143,6 @@ module _ (task : Task) where
         key_at = t.key_at;
         node = t.node;
         stands = stands-grows old new t.key t.node keeps t.stands;
-        begun = begun-gone new t.node whole true all_here;
+        begun = all-begun task new t.node whole true all_here;
         going = going-grows task old new keys origins next (take from all_here.moves) keeps (subst (λ (l : List Move). Going task old keys origins next l) same_tried t.going);
       }

@@ -6,8 +6,8 @@ use Rattle.std.proofs.lemmas.List.Elements.{All-map, All-take}
 use Rattle.std.proofs.lemmas.Option.{slice_get_read, slice_get_within}
 use Rattle.px_base.specs.ListLaws.{All-at, All-each, Contains-one}
 use Rattle.px_ops.specs.KeepLaws.{has_at}
-use Rattle.px_diff.specs.Entries.{IsEntry, effect_of, table_at}
-use Rattle.px_diff.specs.Learned.{AreLearned}
+use Rattle.px_entries.specs.Entries.{IsEntry, effect_of, table_at}
+use Rattle.px_entries.specs.Learned.{AreLearned}
 use Rattle.px_terms.specs.declared.atom.Atom.{Atom}
 use Rattle.px_terms.specs.declared.instance.OpInst.{OpInst}
 use Rattle.px_terms.specs.declared.problem.Problem.{Problem}
@@ -47,7 +47,7 @@ take-map f zero xs = refl
 take-map f (suc n) [] = refl
 take-map f (suc n) (x ∷ xs) = ap (λ l. f x ∷ l) (take-map f n xs)
 
--- a MACROP's effect: so many steps of its table, with the objects for the parameters
+-- a MACROP's effect: the first steps of its table, with the objects for the parameters
 pub effect-macro : (problem : Problem) (tables : List Table) (number prefix : ℕ) (sigma given : List ℕ) (entry : Entry) (table : Table) (steps : List OpInst) → IsEntry problem tables entry → entry ≡ Macro number prefix sigma
     → table ≡ slice_index_or tables number table → steps ≡ table.steps → given ≡ sigma → map (instance_under given) (take prefix steps) ≡ effect_of tables entry
 effect-macro problem tables number prefix sigma given entry table steps is_entry entry_is table_is steps_are given_is =

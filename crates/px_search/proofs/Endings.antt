@@ -5,16 +5,17 @@ use Rattle.px_terms.specs.declared.atom.Atom.{Atom}
 use Rattle.px_proof.specs.declared.shape.Tick.{Tick}
 use Rattle.px_table.specs.declared.entry.Move.{Move}
 use Rattle.px_table.specs.declared.node.Node.{Node}
-use Rattle.px_diff.specs.Questions.{Question, MeetsLimit}
-use Rattle.px_ends.specs.Moves.{CanMake, reached}
+use Rattle.px_gaps.specs.Questions.{Question, MeetsLimit}
+use Rattle.px_ends.specs.Moves.{CanMake}
 use Rattle.px_ends.specs.Order.{IsBefore}
 use Rattle.px_ends.specs.Tasks.{Task, initial_node, IsSolved, IsAllowed, after, AsksAt, goal_question}
 use Rattle.px_ends.specs.Ends.{node_of, IsLeastList, BeginsWith, IsStop, IsMadeFrom, IsGoneThrough, IsTested, IsUnlimited, IsFound, IsExhausted, IsNodeLimit, IsShapeLimit}
-use Rattle.px_search.specs.Looping.{Searching}
-use Rattle.px_search.proofs.FrontierSteps.{frontier-start}
+use Rattle.px_search.specs.Looping.{IsUnmet, Searching}
+use Rattle.px_support.proofs.FewMoves.{can-front, ends-in}
 use Rattle.px_ends.proofs.Exclusion.{at_end}
 use Rattle.px_ends.proofs.Frontier.{Frontier, found_or_beyond, frontier-beginning, frontier-all, frontier-reaches, place_of, contains_place, place-within, order_of, before-left, not_before-trans, goes_on-not, reached-append, one_place}
 use Rattle.px_ends.proofs.MoveLaws.{order, same_move}
+use Rattle.px_ends.proofs.Smallest.{begins as start_begins}
 
 module _ (task : Task) where
   abbrev pub Known : List (List Move) → ℕ → List Move → Type 0
@@ -22,9 +23,6 @@ module _ (task : Task) where
 
   abbrev begins : (found : List (List Move)) (next : ℕ) (tried : List Move) → Known found next tried → BeginsWith task found
   begins found next tried f = frontier-beginning (IsAllowed task) (after task) IsBefore (initial_node task) order same_move found next tried f
-
-  abbrev pub NoLimit : Question → Type 0
-  NoLimit q = (formula : List Atom) (shapes : List (List Tick)) → MeetsLimit task.problem q formula shapes → ⊥
 
   abbrev pub goal_at : List Move → Question
   goal_at moves = goal_question task (node_of task moves)
@@ -39,21 +37,22 @@ module _ (task : Task) where
   push-parts (x ∷ z ∷ p) [] m n e = absurd (cc)
   push-parts (x ∷ p) (y ∷ q) m n e = let h : (p ++ m ∷ [] ≡ q ++ n ∷ []) × (x ≡ y) = (cc, cc) in let r = push-parts p q m n h.0 in (cc (r.0, h.1), r.1)
 
-  none_or_last : (ms : List Move) → (ms ≡ []) ⊎ ((parent : List Move) × (m : Move) × (ms ≡ parent ++ m ∷ []))
-  none_or_last [] = inl refl
-  none_or_last (x ∷ ms) = elim (none_or_last ms) [
-    | inl e ↦ inr ([], x, ap (λ (l : List Move). x ∷ l) e)
-    | inr r ↦ inr (x ∷ r.0, r.1, ap (λ (l : List Move). x ∷ l) r.2)
-  ]
-
-  CanMake-parts : (node : Node) (ms : List Move) (m : Move) → CanMake (IsAllowed task) (after task) node (ms ++ m ∷ []) →
-      CanMake (IsAllowed task) (after task) node ms × IsAllowed task (reached (IsAllowed task) (after task) node ms) m
-  CanMake-parts node [] m h = (tt, h.0)
-  CanMake-parts node (k ∷ ms) m h = let r = CanMake-parts (after task node k) ms m h.1 in ((h.0, r.0), r.1)
-
   module _ (found : List (List Move)) (next : ℕ) (tried : List Move) (s : Searching task found next tried) where
+    -- a found node that comes before the one whose moves are tried was gone through
+    is_earlier : (p q : List Move) (i : ℕ) → slice_get found next ≡ Some p → slice_get found i ≡ Some q → IsBefore q p → i < next
+    is_earlier p q i at at_i lower = elim (order_of i next) [
+      | inl h ↦ h
+      | inr more ↦ elim (order_of next i) [
+        | inl above ↦ absurd (order.irreflexive p (order.transitive p q p (s.known.ascending next i p q above at at_i) lower))
+        | inr here ↦
+            let number : i ≡ next = omega arith in
+            let e : q ≡ p = cc (ap (slice_get found) number, at_i, at) in
+            absurd (order.irreflexive p (subst (λ (x : List Move). IsBefore x p) e lower))
+      ]
+    ]
+
     -- a stop is none of the nodes found so far
-    stop_not_found : (earlier : List (List Move)) (last : List Move) → IsStop task earlier last → Contains found last → ⊥
+    stop_not_found : (earlier : List (List Move)) (last : List Move) → IsStop task earlier last → ¬ Contains found last
     stop_not_found earlier last stop has =
         let place = place_of found last has in
         let e : place.0 ≡ length earlier = one_place (IsAllowed task) (after task) IsBefore (initial_node task) order found (earlier ++ last ∷ [])
@@ -65,44 +64,32 @@ module _ (task : Task) where
 
     -- a stop's last move is made from no node that was gone through
     stop-made_from : (earlier : List (List Move)) (last : List Move) → IsStop task earlier last → (p : List Move) → slice_get found next ≡ Some p → IsMadeFrom p last
-    stop-made_from earlier last stop p at = elim (none_or_last last) [
+    stop-made_from earlier last stop p at = elim (ends-in last) [
       | inl e ↦ absurd (stop_not_found earlier last stop (subst (λ (x : List Move). Contains found x) (sym e) (contains_place found 0 [] s.known.root)))
       | inr r ↦ (r.0, r.1, r.2, λ less. gone r.0 r.1 r.2 less)
     ]
       where
-        gone : (parent : List Move) (m : Move) → last ≡ parent ++ m ∷ [] → IsBefore parent p → ⊥
+        gone : (parent : List Move) (m : Move) → last ≡ parent ++ m ∷ [] → ¬ IsBefore parent p
         gone parent m e less =
             let least = stop.beginning.least last (Contains-push earlier last) in
-            let can = CanMake-parts (initial_node task) parent m (subst (λ (x : List Move). CanMake (IsAllowed task) (after task) (initial_node task) x) e least.made) in
+            let can = can-front task (initial_node task) parent m (subst (λ (x : List Move). CanMake (IsAllowed task) (after task) (initial_node task) x) e least.made) in
             elim (found_or_beyond (IsAllowed task) (after task) IsBefore (initial_node task) order same_move found next tried s.known parent can.0) [
               | inr b ↦ order.irreflexive p (order.transitive p parent p (b.1 p (contains_place found next p at)) less)
               | inl c ↦
                   let lower = before-left IsBefore order c.1 parent p c.4 less in
-                  let early = earlier_place c.0 c.1 c.2 lower in
+                  let early = is_earlier p c.1 c.0 at c.2 lower in
                   let can_c : IsAllowed task (node_of task c.1) m = subst (λ (x : Node). IsAllowed task x m) (sym c.3) can.1 in
                   let t = s.known.covered c.0 c.1 m c.2 (inl early) can_c in
                   let node : node_of task t.0 ≡ node_of task last =
                   t.2 ∙ ap (λ (x : Node). after task x m) c.3 ∙ sym (reached-append (IsAllowed task) (after task) IsBefore (initial_node task) order same_move (initial_node task) parent (m ∷ []))
                   ∙ ap (λ (x : List Move). node_of task x) (sym e) in
-                  let not_after : IsBefore last t.0 → ⊥ =
-                  subst (λ (x : List Move). IsBefore x t.0 → ⊥) (sym e)
+                  let not_after : ¬ IsBefore last t.0 =
+                  subst (λ (x : List Move). ¬ IsBefore x t.0) (sym e)
                   (not_before-trans IsBefore order t.0 (c.1 ++ m ∷ []) (parent ++ m ∷ []) t.3 (goes_on-not IsBefore order c.1 parent m c.4)) in
                   is_found t.0 t.1 node not_after least
             ]
           where
-            earlier_place : (i : ℕ) (q : List Move) → slice_get found i ≡ Some q → IsBefore q p → i < next
-            earlier_place i q at_i lower = elim (order_of i next) [
-              | inl h ↦ h
-              | inr more ↦ elim (order_of next i) [
-                | inl above ↦ absurd (order.irreflexive p (order.transitive p q p (s.known.ascending next i p q above at at_i) lower))
-                | inr here ↦
-                    let number : i ≡ next = omega arith in
-                    let e' : q ≡ p = cc (ap (slice_get found) number, at_i, at) in
-                    absurd (order.irreflexive p (subst (λ (x : List Move). IsBefore x p) e' lower))
-              ]
-            ]
-
-            is_found : (q : List Move) → Contains found q → node_of task q ≡ node_of task last → (IsBefore last q → ⊥) → IsLeastList task last → ⊥
+            is_found : (q : List Move) → Contains found q → node_of task q ≡ node_of task last → (¬ IsBefore last q) → ¬ IsLeastList task last
             is_found q has node not_after least = elim (order.total q last) [
               | inl less' ↦ least.least q (s.known.can q has) node less'
               | inr (inl e') ↦ stop_not_found earlier last stop (subst (λ (x : List Move). Contains found x) e' has)
@@ -154,61 +141,41 @@ module _ (task : Task) where
       ]
 
       -- a node that was gone through before the stop
-      gone-unlimited : ((q : Question) → AsksAt task (node_of task p) q → NoLimit q) → (moves : List Move) → IsLeastList task moves → IsMadeFrom moves (p ++ m ∷ []) →
-          (q : Question) → AsksAt task (node_of task moves) q → NoLimit q
+      gone-unlimited : ((q : Question) → AsksAt task (node_of task p) q → IsUnmet task q) → (moves : List Move) → IsLeastList task moves → IsMadeFrom moves (p ++ m ∷ []) →
+          (q : Question) → AsksAt task (node_of task moves) q → IsUnmet task q
       gone-unlimited here moves least made q asks = elim (order.total moves p) [
         | inl less ↦
             let has = (begins found next tried s.known).closed moves p (contains_place found next p at) least less in
             let place = place_of found moves has in
-            s.gone_through place.0 moves q (early place.0 place.1 less) place.1 asks
+            s.gone_through place.0 moves q (is_earlier p moves place.0 at place.1 less) place.1 asks
         | inr (inl e) ↦ here q (subst (λ (x : List Move). AsksAt task (node_of task x) q) e asks)
         | inr (inr less) ↦
             let parts = push-parts p made.0 m made.1 made.2 in
             absurd (made.3 (subst (λ (x : List Move). IsBefore x moves) parts.0 less))
       ]
-        where
-          early : (i : ℕ) → slice_get found i ≡ Some moves → IsBefore moves p → i < next
-          early i at_i less = elim (order_of i next) [
-            | inl h ↦ h
-            | inr above ↦ elim (order_of next i) [
-              | inl higher ↦ absurd (order.irreflexive p (order.transitive p moves p (s.known.ascending next i p moves higher at at_i) less))
-              | inr here ↦
-                  let number : i ≡ next = omega arith in
-                  let e : moves ≡ p = cc (ap (slice_get found) number, at_i, at) in
-                  absurd (order.irreflexive p (subst (λ (x : List Move). IsBefore x p) e less))
-            ]
-          ]
+
+      -- what is asked before a stop at the new node doesn't meet the limit
+      stop-unlimited : IsStop task found (p ++ m ∷ []) → ((q : Question) → AsksAt task (node_of task p) q → IsUnmet task q) → (length found < task.problem.nodes → IsUnmet task (goal_at (p ++ m ∷ []))) → IsUnlimited task
+      stop-unlimited stop here goal moves q formula shapes (inl (gone, asks)) limit = gone-unlimited here moves gone.least (gone.early found (p ++ m ∷ []) stop) q asks formula shapes limit
+      stop-unlimited stop here goal moves q formula shapes (inr (tested, e)) limit = elim (tested.early found (p ++ m ∷ []) stop) [
+        | inl less ↦ s.tested moves (old moves tested.least less) tested.empty formula shapes (subst (λ (x : Question). MeetsLimit task.problem x formula shapes) e limit)
+        | inr last ↦ goal last.1 formula shapes (subst (λ (x : List Move). MeetsLimit task.problem (goal_at x) formula shapes) last.0
+            (subst (λ (x : Question). MeetsLimit task.problem x formula shapes) e limit))
+      ]
 
       pub ends-found : length found < task.problem.nodes → IsSolved task (node_of task (p ++ m ∷ [])) →
-          ((q : Question) → AsksAt task (node_of task p) q → NoLimit q) → NoLimit (goal_at (p ++ m ∷ [])) → IsFound task (p ++ m ∷ [])
-      ends-found room solved here goal = record { unlimited = unlimited; earlier = found; stop = stop; room = room }
+          ((q : Question) → AsksAt task (node_of task p) q → IsUnmet task q) → IsUnmet task (goal_at (p ++ m ∷ [])) → IsFound task (p ++ m ∷ [])
+      ends-found room solved here goal = record { unlimited = stop-unlimited stop here (λ _. goal); earlier = found; stop = stop; room = room }
         where
           stop : IsStop task found (p ++ m ∷ [])
           stop = record { beginning = new_begins; unsolved = s.unsolved; room = s.room; stops = inl solved }
 
-          unlimited : IsUnlimited task
-          unlimited moves q formula shapes (inl (gone, asks)) limit =
-              gone-unlimited here moves gone.least (gone.early found (p ++ m ∷ []) stop) q asks formula shapes limit
-          unlimited moves q formula shapes (inr (tested, e)) limit = elim (tested.early found (p ++ m ∷ []) stop) [
-            | inl less ↦ s.tested moves (old moves tested.least less) tested.empty formula shapes (subst (λ (x : Question). MeetsLimit task.problem x formula shapes) e limit)
-            | inr last ↦ goal formula shapes (subst (λ (x : List Move). MeetsLimit task.problem (goal_at x) formula shapes) last.0
-                (subst (λ (x : Question). MeetsLimit task.problem x formula shapes) e limit))
-          ]
-
-      pub ends-node_limit : length found ≡ task.problem.nodes → ((q : Question) → AsksAt task (node_of task p) q → NoLimit q) →
+      pub ends-node_limit : length found ≡ task.problem.nodes → ((q : Question) → AsksAt task (node_of task p) q → IsUnmet task q) →
           IsNodeLimit task (map (node_of task) found) (length (p ++ m ∷ []))
-      ends-node_limit full here = record { unlimited = unlimited; earlier = found; last = p ++ m ∷ []; stop = stop; full = full; nodes_are = refl; moves_are = refl }
+      ends-node_limit full here = record { unlimited = stop-unlimited stop here (λ room. absurd (omega (arith, room, full))); earlier = found; last = p ++ m ∷ []; stop = stop; full = full; nodes_are = refl; moves_are = refl }
         where
           stop : IsStop task found (p ++ m ∷ [])
           stop = record { beginning = new_begins; unsolved = s.unsolved; room = s.room; stops = inr full }
-
-          unlimited : IsUnlimited task
-          unlimited moves q formula shapes (inl (gone, asks)) limit =
-              gone-unlimited here moves gone.least (gone.early found (p ++ m ∷ []) stop) q asks formula shapes limit
-          unlimited moves q formula shapes (inr (tested, e)) limit = elim (tested.early found (p ++ m ∷ []) stop) [
-            | inl less ↦ s.tested moves (old moves tested.least less) tested.empty formula shapes (subst (λ (x : Question). MeetsLimit task.problem x formula shapes) e limit)
-            | inr last ↦ omega (arith, last.1)
-          ]
 
       -- trying the goal at the new node meets the limit
       pub ends-shape_limit_at_goal : length found < task.problem.nodes → (node_of task (p ++ m ∷ [])).stack ≡ [] → (formula : List Atom) (shapes : List (List Tick)) →
@@ -238,30 +205,6 @@ module _ (task : Task) where
 
   -- ---- the initial node
 
-  start_known : Known ([] ∷ []) 0 []
-  start_known = frontier-start (IsAllowed task) (after task) IsBefore (initial_node task) order same_move
-
-  start_begins : BeginsWith task ([] ∷ [])
-  start_begins = begins ([] ∷ []) 0 [] start_known
-
-  no_parent : (parent : List Move) (m : Move) → [] ≡ parent ++ m ∷ [] → ⊥
-  no_parent [] m e = cc
-  no_parent (x ∷ parent) m e = cc
-
-  pub ends-found_at_start : 0 < task.problem.nodes → IsSolved task (initial_node task) → NoLimit (goal_at []) → IsFound task []
-  ends-found_at_start room solved goal = record { unlimited = unlimited; earlier = []; stop = stop; room = room }
-    where
-      stop : IsStop task [] []
-      stop = record { beginning = start_begins; unsolved = λ moves has. absurd (omega (arith, has.1)); room = omega arith; stops = inl solved }
-
-      unlimited : IsUnlimited task
-      unlimited moves q formula shapes (inl (gone, asks)) limit = let made = gone.early [] [] stop in no_parent made.0 made.1 made.2
-      unlimited moves q formula shapes (inr (tested, e)) limit = elim (tested.early [] [] stop) [
-        | inl less ↦ order.first moves less
-        | inr last ↦ goal formula shapes (subst (λ (x : List Move). MeetsLimit task.problem (goal_at x) formula shapes) last.0
-            (subst (λ (x : Question). MeetsLimit task.problem x formula shapes) e limit))
-      ]
-
   pub ends-shape_limit_at_start : 0 < task.problem.nodes → (formula : List Atom) (shapes : List (List Tick)) →
       MeetsLimit task.problem (goal_at []) formula shapes → IsShapeLimit task (initial_node task) formula shapes
   ends-shape_limit_at_start room formula shapes limit = record { moves = []; question = goal_at []; node_is = refl; asked = inr (tested, refl); met = limit }
@@ -269,12 +212,12 @@ module _ (task : Task) where
       place : (earlier : List (List Move)) (last : List Move) → IsStop task earlier last → [] ≡ last → length earlier < task.problem.nodes
       place earlier last stop e =
           let at_start : slice_get ([] ∷ []) 0 ≡ Some last = ap Some e in
-          let number : 0 ≡ length earlier = one_place (IsAllowed task) (after task) IsBefore (initial_node task) order ([] ∷ []) (earlier ++ last ∷ []) start_begins stop.beginning 0 (length earlier) last at_start (at_end earlier last) in
+          let number : 0 ≡ length earlier = one_place (IsAllowed task) (after task) IsBefore (initial_node task) order ([] ∷ []) (earlier ++ last ∷ []) (start_begins task) stop.beginning 0 (length earlier) last at_start (at_end earlier last) in
           omega (arith, room)
 
       tested : IsTested task []
       tested = record {
-        least = start_begins.least [] (0, omega arith, refl);
+        least = (start_begins task).least [] (0, omega arith, refl);
         empty = refl;
         early = λ earlier last stop. elim (order.total [] last) [
           | inl less ↦ inl less

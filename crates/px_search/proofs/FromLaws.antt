@@ -1,5 +1,5 @@
 -- From what is known of a node's needs to its moves by numbers.
-use Rattle.std.proofs.Common.{◌≡◌, ◌≢◌, ◌↔◌, ◌⊎◌, ℕ, Bool, true, ◌<◌, ◌≤◌, List, [], ◌∷◌, length, map, take, refl, sym, ◌∙◌, ap, subst, arith, Some, slice_get}
+use Rattle.std.proofs.Common.{◌≡◌, ◌≢◌, ◌↔◌, ◌⊎◌, ℕ, Bool, true, ◌<◌, List, [], ◌∷◌, length, map, take, refl, sym, ◌∙◌, ap, subst, Some, slice_get}
 use Rattle.std.specs.Prelude.{Contains, All, None, Result, Ok, Err}
 use Rattle.std.specs.List.Sorted.{IsStrictlySortedBy}
 use Rattle.std.specs.declared.cmp.Ordering.TheVariants.{Less}
@@ -11,28 +11,29 @@ use Rattle.px_table.specs.declared.entry.Move.{Move}
 use Rattle.px_table.specs.declared.entry.Move.TheVariants as move
 use Rattle.px_table.specs.declared.node.Node.{Node}
 use Rattle.px_table.specs.EntryOrder.{order_of}
-use Rattle.px_diff.specs.Entries.{HasAnswer, obligations_of}
-use Rattle.px_diff.specs.Outcomes.{AtLimit, IfLimit}
+use Rattle.px_entries.specs.Entries.{obligations_of}
+use Rattle.px_gaps.specs.Needs.{HasAnswer}
+use Rattle.px_gaps.specs.Outcomes.{AtLimit, IfLimit}
 use Rattle.px_diff.specs.Pushes.{IsPushable, IsRelevant}
-use Rattle.px_diff.specs.Questions.{AreUnlimited}
-use Rattle.px_diff.specs.declared.ask_err.AskErr.{AskErr}
-use Rattle.px_diff.specs.declared.ask_err.AskErr.TheVariants.{ShapeLimit, NoMemory}
-use Rattle.px_diff.specs.declared.known.Known.{Known}
-use Rattle.px_diff.specs.declared.known.Known.TheVariants.{Applicable, Closed}
-use Rattle.px_diff.specs.declared.known.Tried.TheVariants.{Unanswered}
-use Rattle.px_diff.specs.Known.{IsKnownOf, IsOpenWith}
+use Rattle.px_gaps.specs.Questions.{AreUnlimited}
+use Rattle.px_gaps.specs.declared.ask_err.AskErr.{AskErr}
+use Rattle.px_gaps.specs.declared.ask_err.AskErr.TheVariants.{ShapeLimit, NoMemory}
+use Rattle.px_gaps.specs.declared.known.Known.{Known}
+use Rattle.px_gaps.specs.declared.known.Known.TheVariants.{Applicable, Closed}
+use Rattle.px_gaps.specs.declared.known.Tried.TheVariants.{Unanswered}
+use Rattle.px_gaps.specs.Known.{IsKnownOf, IsOpenWith}
 use Rattle.px_numbers.specs.declared.nodes.NodeKey.{NodeKey}
 use Rattle.px_numbers.specs.declared.stacks.Frame.{Frame}
 use Rattle.px_numbers.specs.Numbers.{Kept, IsKeyOf, IsModelAt, IsStackAt, IsTopOf, KeepsAll}
 use Rattle.px_numbers.specs.NumberLaws.{one_at, one_model, one_stack, model_at-grows, stack_at-grows}
 use Rattle.px_ops.specs.KeepLaws.{place_in}
 use Rattle.px_ends.specs.Tasks.{Task, needs_at, needs_with, goal_from}
-use Rattle.px_search.specs.declared.cache.Place.{Place}
-use Rattle.px_search.specs.declared.offer.Offer.{Offer}
+use Rattle.px_search.specs.declared.notes.Place.{Place}
+use Rattle.px_search.specs.declared.notes.Offer.{Offer}
 use Rattle.px_search.specs.declared.step.Step.{Step}
 use Rattle.px_search.specs.declared.step.Step.TheVariants as step
 use Rattle.px_search.specs.Asking.{IsTriedAt}
-use Rattle.px_search.specs.Caches.{IsStepsAt, IsTopAt}
+use Rattle.px_search.specs.Notes.{IsStepsAt, IsTopAt}
 use Rattle.px_search.specs.Going.{IsBegunOn, IsGoneOn}
 use Rattle.px_search.specs.Steps.{AreStepsOf, unstruck}
 use Rattle.px_search.proofs.BeginningLaws.{all-begun}
@@ -160,32 +161,20 @@ module _ (task : Task) where
     pub alone-top : (known : Known) → IsKnownOf task.problem (needs_with task model stack) known → IsKnownOf task.problem (needs_with task model (t.entry ∷ [])) known
     alone-top known is = subst (λ (s : List Entry). IsKnownOf task.problem (needs_with task model s) known) t.stack_is is
 
-    stacked : stack ≢ []
-    stacked empty = let e : t.entry ∷ t.rest ≡ [] = sym t.stack_is ∙ empty in cc
-
-    filled : t.entry ∷ [] ≢ []
-    filled e = cc
-
-    pub top-applicable : (is_all : Bool) → IsKnownOf task.problem (needs_with task model stack) Applicable
-        → IsBegunOn task kept the_node (step.Apply ∷ []) is_all × IsStepsAt task kept place (record { steps = step.Apply ∷ []; is_all = is_all })
-    top-applicable is_all known =
-        let alone : Node = record { model = model; stack = t.entry ∷ [] } in (
-          all-begun task kept the_node (step.Apply ∷ []) is_all (gone-applicable kept the_node stacked known),
-          (model, t.entry, t.model_at, t.entry_at, all-begun task kept alone (step.Apply ∷ []) is_all (gone-applicable kept alone filled (alone-top Applicable known))),
-        )
-
-    pub top-closed : (is_all : Bool) → IsKnownOf task.problem (needs_with task model stack) Closed → IsBegunOn task kept the_node [] is_all × IsStepsAt task kept place (record { steps = []; is_all = is_all })
-    top-closed is_all known =
-        let alone : Node = record { model = model; stack = t.entry ∷ [] } in (
-          all-begun task kept the_node [] is_all (gone-closed kept the_node known),
-          (model, t.entry, t.model_at, t.entry_at, all-begun task kept alone [] is_all (gone-closed kept alone (alone-top Closed known))),
-        )
-
-    pub not_empty : 1 ≤ length stack
-    not_empty = subst (λ (s : List Entry). 1 ≤ length s) (sym t.stack_is) (omega arith)
-
     pub first-top : take 1 stack ≡ t.entry ∷ []
     first-top = ap (λ (s : List Entry). take 1 s) t.stack_is
+
+    -- the moves over the entry alone, where these don't depend on the stack
+    pub alone-gone : (steps : List Step) (is_all : Bool) → IsGoneOn task kept (record { model = model; stack = t.entry ∷ [] }) steps → IsBegunOn task kept (record { model = model; stack = take 1 stack }) steps is_all
+    alone-gone steps is_all gone =
+        subst (λ (s : List Entry). IsBegunOn task kept (record { model = model; stack = s }) steps is_all) (sym first-top)
+        (all-begun task kept (record { model = model; stack = t.entry ∷ [] }) steps is_all gone)
+
+    pub alone-applicable : (is_all : Bool) → IsKnownOf task.problem (needs_with task model stack) Applicable → IsBegunOn task kept (record { model = model; stack = take 1 stack }) (step.Apply ∷ []) is_all
+    alone-applicable is_all known = alone-gone (step.Apply ∷ []) is_all (gone-applicable kept (record { model = model; stack = t.entry ∷ [] }) (λ e. cc) (alone-top Applicable known))
+
+    pub alone-closed : (is_all : Bool) → IsKnownOf task.problem (needs_with task model stack) Closed → IsBegunOn task kept (record { model = model; stack = take 1 stack }) [] is_all
+    alone-closed is_all known = alone-gone [] is_all (gone-closed kept (record { model = model; stack = t.entry ∷ [] }) (alone-top Closed known))
 
     -- where only pushes over the entry alone are known
     pub begun-over : (steps left : List Step) (is_all : Bool) → IsBegunOn task kept (record { model = model; stack = t.entry ∷ [] }) steps is_all
@@ -208,9 +197,6 @@ module _ (task : Task) where
 pub node-top : (kept : Kept) (key : NodeKey) (frame : Frame) (node : Node) (model : List Atom) (stack : List Entry) → IsKeyOf kept key node → IsTopOf kept node.stack (Some frame) → IsModelAt kept key.model model → stack ≡ node.stack
     → IsTopAt kept (record { model = key.model; entry = frame.entry }) frame.below model stack
 node-top kept key frame node model stack stands top model_at is = top_at kept key.model frame model stack model_at (subst (λ (s : List Entry). IsTopOf kept s (Some frame)) (sym is) top)
-
-pub keeps_all_same : (kept : Kept) → KeepsAll kept kept
-keeps_all_same kept = record { atoms = λ k x e. e; lists = λ k x e. e; entries = λ k x e. e; frames = λ k x e. e }
 
 -- any two nodes of a pair are one, so what is said of one is said of the other
 pub of_node : (kept : Kept) (key : NodeKey) (P : Node → Type 0) (node : Node) (model : List Atom) (stack : List Entry) → IsKeyOf kept key node → IsModelAt kept key.model model → stack ≡ node.stack → P (record { model = model; stack = stack }) → P node

@@ -7,7 +7,7 @@ use Rattle.px_ends.proofs.Exclusion.{still_there}
 use Rattle.px_ends.proofs.Frontier.{IsMoveOrder, Frontier, goes, IsTried, IsBeyond, leaves_tried, reached-append, CanMake-append, contains_place, place-within, order_of}
 
 module _ {N M : Type 0} (may : N → M → Type 0) (after : N → M → N) (before : List M → List M → Type 0) (start : N)
-    (order : IsMoveOrder before) (same : (m n : M) → (m ≡ n) ⊎ (m ≡ n → ⊥)) where
+    (order : IsMoveOrder before) (same : (m n : M) → (m ≡ n) ⊎ (¬ (m ≡ n))) where
   abbrev Known : List (List M) → ℕ → List M → Type 0
   Known found next tried = Frontier may after before start order same found next tried
 
@@ -31,8 +31,8 @@ module _ {N M : Type 0} (may : N → M → Type 0) (after : N → M → N) (befo
 
   module _ (found : List (List M)) (next : ℕ) (tried : List M) (f : Known found next tried)
       (p : List M) (at : slice_get found next ≡ Some p) (m : M) (can : may (goes may after before start order same p) m)
-      (untried : Contains tried m → ⊥)
-      (least : (n : M) → may (goes may after before start order same p) n → (Contains (tried ++ m ∷ []) n → ⊥) → before (p ++ m ∷ []) (p ++ n ∷ [])) where
+      (untried : ¬ Contains tried m)
+      (least : (n : M) → may (goes may after before start order same p) n → (¬ (Contains (tried ++ m ∷ []) n)) → before (p ++ m ∷ []) (p ++ n ∷ [])) where
     beyond : IsBeyond may after before start order same found (p ++ m ∷ [])
     beyond = leaves_tried may after before start order same found next tried f next p p m at (order.irreflexive p) (omega arith) (λ _ h. untried h) can
 
@@ -49,7 +49,7 @@ module _ {N M : Type 0} (may : N → M → Type 0) (after : N → M → N) (befo
     ]
 
     pending_after : (q : List M) (k n : M) → slice_get found next ≡ Some q → may (goes may after before start order same q) k →
-        (Contains (tried ++ m ∷ []) k → ⊥) → Contains (tried ++ m ∷ []) n → before (q ++ n ∷ []) (q ++ k ∷ [])
+        (¬ (Contains (tried ++ m ∷ []) k)) → Contains (tried ++ m ∷ []) n → before (q ++ n ∷ []) (q ++ k ∷ [])
     pending_after q k n at_q can_k not_yet has =
         let same_list : p ≡ q = cc (at, at_q) in
         elim (Contains-push_cases tried m n has) [
@@ -79,7 +79,7 @@ module _ {N M : Type 0} (may : N → M → Type 0) (after : N → M → N) (befo
     }
       where
         new_covered : (i : ℕ) (r : List M) (n : M) → slice_get found i ≡ Some r → i ≡ next → m ≡ n →
-            (q' : List M) × Contains found q' × (goes may after before start order same q' ≡ after (goes may after before start order same r) n) × (before (r ++ n ∷ []) q' → ⊥)
+            (q' : List M) × Contains found q' × (goes may after before start order same q' ≡ after (goes may after before start order same r) n) × (¬ (before (r ++ n ∷ []) q'))
         new_covered i r n at_r number move =
             let same_list : p ≡ r = cc (ap (slice_get found) number, at, at_r) in (
               q,
@@ -90,7 +90,7 @@ module _ {N M : Type 0} (may : N → M → Type 0) (after : N → M → N) (befo
             )
 
     -- the move leads to a new node
-    pub frontier-add : ((q : List M) → Contains found q → goes may after before start order same q ≡ after (goes may after before start order same p) m → ⊥) →
+    pub frontier-add : ((q : List M) → Contains found q → ¬ (goes may after before start order same q ≡ after (goes may after before start order same p) m)) →
         Known (found ++ (p ++ m ∷ []) ∷ []) next (tried ++ m ∷ [])
     frontier-add new = record {
       root = still_there found _ 0 [] f.root;
@@ -138,12 +138,12 @@ module _ {N M : Type 0} (may : N → M → Type 0) (after : N → M → N) (befo
       ];
     }
       where
-        later_untried : (i : ℕ) (n : M) → i ≡ length found → IsTried may after before start order same next (tried ++ m ∷ []) i n → ⊥
+        later_untried : (i : ℕ) (n : M) → i ≡ length found → ¬ (IsTried may after before start order same next (tried ++ m ∷ []) i n)
         later_untried i n e (inl h) = omega (arith, place-within found next p at)
         later_untried i n e (inr h) = omega (arith, place-within found next p at, h.0)
 
         new_covered : (i : ℕ) (r : List M) (n : M) → slice_get found i ≡ Some r → i ≡ next → m ≡ n →
-            (q' : List M) × Contains (found ++ (p ++ m ∷ []) ∷ []) q' × (goes may after before start order same q' ≡ after (goes may after before start order same r) n) × (before (r ++ n ∷ []) q' → ⊥)
+            (q' : List M) × Contains (found ++ (p ++ m ∷ []) ∷ []) q' × (goes may after before start order same q' ≡ after (goes may after before start order same r) n) × (¬ (before (r ++ n ∷ []) q'))
         new_covered i r n at_r number move =
             let same_list : p ≡ r = cc (ap (slice_get found) number, at, at_r) in (
               p ++ m ∷ [],

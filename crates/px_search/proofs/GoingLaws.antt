@@ -10,8 +10,8 @@ use Rattle.px_table.specs.declared.entry.Entry.{Entry}
 use Rattle.px_table.specs.declared.entry.Move.{Move}
 use Rattle.px_table.specs.declared.entry.Move.TheVariants.{Apply, Push}
 use Rattle.px_table.specs.declared.node.Node.{Node}
-use Rattle.px_diff.specs.Entries.{IsEntry, effect_of}
-use Rattle.px_diff.specs.declared.known.Tried.TheVariants.{Answered, Unanswered, Limited}
+use Rattle.px_entries.specs.Entries.{IsEntry, effect_of}
+use Rattle.px_gaps.specs.declared.known.Tried.TheVariants.{Answered, Unanswered, Limited}
 use Rattle.px_ops.specs.Keeping.{Keeps}
 use Rattle.px_numbers.specs.declared.nodes.NodeKey.{NodeKey}
 use Rattle.px_numbers.specs.Numbers.{Kept, AreEachOnce, IsKeyOf, KeepsAll, AllStand}
@@ -21,7 +21,7 @@ use Rattle.px_search.specs.declared.step.Step.{Step}
 use Rattle.px_search.specs.declared.step.Origin.{Origin}
 use Rattle.px_search.specs.Asking.{IsProvedBelow, IsTriedAt}
 use Rattle.px_ends.specs.Ends.{IsFound, IsExhausted, IsNodeLimit, IsShapeLimit}
-use Rattle.px_search.specs.Going.{IsBegunOn, LimitsNode}
+use Rattle.px_search.specs.Going.{IsAskedAt, IsBegunOn, LimitsNode}
 use Rattle.px_search.specs.Looping.{Going, Trying, Walking}
 use Rattle.px_ends.specs.Moves.{CanMake, reached}
 use Rattle.px_search.specs.Steps.{IsStepOf, AreEarlier, Trace}
@@ -59,7 +59,7 @@ kept_old old new item number kept below = elim kept.change [
       | inr last ↦ absurd (omega (arith, last.0, below'))
     ]
 
-pub kept_new : {X : Type 0} (old new : List X) (item : X) (number : ℕ) → Keeps old new item number → (number < length old → ⊥) → (Contains old item → ⊥) × (new ≡ old ++ item ∷ [])
+pub kept_new : {X : Type 0} (old new : List X) (item : X) (number : ℕ) → Keeps old new item number → (¬ (number < length old)) → (¬ Contains old item) × (new ≡ old ++ item ∷ [])
 kept_new old new item number kept above = elim kept.change [
   | inl same ↦ absurd (above (place_in old number item (subst (λ l. slice_get l number ≡ Some item) same.1 kept.here)))
   | inr more ↦ more
@@ -111,7 +111,7 @@ module _ (task : Task) where
     one_more = refl;
   }
     where
-      nothing_at : (k : ℕ) (origin : Origin) → slice_get [] k ≡ Some origin → ⊥
+      nothing_at : (k : ℕ) (origin : Origin) → ¬ (slice_get [] k ≡ Some origin)
       nothing_at k origin at = cc
 
       one : (k : ℕ) (key' : NodeKey) (node' : Node) → slice_get (key ∷ []) k ≡ Some key' → slice_get (initial_node task ∷ []) k ≡ Some node' → IsKeyOf kept key' node'
@@ -133,13 +133,7 @@ module _ (task : Task) where
   }
 
   -- the node whose moves are to be tried
-  pub record Here (kept : Kept) (key : NodeKey) : Type 0 where
-    pub node : Node
-    pub stands : IsKeyOf kept key node
-    pub entries : All (IsEntry task.problem task.tables) node.stack
-    pub tried : IsTriedAt task node Unanswered
-
-  pub here_of : (kept : Kept) (keys : List NodeKey) (origins : List Origin) (next : ℕ) (tried : List Move) (key : NodeKey) → Going task kept keys origins next tried → slice_get keys next ≡ Some key → Here kept key
+  pub here_of : (kept : Kept) (keys : List NodeKey) (origins : List Origin) (next : ℕ) (tried : List Move) (key : NodeKey) → Going task kept keys origins next tried → slice_get keys next ≡ Some key → IsAskedAt task kept key
   here_of kept keys origins next tried key g at =
       let there = node_of_key kept keys g.nodes next key g.stand at in
       let h = here_in task g.found g.nodes next tried there.0 g.walking there.1 in
@@ -281,8 +275,8 @@ module _ (task : Task) where
       };
     }
 
-    module _ (fresh : Contains keys there → ⊥) where
-      not_seen : Contains g.nodes next_node → ⊥
+    module _ (fresh : ¬ Contains keys there) where
+      not_seen : ¬ Contains g.nodes next_node
       not_seen = unseen kept once keys g.nodes there next_node g.stand there_stands fresh
 
       pub trying-new : length keys < task.problem.nodes → IsTriedAt task next_node Unanswered → Trying task kept (keys ++ there ∷ []) more_origins next steps is_all (i + 1)

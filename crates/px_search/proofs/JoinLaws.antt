@@ -46,6 +46,35 @@ module _ {X : Type 0} where
   is_last : (done : List X) (e x : X) → e ≡ x → Contains (done ++ e ∷ []) x
   is_last done e x is = Contains-append_right done (e ∷ []) x (subst (Contains (e ∷ [])) is (Contains-first e []))
 
+-- what is in three parts, where the first item of the second is put at the end of the first, and the third keeps what isn't put there
+module _ {X : Type 0} (done rest before after : List X) (e : X) (still : (x : X) → Contains after x → Contains before x) (put : (x : X) → Contains before x → Contains (done ++ e ∷ []) x ⊎ Contains after x) where
+  put-members : (x : X) → (Contains (done ++ e ∷ []) x ⊎ (Contains rest x ⊎ Contains after x)) ↔ (Contains done x ⊎ (Contains (e ∷ rest) x ⊎ Contains before x))
+  put-members x = (
+    λ either. elim either [
+      | inl has ↦ elim (to_rest done rest e x has) [
+        | inl earlier ↦ inl earlier
+        | inr here ↦ inr (inl here)
+      ]
+      | inr left ↦ elim left [
+        | inl later ↦ inr (inl (Contains-later e rest x later))
+        | inr other ↦ inr (inr (still x other))
+      ]
+    ],
+    λ given. elim given [
+      | inl earlier ↦ inl (Contains-append_left done (e ∷ []) x earlier)
+      | inr left ↦ elim left [
+        | inl one ↦ elim (Contains-cases e rest x one) [
+          | inl is ↦ inl (is_last done e x is)
+          | inr later ↦ inr (inl later)
+        ]
+        | inr other ↦ elim (put x other) [
+          | inl last ↦ inl last
+          | inr later ↦ inr (inr later)
+        ]
+      ]
+    ],
+  )
+
 -- ---- order
 
 module _ {X : Type 0} (P : X → Type 0) where
@@ -176,28 +205,7 @@ module _ (kept : Kept) (firsts seconds : List Entry) (first second made : List S
       others_are = j.others_are;
       before_rest = sorted_next order_of done rest e j.before_rest;
       before_others = sorted_put order_of done rest (f ∷ others) e j.before_rest j.before_others (below, below_all e f others below (sorted_first order_of f others (sorted_from order_of done (f ∷ others) j.before_others)));
-      members = λ entry. (
-        λ either. (j.members entry).0 (elim either [
-          | inl has ↦ elim (to_rest done rest e entry has) [
-            | inl before ↦ inl before
-            | inr here ↦ inr (inl here)
-          ]
-          | inr left ↦ elim left [
-            | inl later ↦ inr (inl (Contains-later e rest entry later))
-            | inr other ↦ inr (inr other)
-          ]
-        ]),
-        λ given. elim ((j.members entry).1 given) [
-          | inl before ↦ inl (Contains-append_left done (e ∷ []) entry before)
-          | inr left ↦ elim left [
-            | inl one ↦ elim (Contains-cases e rest entry one) [
-              | inl is ↦ inl (is_last done e entry is)
-              | inr later ↦ inr (inl later)
-            ]
-            | inr other ↦ inr (inr other)
-          ]
-        ],
-      );
+      members = λ entry. let put = put-members done rest (f ∷ others) (f ∷ others) e (λ x has. has) (λ x has. inr has) entry in (λ either. (j.members entry).0 (put.0 either), λ given. put.1 ((j.members entry).1 given));
     };
   }
     where
@@ -219,36 +227,18 @@ module _ (kept : Kept) (firsts seconds : List Entry) (first second made : List S
       others_are = j.others_are.1;
       before_rest = sorted_next order_of done rest e j.before_rest;
       before_others = subst (λ (x : Entry). IsStrictlySortedBy order_of ((done ++ x ∷ []) ++ others)) (sym same) (sorted_next order_of done others f j.before_others);
-      members = λ entry. (
-        λ either. (j.members entry).0 (elim either [
-          | inl has ↦ elim (to_rest done rest e entry has) [
-            | inl before ↦ inl before
-            | inr here ↦ inr (inl here)
-          ]
-          | inr left ↦ elim left [
-            | inl later ↦ inr (inl (Contains-later e rest entry later))
-            | inr other ↦ inr (inr (Contains-later f others entry other))
-          ]
-        ]),
-        λ given. elim ((j.members entry).1 given) [
-          | inl before ↦ inl (Contains-append_left done (e ∷ []) entry before)
-          | inr left ↦ elim left [
-            | inl one ↦ elim (Contains-cases e rest entry one) [
-              | inl is ↦ inl (is_last done e entry is)
-              | inr later ↦ inr (inl later)
-            ]
-            | inr other ↦ elim (Contains-cases f others entry other) [
-              | inl is ↦ inl (is_last done e entry (same ∙ is))
-              | inr later ↦ inr (inr later)
-            ]
-          ]
-        ],
-      );
+      members = λ entry. let put = put-members done rest (f ∷ others) others e (Contains-later f others) later_or_last entry in (λ either. (j.members entry).0 (put.0 either), λ given. put.1 ((j.members entry).1 given));
     };
   }
     where
       same : e ≡ f
       same = order_of-same e f (equal e f j.rest_are.0 j.others_are.0)
+
+      later_or_last : (x : Entry) → Contains (f ∷ others) x → Contains (done ++ e ∷ []) x ⊎ Contains others x
+      later_or_last x has = elim (Contains-cases f others x has) [
+        | inl is ↦ inl (is_last done e x (same ∙ is))
+        | inr later ↦ inr later
+      ]
 
   pub joining-less : Joining kept firsts seconds (s ∷ first) (t ∷ second) made → ((e f : Entry) → IsStepOf kept s (Push e) → IsStepOf kept t (Push f) → order_of e f ≡ Less) → Joining kept firsts seconds first (t ∷ second) (made ++ s ∷ [])
   joining-less j less = less_by j.done j.rest j.others j.are less

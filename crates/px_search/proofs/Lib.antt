@@ -1,16 +1,15 @@
 pub mod Answering
 pub mod BeginningLaws
 pub mod BegunLaws
-pub mod CacheLaws
 pub mod EffectLaws
 pub mod Endings
-pub mod FewMoves
 pub mod FromLaws
 pub mod FrontierSteps
 pub mod GoingLaws
 pub mod JoinLaws
 pub mod LoopLaws
 pub mod NodeLemmas
+pub mod NoteLaws
 pub mod OfferLaws
 pub mod OriginLemmas
 pub mod Pairs
@@ -18,6 +17,5 @@ pub mod SceneLaws
 pub mod StepLaws
 pub mod Stepping
 pub mod StruckLaws
-pub mod TopLaws
 pub mod Walking
 pub mod WholeLaws

@@ -1,14 +1,14 @@
 -- What the search keeps at each turn, from what its calls say.
-use Rattle.std.proofs.Common.{◌≡◌, ℕ, Bool, true, zero, suc, ◌+◌, ◌<◌, ◌≤◌, List, [], ◌∷◌, ◌++◌, take, length, get_or, refl, sym, ap, subst, inl, inr, arith, Some, slice_get, Contains}
+use Rattle.std.proofs.Common.{◌≡◌, ℕ, Bool, true, zero, suc, ◌+◌, ◌<◌, ◌≤◌, List, [], ◌∷◌, ◌++◌, take, length, get_or, refl, sym, ap, subst, arith, Some, slice_get, Contains}
 use Rattle.std.specs.Prelude.{All}
 use Rattle.std.proofs.lemmas.List.{take_all, length-append}
 use Rattle.px_terms.specs.declared.atom.Atom.{Atom}
 use Rattle.px_proof.specs.declared.shape.Tick.{Tick}
 use Rattle.px_table.specs.declared.entry.Move.{Move}
 use Rattle.px_table.specs.declared.node.Node.{Node}
-use Rattle.px_diff.specs.Entries.{IsEntry}
-use Rattle.px_diff.specs.declared.known.Tried.{Tried}
-use Rattle.px_diff.specs.declared.known.Tried.TheVariants.{Answered, Unanswered, Limited}
+use Rattle.px_entries.specs.Entries.{IsEntry}
+use Rattle.px_gaps.specs.declared.known.Tried.{Tried}
+use Rattle.px_gaps.specs.declared.known.Tried.TheVariants.{Answered, Unanswered, Limited}
 use Rattle.px_ops.specs.Keeping.{Keeps}
 use Rattle.px_numbers.specs.declared.nodes.NodeKey.{NodeKey}
 use Rattle.px_numbers.specs.Numbers.{Kept, AreEachOnce, IsKeyOf, KeepsAll, AllStand}
@@ -22,10 +22,10 @@ use Rattle.px_search.specs.Going.{LimitsNode}
 use Rattle.px_search.specs.Looping.{Going, IsFull, IsReached, Trying}
 use Rattle.px_search.specs.Steps.{IsStepOf, AreStepsOf, AreEarlier, Trace}
 use Rattle.px_ends.specs.Tasks.{Task, initial_node, after}
-use Rattle.px_ends.proofs.Exclusion.{still_there}
 use Rattle.px_search.proofs.GoingLaws.{here_of, going-start, trying-grows, trying-seen, trying-new, going-found, going-limit, going-full, going-next, going-room, limit-here, same_here, kept_old, kept_new, more_earlier, some_trace}
 use Rattle.px_search.proofs.StepLaws.{step-grows, steps-count}
-use Rattle.px_search.proofs.Walking.{walk-found_at_start, walk-shape_limit_at_start}
+use Rattle.px_ends.proofs.Smallest.{found_at_once}
+use Rattle.px_search.proofs.Endings.{ends-shape_limit_at_start}
 
 -- ---- the step at a place
 
@@ -43,13 +43,13 @@ module _ (task : Task) where
       → moves ≡ [] → IsFound task moves
   start-found kept key tried moves stands says is room none =
       let t : IsTriedAt task (initial_node task) Answered = subst (IsTriedAt task (initial_node task)) is (says (initial_node task) stands) in
-      subst (IsFound task) (sym none) (walk-found_at_start task room t.0 t.1)
+      subst (IsFound task) (sym none) (found_at_once task room t.0 t.1)
 
   pub start-limit : (kept : Kept) (key : NodeKey) (tried : Tried) (formula : List Atom) (shapes : List (List Tick)) → IsKeyOf kept key (initial_node task) → ((node : Node) → IsKeyOf kept key node → IsTriedAt task node tried)
       → tried ≡ Limited formula shapes → 1 ≤ task.problem.nodes → IsShapeLimit task (initial_node task) formula shapes
   start-limit kept key tried formula shapes stands says is room =
       let t : IsTriedAt task (initial_node task) (Limited formula shapes) = subst (IsTriedAt task (initial_node task)) is (says (initial_node task) stands) in
-      walk-shape_limit_at_start task room formula shapes t.1
+      ends-shape_limit_at_start task (omega (arith, room)) formula shapes t.1
 
   pub start-from : (kept : Kept) (key : NodeKey) (keys : List NodeKey) (place : ℕ) (origins : List Origin) → IsKeyOf kept key (initial_node task) → IsTriedAt task (initial_node task) Unanswered → 1 ≤ task.problem.nodes
       → Keeps [] keys key place → origins ≡ [] → Going task kept keys origins 0 []
@@ -58,10 +58,6 @@ module _ (task : Task) where
       subst (λ (l : List NodeKey). Going task kept l origins 0 []) (sym one) (subst (λ (o : List Origin). Going task kept (key ∷ []) o 0 []) (sym none) (going-start task kept key stands tried room))
 
   -- ---- a node
-
-  pub asks_here : (kept : Kept) (keys : List NodeKey) (origins : List Origin) (next : ℕ) (tried : List Move) (key : NodeKey) → Going task kept keys origins next tried → slice_get keys next ≡ Some key
-      → (node : Node) × IsKeyOf kept key node × All (IsEntry task.problem task.tables) node.stack × IsTriedAt task node Unanswered
-  asks_here kept keys origins next tried key g at = let h = here_of task kept keys origins next tried key g at in (h.node, h.stands, h.entries, h.tried)
 
   pub limit-of_node : (old : Kept) (keys : List NodeKey) (origins : List Origin) (next : ℕ) (key : NodeKey) (formula : List Atom) (shapes : List (List Tick)) → (g : Going task old keys origins next []) → (at : slice_get keys next ≡ Some key)
       → ((node : Node) → IsKeyOf old key node → LimitsNode task node formula shapes) → IsShapeLimit task (here_of task old keys origins next [] key g at).node formula shapes
@@ -108,12 +104,6 @@ module _ (task : Task) where
         subst (λ (l : List NodeKey). Trying task kept l origins next steps is_all (i + 1)) (sym old.1)
         (trying-seen task kept once keys origins next steps is_all i s st.t st.inside st.m st.m_is st.step_is there st.stands old.0)
 
-    pub still_here : (key : NodeKey) → slice_get keys next ≡ Some key → slice_get new next ≡ Some key
-    still_here key at = elim kept_key.change [
-      | inl same ↦ subst (λ (l : List NodeKey). slice_get l next ≡ Some key) (sym same.1) at
-      | inr more ↦ subst (λ (l : List NodeKey). slice_get l next ≡ Some key) (sym more.1) (still_there keys (there ∷ []) next key at)
-    ]
-
     pub step-earlier : (made : List Origin) → made ≡ origins ++ origin ∷ [] → AreEarlier made
     step-earlier made is = subst AreEarlier (sym is) (more_earlier task kept once keys origins next steps is_all i s st.t st.inside st.m st.m_is st.step_is there st.stands)
 
@@ -124,8 +114,8 @@ module _ (task : Task) where
     abbrev pub there_stands : (node : Node) × IsKeyOf kept there node
     there_stands = (after task st.t.node st.m, st.stands)
 
-    module _ (above : place < length keys → ⊥) where
-      fresh : (Contains keys there → ⊥) × (new ≡ keys ++ there ∷ [])
+    module _ (above : ¬ (place < length keys)) where
+      fresh : (¬ Contains keys there) × (new ≡ keys ++ there ∷ [])
       fresh = kept_new keys new there place kept_key above
 
       pub step-few : length keys ≤ task.problem.nodes

@@ -1,85 +1,39 @@
 -- What is kept of what may be pushed for a wanted atom stays right, and gives the moves of a node.
 use Rattle.std.proofs.Common.{◌≡◌, ◌↔◌, ◌⊎◌, ◌++◌, ℕ, zero, suc, length, Some, slice_get, Bool, true, false, not, List, [], ◌∷◌, map, refl, sym, ◌∙◌, ap, subst, inl, inr}
-use Rattle.std.specs.Prelude.{All, Contains, IfSome, Option, Result, Ok, Err, filter}
-use Rattle.std.specs.Bool.{Decides}
-use Rattle.std.specs.List.{dedup}
-use Rattle.std.specs.List.Sorted.{IsStrictlySortedBy, IsSorted, IsPermutation}
-use Rattle.std.specs.declared.cmp.Ordering.{Ordering}
+use Rattle.std.specs.Prelude.{All, Contains, IfSome, Option, filter}
+use Rattle.std.specs.List.Sorted.{IsStrictlySortedBy}
 use Rattle.std.specs.declared.cmp.Ordering.TheVariants.{Less}
-use Rattle.std.proofs.lemmas.Bool.Decides.{Decides-and, Decides-eqb, Decides-like}
 use Rattle.std.proofs.lemmas.List.Elements.{All-contains, Contains-append_left, Contains-append_right, Contains-append_cases}
-use Rattle.std.proofs.lemmas.List.Kept.{IsStrictlySortedBy-dedup, IsStrictlySortedBy-filter, Contains-dedup, Contains-from_dedup}
-use Rattle.std.proofs.lemmas.List.Sorted.{Contains-permutation, IsPermutation-sym}
+use Rattle.std.proofs.lemmas.List.Kept.{IsStrictlySortedBy-filter}
 use Rattle.px_base.specs.ListLaws.{Contains-none, Contains-filter}
 use Rattle.px_terms.specs.AtomSets.{IsAtomSet}
 use Rattle.px_terms.specs.declared.atom.Atom.{Atom}
 use Rattle.px_terms.specs.declared.problem.Problem.{Problem}
-use Rattle.px_terms.specs.OrderLaws.{atom_eq-decides, decides_equiv}
 use Rattle.px_terms.specs.Validity.{IsValid}
-use Rattle.px_table.specs.contracts.entry.EntryOrd.TheImpl.Laws as entry_order
 use Rattle.px_table.specs.declared.entry.Entry.{Entry}
 use Rattle.px_table.specs.declared.entry.Move.{Move}
 use Rattle.px_table.specs.declared.entry.Move.TheVariants.{Push}
 use Rattle.px_table.specs.declared.table.Table.{Table}
-use Rattle.px_table.specs.EntryLaws.{entry_cmp-is, entry_eq-decides}
-use Rattle.px_table.specs.EntryOrder.{entry_cmp, entry_eq, order_of}
-use Rattle.px_diff.specs.Deciding.{AreDeciding}
-use Rattle.px_diff.specs.Learned.{AreLearned}
-use Rattle.px_diff.specs.Known.{IsOpenWith}
-use Rattle.px_diff.specs.Models.{AreComparable, IsNeverLimited, RelevanceOverModels}
-use Rattle.px_diff.specs.Outcomes.{IfLimit}
-use Rattle.px_diff.specs.declared.ask_err.AskErr.{AskErr}
-use Rattle.px_diff.specs.declared.ask_err.AskErr.TheVariants.{ShapeLimit, NoMemory}
+use Rattle.px_table.specs.EntryOrder.{order_of}
+use Rattle.px_entries.specs.Deciding.{AreDeciding}
+use Rattle.px_entries.specs.Learned.{AreLearned}
+use Rattle.px_gaps.specs.Known.{IsOpenWith}
+use Rattle.px_diff.specs.Models.{AreComparable, RelevanceOverModels}
+use Rattle.px_entries.specs.Unlimited.{IsNeverLimited}
 use Rattle.px_diff.specs.Pushes.{IsPushable}
 use Rattle.px_diff.specs.Stacks.{AreUnlimitedOver, RelevanceOverStacks}
-use Rattle.px_numbers.specs.Numbers.{Kept, KeepsAll}
-use Rattle.px_numbers.specs.NumberLaws.{model_at-grows, one_model}
+use Rattle.px_numbers.specs.Numbers.{Kept}
+use Rattle.px_numbers.specs.NumberLaws.{one_model}
 use Rattle.px_ends.specs.Tasks.{Task, needs_with}
 use Rattle.px_search.specs.Going.{IsBegunOn}
-use Rattle.px_search.specs.Offers.{AreFirst, AreOffers, AreWhole, IsAlike, IsOffered, IsOfferedWhole, IsOfferAt, IsPartAt}
+use Rattle.px_search.specs.Offers.{AreFirst, AreWhole, IsAlike, IsOffered, IsOfferedWhole, IsOfferAt, IsPartAt}
 use Rattle.px_search.specs.Steps.{AreStepsOf, IsStepOf, is_push_on, unstruck}
-use Rattle.px_search.specs.contracts.offers.WantPartialEq.TheImpl as want_equality
-use Rattle.px_search.specs.declared.offer.Offer.{Offer}
-use Rattle.px_search.specs.declared.offers.Want.{Want}
+use Rattle.px_search.specs.declared.notes.Offer.{Offer}
+use Rattle.px_search.specs.declared.notes.Want.{Want}
 use Rattle.px_search.specs.declared.step.Step.{Step}
 use Rattle.px_search.specs.declared.step.Step.TheVariants as step
 use Rattle.px_search.proofs.FromLaws.{begun-open}
-use Rattle.px_search.proofs.StepLaws.{steps-grow}
 use Rattle.px_search.proofs.StruckLaws.{on_stack, not_true}
-
--- ---- wanted atoms
-
-abbrev pub want_eq : Want → Want → Bool
-want_eq = (want_equality.ghosts).eq
-
-pub want_eq-decides : (a b : Want) → Decides (want_eq a b) (a ≡ b)
-want_eq-decides a b =
-    Decides-like _ (λ e i. record { part = e.0 i; atom = e.1 i }) (λ e. ((λ i. (e i).part), (λ i. (e i).atom)))
-    (Decides-and _ _ (Decides-eqb a.part b.part) (atom_eq-decides a.atom b.atom))
-
--- ---- what is kept
-
-pub offers-start : (task : Task) (kept : Kept) → AreOffers task kept []
-offers-start task kept want offer has = absurd (Contains-none (want, offer) has)
-
-pub offered-grows : (task : Task) (old new : Kept) (facts wanted : List Atom) (steps : List Step) (is_all : Bool) → KeepsAll old new → IsOffered task old facts wanted steps is_all → IsOffered task new facts wanted steps is_all
-offered-grows task old new facts wanted steps is_all keeps o = record { entries = o.entries; first = o.first; steps_are = steps-grow old new steps (map Push o.entries) keeps o.steps_are; unlimited = o.unlimited }
-
-pub part-grows : (task : Task) (old new : Kept) (number : ℕ) (facts : List Atom) → KeepsAll old new → IsPartAt task old number facts → IsPartAt task new number facts
-part-grows task old new number facts keeps p = record { is_set = p.is_set; part = p.part; part_at = model_at-grows old new number p.part keeps p.part_at; alike = p.alike }
-
-pub offers-grow : (task : Task) (old new : Kept) (known : List (Want × Offer)) → KeepsAll old new → AreOffers task old known → AreOffers task new known
-offers-grow task old new known keeps are want offer has =
-    let o = are want offer has in
-    (o.0, model_at-grows old new want.part o.0 keeps o.1, λ facts is_set alike. offered-grows task old new facts (want.atom ∷ []) offer.steps offer.is_all keeps (o.2 facts is_set alike))
-
--- one more is known
-pub offers-remember : (task : Task) (kept : Kept) (old new : List (Want × Offer)) (want : Want) (offer : Offer) → AreOffers task kept old → IsOfferAt task kept want offer
-    → ((one : Want × Offer) → Contains new one → Contains old one ⊎ (one ≡ (want, offer))) → AreOffers task kept new
-offers-remember task kept old new want offer are here more other others has = elim (more (other, others) has) [
-  | inl before ↦ are other others before
-  | inr same ↦ subst (λ (one : Want × Offer). IsOfferAt task kept one.0 one.1) (sym same) here
-]
 
 -- ---- the part that decides
 
@@ -181,7 +135,7 @@ module _ (problem : Problem) (tables : List Table) (facts : List Atom) (entry : 
     open_entry = p.open_entry;
   }
 
-  pub pushable-none : IsPushable problem tables [] [] facts entry → ⊥
+  pub pushable-none : ¬ IsPushable problem tables [] [] facts entry
   pushable-none p = Contains-none p.relevant.atom p.relevant.is_wanted
 
   pub pushable-both : (ws vs : List Atom) → IsPushable problem tables (ws ++ vs) [] facts entry ↔ (IsPushable problem tables ws [] facts entry ⊎ IsPushable problem tables vs [] facts entry)
@@ -233,19 +187,9 @@ whole-more task facts ws atom es fs gs before here is = record {
   ];
 }
 
--- in order, each once
-pub whole-offered : (task : Task) (kept : Kept) (facts wanted : List Atom) (entries sorted : List Entry) (steps : List Step) (is_all : Bool) → AreWhole task facts wanted entries
-    → ((entry : Entry) → Contains sorted entry ↔ Contains entries entry) → IsStrictlySortedBy order_of sorted → AreStepsOf kept steps (map Push sorted) → IsOffered task kept facts wanted steps is_all
-whole-offered task kept facts wanted entries sorted steps is_all whole members ordered are = record {
-  entries = sorted;
-  first = whole-first task facts wanted sorted is_all (λ entry. (λ has. (whole.exact entry).0 ((members entry).0 has), λ pushable. (members entry).1 ((whole.exact entry).1 pushable))) ordered;
-  steps_are = are;
-  unlimited = whole.unlimited;
-}
-
 -- ---- from steps to entries
 
-pub apply-pushes : (kept : Kept) (s : Step) (entry : Entry) → s ≡ step.Apply → IsStepOf kept s (Push entry) → ⊥
+pub apply-pushes : (kept : Kept) (s : Step) (entry : Entry) → s ≡ step.Apply → ¬ IsStepOf kept s (Push entry)
 apply-pushes kept s entry same is = subst (λ (x : Step). IsStepOf kept x (Push entry)) same is
 
 pub push-entry : (kept : Kept) (s : Step) (n : ℕ) (entry : Entry) → s ≡ step.Push n → IsStepOf kept s (Push entry) → slice_get kept.entries n ≡ Some entry
@@ -264,21 +208,6 @@ pushed_count kept [] [] are = refl
 pushed_count kept [] (e ∷ es) are = absurd are
 pushed_count kept (s ∷ ss) [] are = absurd are
 pushed_count kept (s ∷ ss) (e ∷ es) are = ap suc (pushed_count kept ss es are.1)
-
--- ---- in order, each once
-
-pub united-members : (old sorted new : List Entry) → IsPermutation old sorted → new ≡ dedup entry_eq sorted → (entry : Entry) → Contains new entry ↔ Contains old entry
-united-members old sorted new permuted is entry = rw is (
-  λ h. Contains-permutation sorted old entry (IsPermutation-sym old sorted permuted) (Contains-from_dedup entry_eq sorted entry h),
-  λ h. Contains-dedup (decides_equiv entry_eq entry_eq-decides) (λ x y. (entry_eq-decides x y).0) sorted entry (Contains-permutation old sorted entry permuted h),
-)
-
-pub united-ascend : (sorted new : List Entry) → IsSorted entry_cmp sorted → new ≡ dedup entry_eq sorted → IsStrictlySortedBy order_of new
-united-ascend sorted new ascends is =
-    subst (λ (R : Entry → Entry → Ordering). IsStrictlySortedBy R new) same (subst (IsStrictlySortedBy entry_cmp) (sym is) (IsStrictlySortedBy-dedup entry_order.total-law entry_order.matches_eq-law sorted ascends))
-  where
-    same : entry_cmp ≡ order_of
-    same = λ i first second. entry_cmp-is first second i
 
 -- ---- over a stack
 
@@ -324,12 +253,6 @@ begun-offered task kept model gaps stack steps left is_all law opens o struck =
 
     over : (entry : Entry) → IsPushable task.problem task.tables gaps stack model entry ↔ (IsPushable task.problem task.tables gaps [] model entry × ¬ Contains stack entry)
     over = law.pushable task.problem task.tables gaps model stack
-
--- what is so anyway is so at a limit
-pub any_limit : {A P : Type 0} (result : Result A AskErr) → P → IfLimit result (λ formula shapes. P)
-any_limit (Ok answer) p = tt
-any_limit (Err (ShapeLimit formula shapes)) p = p
-any_limit (Err NoMemory) p = tt
 
 pub if_some : {A : Type 0} (P : A → Type 0) (option : Option A) (value : A) → option ≡ Some value → IfSome option P → P value
 if_some {A} P option value is p = subst (λ (o : Option A). IfSome o P) is p

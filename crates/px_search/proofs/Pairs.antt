@@ -1,15 +1,15 @@
--- A list of keys with values, as a map has it: what is inserted, and what is found.
-use Rattle.std.proofs.Common.{◌≡◌, ◌⊎◌, ℕ, zero, suc, Bool, true, false, List, [], ◌∷◌, refl, sym, ◌∙◌, ap, subst, inl, inr, Some, slice_get, get_or}
-use Rattle.std.specs.Prelude.{Contains, position}
+-- A list of keys with values, as a map has it, where a fact is true of each pair.
+use Rattle.std.proofs.Common.{◌≡◌, ◌⊎◌, Bool, true, false, List, [], ◌∷◌, refl, sym, ◌∙◌, ap, subst, inl, inr, Some}
+use Rattle.std.specs.Prelude.{Contains}
 use Rattle.std.specs.Bool.{Decides}
-use Rattle.std.proofs.lemmas.List.Quantifiers.{position-Some}
-use Rattle.std.specs.Map.{keys_of}
+use Rattle.std.specs.Map.{lookup}
+use Rattle.std.proofs.lemmas.Map.Views.{Contains-from_lookup}
 use Rattle.indexmap.specs.IndexMap.{insert_entry}
 use Rattle.px_base.specs.ListLaws.{Contains-none, Contains-first, Contains-later, Contains-cases}
-use Rattle.px_ops.specs.KeepLaws.{has_at}
+use Rattle.px_search.specs.Notes.{AreEach}
 
 module _ {K V : Type 0} (same_key : K → K → Bool) (decides : (a b : K) → Decides (same_key a b) (a ≡ b)) where
-  pub pair-inserted : (entries : List (K × V)) (key : K) (value : V) (one : K × V) → Contains (insert_entry same_key entries key value) one → Contains entries one ⊎ (one ≡ (key, value))
+  pair-inserted : (entries : List (K × V)) (key : K) (value : V) (one : K × V) → Contains (insert_entry same_key entries key value) one → Contains entries one ⊎ (one ≡ (key, value))
   pair-inserted [] key value one has = elim (Contains-cases (key, value) [] one has) [
     | inl is ↦ inr (sym is)
     | inr later ↦ absurd (Contains-none one later)
@@ -34,13 +34,20 @@ module _ {K V : Type 0} (same_key : K → K → Bool) (decides : (a b : K) → D
             ]
           ]
 
-  keys_at : (entries : List (K × V)) (i : ℕ) (d : K) (one : K × V) → slice_get entries i ≡ Some one → get_or (keys_of entries) i d ≡ one.0
-  keys_at [] i d one at = absurd (cc)
-  keys_at (e ∷ es) zero d one at = let same : e ≡ one = cc in ap (λ (p : K × V). p.0) same
-  keys_at (e ∷ es) (suc i) d one at = keys_at es i d one at
+  module _ (P : K → V → Type 0) where
+    -- one more is kept
+    pub each-more : (old new : List (K × V)) (key : K) (value : V) → AreEach P old → P key value → new ≡ insert_entry same_key old key value → AreEach P new
+    each-more old new key value all here is other kept has = elim (pair-inserted old key value (other, kept) (subst (λ (l : List (K × V)). Contains l (other, kept)) is has)) [
+      | inl before ↦ all other kept before
+      | inr same ↦ subst (λ (one : K × V). P one.0 one.1) (sym same) here
+    ]
 
-  pub pair-found : (entries : List (K × V)) (key : K) (i : ℕ) (one : K × V) → position (same_key key) (keys_of entries) ≡ Some i → slice_get entries i ≡ Some one → Contains entries (key, one.1)
-  pair-found entries key i one found at =
-      let p = position-Some (same_key key) (keys_of entries) i key found in
-      let same : key ≡ one.0 = (decides key (get_or (keys_of entries) i key)).0 p.1 ∙ keys_at entries i key one at in
-      subst (λ (k : K). Contains entries (k, one.1)) (sym same) (has_at entries i one at)
+    -- what is found is what was kept
+    pub each-found : (entries : List (K × V)) (key : K) (value : V) → AreEach P entries → Some value ≡ lookup (same_key key) entries → P key value
+    each-found entries key value all found = all key value (Contains-from_lookup (λ x y. (decides x y).0) key value entries (sym found))
+
+pub each-none : {K V : Type 0} (P : K → V → Type 0) (entries : List (K × V)) → entries ≡ [] → AreEach P entries
+each-none {K} {V} P entries none key value has = absurd (Contains-none (key, value) (subst (λ (l : List (K × V)). Contains l (key, value)) none has))
+
+pub each-grows : {K V : Type 0} (P Q : K → V → Type 0) (entries : List (K × V)) → ((key : K) (value : V) → P key value → Q key value) → AreEach P entries → AreEach Q entries
+each-grows P Q entries grows all key value has = grows key value (all key value has)

@@ -8,18 +8,19 @@ use Rattle.px_table.specs.declared.entry.Entry.{Entry}
 use Rattle.px_table.specs.declared.entry.Move.{Move}
 use Rattle.px_table.specs.declared.entry.Move.TheVariants as move
 use Rattle.px_table.specs.declared.node.Node.{Node}
-use Rattle.px_diff.specs.Entries.{IsEntry, effect_of}
-use Rattle.px_diff.specs.Known.{IsTriedOf}
-use Rattle.px_diff.specs.declared.known.Tried.{Tried}
-use Rattle.px_diff.specs.declared.known.Tried.TheVariants.{Answered, Unanswered, Limited}
+use Rattle.px_entries.specs.Entries.{IsEntry, effect_of}
+use Rattle.px_gaps.specs.Known.{IsTriedOf}
+use Rattle.px_gaps.specs.declared.known.Tried.{Tried}
+use Rattle.px_gaps.specs.declared.known.Tried.TheVariants.{Answered, Unanswered, Limited}
 use Rattle.px_numbers.specs.declared.nodes.NodeKey.{NodeKey}
 use Rattle.px_numbers.specs.declared.stacks.Frame.{Frame}
 use Rattle.px_numbers.specs.Numbers.{Kept, IsModelAt, IsStackAt, IsTopOf, IsKeyOf, KeepsAll}
-use Rattle.px_numbers.specs.NumberLaws.{one_at, one_model, model_at-grows, stack_at-grows}
+use Rattle.px_numbers.specs.NumberLaws.{one_at, one_model, model_at-grows, stack_at-grows, stands-grows}
 use Rattle.px_search.specs.declared.step.Step.{Step}
 use Rattle.px_search.specs.declared.step.Step.TheVariants as step
 use Rattle.px_search.specs.Asking.{IsTriedAt}
-use Rattle.px_search.specs.Caches.{IsEntryAt, IsResultAt}
+use Rattle.px_search.specs.Going.{IsAskedAt}
+use Rattle.px_search.specs.Notes.{IsEntryAt, IsResultAt}
 use Rattle.px_search.specs.Steps.{IsStepOf, AreStepsOf}
 use Rattle.px_ends.specs.Tasks.{Task, applied, after, goal_from}
 
@@ -60,10 +61,6 @@ pub empty_stack : (kept : Kept) (number : ℕ) (stack : List Entry) → number �
 empty_stack kept number [] none is = refl
 empty_stack kept number (e ∷ below) none is = absurd (omega (arith, none, is.2))
 
-pub filled_stack : (kept : Kept) (number : ℕ) (stack : List Entry) → (number ≡ 0 → ⊥) → IsStackAt kept number stack → stack ≡ [] → ⊥
-filled_stack kept number [] some is empty = some is
-filled_stack kept number (e ∷ below) some is empty = cc
-
 pub tried_at : (task : Task) (kept : Kept) (key : NodeKey) (node : Node) (built : List Atom) (tried : Tried) → IsKeyOf kept key node → key.stack ≡ 0 → IsModelAt kept key.model built
     → IsTriedOf task.problem (goal_from task built) tried → IsTriedAt task node tried
 tried_at task kept key node built tried stands none built_at is =
@@ -77,9 +74,8 @@ tried_at task kept key node built tried stands none built_at is =
     by Unanswered h = ((λ solved. h.0 solved.1), λ _. h.1.unlimited)
     by (Limited formula shapes) h = (empty, h)
 
-pub untried_at : (task : Task) (kept : Kept) (key : NodeKey) (node : Node) → IsKeyOf kept key node → (key.stack ≡ 0 → ⊥) → IsTriedAt task node Unanswered
-untried_at task kept key node stands some =
-    ((λ solved. filled_stack kept key.stack node.stack some stands.stack solved.0), λ empty. absurd (filled_stack kept key.stack node.stack some stands.stack empty))
+pub asked-grows : (task : Task) (old new : Kept) (key : NodeKey) → KeepsAll old new → IsAskedAt task old key → IsAskedAt task new key
+asked-grows task old new key keeps asked = record { node = asked.node; stands = stands-grows old new key asked.node keeps asked.stands; entries = asked.entries; tried = asked.tried }
 
 -- ---- steps that are moves
 

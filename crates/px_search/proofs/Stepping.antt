@@ -12,19 +12,17 @@ use Rattle.px_table.specs.declared.entry.Move.{Move}
 use Rattle.px_table.specs.declared.entry.Move.TheVariants.{Apply, Push}
 use Rattle.px_table.specs.declared.node.Node.{Node}
 use Rattle.px_table.specs.EntryOrder.{order_of}
-use Rattle.px_diff.specs.Entries.{Obligation, HasAnswer, IsApplicable, IsOpen, IsGapOfNeeds, obligations_of}
-use Rattle.px_diff.specs.Pushes.{IsRelevant, IsPushable}
-use Rattle.px_diff.specs.Questions.{AreUnlimited, LimitsRelevant}
-use Rattle.px_diff.specs.Known.{LimitsNeeds}
+use Rattle.px_entries.specs.Entries.{obligations_of}
+use Rattle.px_gaps.specs.Needs.{Obligation, HasAnswer, IsApplicable, IsOpen, IsGapOfNeeds}
+use Rattle.px_diff.specs.Pushes.{IsRelevant, IsPushable, LimitsRelevant}
+use Rattle.px_gaps.specs.Questions.{AreUnlimited}
+use Rattle.px_gaps.specs.Known.{LimitsNeeds}
 use Rattle.px_ends.specs.Order.{move_cmp}
 use Rattle.px_ends.specs.Tasks.{Task, needs_at, IsRelevantAt, IsAllowed}
 use Rattle.px_search.specs.Going.{AreFirstOf, AreMovesOf, IsUnlimitedAt, LimitsNode}
 
-pub answered-no_gap : (problem : Problem) (needs : List Obligation) (atom : Atom) → IsApplicable problem needs → IsGapOfNeeds problem needs atom → ⊥
+pub answered-no_gap : (problem : Problem) (needs : List Obligation) (atom : Atom) → IsApplicable problem needs → ¬ IsGapOfNeeds problem needs atom
 answered-no_gap problem needs atom all (opens, (k, needed, below, is, gap)) = gap.0 (subst (HasAnswer problem) is (all k needed below))
-
-pub push_of : Entry → Move
-push_of entry = Push entry
 
 in_pushes : (entries : List Entry) (entry : Entry) → Contains entries entry → Contains (map Push entries) (Push entry)
 in_pushes [] entry has = absurd (Contains-none entry has)
@@ -45,14 +43,14 @@ from_pushes (e ∷ es) entry has = elim (Contains-cases (Push e) (map Push es) (
   | inr later ↦ Contains-later e es entry (from_pushes es entry later)
 ]
 
-no_apply : (entries : List Entry) → Contains (map Push entries) Apply → ⊥
+no_apply : (entries : List Entry) → ¬ Contains (map Push entries) Apply
 no_apply [] has = Contains-none Apply has
 no_apply (e ∷ es) has = elim (Contains-cases (Push e) (map Push es) Apply has) [
   | inl is ↦ differ e is
   | inr later ↦ no_apply es later
 ]
   where
-    differ : (e : Entry) → Push e ≡ Apply → ⊥
+    differ : (e : Entry) → ¬ (Push e ≡ Apply)
     differ e is = cc
 
 pushes-ordered : (entries : List Entry) → IsStrictlySortedBy order_of entries → AllPairs (λ m n. move_cmp m n ≡ Less) (map Push entries)
@@ -95,16 +93,16 @@ module _ (task : Task) (node : Node) where
         λ has. absurd (differ entry (Contains-one Apply (Push entry) has)),
       )
         where
-          differ : (e : Entry) → Apply ≡ Push e → ⊥
+          differ : (e : Entry) → ¬ (Apply ≡ Push e)
           differ e is = cc
 
   -- ---- something that it needs has neither an answer nor a gap
 
-  pub closed-unlimited : AreUnlimited task.problem needs → (IsOpen task.problem needs → ⊥) → IsUnlimitedAt task node
+  pub closed-unlimited : AreUnlimited task.problem needs → (¬ IsOpen task.problem needs) → IsUnlimitedAt task node
   closed-unlimited unlimited closed question (inl asks) formula shapes met = unlimited question formula shapes asks met
   closed-unlimited unlimited closed question (inr (entry, relevant, asks)) formula shapes met = closed relevant.is_gap.0
 
-  pub closed-moves : (IsOpen task.problem needs → ⊥) → AreMovesOf task node []
+  pub closed-moves : (¬ IsOpen task.problem needs) → AreMovesOf task node []
   closed-moves closed = record {
     all = λ m. which m;
     ordered = λ i j d less below. absurd (omega (arith, below));
@@ -129,7 +127,7 @@ module _ (task : Task) (node : Node) where
     open-unlimited unlimited each question (inr (entry, relevant, asks)) formula shapes met = each entry ((relevant_at entry).0 relevant) question formula shapes asks met
 
     -- the moves are the pushes of what may be pushed, in order
-    pub open-moves : (IsApplicable task.problem needs → ⊥) → (entries : List Entry) → IsStrictlySortedBy order_of entries
+    pub open-moves : (¬ IsApplicable task.problem needs) → (entries : List Entry) → IsStrictlySortedBy order_of entries
         → ((entry : Entry) → Contains entries entry ↔ IsPushable task.problem task.tables gaps node.stack node.model entry) → AreMovesOf task node (map Push entries)
     open-moves not_applicable entries sorted members = record { all = λ m. which m; ordered = pushes-ordered entries sorted }
       where
@@ -141,7 +139,7 @@ module _ (task : Task) (node : Node) where
         )
 
     -- the first of what may be pushed, in order, are the first moves
-    pub open-first : (IsApplicable task.problem needs → ⊥) → (entries : List Entry) → IsStrictlySortedBy order_of entries
+    pub open-first : (¬ IsApplicable task.problem needs) → (entries : List Entry) → IsStrictlySortedBy order_of entries
         → ((entry : Entry) → Contains entries entry → IsPushable task.problem task.tables gaps node.stack node.model entry)
         → ((entry : Entry) → IsPushable task.problem task.tables gaps node.stack node.model entry → Contains entries entry ⊎ ((first : Entry) → Contains entries first → order_of first entry ≡ Less))
         → AreFirstOf task node (map Push entries)
@@ -163,7 +161,7 @@ module _ (task : Task) (node : Node) where
         ]
 
     -- where they are all that may be pushed, they are all moves
-    pub open-every : (IsApplicable task.problem needs → ⊥) → (entries : List Entry)
+    pub open-every : (¬ IsApplicable task.problem needs) → (entries : List Entry)
         → ((entry : Entry) → IsPushable task.problem task.tables gaps node.stack node.model entry → Contains entries entry) → (m : Move) → IsAllowed task node m → Contains (map Push entries) m
     open-every not_applicable entries every Apply may = absurd (not_applicable may.1)
     open-every not_applicable entries every (Push entry) may = in_pushes entries entry (every entry (record { relevant = (relevant_at entry).0 may.0; open_entry = may.1 }))

@@ -11,17 +11,17 @@ use Rattle.px_terms.specs.declared.atom.Atom.{Atom}
 use Rattle.px_proof.specs.declared.shape.Tick.{Tick}
 use Rattle.px_table.specs.declared.entry.Move.{Move}
 use Rattle.px_table.specs.declared.node.Node.{Node}
-use Rattle.px_diff.specs.Questions.{Question, MeetsLimit}
+use Rattle.px_gaps.specs.Questions.{Question, MeetsLimit}
 use Rattle.px_ops.specs.KeepLaws.{push-cases}
 use Rattle.px_ends.specs.Order.{move_cmp, IsBefore}
 use Rattle.px_ends.specs.Tasks.{Task, initial_node, IsSolved, IsAllowed, after, AsksAt, goal_question}
-use Rattle.px_ends.specs.Ends.{AreMoves, node_of, IsFound, IsExhausted, IsNodeLimit, IsShapeLimit}
-use Rattle.px_ends.proofs.Frontier.{Frontier, contains_place, place_of, at_index, place-within, reached-append, order_of}
+use Rattle.px_ends.specs.Ends.{node_of, IsFound, IsExhausted, IsNodeLimit, IsShapeLimit}
+use Rattle.px_ends.proofs.Frontier.{contains_place, place_of, at_index, place-within, reached-append, order_of}
 use Rattle.px_search.proofs.FrontierSteps.{frontier-start, frontier-skip, frontier-add, frontier-next}
 use Rattle.px_search.specs.Going.{AreFirstOf, IsUnlimitedAt}
-use Rattle.px_search.specs.Looping.{Walking}
+use Rattle.px_search.specs.Looping.{IsUnmet, Walking}
 use Rattle.px_ends.proofs.MoveLaws.{order, same_move, move_cmp-total}
-use Rattle.px_search.proofs.Endings.{NoLimit, ends-found, ends-node_limit, ends-exhausted, ends-shape_limit, ends-shape_limit_at_goal, ends-found_at_start, ends-shape_limit_at_start}
+use Rattle.px_search.proofs.Endings.{Known, ends-found, ends-node_limit, ends-exhausted, ends-shape_limit, ends-shape_limit_at_goal}
 
 slice_cmp-last : (p : List Move) (m n : Move) → move_cmp m n ≡ Less → slice_cmp move_cmp (p ++ m ∷ []) (p ++ n ∷ []) ≡ Less
 slice_cmp-last [] m n h = ap (λ r. ordering_then r Equal) h
@@ -46,24 +46,12 @@ take-get (suc n) (suc k) (y ∷ xs) x e h = take-get n k xs x e (omega arith)
 index_is : {A : Type 0} (xs : List A) (k : ℕ) (x d : A) → slice_get xs k ≡ Some x → slice_index_or xs k d ≡ x
 index_is xs k x d e = cc (at_index xs k d (place-within xs k x e), e)
 
-never_less : (m : Move) → move_cmp m m ≡ Less → ⊥
+never_less : (m : Move) → ¬ (move_cmp m m ≡ Less)
 never_less m h = let e : Less ≡ Equal = sym h ∙ tied_itself move_cmp-total m in cc
 
 module _ (task : Task) where
-  abbrev may : Node → Move → Type 0
-  may = IsAllowed task
-
-  abbrev next_node : Node → Move → Node
-  next_node = after task
-
-  abbrev start : Node
-  start = initial_node task
-
   abbrev pub goes : List Move → Node
   goes moves = node_of task moves
-
-  abbrev pub Known : List (List Move) → ℕ → List Move → Type 0
-  Known found next tried = Frontier (IsAllowed task) (after task) IsBefore (initial_node task) order same_move found next tried
 
   at_map : (found : List (List Move)) (next : ℕ) (node : Node) → slice_get (map goes found) next ≡ Some node → (p : List Move) × (slice_get found next ≡ Some p) × (goes p ≡ node)
   at_map [] next node e = absurd (cc)
@@ -84,13 +72,6 @@ module _ (task : Task) where
   pub here_in : (found : List (List Move)) (nodes : List Node) (next : ℕ) (tried : List Move) (node : Node) → Walking task found nodes next tried → slice_get nodes next ≡ Some node
       → (p : List Move) × (slice_get found next ≡ Some p) × (goes p ≡ node)
   here_in found nodes next tried node w at = at_map found next node (subst (λ (x : List Node). slice_get x next ≡ Some node) w.nodes_are at)
-
-  -- each node that was found is reached by moves
-  pub reached_by : (found : List (List Move)) (nodes : List Node) (k next : ℕ) (tried : List Move) (node : Node) → Walking task found nodes next tried → slice_get nodes k ≡ Some node
-      → (p : List Move) × AreMoves task p × (goes p ≡ node)
-  reached_by found nodes k next tried node w at =
-      let h = at_map found k node (subst (λ (x : List Node). slice_get x k ≡ Some node) w.nodes_are at) in
-      (h.0, w.searching.known.can h.0 (contains_place found k h.0 h.1), h.2)
 
   pub counted : (found : List (List Move)) (nodes : List Node) (next : ℕ) (tried : List Move) → Walking task found nodes next tried → length found ≡ length nodes
   counted found nodes next tried w = sym (length-map found goes) ∙ sym (ap length w.nodes_are)
@@ -114,22 +95,22 @@ module _ (task : Task) where
     at_m : slice_get moves i ≡ Some m
     at_m = at_index moves i m inside ∙ ap Some (sym m_is)
 
-    can : may (goes here.0) m
-    can = subst (λ (x : Node). may x m) (sym here.2) (are.allowed m (contains_place moves i m at_m))
+    can : IsAllowed task (goes here.0) m
+    can = subst (λ (x : Node). IsAllowed task x m) (sym here.2) (are.allowed m (contains_place moves i m at_m))
 
     pair : (k l : ℕ) (a b : Move) → k < l → slice_get moves k ≡ Some a → slice_get moves l ≡ Some b → move_cmp a b ≡ Less
     pair k l a b less at_a at_b =
         let is = are.ordered k l a less (place-within moves l b at_b) in
         subst (λ (x : Move). move_cmp a x ≡ Less) (index_is moves l b a at_b) (subst (λ (x : Move). move_cmp x (slice_index_or moves l a) ≡ Less) (index_is moves k a a at_a) is)
 
-    untried : Contains (take i moves) m → ⊥
+    untried : ¬ Contains (take i moves) m
     untried has =
         let k = place_of (take i moves) m has in
         let r = get-take i k.0 moves m k.1 in
         never_less m (pair k.0 i m m r.1 r.0 at_m)
 
-    least : (n : Move) → may (goes here.0) n → (Contains (take i moves ++ m ∷ []) n → ⊥) → IsBefore (here.0 ++ m ∷ []) (here.0 ++ n ∷ [])
-    least n can_n not_yet = last_before here.0 m n (elim (are.others n (subst (λ (x : Node). may x n) here.2 can_n)) [
+    least : (n : Move) → IsAllowed task (goes here.0) n → (¬ (Contains (take i moves ++ m ∷ []) n)) → IsBefore (here.0 ++ m ∷ []) (here.0 ++ n ∷ [])
+    least n can_n not_yet = last_before here.0 m n (elim (are.others n (subst (λ (x : Node). IsAllowed task x n) here.2 can_n)) [
       | inl has ↦ later (place_of moves n has)
       | inr after_all ↦ after_all m (contains_place moves i m at_m)
     ])
@@ -147,13 +128,13 @@ module _ (task : Task) where
         ]
 
     -- the move leads to a node that was found
-    pub walking-seen : Contains nodes (next_node node m) → Walking task found nodes next (take (i + 1) moves)
+    pub walking-seen : Contains nodes (after task node m) → Walking task found nodes next (take (i + 1) moves)
     walking-seen has =
-        let q = from_map found (next_node node m) (subst (λ (x : List Node). Contains x (next_node node m)) w.nodes_are has) in
+        let q = from_map found (after task node m) (subst (λ (x : List Node). Contains x (after task node m)) w.nodes_are has) in
         record {
           searching = record {
-            known = rw tried_after (frontier-skip may next_node IsBefore start order same_move found next (take i moves) w.searching.known here.0 here.1 m can untried least q.0 q.1
-                (q.2 ∙ ap (λ (x : Node). next_node x m) (sym here.2)));
+            known = rw tried_after (frontier-skip (IsAllowed task) (after task) IsBefore (initial_node task) order same_move found next (take i moves) w.searching.known here.0 here.1 m can untried least q.0 q.1
+                (q.2 ∙ ap (λ (x : Node). after task x m) (sym here.2)));
             room = w.searching.room;
             unsolved = w.searching.unsolved;
             tested = w.searching.tested;
@@ -165,27 +146,27 @@ module _ (task : Task) where
     abbrev pub new_list : List Move
     new_list = here.0 ++ m ∷ []
 
-    module _ (not_seen : Contains nodes (next_node node m) → ⊥) where
-      new_known : Known (found ++ new_list ∷ []) next (take (i + 1) moves)
-      new_known = rw tried_after (frontier-add may next_node IsBefore start order same_move found next (take i moves) w.searching.known here.0 here.1 m can untried least
-          (λ q has e. not_seen (subst (λ (x : List Node). Contains x (next_node node m)) (sym w.nodes_are)
-          (subst (λ (x : Node). Contains (map goes found) x) (e ∙ ap (λ (x : Node). next_node x m) here.2) (to_map found q has)))))
+    module _ (not_seen : ¬ Contains nodes (after task node m)) where
+      new_known : Known task (found ++ new_list ∷ []) next (take (i + 1) moves)
+      new_known = rw tried_after (frontier-add (IsAllowed task) (after task) IsBefore (initial_node task) order same_move found next (take i moves) w.searching.known here.0 here.1 m can untried least
+          (λ q has e. not_seen (subst (λ (x : List Node). Contains x (after task node m)) (sym w.nodes_are)
+          (subst (λ (x : Node). Contains (map goes found) x) (e ∙ ap (λ (x : Node). after task x m) here.2) (to_map found q has)))))
 
-      new_goes : goes new_list ≡ next_node node m
-      new_goes = reached-append may next_node IsBefore start order same_move start here.0 (m ∷ []) ∙ ap (λ (x : Node). next_node x m) here.2
+      new_goes : goes new_list ≡ after task node m
+      new_goes = reached-append (IsAllowed task) (after task) IsBefore (initial_node task) order same_move (initial_node task) here.0 (m ∷ []) ∙ ap (λ (x : Node). after task x m) here.2
 
       same_count : length found ≡ length nodes
       same_count = counted found nodes next (take i moves) w
 
-      goal_unlimited : NoLimit task (goal_question task (next_node node m)) → NoLimit task (goal_question task (goes new_list))
-      goal_unlimited unlimited = subst (λ (x : Node). NoLimit task (goal_question task x)) (sym new_goes) unlimited
+      goal_unlimited : IsUnmet task (goal_question task (after task node m)) → IsUnmet task (goal_question task (goes new_list))
+      goal_unlimited unlimited = subst (λ (x : Node). IsUnmet task (goal_question task x)) (sym new_goes) unlimited
 
       here_unlimited : IsUnlimitedAt task node → IsUnlimitedAt task (goes here.0)
       here_unlimited unlimited = subst (IsUnlimitedAt task) (sym here.2) unlimited
 
       -- it is new and not solved, and may be kept
-      pub walking-new : length nodes < task.problem.nodes → (IsSolved task (next_node node m) → ⊥) → ((next_node node m).stack ≡ [] → NoLimit task (goal_question task (next_node node m)))
-          → Walking task (found ++ new_list ∷ []) (nodes ++ next_node node m ∷ []) next (take (i + 1) moves)
+      pub walking-new : length nodes < task.problem.nodes → (¬ IsSolved task (after task node m)) → ((after task node m).stack ≡ [] → IsUnmet task (goal_question task (after task node m)))
+          → Walking task (found ++ new_list ∷ []) (nodes ++ after task node m ∷ []) next (take (i + 1) moves)
       walking-new room unsolved tested = record {
         searching = record {
           known = new_known;
@@ -203,12 +184,12 @@ module _ (task : Task) where
             | inr wrong ↦ absurd wrong
           ];
         };
-        nodes_are = ap (λ (x : List Node). x ++ next_node node m ∷ []) w.nodes_are ∙ ap (λ (y : Node). map goes found ++ y ∷ []) (sym new_goes) ∙ sym (map-append goes found (new_list ∷ []));
+        nodes_are = ap (λ (x : List Node). x ++ after task node m ∷ []) w.nodes_are ∙ ap (λ (y : Node). map goes found ++ y ∷ []) (sym new_goes) ∙ sym (map-append goes found (new_list ∷ []));
       }
         where
-          new_tested : (x : List Move) → new_list ≡ x → (goes x).stack ≡ [] → NoLimit task (goal_question task (goes x))
+          new_tested : (x : List Move) → new_list ≡ x → (goes x).stack ≡ [] → IsUnmet task (goal_question task (goes x))
           new_tested x e empty =
-              subst (λ (y : List Move). NoLimit task (goal_question task (goes y))) e (goal_unlimited (tested (subst (λ (y : Node). y.stack ≡ []) (ap goes (sym e) ∙ new_goes) empty)))
+              subst (λ (y : List Move). IsUnmet task (goal_question task (goes y))) e (goal_unlimited (tested (subst (λ (y : Node). y.stack ≡ []) (ap goes (sym e) ∙ new_goes) empty)))
 
           last_place : (k : ℕ) (p : List Move) → k < next → slice_get (found ++ new_list ∷ []) k ≡ Some p → (slice_get found k ≡ Some p) ⊎ ⊥
           last_place k p below at_k = elim (push-cases found new_list p k at_k) [
@@ -217,7 +198,7 @@ module _ (task : Task) where
           ]
 
       -- it is the first solved one
-      pub walk-found : length nodes < task.problem.nodes → IsSolved task (next_node node m) → IsUnlimitedAt task node → NoLimit task (goal_question task (next_node node m)) → IsFound task new_list
+      pub walk-found : length nodes < task.problem.nodes → IsSolved task (after task node m) → IsUnlimitedAt task node → IsUnmet task (goal_question task (after task node m)) → IsFound task new_list
       walk-found room is_solved unlimited tested =
           ends-found task found next (take i moves) w.searching here.0 here.1 m (take (i + 1) moves) new_known (omega (arith, same_count, room)) (subst (IsSolved task) (sym new_goes) is_solved)
           (here_unlimited unlimited) (goal_unlimited tested)
@@ -230,8 +211,8 @@ module _ (task : Task) where
           (ends-node_limit task found next (take i moves) w.searching here.0 here.1 m (take (i + 1) moves) new_known (same_count ∙ full) (here_unlimited unlimited)))
 
       -- trying the goal there meets the limit
-      pub walk-shape_limit_at_goal : length nodes < task.problem.nodes → (next_node node m).stack ≡ [] → (formula : List Atom) (shapes : List (List Tick))
-          → MeetsLimit task.problem (goal_question task (next_node node m)) formula shapes → IsShapeLimit task (next_node node m) formula shapes
+      pub walk-shape_limit_at_goal : length nodes < task.problem.nodes → (after task node m).stack ≡ [] → (formula : List Atom) (shapes : List (List Tick))
+          → MeetsLimit task.problem (goal_question task (after task node m)) formula shapes → IsShapeLimit task (after task node m) formula shapes
       walk-shape_limit_at_goal room empty formula shapes met =
           subst (λ (x : Node). IsShapeLimit task x formula shapes) new_goes
           (ends-shape_limit_at_goal task found next (take i moves) w.searching here.0 here.1 m (take (i + 1) moves) new_known (omega (arith, same_count, room))
@@ -245,8 +226,8 @@ module _ (task : Task) where
       let number : suc next ≡ next + 1 = omega arith in
       record {
         searching = record {
-          known = subst (λ (k : ℕ). Known found k []) number (frontier-next may next_node IsBefore start order same_move found next moves here.0 w.searching.known here.1
-              (λ m can. every m (subst (λ (x : Node). may x m) here.2 can)));
+          known = subst (λ (k : ℕ). Known task found k []) number (frontier-next (IsAllowed task) (after task) IsBefore (initial_node task) order same_move found next moves here.0 w.searching.known here.1
+              (λ m can. every m (subst (λ (x : Node). IsAllowed task x m) here.2 can)));
           room = w.searching.room;
           unsolved = w.searching.unsolved;
           tested = w.searching.tested;
@@ -268,21 +249,14 @@ module _ (task : Task) where
   only_start x (zero, h, e) = e
   only_start x (suc k, h, e) = absurd (omega (arith, h))
 
-  pub walking-start : (IsSolved task start → ⊥) → NoLimit task (goal_question task start) → 1 ≤ task.problem.nodes → Walking task ([] ∷ []) (start ∷ []) 0 []
+  pub walking-start : (¬ IsSolved task (initial_node task)) → IsUnmet task (goal_question task (initial_node task)) → 1 ≤ task.problem.nodes → Walking task ([] ∷ []) (initial_node task ∷ []) 0 []
   walking-start unsolved tested room = record {
     searching = record {
-      known = frontier-start may next_node IsBefore start order same_move;
+      known = frontier-start (IsAllowed task) (after task) IsBefore (initial_node task) order same_move;
       room = room;
       unsolved = λ x has is_solved. unsolved (subst (λ (y : List Move). IsSolved task (goes y)) (sym (only_start x has)) is_solved);
-      tested = λ x has empty. subst (λ (y : List Move). NoLimit task (goal_question task (goes y))) (only_start x has) tested;
+      tested = λ x has empty. subst (λ (y : List Move). IsUnmet task (goal_question task (goes y))) (only_start x has) tested;
       gone_through = λ k p question below. absurd (omega (arith, below));
     };
     nodes_are = refl;
   }
-
-  pub walk-found_at_start : 1 ≤ task.problem.nodes → IsSolved task start → NoLimit task (goal_question task start) → IsFound task []
-  walk-found_at_start room is_solved tested = ends-found_at_start task (omega (arith, room)) is_solved tested
-
-  pub walk-shape_limit_at_start : 1 ≤ task.problem.nodes → (formula : List Atom) (shapes : List (List Tick)) → MeetsLimit task.problem (goal_question task start) formula shapes
-      → IsShapeLimit task start formula shapes
-  walk-shape_limit_at_start room formula shapes met = ends-shape_limit_at_start task (omega (arith, room)) formula shapes met

@@ -1,6 +1,5 @@
 -- All pushes for several wanted atoms, joined from those for each.
-use Rattle.std.proofs.Common.{◌↔◌, ◌⊎◌, ◌++◌, List, [], ◌∷◌, map, refl, inl, inr}
-use Rattle.std.specs.Prelude.{Contains}
+use Rattle.std.proofs.Common.{◌++◌, List, [], ◌∷◌, map, refl, inl, inr}
 use Rattle.std.specs.List.Sorted.{IsStrictlySortedBy}
 use Rattle.std.proofs.lemmas.List.Elements.{Contains-append_left, Contains-append_right, Contains-append_cases}
 use Rattle.px_terms.specs.declared.atom.Atom.{Atom}

@@ -1,12 +1,17 @@
 -- What going through a node gives.
-use Rattle.std.specs.Prelude.{◌≡◌, ◌↔◌, ◌⊎◌, Bool, true, List, AllPairs, Contains}
+use Rattle.std.specs.Prelude.{◌≡◌, ◌↔◌, ◌⊎◌, Bool, true, List, All, AllPairs, Contains}
 use Rattle.std.specs.declared.cmp.Ordering.TheVariants.{Less}
 use Rattle.px_terms.specs.declared.atom.Atom.{Atom}
 use Rattle.px_proof.specs.declared.shape.Tick.{Tick}
 use Rattle.px_table.specs.declared.entry.Move.{Move}
 use Rattle.px_table.specs.declared.node.Node.{Node}
-use Rattle.px_diff.specs.Questions.{Question, MeetsLimit}
-use Rattle.px_numbers.specs.Numbers.{Kept}
+use Rattle.px_entries.specs.Entries.{IsEntry}
+use Rattle.px_gaps.specs.Questions.{Question, MeetsLimit}
+use Rattle.px_gaps.specs.declared.known.Tried.TheVariants.{Unanswered}
+use Rattle.px_numbers.specs.declared.nodes.NodeKey.{NodeKey}
+use Rattle.px_numbers.specs.Numbers.{Kept, IsKeyOf}
+use Rattle.px_search.specs.Asking.{IsTriedAt}
+use Rattle.px_search.specs.declared.begun.Begun.{Begun}
 use Rattle.px_search.specs.declared.step.Step.{Step}
 use Rattle.px_ends.specs.Order.{move_cmp}
 use Rattle.px_search.specs.Steps.{AreStepsOf}
@@ -25,7 +30,7 @@ pub record AreMovesOf (task : Task) (node : Node) (moves : List Move) : Type 0 w
 
 -- no question of the node meets the limit
 abbrev pub IsUnlimitedAt : Task → Node → Type 0
-IsUnlimitedAt task node = (question : Question) → AsksAt task node question → (formula : List Atom) (shapes : List (List Tick)) → MeetsLimit task.problem question formula shapes → ⊥
+IsUnlimitedAt task node = (question : Question) → AsksAt task node question → (formula : List Atom) (shapes : List (List Tick)) → ¬ MeetsLimit task.problem question formula shapes
 
 -- the steps are the moves of the node, in order, and none of its questions meets the limit
 pub record IsGoneOn (task : Task) (kept : Kept) (node : Node) (steps : List Step) : Type 0 where
@@ -47,3 +52,20 @@ pub record IsBegunOn (task : Task) (kept : Kept) (node : Node) (steps : List Ste
   pub every : is_all ≡ true → (m : Move) → IsAllowed task node m → Contains moves m
   pub steps_are : AreStepsOf kept steps moves
   pub unlimited : IsUnlimitedAt task node
+
+-- ---- by the number of the node
+
+-- the pair is a node with entries on its stack, or with an empty one and a goal without an answer
+pub record IsAskedAt (task : Task) (kept : Kept) (key : NodeKey) : Type 0 where
+  pub node : Node
+  pub stands : IsKeyOf kept key node
+  pub entries : All (IsEntry task.problem task.tables) node.stack
+  pub tried : IsTriedAt task node Unanswered
+
+-- these are the first moves of the node that the pair was
+abbrev pub BeginsAt : Task → Kept → Kept → NodeKey → Begun → Type 0
+BeginsAt task old new key begun = (node : Node) → IsKeyOf old key node → IsBegunOn task new node begun.steps.items begun.is_all
+
+-- a question of the node of the pair meets the limit
+abbrev pub LimitsAt : Task → Kept → NodeKey → List Atom → List (List Tick) → Type 0
+LimitsAt task kept key formula shapes = (node : Node) → IsKeyOf kept key node → LimitsNode task node formula shapes

@@ -1,7 +1,7 @@
 pub mod Asking
-pub mod Caches
 pub mod Going
 pub mod Looping
+pub mod Notes
 pub mod Offers
 pub mod Scenes
 pub mod Steps

@@ -1,10 +1,10 @@
 -- What a search keeps at each turn, and what it answers.
-use Rattle.std.specs.Prelude.{◌≡◌, ◌+◌, ◌<◌, ◌≤◌, ℕ, Bool, List, [], Some, length, map, take, slice_get, Contains}
+use Rattle.std.specs.Prelude.{◌≡◌, ◌+◌, ◌<◌, ◌≤◌, ℕ, Bool, List, [], None, Some, length, map, take, slice_get, Contains}
 use Rattle.px_terms.specs.declared.atom.Atom.{Atom}
 use Rattle.px_proof.specs.declared.shape.Tick.{Tick}
 use Rattle.px_table.specs.declared.entry.Move.{Move}
 use Rattle.px_table.specs.declared.node.Node.{Node}
-use Rattle.px_diff.specs.Questions.{Question, MeetsLimit}
+use Rattle.px_gaps.specs.Questions.{Question, MeetsLimit}
 use Rattle.px_numbers.specs.declared.nodes.NodeKey.{NodeKey}
 use Rattle.px_numbers.specs.Numbers.{Kept, IsKeyOf, AllStand}
 use Rattle.px_ends.specs.Ends.{node_of, NoneSolved, IsFound, IsExhausted, IsNodeLimit, IsShapeLimit}
@@ -12,13 +12,18 @@ use Rattle.px_ends.specs.Order.{IsBefore}
 use Rattle.px_ends.specs.Tasks.{Task, initial_node, IsAllowed, after, AsksAt, goal_question}
 use Rattle.px_ends.proofs.Frontier.{Frontier}
 use Rattle.px_ends.proofs.MoveLaws.{order, same_move}
+use Rattle.px_search.specs.declared.breadth_first.Explored.{Explored}
 use Rattle.px_search.specs.declared.ends.SearchErr.{SearchErr}
 use Rattle.px_search.specs.declared.ends.SearchErr.TheVariants.{Exhausted, NodeLimit, ShapeLimit, NoMemory}
+use Rattle.px_search.specs.declared.progress.Outcome.{Outcome}
+use Rattle.px_search.specs.declared.progress.Outcome.TheVariants.{Plan, NoPlan, NoRoom}
 use Rattle.px_search.specs.declared.progress.Progress.{Progress}
 use Rattle.px_search.specs.declared.progress.Progress.TheVariants.{Unsolved, Solved, Full}
 use Rattle.px_search.specs.declared.step.Origin.{Origin}
 use Rattle.px_search.specs.declared.step.Step.{Step}
 use Rattle.px_search.specs.Going.{IsBegunOn}
+use Rattle.px_search.specs.Notes.{AreRight}
+use Rattle.px_search.specs.Scenes.{IsScene}
 use Rattle.px_search.specs.Steps.{AreEarlier, Trace}
 
 -- the question doesn't meet the limit
@@ -49,7 +54,7 @@ pub record Going (task : Task) (kept : Kept) (keys : List NodeKey) (origins : Li
   pub earlier : AreEarlier origins
   pub one_more : length keys ≡ length origins + 1
 
--- so many of these steps, which are the first moves of the node after those gone through, were tried
+-- `i` of these steps, which are the first moves of the node after those gone through, were tried
 pub record Trying (task : Task) (kept : Kept) (keys : List NodeKey) (origins : List Origin) (next : ℕ) (steps : List Step) (is_all : Bool) (i : ℕ) : Type 0 where
   pub key : NodeKey
   pub key_at : slice_get keys next ≡ Some key
@@ -71,7 +76,7 @@ pub record IsReached (task : Task) (kept : Kept) (origins : List Origin) : Type 
   pub traced : (found : List (List Move)) × Trace kept origins found
   pub found : (moves : List Move) → ((found : List (List Move)) → Trace kept origins found → slice_get found (length origins) ≡ Some moves) → IsFound task moves
 
--- There is no room for the last of the nodes, which so many moves reach: the ones before it are those of the limit.
+-- There is no room for the last of the nodes, which this number of moves reaches: the ones before it are those of the limit.
 pub record IsFull (task : Task) (kept : Kept) (keys : List NodeKey) (moves : ℕ) : Type 0 where
   pub count : task.problem.nodes ≤ length keys
   pub stand : (nodes : List Node) × AllStand kept keys nodes
@@ -82,3 +87,35 @@ abbrev pub IsProgress : Task → Kept → List NodeKey → List Origin → Type 
 IsProgress task kept keys origins goes Unsolved = goes
 IsProgress task kept keys origins goes Solved = IsReached task kept origins
 IsProgress task kept keys origins goes (Full moves) = IsFull task kept keys moves
+
+-- ---- of all that is found and kept
+
+-- what is kept is so
+pub record IsExploring (task : Task) (explored : Explored) : Type 0 where
+  pub notes : AreRight task explored.notes
+  pub scene : IsScene task explored.notes.numbers explored.scene
+
+-- as many of the nodes as `next` were gone through
+abbrev pub GoesOn : Task → Explored → ℕ → Type 0
+GoesOn task explored next = Going task explored.notes.numbers explored.nodes explored.origins.items next []
+
+-- as many as `i` of these steps from the node at the place `next` were tried
+abbrev pub TriesAt : Task → Explored → ℕ → List Step → Bool → ℕ → Type 0
+TriesAt task explored next steps is_all i = Trying task explored.notes.numbers explored.nodes explored.origins.items next steps is_all i
+
+-- what moves came to, where `goes` is what is known if none of the nodes is solved
+abbrev pub ComesTo : Task → Explored → Type 0 → Progress → Type 0
+ComesTo task explored goes progress = IsProgress task explored.notes.numbers explored.nodes explored.origins.items goes progress
+
+-- nothing is found yet, and what is kept is so
+pub record IsUnexplored (task : Task) (explored : Explored) : Type 0 where
+  pub notes : AreRight task explored.notes
+  pub scene : explored.scene.number ≡ None
+  pub nodes : explored.nodes ≡ []
+  pub origins : explored.origins.items ≡ []
+
+-- what a search came to
+abbrev pub ComesToEnd : Task → Explored → Outcome → Type 0
+ComesToEnd task explored (Plan path) = IsFound task path
+ComesToEnd task explored NoPlan = IsExhausted task
+ComesToEnd task explored (NoRoom moves) = IsFull task explored.notes.numbers explored.nodes moves

@@ -9,19 +9,20 @@ use Rattle.px_table.specs.declared.entry.Entry.{Entry}
 use Rattle.px_table.specs.declared.entry.Move.TheVariants as move
 use Rattle.px_table.specs.declared.table.Table.{Table}
 use Rattle.px_table.specs.EntryOrder.{order_of}
-use Rattle.px_diff.specs.Deciding.{AreDeciding}
-use Rattle.px_diff.specs.Models.{IsNeverLimited}
+use Rattle.px_entries.specs.Deciding.{AreDeciding}
+use Rattle.px_entries.specs.Unlimited.{IsNeverLimited}
 use Rattle.px_diff.specs.Pushes.{IsPushable}
 use Rattle.px_diff.specs.Stacks.{AreUnlimitedOver}
 use Rattle.px_numbers.specs.Numbers.{Kept, IsModelAt}
 use Rattle.px_ends.specs.Tasks.{Task}
 use Rattle.px_search.specs.Steps.{AreStepsOf}
-use Rattle.px_search.specs.declared.offer.Offer.{Offer}
-use Rattle.px_search.specs.declared.offers.Want.{Want}
+use Rattle.px_search.specs.declared.notes.Offer.{Offer}
+use Rattle.px_search.specs.declared.notes.Want.{Want}
 use Rattle.px_search.specs.declared.step.Step.{Step}
 
 -- The entries are the first, in order, of those that may be pushed for one of the wanted atoms where the stack is empty: each other one
--- comes after all of them. They are all of them where that is said.
+-- comes after all of them. They are all of them where that is said. (`AreFirstOf` is for moves, whose order is by all pairs; `AreFirst` of
+-- `px_diff` is for its requests.)
 pub record AreFirst (task : Task) (facts wanted : List Atom) (entries : List Entry) (is_all : Bool) : Type 0 where
   pub sound : (entry : Entry) → Contains entries entry → IsPushable task.problem task.tables wanted [] facts entry
   pub ordered : IsStrictlySortedBy order_of entries
@@ -64,10 +65,6 @@ abbrev pub IsOfferAt : Task → Kept → Want → Offer → Type 0
 IsOfferAt task kept want offer =
     (part : List Atom) × IsModelAt kept want.part part
     × ((facts : List Atom) → IsAtomSet facts → IsAlike task.problem task.tables facts part → IsOffered task kept facts (want.atom ∷ []) offer.steps offer.is_all)
-
--- all that is kept is so
-abbrev pub AreOffers : Task → Kept → List (Want × Offer) → Type 0
-AreOffers task kept known = (want : Want) (offer : Offer) → Contains known (want, offer) → IsOfferAt task kept want offer
 
 -- the steps are the pushes of these entries, which are in order
 pub record ArePushes (kept : Kept) (entries : List Entry) (steps : List Step) : Type 0 where

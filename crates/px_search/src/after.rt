@@ -4,47 +4,18 @@ ghost use Rattle.px_table.specs.declared.entry.Entry.{Entry};
 ghost use Rattle.px_table.specs.declared.entry.Move.{Move};
 ghost use Rattle.px_table.specs.declared.entry.Move.TheVariants.{Apply};
 ghost use Rattle.px_table.specs.declared.node.Node.{Node};
-ghost use Rattle.px_diff.specs.Entries.{IsEntry};
+ghost use Rattle.px_entries.specs.Entries.{IsEntry};
 ghost use Rattle.px_numbers.specs.Numbers.{IsKeyOf, KeepsAll};
-ghost use Rattle.px_search.specs.Asking.{IsAskable, task_for};
-ghost use Rattle.px_search.specs.Caches.{AreResults};
+ghost use Rattle.px_support.specs.Asking.{IsAskable, task_for};
+ghost use Rattle.px_search.specs.Notes.{AreRight, HaveGrown};
 ghost use Rattle.px_search.specs.Steps.{IsStepOf};
 ghost use Rattle.px_ends.specs.Tasks.{after};
 
-use crate::asked::Asked;
-use crate::cache::Place;
-use crate::results::{Results, result_at};
+use crate::notes::{Notes, Place};
 use crate::step::Step;
 use px_numbers::{NodeKey, Numbers};
+use px_support::Asked;
 use px_terms::NoMemory;
-
-/// The node whose top entry is applied.
-fn applied(
-    asked: &Asked,
-    numbers: &mut Numbers,
-    results: &mut Results,
-    key: NodeKey,
-) -> Result<NodeKey, NoMemory>
-    requires asked { IsAskable asked.now }
-    requires node { (node : Node) × IsKeyOf numbers.old key node × All (IsEntry asked.now.problem.now asked.now.tables.now) node.stack }
-    requires results { AreResults (task_for asked.now) numbers.old results.old }
-    ensures keeps { KeepsAll numbers.old numbers.new }
-    ensures results { OnOk result (AreResults (task_for asked.now) numbers.new results.new) }
-    ensures there { IfOk result (λ there. (node : Node) → IsKeyOf numbers.old key node → IsKeyOf numbers.new there (after (task_for asked.now) node Apply)) }
-{
-    let Some(frame) = numbers.top(key.stack) else {
-        return Ok(key);
-    };
-    let place = Place {
-        model: key.model,
-        entry: frame.entry,
-    };
-    let model = result_at(asked, numbers, results, place)?;
-    Ok(NodeKey {
-        model,
-        stack: frame.below,
-    })
-}
 
 /// The node with the entry on top of its stack.
 fn pushed(numbers: &mut Numbers, key: NodeKey, entry: u32) -> Result<NodeKey, NoMemory>
@@ -59,23 +30,40 @@ fn pushed(numbers: &mut Numbers, key: NodeKey, entry: u32) -> Result<NodeKey, No
     })
 }
 
-/// The node that the move leads to.
-pub fn after(
-    asked: &Asked,
-    numbers: &mut Numbers,
-    results: &mut Results,
-    key: NodeKey,
-    step: Step,
-) -> Result<NodeKey, NoMemory>
-    requires asked { IsAskable asked.now }
-    requires node { (node : Node) × IsKeyOf numbers.old key node × All (IsEntry asked.now.problem.now asked.now.tables.now) node.stack }
-    requires results { AreResults (task_for asked.now) numbers.old results.old }
-    ensures keeps { KeepsAll numbers.old numbers.new }
-    ensures results { OnOk result (AreResults (task_for asked.now) numbers.new results.new) }
-    ensures there { IfOk result (λ there. (node : Node) (m : Move) → IsKeyOf numbers.old key node → IsStepOf numbers.old step m → IsKeyOf numbers.new there (after (task_for asked.now) node m)) }
-{
-    match step {
-        Step::Apply => applied(asked, numbers, results, key),
-        Step::Push(entry) => pushed(numbers, key, entry),
+impl Notes {
+    /// The node whose top entry is applied.
+    fn applied(&mut self, asked: &Asked, key: NodeKey) -> Result<NodeKey, NoMemory>
+        requires asked { IsAskable asked.now }
+        requires notes { AreRight (task_for asked.now) self.old }
+        requires node { (node : Node) × IsKeyOf self.old.numbers key node × All (IsEntry asked.now.problem.now asked.now.tables.now) node.stack }
+        ensures notes { OnOk result (HaveGrown (task_for asked.now) self.old self.new) }
+        ensures there { IfOk result (λ there. (node : Node) → IsKeyOf self.old.numbers key node → IsKeyOf self.new.numbers there (after (task_for asked.now) node Apply)) }
+    {
+        let Some(frame) = self.numbers.top(key.stack) else {
+            return Ok(key);
+        };
+        let place = Place {
+            model: key.model,
+            entry: frame.entry,
+        };
+        let model = self.result_at(asked, place)?;
+        Ok(NodeKey {
+            model,
+            stack: frame.below,
+        })
+    }
+
+    /// The node that the move leads to.
+    pub fn after(&mut self, asked: &Asked, key: NodeKey, step: Step) -> Result<NodeKey, NoMemory>
+        requires asked { IsAskable asked.now }
+        requires notes { AreRight (task_for asked.now) self.old }
+        requires node { (node : Node) × IsKeyOf self.old.numbers key node × All (IsEntry asked.now.problem.now asked.now.tables.now) node.stack }
+        ensures notes { OnOk result (HaveGrown (task_for asked.now) self.old self.new) }
+        ensures there { IfOk result (λ there. (node : Node) (m : Move) → IsKeyOf self.old.numbers key node → IsStepOf self.old.numbers step m → IsKeyOf self.new.numbers there (after (task_for asked.now) node m)) }
+    {
+        match step {
+            Step::Apply => self.applied(asked, key),
+            Step::Push(entry) => pushed(&mut self.numbers, key, entry),
+        }
     }
 }

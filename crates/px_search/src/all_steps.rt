@@ -1,37 +1,28 @@
 //! All moves that are allowed at a node, found by its own questions.
-ghost use Rattle.std.specs.Prelude.{◌≡◌, ◌∷◌, [], All, IfOk};
-ghost use Rattle.px_diff.specs.Entries.{IsEntry, obligations_of};
-ghost use Rattle.px_diff.specs.Known.{IsKnownOf, IsOpenWith};
-ghost use Rattle.px_diff.specs.Outcomes.{IfLimit};
-ghost use Rattle.px_diff.specs.declared.known.Tried.TheVariants.{Unanswered};
+ghost use Rattle.std.specs.Prelude.{◌≡◌, ◌∷◌, [], IfOk};
+ghost use Rattle.px_entries.specs.Entries.{IsEntry, obligations_of};
+ghost use Rattle.px_gaps.specs.Known.{IsKnownOf, IsOpenWith};
+ghost use Rattle.px_gaps.specs.Outcomes.{IfLimit};
 ghost use Rattle.px_numbers.specs.Numbers.{IsKeyOf, IsModelAt, KeepsAll};
 ghost use Rattle.px_ends.specs.Tasks.{needs_at, needs_with};
-ghost use Rattle.px_search.specs.Asking.{IsAskable, IsTriedAt, task_for};
-ghost use Rattle.px_search.specs.Going.{IsGoneOn, LimitsNode};
+ghost use Rattle.px_support.specs.Asking.{IsAskable, task_for};
+ghost use Rattle.px_search.specs.Going.{IsAskedAt, IsGoneOn, LimitsAt, LimitsNode};
+ghost use Rattle.px_search.specs.Notes.{AreRight, HaveGrown, OnAnswer};
 ghost use Rattle.px_search.specs.declared.step.Step.{Step};
 ghost use Rattle.px_table.specs.declared.node.Node.{Node};
 
-use crate::asked::Asked;
+use crate::notes::Notes;
 use crate::picks::numbered;
 use crate::step::Step;
-use px_diff::{AskErr, Known, known_below, known_entry, known_formula, relevant};
+use px_diff::relevant;
+use px_entries::{known_below, known_entry};
+use px_gaps::{AskErr, Known, known_formula};
 use px_numbers::{NodeKey, Numbers, stack_at};
 use px_ops::Model;
+use px_support::Asked;
 use px_table::Entry;
 use px_terms::{Atom, NoMemory};
 use std::alloc::Global;
-
-/// What is known of the entry in the model.
-pub fn known_top(asked: &Asked, entry: &Entry, model: &Model) -> Result<Known, NoMemory>
-    requires asked { IsAskable asked.now }
-    requires entry { IsEntry asked.now.problem.now asked.now.tables.now entry.now }
-    ensures { IfOk result (IsKnownOf asked.now.problem.now (obligations_of asked.now.problem.now asked.now.tables.now model.now.atoms entry.now)) }
-{
-    if asked.is_never_limited {
-        return known_below(asked.alloc, asked.problem, asked.tables, entry, model);
-    }
-    known_entry(asked.alloc, asked.problem, asked.tables, entry, model)
-}
 
 /// The one move that applies the top entry.
 pub fn only_apply(alloc: Global) -> Result<Vec<Step>, NoMemory>
@@ -65,49 +56,65 @@ pub fn pushes(
     }
 }
 
-/// What is known of what the node needs.
-fn known_at(
-    asked: &Asked,
-    numbers: &Numbers,
-    model: &Model,
-    key: NodeKey,
-) -> Result<Known, NoMemory>
-    requires asked { IsAskable asked.now }
-    requires node { (node : Node) × IsKeyOf numbers.now key node × All (IsEntry asked.now.problem.now asked.now.tables.now) node.stack × IsTriedAt (task_for asked.now) node Unanswered }
-    requires model { IsModelAt numbers.now key.model model.now.atoms }
-    ensures { IfOk result (λ known. (node : Node) → IsKeyOf numbers.now key node → IsKnownOf asked.now.problem.now (needs_at (task_for asked.now) node) known) }
-{
-    match numbers.top(key.stack) {
-        None => known_formula(asked.alloc, asked.problem, asked.goal, asked.vars, model),
-        Some(frame) => known_top(asked, numbers.entry(frame.entry), model),
-    }
-}
-
-/// The moves that are allowed at the node, in order.
-///
-/// # Errors
-/// `ShapeLimit` where a question of the node meets the limit. `NoMemory` where there is none.
-pub fn all_steps_from(
-    asked: &Asked,
-    numbers: &mut Numbers,
-    key: NodeKey,
-) -> Result<Vec<Step>, AskErr>
-    requires asked { IsAskable asked.now }
-    requires node { (node : Node) × IsKeyOf numbers.old key node × All (IsEntry asked.now.problem.now asked.now.tables.now) node.stack × IsTriedAt (task_for asked.now) node Unanswered }
-    ensures keeps { KeepsAll numbers.old numbers.new }
-    ensures steps { IfOk result (λ steps. (node : Node) → IsKeyOf numbers.old key node → IsGoneOn (task_for asked.now) numbers.new node steps.items) }
-    ensures limited { IfLimit result (λ formula shapes. (node : Node) → IsKeyOf numbers.old key node → LimitsNode (task_for asked.now) node formula shapes) }
-{
-    let model = numbers.model(asked.alloc, key.model)?;
-    let stack = stack_at(asked.alloc, numbers, key.stack)?;
-    let known = known_at(asked, numbers, &model, key)?;
-    match known {
-        Known::Limited { formula, shapes } => Err(AskErr::ShapeLimit { formula, shapes }),
-        Known::Closed => Ok(Vec::new(asked.alloc)),
-        Known::Applicable => {
-            let only = only_apply(asked.alloc)?;
-            Ok(only)
+impl Notes {
+    /// What is known of the entry in the model.
+    pub fn known_top(&self, asked: &Asked, entry: &Entry, model: &Model) -> Result<Known, NoMemory>
+        requires asked { IsAskable asked.now }
+        requires notes { AreRight (task_for asked.now) self.now }
+        requires entry { IsEntry asked.now.problem.now asked.now.tables.now entry.now }
+        ensures { IfOk result (IsKnownOf asked.now.problem.now (obligations_of asked.now.problem.now asked.now.tables.now model.now.atoms entry.now)) }
+    {
+        if self.is_never_limited {
+            return known_below(asked.alloc, asked.problem, asked.tables, entry, model);
         }
-        Known::Open(gaps) => pushes(asked, numbers, &model, stack.as_slice(), gaps.as_slice()),
+        known_entry(asked.alloc, asked.problem, asked.tables, entry, model)
+    }
+
+    /// What is known of what the node needs.
+    fn known_at(&self, asked: &Asked, model: &Model, key: NodeKey) -> Result<Known, NoMemory>
+        requires asked { IsAskable asked.now }
+        requires notes { AreRight (task_for asked.now) self.now }
+        requires node { IsAskedAt (task_for asked.now) self.now.numbers key }
+        requires model { IsModelAt self.now.numbers key.model model.now.atoms }
+        ensures { IfOk result (λ known. (node : Node) → IsKeyOf self.now.numbers key node → IsKnownOf asked.now.problem.now (needs_at (task_for asked.now) node) known) }
+    {
+        match self.numbers.top(key.stack) {
+            None => known_formula(asked.alloc, asked.problem, asked.goal, asked.vars, model),
+            Some(frame) => self.known_top(asked, self.numbers.entry(frame.entry), model),
+        }
+    }
+
+    /// The moves that are allowed at the node, in order.
+    ///
+    /// # Errors
+    /// `ShapeLimit` where a question of the node meets the limit. `NoMemory` where there is none.
+    pub fn all_steps_from(&mut self, asked: &Asked, key: NodeKey) -> Result<Vec<Step>, AskErr>
+        requires asked { IsAskable asked.now }
+        requires notes { AreRight (task_for asked.now) self.old }
+        requires node { IsAskedAt (task_for asked.now) self.old.numbers key }
+        ensures notes { OnAnswer result (HaveGrown (task_for asked.now) self.old self.new) }
+        ensures steps { IfOk result (λ steps. (node : Node) → IsKeyOf self.old.numbers key node → IsGoneOn (task_for asked.now) self.new.numbers node steps.items) }
+        ensures limited { IfLimit result (LimitsAt (task_for asked.now) self.old.numbers key) }
+    {
+        let model = self.numbers.model(asked.alloc, key.model)?;
+        let stack = stack_at(asked.alloc, &self.numbers, key.stack)?;
+        let known = self.known_at(asked, &model, key)?;
+        match known {
+            Known::Limited { formula, shapes } => Err(AskErr::ShapeLimit { formula, shapes }),
+            Known::Closed => Ok(Vec::new(asked.alloc)),
+            Known::Applicable => {
+                let only = only_apply(asked.alloc)?;
+                Ok(only)
+            }
+            Known::Open(gaps) => {
+                pushes(
+                    asked,
+                    &mut self.numbers,
+                    &model,
+                    stack.as_slice(),
+                    gaps.as_slice(),
+                )
+            }
+        }
     }
 }

@@ -1,34 +1,28 @@
 //! The search, breadth first.
-ghost use Rattle.std.specs.Prelude.{◌≡◌, ◌+◌, ◌<◌, ◌≤◌, ◌^◌, ℕ, Bool, List, [], length, slice_get, Some, IfOk, IfErr, OnOk};
+ghost use Rattle.std.specs.Prelude.{◌≡◌, ◌+◌, ◌<◌, ◌≤◌, ◌^◌, ℕ, Bool, List, length, slice_get, Some, IfOk, IfErr, IsTrue, OnOk};
 ghost use Rattle.px_table.specs.declared.entry.Move.{Move};
 ghost use Rattle.px_table.specs.declared.node.Node.{Node};
+ghost use Rattle.px_entries.specs.Unlimited.{IsNeverLimited};
 ghost use Rattle.px_numbers.specs.Numbers.{IsKeyOf, KeepsAll};
 ghost use Rattle.px_ends.specs.Ends.{IsExhausted, IsFound, IsShapeLimit};
-ghost use Rattle.px_ends.specs.Tasks.{initial_node};
-ghost use Rattle.px_search.specs.Asking.{IsAskable, IsTriedAt, task_for};
-ghost use Rattle.px_search.specs.Caches.{AreResults, IsCache};
-ghost use Rattle.px_search.specs.Offers.{AreOffers};
-ghost use Rattle.px_search.specs.Scenes.{IsScene};
-ghost use Rattle.px_search.specs.Looping.{Going, IsEnd, IsProgress, Trying};
+ghost use Rattle.px_ends.specs.Tasks.{Task, initial_node};
+ghost use Rattle.px_support.specs.Asking.{IsAskable, task_for};
+ghost use Rattle.px_search.specs.Asking.{IsTriedAt};
+ghost use Rattle.px_search.specs.Looping.{ComesTo, ComesToEnd, GoesOn, IsEnd, IsExploring, IsFull, IsUnexplored, TriesAt};
 ghost use Rattle.px_search.specs.Steps.{AreEarlier, Trace};
 ghost use Rattle.px_search.specs.declared.step.Step.{Step};
 
-use crate::after::after;
-use crate::all_steps::all_steps_from;
-use crate::asked::Asked;
-use crate::cache::Cache;
 use crate::ends::SearchErr;
-use crate::moves::begun_from;
-use crate::offers::Offers;
+use crate::notes::Notes;
 use crate::origins::moves_to;
-use crate::progress::Progress;
-use crate::results::Results;
+use crate::progress::{Outcome, Progress};
 use crate::scene::Scene;
 use crate::step::{Origin, Step};
 use crate::tried::try_node;
-use px_diff::{AskErr, Tried};
+use px_gaps::{AskErr, Tried};
 use px_numbers::{FirstNodes, NodeKey, NodeSet, Numbers, node_at};
 use px_proof::Shape;
+use px_support::Asked;
 use px_table::Move;
 use px_terms::{Atom, NoMemory, Sequence};
 use std::alloc::Global;
@@ -56,7 +50,8 @@ fn limit_at(
 
 /// The node of the initial model.
 fn start_key(asked: &Asked, numbers: &mut Numbers) -> Result<NodeKey, NoMemory>
-    ensures { IfOk result (λ key. IsKeyOf numbers.new key (initial_node (task_for asked.now))) }
+    ensures keeps { KeepsAll numbers.old numbers.new }
+    ensures start { IfOk result (λ key. IsKeyOf numbers.new key (initial_node (task_for asked.now))) }
 {
     let model = numbers.model_number(asked.alloc, asked.initial)?;
     Ok(NodeKey { model, stack: 0 })
@@ -96,254 +91,265 @@ fn count_to(alloc: Global, numbers: &Numbers, origins: &Vec<Origin>) -> Result<u
     Ok(path.len() as u32)
 }
 
-/// Makes the move from the node at the place `next`, and keeps the node that it leads to where that is new.
-fn make_move(
-    asked: &Asked,
-    numbers: &mut Numbers,
-    results: &mut Results,
-    nodes: &mut NodeSet,
-    origins: &mut Vec<Origin>,
-    next: usize,
-    step: Step,
-) -> Result<Progress, SearchErr>
-    requires asked { IsAskable asked.now }
-    requires trying { (steps : List Step) × (is_all : Bool) × (i : ℕ) × Trying (task_for asked.now) numbers.old nodes.old origins.old.items next steps is_all i × (slice_get steps i ≡ Some step) }
-    requires results { AreResults (task_for asked.now) numbers.old results.old }
-    ensures keeps { KeepsAll numbers.old numbers.new }
-    ensures results { OnOk result (AreResults (task_for asked.now) numbers.new results.new) }
-    ensures made { IfOk result (IsProgress (task_for asked.now) numbers.new nodes.new origins.new.items ((steps : List Step) (is_all : Bool) (i : ℕ) → Trying (task_for asked.now) numbers.old nodes.old origins.old.items next steps is_all i → slice_get steps i ≡ Some step → Trying (task_for asked.now) numbers.new nodes.new origins.new.items next steps is_all (i + 1))) }
-    ensures ends { IfErr result (IsEnd (task_for asked.now)) }
-{
-    let key = nodes.node(next);
-    let there = after(asked, numbers, results, key, step)?;
-    numbers.sound();
-    let count = nodes.count();
-    let place = nodes.intern(there)?;
-    if (place as usize) < count {
-        return Ok(Progress::Unsolved);
-    }
-    origins.push(Origin {
-        parent: next,
-        last: step,
-    })?;
-    if count >= asked.problem.nodes as usize {
-        let moves = count_to(asked.alloc, numbers, origins)?;
-        return Ok(Progress::Full { moves });
-    }
-    let tried = try_node(asked, numbers, there)?;
-    match tried {
-        Tried::Answered => Ok(Progress::Solved),
-        Tried::Unanswered => Ok(Progress::Unsolved),
-        Tried::Limited { formula, shapes } => {
-            Err(limit_at(asked, numbers, there, formula, shapes))
-        }
-    }
+/// The nodes that a search has found, and what it keeps.
+#[derive(Drop)]
+pub struct Explored {
+    pub notes: Notes,
+    /// The model that was looked at last.
+    pub scene: Scene,
+    /// The nodes, in the order in which they were found.
+    pub nodes: NodeSet,
+    /// Where all nodes but the first come from, in order.
+    pub origins: Vec<Origin>,
 }
 
-/// Makes the moves from the node at the place `next`, from the one at the place `from` on, or those up to the first that leads to a
-/// solved node or to one without room.
-fn make_all(
-    asked: &Asked,
-    numbers: &mut Numbers,
-    results: &mut Results,
-    nodes: &mut NodeSet,
-    origins: &mut Vec<Origin>,
-    next: usize,
-    steps: &Vec<Step>,
-    from: usize,
-) -> Result<Progress, SearchErr>
-    requires asked { IsAskable asked.now }
-    requires trying { (is_all : Bool) × Trying (task_for asked.now) numbers.old nodes.old origins.old.items next steps.now.items is_all from }
-    requires from { from ≤ length steps.now.items }
-    requires results { AreResults (task_for asked.now) numbers.old results.old }
-    ensures keeps { KeepsAll numbers.old numbers.new }
-    ensures results { OnOk result (AreResults (task_for asked.now) numbers.new results.new) }
-    ensures made { IfOk result (IsProgress (task_for asked.now) numbers.new nodes.new origins.new.items ((is_all : Bool) → Trying (task_for asked.now) numbers.old nodes.old origins.old.items next steps.now.items is_all from → Trying (task_for asked.now) numbers.new nodes.new origins.new.items next steps.now.items is_all (length steps.now.items))) }
-    ensures ends { IfErr result (IsEnd (task_for asked.now)) }
-{
-    for turn in from..steps.len() {
-        let step = step_at(steps, turn);
-        let progress = make_move(asked, numbers, results, nodes, origins, next, step)?;
+impl Explored {
+    /// Makes the move from the node at the place `next`, and keeps the node that it leads to where that is new.
+    fn make_move(&mut self, asked: &Asked, next: usize, step: Step) -> Result<Progress, SearchErr>
+        requires asked { IsAskable asked.now }
+        requires explored { IsExploring (task_for asked.now) self.old }
+        requires trying { (steps : List Step) × (is_all : Bool) × (i : ℕ) × TriesAt (task_for asked.now) self.old next steps is_all i × (slice_get steps i ≡ Some step) }
+        ensures explored { OnOk result (IsExploring (task_for asked.now) self.new) }
+        ensures made { IfOk result (ComesTo (task_for asked.now) self.new ((steps : List Step) (is_all : Bool) (i : ℕ) → TriesAt (task_for asked.now) self.old next steps is_all i → slice_get steps i ≡ Some step → TriesAt (task_for asked.now) self.new next steps is_all (i + 1))) }
+        ensures ends { IfErr result (IsEnd (task_for asked.now)) }
+    {
+        let key = self.nodes.node(next);
+        let there = self.notes.after(asked, key, step)?;
+        self.notes.numbers.sound();
+        let count = self.nodes.count();
+        let place = self.nodes.intern(there)?;
+        if (place as usize) < count {
+            return Ok(Progress::Unsolved);
+        }
+        self.origins.push(Origin {
+            parent: next,
+            last: step,
+        })?;
+        if count >= asked.problem.nodes as usize {
+            let moves = count_to(asked.alloc, &self.notes.numbers, &self.origins)?;
+            return Ok(Progress::Full { moves });
+        }
+        let tried = try_node(asked, &self.notes.numbers, there)?;
+        match tried {
+            Tried::Answered => Ok(Progress::Solved),
+            Tried::Unanswered => Ok(Progress::Unsolved),
+            Tried::Limited { formula, shapes } => {
+                Err(limit_at(asked, &self.notes.numbers, there, formula, shapes))
+            }
+        }
+    }
+
+    /// Makes the moves from the node at the place `next`, from the one at the place `from` on, or those up to the first that leads to a
+    /// solved node or to one without room.
+    fn make_all(
+        &mut self,
+        asked: &Asked,
+        next: usize,
+        steps: &Vec<Step>,
+        from: usize,
+    ) -> Result<Progress, SearchErr>
+        requires asked { IsAskable asked.now }
+        requires explored { IsExploring (task_for asked.now) self.old }
+        requires trying { (is_all : Bool) × TriesAt (task_for asked.now) self.old next steps.now.items is_all from }
+        requires from { from ≤ length steps.now.items }
+        ensures explored { OnOk result (IsExploring (task_for asked.now) self.new) }
+        ensures made { IfOk result (ComesTo (task_for asked.now) self.new ((is_all : Bool) → TriesAt (task_for asked.now) self.old next steps.now.items is_all from → TriesAt (task_for asked.now) self.new next steps.now.items is_all (length steps.now.items))) }
+        ensures ends { IfErr result (IsEnd (task_for asked.now)) }
+    {
+        for turn in from..steps.len() {
+            let step = step_at(steps, turn);
+            let progress = self.make_move(asked, next, step)?;
+            match progress {
+                Progress::Unsolved => {}
+                Progress::Solved => return Ok(Progress::Solved),
+                Progress::Full { moves } => return Ok(Progress::Full { moves }),
+            }
+        }
+        Ok(Progress::Unsolved)
+    }
+
+    // Alike: the head of `top_steps` in moves.rt, by the number of arguments alone.
+    /// Makes the moves from the node at the place `next` that come after the first ones, which are as many as `from` and were made, or
+    /// those up to the first that leads to a solved node or to one without room.
+    fn make_others(
+        &mut self,
+        asked: &Asked,
+        next: usize,
+        from: usize,
+    ) -> Result<Progress, SearchErr>
+        requires asked { IsAskable asked.now }
+        requires explored { IsExploring (task_for asked.now) self.old }
+        requires trying { (steps : List Step) × (is_all : Bool) × (from ≡ length steps) × TriesAt (task_for asked.now) self.old next steps is_all from }
+        ensures explored { OnOk result (IsExploring (task_for asked.now) self.new) }
+        ensures gone { IfOk result (ComesTo (task_for asked.now) self.new (GoesOn (task_for asked.now) self.new (next + 1))) }
+        ensures ends { IfErr result (IsEnd (task_for asked.now)) }
+    {
+        let key = self.nodes.node(next);
+        let steps = match self.notes.all_steps_from(asked, key) {
+            Ok(steps) => steps,
+            Err(AskErr::ShapeLimit { .. }) => unreachable!(),
+            Err(AskErr::NoMemory) => return Err(SearchErr::NoMemory),
+        };
+        let progress = self.make_all(asked, next, &steps, from)?;
+        Ok(progress)
+    }
+
+    /// Makes all moves from the node at the place `next`, or those up to the first that leads to a solved node or to one without room.
+    /// The moves after the first ones are asked for only where none of these leads there.
+    fn go_through(&mut self, asked: &Asked, next: usize) -> Result<Progress, SearchErr>
+        requires asked { IsAskable asked.now }
+        requires explored { IsExploring (task_for asked.now) self.old }
+        requires going { GoesOn (task_for asked.now) self.old next }
+        requires next { next < length self.old.nodes }
+        ensures explored { OnOk result (IsExploring (task_for asked.now) self.new) }
+        ensures gone { IfOk result (ComesTo (task_for asked.now) self.new (GoesOn (task_for asked.now) self.new (next + 1))) }
+        ensures ends { IfErr result (IsEnd (task_for asked.now)) }
+    {
+        let key = self.nodes.node(next);
+        let begun = match self.notes.begun_from(asked, &mut self.scene, key) {
+            Ok(begun) => begun,
+            Err(AskErr::ShapeLimit { formula, shapes }) => {
+                return Err(limit_at(asked, &self.notes.numbers, key, formula, shapes));
+            }
+            Err(AskErr::NoMemory) => return Err(SearchErr::NoMemory),
+        };
+        let progress = self.make_all(asked, next, &begun.steps, 0)?;
         match progress {
             Progress::Unsolved => {}
             Progress::Solved => return Ok(Progress::Solved),
             Progress::Full { moves } => return Ok(Progress::Full { moves }),
         }
-    }
-    Ok(Progress::Unsolved)
-}
-
-/// Makes the moves from the node at the place `next` that come after the first ones, which are as many as `from` and were made, or
-/// those up to the first that leads to a solved node or to one without room.
-fn make_others(
-    asked: &Asked,
-    numbers: &mut Numbers,
-    results: &mut Results,
-    nodes: &mut NodeSet,
-    origins: &mut Vec<Origin>,
-    next: usize,
-    from: usize,
-) -> Result<Progress, SearchErr>
-    requires asked { IsAskable asked.now }
-    requires trying { (steps : List Step) × (is_all : Bool) × (from ≡ length steps) × Trying (task_for asked.now) numbers.old nodes.old origins.old.items next steps is_all from }
-    requires results { AreResults (task_for asked.now) numbers.old results.old }
-    ensures keeps { KeepsAll numbers.old numbers.new }
-    ensures results { OnOk result (AreResults (task_for asked.now) numbers.new results.new) }
-    ensures gone { IfOk result (IsProgress (task_for asked.now) numbers.new nodes.new origins.new.items (Going (task_for asked.now) numbers.new nodes.new origins.new.items (next + 1) [])) }
-    ensures ends { IfErr result (IsEnd (task_for asked.now)) }
-{
-    let key = nodes.node(next);
-    let steps = match all_steps_from(asked, numbers, key) {
-        Ok(steps) => steps,
-        Err(AskErr::ShapeLimit { .. }) => unreachable!(),
-        Err(AskErr::NoMemory) => return Err(SearchErr::NoMemory),
-    };
-    let progress = make_all(asked, numbers, results, nodes, origins, next, &steps, from)?;
-    Ok(progress)
-}
-
-/// Makes all moves from the node at the place `next`, or those up to the first that leads to a solved node or to one without room. The
-/// moves after the first ones are asked for only where none of these leads there.
-fn go_through(
-    asked: &Asked,
-    numbers: &mut Numbers,
-    cache: &mut Cache,
-    offers: &mut Offers,
-    scene: &mut Scene,
-    results: &mut Results,
-    nodes: &mut NodeSet,
-    origins: &mut Vec<Origin>,
-    next: usize,
-) -> Result<Progress, SearchErr>
-    requires asked { IsAskable asked.now }
-    requires going { Going (task_for asked.now) numbers.old nodes.old origins.old.items next [] }
-    requires next { next < length nodes.old }
-    requires cache { IsCache (task_for asked.now) numbers.old cache.old }
-    requires offers { AreOffers (task_for asked.now) numbers.old offers.old }
-    requires scene { IsScene (task_for asked.now) numbers.old scene.old }
-    requires results { AreResults (task_for asked.now) numbers.old results.old }
-    ensures gone { IfOk result (IsProgress (task_for asked.now) numbers.new nodes.new origins.new.items (Going (task_for asked.now) numbers.new nodes.new origins.new.items (next + 1) [] × IsCache (task_for asked.now) numbers.new cache.new × AreOffers (task_for asked.now) numbers.new offers.new × IsScene (task_for asked.now) numbers.new scene.new × AreResults (task_for asked.now) numbers.new results.new)) }
-    ensures ends { IfErr result (IsEnd (task_for asked.now)) }
-{
-    let key = nodes.node(next);
-    let begun = match begun_from(asked, numbers, cache, offers, scene, key) {
-        Ok(begun) => begun,
-        Err(AskErr::ShapeLimit { formula, shapes }) => {
-            return Err(limit_at(asked, numbers, key, formula, shapes));
+        if begun.is_all {
+            return Ok(Progress::Unsolved);
         }
-        Err(AskErr::NoMemory) => return Err(SearchErr::NoMemory),
-    };
-    let progress = make_all(
-        asked,
-        numbers,
-        results,
-        nodes,
-        origins,
-        next,
-        &begun.steps,
-        0,
-    )?;
-    match progress {
-        Progress::Unsolved => {}
-        Progress::Solved => return Ok(Progress::Solved),
-        Progress::Full { moves } => return Ok(Progress::Full { moves }),
+        let others = self.make_others(asked, next, begun.steps.len())?;
+        Ok(others)
     }
-    if begun.is_all {
-        return Ok(Progress::Unsolved);
+
+    /// Goes through all nodes, up to the first move that leads to a solved node or to one without room.
+    fn walk(&mut self, asked: &Asked) -> Result<Progress, SearchErr>
+        requires asked { IsAskable asked.now }
+        requires explored { IsExploring (task_for asked.now) self.old }
+        requires going { GoesOn (task_for asked.now) self.old 0 }
+        ensures walked { IfOk result (ComesTo (task_for asked.now) self.new (IsExhausted (task_for asked.now))) }
+        ensures ends { IfErr result (IsEnd (task_for asked.now)) }
+    {
+        let mut next = 0;
+        while next < self.nodes.count() {
+            let progress = self.go_through(asked, next)?;
+            match progress {
+                Progress::Unsolved => {}
+                Progress::Solved => return Ok(Progress::Solved),
+                Progress::Full { moves } => return Ok(Progress::Full { moves }),
+            }
+            next += 1;
+        }
+        Ok(Progress::Unsolved)
     }
-    let from = begun.steps.len();
-    let others = make_others(asked, numbers, results, nodes, origins, next, from)?;
-    Ok(others)
 }
 
-/// Goes through all nodes, up to the first move that leads to a solved node or to one without room.
-fn walk(
-    asked: &Asked,
-    numbers: &mut Numbers,
-    nodes: &mut NodeSet,
-    origins: &mut Vec<Origin>,
-) -> Result<Progress, SearchErr>
-    requires asked { IsAskable asked.now }
-    requires going { Going (task_for asked.now) numbers.old nodes.old origins.old.items 0 [] }
-    ensures walked { IfOk result (IsProgress (task_for asked.now) numbers.new nodes.new origins.new.items (IsExhausted (task_for asked.now))) }
-    ensures ends { IfErr result (IsEnd (task_for asked.now)) }
-{
-    let mut cache = Cache::new(asked.alloc);
-    let mut offers = Offers::new(asked.alloc);
-    let mut scene = Scene::new(asked.alloc);
-    let mut results = Results::new(asked.alloc);
-    let mut next = 0;
-    while next < nodes.count() {
-        let progress = go_through(
-            asked,
-            numbers,
-            &mut cache,
-            &mut offers,
-            &mut scene,
-            &mut results,
+impl Explored {
+    /// Nothing is found yet.
+    fn new(alloc: Global, is_never_limited: bool) -> Explored
+        ensures { (task : Task) → (IsTrue is_never_limited → IsNeverLimited task.problem task.tables) → IsUnexplored task result }
+    {
+        let notes = Notes::new(alloc, is_never_limited);
+        let scene = Scene::new(alloc);
+        let nodes = NodeSet::new(alloc);
+        let origins = Vec::new(alloc);
+        Explored {
+            notes,
+            scene,
             nodes,
             origins,
-            next,
-        )?;
+        }
+    }
+
+    /// Searches from the start, which isn't solved.
+    fn search_from(&mut self, asked: &Asked, start: NodeKey) -> Result<Outcome, SearchErr>
+        requires asked { IsAskable asked.now }
+        requires explored { IsUnexplored (task_for asked.now) self.old }
+        requires start { IsKeyOf self.old.notes.numbers start (initial_node (task_for asked.now)) }
+        requires tried { IsTriedAt (task_for asked.now) (initial_node (task_for asked.now)) Tried.Unanswered }
+        ensures outcome { IfOk result (ComesToEnd (task_for asked.now) self.new) }
+        ensures ends { IfErr result (IsEnd (task_for asked.now)) }
+    {
+        self.nodes.intern(start)?;
+        let progress = self.walk(asked)?;
         match progress {
-            Progress::Unsolved => {}
-            Progress::Solved => return Ok(Progress::Solved),
-            Progress::Full { moves } => return Ok(Progress::Full { moves }),
+            Progress::Unsolved => Ok(Outcome::NoPlan),
+            Progress::Solved => {
+                let path = path_to(asked.alloc, &self.notes.numbers, &self.origins)?;
+                Ok(Outcome::Plan(path))
+            }
+            Progress::Full { moves } => Ok(Outcome::NoRoom { moves }),
         }
-        next += 1;
     }
-    Ok(Progress::Unsolved)
+
+    /// Searches from the initial model.
+    fn search(&mut self, asked: &Asked) -> Result<Outcome, SearchErr>
+        requires asked { IsAskable asked.now }
+        requires explored { IsUnexplored (task_for asked.now) self.old }
+        ensures outcome { IfOk result (ComesToEnd (task_for asked.now) self.new) }
+        ensures ends { IfErr result (IsEnd (task_for asked.now)) }
+    {
+        let start = start_key(asked, &mut self.notes.numbers)?;
+        let tried = try_node(asked, &self.notes.numbers, start)?;
+        match tried {
+            Tried::Answered => Ok(Outcome::Plan(Sequence::from_vec(Vec::new(asked.alloc)))),
+            Tried::Unanswered => self.search_from(asked, start),
+            Tried::Limited { formula, shapes } => {
+                Err(limit_at(asked, &self.notes.numbers, start, formula, shapes))
+            }
+        }
+    }
 }
 
-/// Searches from the start, which isn't solved.
-fn found_from(
-    asked: &Asked,
-    mut numbers: Numbers,
-    start: NodeKey,
-) -> Result<Sequence<Move>, SearchErr>
-    requires asked { IsAskable asked.now }
-    requires start { IsKeyOf numbers start (initial_node (task_for asked.now)) }
-    requires tried { IsTriedAt (task_for asked.now) (initial_node (task_for asked.now)) Tried.Unanswered }
-    ensures found { IfOk result (IsFound (task_for asked.now)) }
-    ensures ends { IfErr result (IsEnd (task_for asked.now)) }
+/// Lets go of what was found. It stands once, since each way out of a function that holds it is proved.
+fn let_go(_explored: Explored) {}
+
+/// The end where there is no room for the last node, which this number of moves reaches.
+fn node_limit(asked: &Asked, explored: Explored, moves: u32) -> SearchErr
+    requires full { IsFull (task_for asked.now) explored.notes.numbers explored.nodes moves }
+    ensures { IsEnd (task_for asked.now) result }
 {
-    let mut nodes = NodeSet::new(asked.alloc);
-    nodes.intern(start)?;
-    let mut origins = Vec::new(asked.alloc);
-    let progress = walk(asked, &mut numbers, &mut nodes, &mut origins)?;
-    match progress {
-        Progress::Unsolved => Err(SearchErr::Exhausted),
-        Progress::Solved => {
-            let path = path_to(asked.alloc, &numbers, &origins)?;
-            Ok(path)
-        }
-        Progress::Full { moves } => {
-            let firsts = FirstNodes::new(numbers, nodes, asked.problem.nodes as usize);
-            Err(SearchErr::NodeLimit {
-                nodes: firsts,
-                moves,
-            })
-        }
+    let Explored { notes, nodes, .. } = explored;
+    let Notes { numbers, .. } = notes;
+    let firsts = FirstNodes::new(numbers, nodes, asked.problem.nodes as usize);
+    SearchErr::NodeLimit {
+        nodes: firsts,
+        moves,
     }
 }
 
-/// Searches for a plan, breadth first: the moves to the first solved node.
+/// Searches for a plan, breadth first: the moves to the first solved node. `is_never_limited` is whether it is known that no question about
+/// an entry meets the limit of shapes, whatever the facts are.
 ///
 /// # Errors
 /// Those of `SearchErr`.
-pub fn found_by_moves(asked: &Asked) -> Result<Sequence<Move>, SearchErr>
-    requires { IsAskable asked.now }
+pub fn found_by_moves(asked: &Asked, is_never_limited: bool) -> Result<Sequence<Move>, SearchErr>
+    requires asked { IsAskable asked.now }
+    requires never_limited { IsTrue is_never_limited → IsNeverLimited asked.now.problem.now asked.now.tables.now }
     ensures found { IfOk result (IsFound (task_for asked.now)) }
     ensures ends { IfErr result (IsEnd (task_for asked.now)) }
 {
-    let mut numbers = Numbers::new(asked.alloc);
-    let start = start_key(asked, &mut numbers)?;
-    let tried = try_node(asked, &numbers, start)?;
-    match tried {
-        Tried::Answered => Ok(Sequence::from_vec(Vec::new(asked.alloc))),
-        Tried::Unanswered => found_from(asked, numbers, start),
-        Tried::Limited { formula, shapes } => {
-            Err(limit_at(asked, &numbers, start, formula, shapes))
+    let mut explored = Explored::new(asked.alloc, is_never_limited);
+    let outcome = match explored.search(asked) {
+        Ok(outcome) => outcome,
+        Err(error) => {
+            let_go(explored);
+            return Err(error);
         }
+    };
+    match outcome {
+        Outcome::Plan(path) => {
+            let_go(explored);
+            Ok(path)
+        }
+        Outcome::NoPlan => {
+            let_go(explored);
+            Err(SearchErr::Exhausted)
+        }
+        Outcome::NoRoom { moves } => Err(node_limit(asked, explored, moves)),
     }
 }

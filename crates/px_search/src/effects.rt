@@ -4,11 +4,11 @@ ghost use Rattle.px_terms.specs.Language.{IsVariableBelow};
 ghost use Rattle.px_terms.specs.Operators.{results_of};
 ghost use Rattle.px_terms.specs.Validity.{IsGroundInstanceOf, IsValid};
 ghost use Rattle.px_table.specs.Kernels.{instance_under};
-ghost use Rattle.px_diff.specs.Entries.{IsEntry, effect_of};
-ghost use Rattle.px_search.specs.Asking.{IsAskable};
+ghost use Rattle.px_entries.specs.Entries.{IsEntry, effect_of};
+ghost use Rattle.px_support.specs.Asking.{IsAskable};
 
-use crate::asked::Asked;
 use px_ops::{Model, apply_op};
+use px_support::Asked;
 use px_table::{Entry, instance_with};
 use px_terms::{NoMemory, OpInst, Problem};
 use std::alloc::Global;

@@ -4,7 +4,7 @@
 //! # Calling it
 //!
 //! - [`search`] asks for a valid problem, a goal over at most 12 variables, an object where there is a variable, and learned tables
-//!   (`AreLearned` of `px_diff`). What it answers is said over the task of these (`task_of` of `px_ends`).
+//!   (`AreLearned` of `px_entries`). What it answers is said over the task of these (`task_of` of `px_ends`).
 //! - It answers a plan: the moves to the first solved node, by the fewest moves (`IsFound`), the steps that they take, and the rows
 //!   of the table of the moves (`MovesRows`). The rows are a support of the steps, which carry the initial model to the goal
 //!   (`Supports`, `Carries`): `build` of `px_table` makes the plan's table of them.
@@ -19,31 +19,27 @@
 //! # Inside
 //!
 //! Models, entries, stacks and nodes are numbers (`px_numbers`). The model that is looked at is kept from one node to the next, with the
-//! number of the part of it that decides what may be pushed (`scene`). What an entry allows in a model doesn't depend on what is below it
-//! on the stack, but for the entries that are there: what is learned of a pair of entry and model is kept (`cache`), unless a
-//! question about it meets the limit of shapes. So is the model that applying the entry leaves (`results`). What may be pushed for a
-//! wanted atom is kept too (`offers`, `offering`): for all models with the same deciding facts, where no question about an entry ever
-//! meets the limit, and else for that model. The lists for the wanted atoms of a node are joined by their order (`merging`).
+//! number of the part of it that decides what may be pushed (`scene`). All else that is learned is kept in one place (`notes`). What an
+//! entry allows in a model doesn't depend on what is below it on the stack, but for the entries that are there: what is learned of a pair
+//! of entry and model is kept (`moves`), unless a question about it meets the limit of shapes. So is the model that applying the entry
+//! leaves (`results`). What may be pushed for a wanted atom is kept too (`offering`): for all models with the same deciding facts, where
+//! no question about an entry ever meets the limit, and else for that model. The lists for the wanted atoms of a node are joined by their
+//! order (`merging`).
 //!
 //! Where no question ever meets the limit and a node may push more entries than the node limit has room for, only the first of them are
-//! found, and kept (`begun`, `offer`). All are asked for (`all_steps`) where the first were gone through and there is room left.
+//! found, and kept (`begun`). All are asked for (`all_steps`) where the first were gone through and there is room left.
 #![tactic(auto)]
 
 mod after;
 mod all_steps;
-mod asked;
 mod begun;
 mod breadth_first;
-mod cache;
 mod effects;
 mod ends;
-#[cfg(test)]
-mod learned_tests;
 mod merging;
 mod moves;
-mod offer;
+mod notes;
 mod offering;
-mod offers;
 mod origins;
 mod picks;
 mod planning;
@@ -51,8 +47,6 @@ mod progress;
 mod results;
 mod scene;
 mod step;
-#[cfg(test)]
-mod tests;
 mod tried;
 
 pub use ends::{Found, SearchErr};

@@ -1,28 +1,26 @@
 //! The pushes for wanted atoms over the empty stack, and over a node's.
-ghost use Rattle.std.specs.Prelude.{◌≡◌, ◌∷◌, List, [], IfOk, IfSome, OnOk};
+ghost use Rattle.std.specs.Prelude.{◌≡◌, ◌∷◌, List, [], IfOk, IfSome};
 ghost use Rattle.px_terms.specs.AtomSets.{IsAtomSet};
 ghost use Rattle.px_table.specs.declared.entry.Entry.{Entry};
-ghost use Rattle.px_diff.specs.Known.{IsOpenWith};
-ghost use Rattle.px_diff.specs.Outcomes.{IfLimit};
+ghost use Rattle.px_gaps.specs.Known.{IsOpenWith};
 ghost use Rattle.px_diff.specs.Stacks.{AreUnlimitedOver};
-ghost use Rattle.px_numbers.specs.Numbers.{IsStackAt, KeepsAll};
+ghost use Rattle.px_numbers.specs.Numbers.{IsStackAt};
 ghost use Rattle.px_ends.specs.Tasks.{needs_with};
-ghost use Rattle.px_search.specs.Asking.{IsAskable, task_for};
+ghost use Rattle.px_support.specs.Asking.{IsAskable, task_for};
 ghost use Rattle.px_search.specs.Going.{IsBegunOn};
-ghost use Rattle.px_search.specs.Offers.{AreFirst, AreOffers, IsOffered, IsOfferedWhole, IsPartAt};
+ghost use Rattle.px_search.specs.Notes.{AreRight, HaveGrown, OnAnswer};
+ghost use Rattle.px_search.specs.Offers.{AreFirst, IsOffered, IsOfferedWhole, IsPartAt};
 
-use crate::asked::Asked;
 use crate::begun::Begun;
 use crate::merging::merged;
-use crate::offer::Offer;
-use crate::offers::{Offers, Want};
+use crate::notes::{Notes, Offer, Want};
 use crate::picks::{numbered, struck};
+use crate::scene::Scene;
 use crate::step::Step;
-use px_diff::{
-    AskErr, First, relevance_over_models, relevance_over_stacks, relevant, relevant_first,
-};
-use px_numbers::Numbers;
+use px_diff::{First, relevance_over_models, relevance_over_stacks, relevant, relevant_first};
+use px_gaps::AskErr;
 use px_ops::Model;
+use px_support::Asked;
 use px_terms::{Atom, NoMemory, Sequence};
 use std::alloc::Global;
 
@@ -54,206 +52,180 @@ fn all_entries_for(asked: &Asked, model: &Model, wanted: &[Atom]) -> Result<Firs
     }
 }
 
-/// The first of the entries that may be pushed for one of the atoms over the empty stack, in order: as many as a node may have room for.
-fn entries_for(asked: &Asked, model: &Model, wanted: &[Atom]) -> Result<First, AskErr>
-    requires asked { IsAskable asked.now }
-    requires model { IsAtomSet model.now.atoms }
-    ensures first { IfOk result (λ first. AreFirst (task_for asked.now) model.now.atoms wanted.now first.entries.items first.is_all) }
-    ensures unlimited { IfOk result (λ first. AreUnlimitedOver asked.now.problem.now asked.now.tables.now wanted.now model.now.atoms []) }
-{
-    if asked.is_never_limited {
-        let enough = asked.problem.nodes as usize;
-        let first = relevant_first(
-            asked.alloc,
-            asked.problem,
-            wanted,
-            model,
-            asked.tables,
-            enough,
-        )?;
-        return Ok(first);
-    }
-    all_entries_for(asked, model, wanted)
-}
-
-/// The first pushes for the atom, which are found and kept.
-fn offer_anew(
-    asked: &Asked,
-    numbers: &mut Numbers,
-    offers: &mut Offers,
-    model: &Model,
-    want: &Want,
-) -> Result<Begun, AskErr>
-    requires asked { IsAskable asked.now }
-    requires part { IsPartAt (task_for asked.now) numbers.old want.now.part model.now.atoms }
-    requires offers { AreOffers (task_for asked.now) numbers.old offers.old }
-    ensures keeps { KeepsAll numbers.old numbers.new }
-    ensures offers { OnOk result (AreOffers (task_for asked.now) numbers.new offers.new) }
-    ensures limited { IfLimit result (λ formula shapes. AreOffers (task_for asked.now) numbers.new offers.new) }
-    ensures steps { IfOk result (λ begun. IsOffered (task_for asked.now) numbers.new model.now.atoms (want.now.atom ∷ []) begun.steps.items begun.is_all) }
-{
-    let first = match entries_for(asked, model, &[want.atom]) {
-        Ok(first) => first,
-        Err(error) => return Err(error),
-    };
-    let steps = numbered(asked.alloc, numbers, &first.entries)?;
-    let kept = Sequence::from_slice(asked.alloc, steps.as_slice())?;
-    let is_all = first.is_all;
-    let offer = Offer {
-        steps: kept,
-        is_all,
-    };
-    offers.remember(want, offer)?;
-    relevance_over_models();
-    Ok(Begun { steps, is_all })
-}
-
-/// The first pushes for the atom, which are kept.
-fn offer(
-    asked: &Asked,
-    numbers: &mut Numbers,
-    offers: &mut Offers,
-    model: &Model,
-    want: &Want,
-) -> Result<Begun, AskErr>
-    requires asked { IsAskable asked.now }
-    requires part { IsPartAt (task_for asked.now) numbers.old want.now.part model.now.atoms }
-    requires offers { AreOffers (task_for asked.now) numbers.old offers.old }
-    ensures keeps { KeepsAll numbers.old numbers.new }
-    ensures offers { OnOk result (AreOffers (task_for asked.now) numbers.new offers.new) }
-    ensures limited { IfLimit result (λ formula shapes. AreOffers (task_for asked.now) numbers.new offers.new) }
-    ensures steps { IfOk result (λ begun. IsOffered (task_for asked.now) numbers.new model.now.atoms (want.now.atom ∷ []) begun.steps.items begun.is_all) }
-{
-    match offers.find(want) {
-        Some(offer) => {
-            let copy = copy_of(asked.alloc, offer)?;
-            Ok(copy)
+impl Notes {
+    /// The first of the entries that may be pushed for one of the atoms over the empty stack, in order: as many as a node may have room
+    /// for.
+    fn entries_for(&self, asked: &Asked, model: &Model, wanted: &[Atom]) -> Result<First, AskErr>
+        requires asked { IsAskable asked.now }
+        requires notes { AreRight (task_for asked.now) self.now }
+        requires model { IsAtomSet model.now.atoms }
+        ensures first { IfOk result (λ first. AreFirst (task_for asked.now) model.now.atoms wanted.now first.entries.items first.is_all) }
+        ensures unlimited { IfOk result (λ first. AreUnlimitedOver asked.now.problem.now asked.now.tables.now wanted.now model.now.atoms []) }
+    {
+        if self.is_never_limited {
+            let enough = asked.problem.nodes as usize;
+            let first = relevant_first(
+                asked.alloc,
+                asked.problem,
+                wanted,
+                model,
+                asked.tables,
+                enough,
+            )?;
+            return Ok(first);
         }
-        None => offer_anew(asked, numbers, offers, model, want),
+        all_entries_for(asked, model, wanted)
     }
-}
 
-/// All pushes for one of the atoms over the empty stack, in order, by what is kept for each of them; or None where that isn't all, or where
-/// they are many.
-fn offered_each(
-    asked: &Asked,
-    numbers: &mut Numbers,
-    offers: &mut Offers,
-    model: &Model,
-    part: u32,
-    gaps: &[Atom],
-) -> Result<Option<Vec<Step>>, AskErr>
-    requires asked { IsAskable asked.now }
-    requires part { IsPartAt (task_for asked.now) numbers.old part model.now.atoms }
-    requires offers { AreOffers (task_for asked.now) numbers.old offers.old }
-    ensures keeps { KeepsAll numbers.old numbers.new }
-    ensures offers { OnOk result (AreOffers (task_for asked.now) numbers.new offers.new) }
-    ensures limited { IfLimit result (λ formula shapes. AreOffers (task_for asked.now) numbers.new offers.new) }
-    ensures whole { IfOk result (λ whole. IfSome whole (λ steps. IsOfferedWhole (task_for asked.now) numbers.new model.now.atoms gaps.now steps.items)) }
-{
-    let mut steps = Vec::new(asked.alloc);
-    for place in 0..gaps.len() {
-        let atom = gaps[place];
-        let want = Want { part, atom };
-        let begun = match offer(asked, numbers, offers, model, &want) {
+    /// The first pushes for one of the atoms over the empty stack, which are found for all atoms at once, and aren't kept.
+    fn offered_anew(
+        &mut self,
+        asked: &Asked,
+        model: &Model,
+        wanted: &[Atom],
+    ) -> Result<Begun, AskErr>
+        requires asked { IsAskable asked.now }
+        requires notes { AreRight (task_for asked.now) self.old }
+        requires model { IsAtomSet model.now.atoms }
+        ensures notes { OnAnswer result (HaveGrown (task_for asked.now) self.old self.new) }
+        ensures steps { IfOk result (λ begun. IsOffered (task_for asked.now) self.new.numbers model.now.atoms wanted.now begun.steps.items begun.is_all) }
+    {
+        let first = match self.entries_for(asked, model, wanted) {
+            Ok(first) => first,
+            Err(error) => return Err(error),
+        };
+        let steps = numbered(asked.alloc, &mut self.numbers, &first.entries)?;
+        let is_all = first.is_all;
+        Ok(Begun { steps, is_all })
+    }
+
+    // Alike: `offer` below, which promises the same and finds only what isn't kept.
+    /// The first pushes for the atom, which are found and kept.
+    fn offer_anew(&mut self, asked: &Asked, scene: &Scene, want: &Want) -> Result<Begun, AskErr>
+        requires asked { IsAskable asked.now }
+        requires notes { AreRight (task_for asked.now) self.old }
+        requires part { IsPartAt (task_for asked.now) self.old.numbers want.now.part scene.now.model.atoms }
+        ensures notes { OnAnswer result (HaveGrown (task_for asked.now) self.old self.new) }
+        ensures steps { IfOk result (λ begun. IsOffered (task_for asked.now) self.new.numbers scene.now.model.atoms (want.now.atom ∷ []) begun.steps.items begun.is_all) }
+    {
+        let begun = match self.offered_anew(asked, &scene.model, &[want.atom]) {
             Ok(begun) => begun,
             Err(error) => return Err(error),
         };
-        if !begun.is_all || steps.len() >= asked.problem.nodes as usize {
-            return Ok(None);
-        }
-        steps = merged(asked.alloc, numbers, &steps, &begun.steps)?;
-    }
-    Ok(Some(steps))
-}
-
-/// The first pushes for one of the atoms over the empty stack, which are found for all atoms at once, and aren't kept.
-fn offered_together(
-    asked: &Asked,
-    numbers: &mut Numbers,
-    model: &Model,
-    gaps: &[Atom],
-) -> Result<Begun, AskErr>
-    requires asked { IsAskable asked.now }
-    requires model { IsAtomSet model.now.atoms }
-    ensures keeps { KeepsAll numbers.old numbers.new }
-    ensures steps { IfOk result (λ begun. IsOffered (task_for asked.now) numbers.new model.now.atoms gaps.now begun.steps.items begun.is_all) }
-{
-    let first = match entries_for(asked, model, gaps) {
-        Ok(first) => first,
-        Err(error) => return Err(error),
-    };
-    let steps = numbered(asked.alloc, numbers, &first.entries)?;
-    let is_all = first.is_all;
-    Ok(Begun { steps, is_all })
-}
-
-/// The first pushes for one of the atoms over the empty stack, in order.
-fn offered(
-    asked: &Asked,
-    numbers: &mut Numbers,
-    offers: &mut Offers,
-    model: &Model,
-    part: u32,
-    gaps: &[Atom],
-) -> Result<Begun, AskErr>
-    requires asked { IsAskable asked.now }
-    requires part { IsPartAt (task_for asked.now) numbers.old part model.now.atoms }
-    requires offers { AreOffers (task_for asked.now) numbers.old offers.old }
-    ensures keeps { KeepsAll numbers.old numbers.new }
-    ensures offers { OnOk result (AreOffers (task_for asked.now) numbers.new offers.new) }
-    ensures limited { IfLimit result (λ formula shapes. AreOffers (task_for asked.now) numbers.new offers.new) }
-    ensures steps { IfOk result (λ begun. IsOffered (task_for asked.now) numbers.new model.now.atoms gaps.now begun.steps.items begun.is_all) }
-{
-    if gaps.len() == 1 {
-        let want = Want {
-            part,
-            atom: gaps[0],
-        };
-        return offer(asked, numbers, offers, model, &want);
-    }
-    let each = match offered_each(asked, numbers, offers, model, part, gaps) {
-        Ok(each) => each,
-        Err(error) => return Err(error),
-    };
-    match each {
-        None => offered_together(asked, numbers, model, gaps),
-        Some(steps) => Ok(Begun {
+        let steps = Sequence::from_slice(asked.alloc, begun.steps.as_slice())?;
+        let offer = Offer {
             steps,
-            is_all: true,
-        }),
+            is_all: begun.is_all,
+        };
+        relevance_over_models();
+        match self.wants.insert(*want, offer) {
+            Ok(_) => Ok(begun),
+            Err(_) => Err(AskErr::NoMemory),
+        }
     }
-}
 
-/// The first pushes of the node with the model and the stack of this number, and these gaps, in order.
-///
-/// # Errors
-/// `ShapeLimit` where a question meets the limit about an entry that may be relevant over the empty stack: of the node's own questions
-/// this says nothing. `NoMemory` where there is none.
-pub fn pushes_offered(
-    asked: &Asked,
-    numbers: &mut Numbers,
-    offers: &mut Offers,
-    model: &Model,
-    part: u32,
-    stack: u32,
-    gaps: &[Atom],
-) -> Result<Begun, AskErr>
-    requires asked { IsAskable asked.now }
-    requires part { IsPartAt (task_for asked.now) numbers.old part model.now.atoms }
-    requires stack { (entries : List Entry) × IsStackAt numbers.old stack entries }
-    requires offers { AreOffers (task_for asked.now) numbers.old offers.old }
-    ensures keeps { KeepsAll numbers.old numbers.new }
-    ensures offers { OnOk result (AreOffers (task_for asked.now) numbers.new offers.new) }
-    ensures limited { IfLimit result (λ formula shapes. AreOffers (task_for asked.now) numbers.new offers.new) }
-    ensures begun { IfOk result (λ begun. (entries : List Entry) → IsStackAt numbers.old stack entries → IsOpenWith asked.now.problem.now (needs_with (task_for asked.now) model.now.atoms entries) gaps.now → IsBegunOn (task_for asked.now) numbers.new (record { model = model.now.atoms; stack = entries }) begun.steps.items begun.is_all) }
-{
-    let begun = match offered(asked, numbers, offers, model, part, gaps) {
-        Ok(begun) => begun,
-        Err(error) => return Err(error),
-    };
-    let steps = struck(asked.alloc, numbers, stack, begun.steps.as_slice())?;
-    let is_all = begun.is_all;
-    relevance_over_stacks();
-    Ok(Begun { steps, is_all })
+    /// The first pushes for the atom, which are kept.
+    fn offer(&mut self, asked: &Asked, scene: &Scene, want: &Want) -> Result<Begun, AskErr>
+        requires asked { IsAskable asked.now }
+        requires notes { AreRight (task_for asked.now) self.old }
+        requires part { IsPartAt (task_for asked.now) self.old.numbers want.now.part scene.now.model.atoms }
+        ensures notes { OnAnswer result (HaveGrown (task_for asked.now) self.old self.new) }
+        ensures steps { IfOk result (λ begun. IsOffered (task_for asked.now) self.new.numbers scene.now.model.atoms (want.now.atom ∷ []) begun.steps.items begun.is_all) }
+    {
+        match self.wants.get(want) {
+            Some(offer) => {
+                let copy = copy_of(asked.alloc, offer)?;
+                Ok(copy)
+            }
+            None => self.offer_anew(asked, scene, want),
+        }
+    }
+
+    /// All pushes for one of the atoms over the empty stack, in order, by what is kept for each of them; or None where that isn't all, or
+    /// where they are many.
+    fn offered_each(
+        &mut self,
+        asked: &Asked,
+        scene: &Scene,
+        gaps: &[Atom],
+    ) -> Result<Option<Vec<Step>>, AskErr>
+        requires asked { IsAskable asked.now }
+        requires notes { AreRight (task_for asked.now) self.old }
+        requires part { IsPartAt (task_for asked.now) self.old.numbers scene.now.part scene.now.model.atoms }
+        ensures notes { OnAnswer result (HaveGrown (task_for asked.now) self.old self.new) }
+        ensures whole { IfOk result (λ whole. IfSome whole (λ steps. IsOfferedWhole (task_for asked.now) self.new.numbers scene.now.model.atoms gaps.now steps.items)) }
+    {
+        let mut steps = Vec::new(asked.alloc);
+        for place in 0..gaps.len() {
+            let atom = gaps[place];
+            let part = scene.part;
+            let want = Want { part, atom };
+            let begun = match self.offer(asked, scene, &want) {
+                Ok(begun) => begun,
+                Err(error) => return Err(error),
+            };
+            if !begun.is_all || steps.len() >= asked.problem.nodes as usize {
+                return Ok(None);
+            }
+            steps = merged(asked.alloc, &self.numbers, &steps, &begun.steps)?;
+        }
+        Ok(Some(steps))
+    }
+
+    /// The first pushes for one of the atoms over the empty stack, in order.
+    fn offered(&mut self, asked: &Asked, scene: &Scene, gaps: &[Atom]) -> Result<Begun, AskErr>
+        requires asked { IsAskable asked.now }
+        requires notes { AreRight (task_for asked.now) self.old }
+        requires part { IsPartAt (task_for asked.now) self.old.numbers scene.now.part scene.now.model.atoms }
+        ensures notes { OnAnswer result (HaveGrown (task_for asked.now) self.old self.new) }
+        ensures steps { IfOk result (λ begun. IsOffered (task_for asked.now) self.new.numbers scene.now.model.atoms gaps.now begun.steps.items begun.is_all) }
+    {
+        if gaps.len() == 1 {
+            let want = Want {
+                part: scene.part,
+                atom: gaps[0],
+            };
+            return self.offer(asked, scene, &want);
+        }
+        let each = match self.offered_each(asked, scene, gaps) {
+            Ok(each) => each,
+            Err(error) => return Err(error),
+        };
+        match each {
+            None => self.offered_anew(asked, &scene.model, gaps),
+            Some(steps) => Ok(Begun {
+                steps,
+                is_all: true,
+            }),
+        }
+    }
+
+    /// The first pushes of the node with the scene's model and the stack of this number, and these gaps, in order.
+    ///
+    /// # Errors
+    /// `ShapeLimit` where a question meets the limit about an entry that may be relevant over the empty stack: of the node's own questions
+    /// this says nothing. `NoMemory` where there is none.
+    pub fn pushes_offered(
+        &mut self,
+        asked: &Asked,
+        scene: &Scene,
+        stack: u32,
+        gaps: &[Atom],
+    ) -> Result<Begun, AskErr>
+        requires asked { IsAskable asked.now }
+        requires notes { AreRight (task_for asked.now) self.old }
+        requires part { IsPartAt (task_for asked.now) self.old.numbers scene.now.part scene.now.model.atoms }
+        requires stack { (entries : List Entry) × IsStackAt self.old.numbers stack entries }
+        ensures notes { OnAnswer result (HaveGrown (task_for asked.now) self.old self.new) }
+        ensures begun { IfOk result (λ begun. (entries : List Entry) → IsStackAt self.old.numbers stack entries → IsOpenWith asked.now.problem.now (needs_with (task_for asked.now) scene.now.model.atoms entries) gaps.now → IsBegunOn (task_for asked.now) self.new.numbers (record { model = scene.now.model.atoms; stack = entries }) begun.steps.items begun.is_all) }
+    {
+        let begun = match self.offered(asked, scene, gaps) {
+            Ok(begun) => begun,
+            Err(error) => return Err(error),
+        };
+        let steps = struck(asked.alloc, &self.numbers, stack, begun.steps.as_slice())?;
+        let is_all = begun.is_all;
+        relevance_over_stacks();
+        Ok(Begun { steps, is_all })
+    }
 }

@@ -1,5 +1,5 @@
 //! The search.
-ghost use Rattle.std.specs.Prelude.{◌≡◌, ◌<◌, ◌≤◌, ◌⊎◌, ℕ, List, [], length, All, IfOk, IfErr, IsErrOf};
+ghost use Rattle.std.specs.Prelude.{◌≡◌, ◌<◌, ◌≤◌, ◌⊎◌, ℕ, List, [], length, All, IfOk, IfErr, IsErrOf, IsTrue};
 ghost use Rattle.px_terms.specs.declared.atom.Atom.{Atom};
 ghost use Rattle.px_terms.specs.Plans.{Carries};
 ghost use Rattle.px_terms.specs.Validity.{IsValid, IsAtomOf, IsInstanceOf};
@@ -8,20 +8,20 @@ ghost use Rattle.px_table.specs.declared.entry.Move.{Move};
 ghost use Rattle.px_table.specs.declared.node.Node.{Node};
 ghost use Rattle.px_table.specs.Supports.{Supports};
 ghost use Rattle.px_table.specs.Tables.{AreOfProblem, rows_of};
-ghost use Rattle.px_diff.specs.Learned.{AreLearned};
+ghost use Rattle.px_entries.specs.Learned.{AreLearned};
+ghost use Rattle.px_entries.specs.Unlimited.{IsNeverLimited};
 ghost use Rattle.px_ends.specs.Ends.{IsFound, IsExhausted, IsNodeLimit, IsShapeLimit};
 ghost use Rattle.px_ends.specs.Made.{MovesRows};
 ghost use Rattle.px_ends.specs.Tasks.{initial_node, steps_of, task_of};
-ghost use Rattle.px_search.specs.Asking.{IsAskable, task_for};
+ghost use Rattle.px_support.specs.Asking.{IsAskable, task_for};
 ghost use Rattle.px_search.specs.Looping.{IsEnd};
 ghost use Rattle.px_search.specs.Planned.{IsPlanned};
 
-use crate::asked::Asked;
 use crate::breadth_first::found_by_moves;
 use crate::ends::{Found, SearchErr};
-use px_diff::never_limited;
+use px_entries::never_limited;
 use px_ops::Model;
-use px_support::{Support, support_of};
+use px_support::{Asked, Support, support_of};
 use px_table::{Move, Table};
 use px_terms::{Atom, NoMemory, Problem, Sequence};
 use std::alloc::Global;
@@ -32,15 +32,7 @@ fn plan_of(asked: &Asked, moves: Sequence<Move>) -> Result<Found, NoMemory>
     requires found { IsFound (task_for asked.now) moves }
     ensures { IfOk result (IsPlanned (task_for asked.now)) }
 {
-    let Support { steps, rows } = support_of(
-        asked.alloc,
-        asked.problem,
-        asked.initial,
-        asked.goal,
-        asked.vars,
-        asked.tables,
-        moves.as_slice(),
-    )?;
+    let Support { steps, rows } = support_of(asked, moves.as_slice())?;
     Ok(Found {
         moves,
         steps,
@@ -49,18 +41,20 @@ fn plan_of(asked: &Asked, moves: Sequence<Move>) -> Result<Found, NoMemory>
 }
 
 /// Searches, and makes the plan of what is found.
-fn found_plan(asked: &Asked) -> Result<Found, SearchErr>
+fn found_plan(asked: &Asked, is_never_limited: bool) -> Result<Found, SearchErr>
     requires asked { IsAskable asked.now }
+    requires never_limited { IsTrue is_never_limited → IsNeverLimited asked.now.problem.now asked.now.tables.now }
     ensures planned { IfOk result (IsPlanned (task_for asked.now)) }
     ensures ends { IfErr result (IsEnd (task_for asked.now)) }
 {
-    let moves = found_by_moves(asked)?;
+    let moves = found_by_moves(asked, is_never_limited)?;
     match plan_of(asked, moves) {
         Ok(plan) => Ok(plan),
         Err(_) => Err(SearchErr::NoMemory),
     }
 }
 
+// Alike: `plan` of px_session asks for the same, since it hands these arguments on.
 /// Searches for a plan: the moves to the first solved node, the steps that they take, and the proofs that carry these to the goal.
 ///
 /// # Errors
@@ -95,19 +89,16 @@ pub fn search(
     ensures always_node_limit { (nodes : List Node) (moves : ℕ) → IsNodeLimit (task_of problem.now tables.now initial.now.atoms goal.now vars) nodes moves → IsErrOf result (SearchErr.NodeLimit nodes moves) ⊎ IsErrOf result SearchErr.NoMemory }
     ensures always_shape_limit { (node : Node) (formula : List Atom) (shapes : List (List Tick)) → IsShapeLimit (task_of problem.now tables.now initial.now.atoms goal.now vars) node formula shapes → ((there : Node) × (kept : List Atom) × (first : List (List Tick)) × IsErrOf result (SearchErr.ShapeLimit there kept first)) ⊎ IsErrOf result SearchErr.NoMemory }
 {
+    let asked = Asked {
+        alloc,
+        problem,
+        tables,
+        initial,
+        goal,
+        vars,
+    };
     match never_limited(alloc, problem, tables) {
-        Ok(is_never_limited) => {
-            let asked = Asked {
-                alloc,
-                problem,
-                tables,
-                initial,
-                goal,
-                vars,
-                is_never_limited,
-            };
-            found_plan(&asked)
-        }
+        Ok(is_never_limited) => found_plan(&asked, is_never_limited),
         Err(_) => Err(SearchErr::NoMemory),
     }
 }

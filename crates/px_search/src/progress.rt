@@ -1,4 +1,7 @@
-//! What making moves comes to.
+//! What making moves comes to, and a search.
+
+use px_table::Move;
+use px_terms::Sequence;
 
 /// What the moves that were made came to.
 #[derive(Clone, Copy)]
@@ -9,6 +12,20 @@ pub enum Progress {
     Solved,
     /// There is no room for the last of the nodes.
     Full {
+        /// How many moves reach it.
+        moves: u32,
+    },
+}
+
+/// What a search came to.
+#[derive(Drop)]
+pub enum Outcome {
+    /// The moves to the first solved node.
+    Plan(Sequence<Move>),
+    /// No list of moves reaches a solved node.
+    NoPlan,
+    /// There is no room for the last of the nodes.
+    NoRoom {
         /// How many moves reach it.
         moves: u32,
     },

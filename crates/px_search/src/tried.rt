@@ -1,12 +1,13 @@
 //! Trying the goal at a node.
-ghost use Rattle.std.specs.Prelude.{◌≡◌, List, IfOk};
+ghost use Rattle.std.specs.Prelude.{IfOk};
 ghost use Rattle.px_table.specs.declared.node.Node.{Node};
 ghost use Rattle.px_numbers.specs.Numbers.{IsKeyOf};
-ghost use Rattle.px_search.specs.Asking.{IsAskable, IsTriedAt, task_for};
+ghost use Rattle.px_support.specs.Asking.{IsAskable, task_for};
+ghost use Rattle.px_search.specs.Asking.{IsTriedAt};
 
-use crate::asked::Asked;
-use px_diff::{Tried, try_formula};
+use px_gaps::{Tried, try_formula};
 use px_numbers::{NodeKey, Numbers};
+use px_support::Asked;
 use px_terms::NoMemory;
 
 /// Is the node solved?

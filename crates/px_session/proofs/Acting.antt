@@ -31,13 +31,15 @@ module _ (planex : PlanexValue) (recorded : List (Recorded Edit)) (number : ℕ)
   act-ends kernel atoms mid after memory op end answer mid_is op_is happens (inl (is, told_as)) =
       inl (
         turn-is kernel op (remembered_step planex.table planex.memory) end told.Acted op_is told_as,
-        subst (λ (o : Outcome). Happened (running (after_edits leaves_edit (edits_at recorded number true) atoms) planex.memory) o (running after memory)) is
+        subst (λ (o : Outcome). Happened (running (after_edits leaves_edit (edits_at recorded number true) atoms) planex.memory) o
+            (running after memory)) is
             (subst (λ (m : List Atom). Happened (running m planex.memory) answer (running after memory)) mid_is happens),
       )
   act-ends kernel atoms mid after memory op end answer mid_is op_is happens (inr (is, told_as)) =
       inr (
         turn-is kernel op (remembered_step planex.table planex.memory) end told.Slipped op_is told_as,
-        subst (λ (o : Outcome). Happened (running (after_edits leaves_edit (edits_at recorded number true) atoms) planex.memory) o (running after memory)) is
+        subst (λ (o : Outcome). Happened (running (after_edits leaves_edit (edits_at recorded number true) atoms) planex.memory) o
+            (running after memory)) is
             (subst (λ (m : List Atom). Happened (running m planex.memory) answer (running after memory)) mid_is happens),
       )
 
@@ -54,7 +56,8 @@ module _ (planex : PlanexValue) (recorded : List (Recorded Edit)) (number : ℕ)
     (
       running sensed next.memory,
       subst (λ (m : List Atom). Senses m (outcome.Sensed kernel) (running sensed next.memory)) mid_is senses,
-      subst (λ (p : PlanexValue). EndsTurn leaves_edit p.problem p.table p.bound (edits_at recorded number true) (running sensed next.memory) (outcome.Sensed kernel)
+      subst (λ (p : PlanexValue). EndsTurn leaves_edit p.problem p.table p.bound (edits_at recorded number true)
+          (running sensed next.memory) (outcome.Sensed kernel)
           (turn_told turn) (running after memory)) frame ends,
     ),
   )

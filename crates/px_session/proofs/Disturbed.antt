@@ -2,7 +2,7 @@
 use Rattle.std.specs.Prelude.{◌≡◌, ◌<◌, ◌≤◌, ◌+◌, ℕ, Bool, true, false, cond, List, [], ◌∷◌, ◌++◌, take, length, filter}
 use Rattle.std.specs.List.{flat_map}
 use Rattle.std.proofs.Common.{zero, suc, refl, sym, ap, ◌∙◌, subst, get_or, arith, append_assoc}
-use Rattle.std.proofs.lemmas.List.{length-append}
+use Rattle.std.proofs.lemmas.List.{append-nil, length-append}
 use Rattle.px_terms.specs.declared.atom.Atom.{Atom}
 use Rattle.px_planex.specs.Turns.{Recorded, after_edits, edits_at, is_at}
 use Rattle.px_session.specs.declared.place.Place.{Place}
@@ -11,14 +11,22 @@ use Rattle.px_session.specs.Running.{IsDisturbed}
 use Rattle.px_session.specs.Sessions.{Edit, leaves_edit}
 use Rattle.px_session.proofs.Placing.{same-both, same_taken}
 
-after-both : (xs ys : List Edit) (atoms : List Atom) → after_edits leaves_edit (xs ++ ys) atoms ≡ after_edits leaves_edit ys (after_edits leaves_edit xs atoms)
+after-both : (xs ys : List Edit) (atoms : List Atom) → after_edits leaves_edit (xs ++ ys) atoms ≡ after_edits leaves_edit ys
+    (after_edits leaves_edit xs atoms)
 after-both [] ys atoms = refl
 after-both (x ∷ xs) ys atoms = after-both xs ys (leaves_edit x atoms)
 
 pub disturbed-none : (world : Place) → IsDisturbed [] world world
-disturbed-none world = record { atoms = refl; number = omega arith; spare = omega arith; rules = refl; takes = same_taken (building_of world) }
+disturbed-none world = record {
+  atoms = refl;
+  number = omega arith;
+  spare = omega arith;
+  rules = refl;
+  takes = same_taken (building_of world);
+}
 
-pub disturbed-both : (xs ys : List Edit) (old mid new : Place) → IsDisturbed xs old mid → IsDisturbed ys mid new → IsDisturbed (xs ++ ys) old new
+pub disturbed-both : (xs ys : List Edit) (old mid new : Place) → IsDisturbed xs old mid → IsDisturbed ys mid new
+    → IsDisturbed (xs ++ ys) old new
 disturbed-both xs ys old mid new first second = record {
   atoms = second.atoms ∙ ap (after_edits leaves_edit ys) first.atoms ∙ sym (after-both xs ys (place_atoms old));
   number = omega (arith, first.number, second.number, length-append xs ys);
@@ -32,10 +40,12 @@ module _ (number : ℕ) (between : Bool) where
   abbrev pub part_of : Recorded Edit → List Edit
   part_of one = cond (is_at number between one) one.edits []
 
-  first-part : (one : Recorded Edit) (recorded : List (Recorded Edit)) → edits_at (one ∷ recorded) number between ≡ part_of one ++ edits_at recorded number between
+  first-part : (one : Recorded Edit) (recorded : List (Recorded Edit))
+      → edits_at (one ∷ recorded) number between ≡ part_of one ++ edits_at recorded number between
   first-part one recorded = by (is_at number between one)
     where
-      by : (b : Bool) → flat_map (λ (r : Recorded Edit). r.edits) (cond b (one ∷ filter (is_at number between) recorded) (filter (is_at number between) recorded))
+      by : (b : Bool) → flat_map (λ (r : Recorded Edit). r.edits)
+          (cond b (one ∷ filter (is_at number between) recorded) (filter (is_at number between) recorded))
           ≡ cond b one.edits [] ++ edits_at recorded number between
       by true = refl
       by false = refl
@@ -44,10 +54,6 @@ module _ (number : ℕ) (between : Bool) where
       → edits_at (take (suc i) recorded) number between ≡ edits_at (take i recorded) number between ++ part_of (get_or recorded i d)
   edits_at-more [] i d below = absurd (omega (arith, below))
   edits_at-more (one ∷ recorded) zero d below = first-part one [] ∙ append-nil (part_of one)
-    where
-      append-nil : (xs : List Edit) → xs ++ [] ≡ xs
-      append-nil [] = refl
-      append-nil (x ∷ xs) = ap (λ l. x ∷ l) (append-nil xs)
   edits_at-more (one ∷ recorded) (suc i) d below =
       first-part one (take (suc i) recorded)
       ∙ ap (λ l. part_of one ++ l) (edits_at-more recorded i d (omega (arith, below)))
@@ -56,7 +62,8 @@ module _ (number : ℕ) (between : Bool) where
 
   -- the parts so far and the next are among all
   pub edits_at-within : (recorded : List (Recorded Edit)) (i : ℕ) (d : Recorded Edit) → i < length recorded
-      → length (edits_at (take i recorded) number between) + length (part_of (get_or recorded i d)) ≤ length (edits_at recorded number between)
+      → length (edits_at (take i recorded) number between) + length (part_of (get_or recorded i d))
+      ≤ length (edits_at recorded number between)
   edits_at-within [] i d below = absurd (omega (arith, below))
   edits_at-within (one ∷ recorded) zero d below =
       omega (arith, ap length (first-part one recorded), length-append (part_of one) (edits_at recorded number between))
@@ -79,7 +86,8 @@ module _ (number : ℕ) (between : Bool) where
       let part : part_of (get_or recorded i one) ≡ cond b one.edits [] = ap part_of (sym is) ∙ ap (λ t. cond t one.edits []) test in
       let next : i + 1 ≡ suc i = omega arith in
       subst (λ (edits : List Edit). IsDisturbed edits old new)
-      (sym (ap (λ n. edits_at (take n recorded) number between) next ∙ edits_at-more recorded i one below ∙ ap (λ l. edits_at (take i recorded) number between ++ l) part))
+      (sym (ap (λ n. edits_at (take n recorded) number between) next ∙ edits_at-more recorded i one below
+      ∙ ap (λ l. edits_at (take i recorded) number between ++ l) part))
       (disturbed-both (edits_at (take i recorded) number between) (cond b one.edits []) old mid new first second)
 
   pub spare-next : (recorded : List (Recorded Edit)) (i : ℕ) (one : Recorded Edit) → i < length recorded → one ≡ get_or recorded i one

@@ -5,11 +5,8 @@ use Rattle.std.proofs.lemmas.List.{get_or-map, length-append, length-map}
 use Rattle.std.proofs.lemmas.List.Elements.{All-nil, All-weaker, Contains-append_cases}
 use Rattle.px_terms.specs.declared.problem.Problem.{Problem}
 use Rattle.px_table.specs.Kernels.{KernelsCarry}
-use Rattle.px_planex.specs.Turns.{Recorded}
-use Rattle.px_ends.specs.Tasks.{Task, task_of}
 use Rattle.px_printer.specs.Replies.{IsNamed}
 use Rattle.px_printer.specs.declared.reply.Reply.{Reply}
-use Rattle.px_printer.specs.declared.reply.Reply.TheVariants as reply
 use Rattle.px_reader.specs.declared.command.Command as code
 use Rattle.px_reader.specs.CommandViews.{command_view}
 use Rattle.px_script.specs.Commands as command
@@ -19,17 +16,18 @@ use Rattle.px_script.specs.Limits.{greatest}
 use Rattle.px_script.specs.Ranges.{IsBindingOf, IsBuildingOf, IsCommandOf, IsInRange, result_given}
 use Rattle.px_world.specs.declared.thing.Thing.{Thing}
 use Rattle.px_rooms.specs.States.{RoomState}
-use Rattle.px_session.specs.KeptSessions.{IsBindingToRun, IsKeptSession, IsRunnable}
-use Rattle.px_session.specs.Lawful.{Lawful, Notes, TellsFacts, TellsLearning, TellsRun, TellsSearch, TellsShow, recorded_for}
+use Rattle.px_session.specs.KeptSessions.{AreEditsToNote, IsBindingToRun, IsKeptSession, IsRunnable}
+use Rattle.px_session.specs.Lawful.{Lawful, recorded_for}
 use Rattle.px_session.specs.Named.{IsTellable}
 use Rattle.px_session.specs.Opened.{SessionValue, opened, tables_of}
-use Rattle.px_session.specs.OwnStates.{HasOwnEdits, IsOwnEdit}
+use Rattle.px_session.specs.OwnStates.{IsOwnEdit, edits_given}
 use Rattle.px_session.specs.Places.{IsPlaced, TakeSame, Takes}
-use Rattle.px_session.specs.Sessions.{Edit, SessionState, of_atoms, of_rooms}
+use Rattle.px_session.specs.Sessions.{SessionState}
 use Rattle.px_session.proofs.GivenNames.{apart-range, names-next}
 use Rattle.px_session.proofs.Kept.{sessions_are_kept}
 use Rattle.px_session.proofs.NamedReplies.{named-each}
 use Rattle.px_session.proofs.Placing.{takes-later}
+use Rattle.px_session.proofs.Replied.{replied}
 use Rattle.px_session.proofs.RoomEdits.{OwnsRoomEdits, at_first, each-building, note-atoms, note-rooms, owns-room-edits, placed-first}
 
 -- ---- the opening
@@ -46,20 +44,31 @@ binding-ready problem bound each once = record {
   once = once;
 }
 
+no-edits : (problem : Problem) (building : Option RoomState) → AreEditsToNote problem building []
+no-edits problem building = record { own = All-nil (IsOwnEdit problem); taken = All-nil (Takes building) }
+
 abbrev IsReady : Problem → Option (List Thing) → ℕ → command.Command → Type 0
 IsReady problem building results given = IsRunnable problem (at_first building) given × IsTellable problem results given
 
 ready : (version : ℕ) (problem : Problem) (building : Option (List Thing)) (results : ℕ) (c : command.Command)
     → IfSome building (OwnsRoomEdits problem) → IsCommandOf version problem building results c
     → IsReady problem building results c
-ready version problem building results (command.Plan name goal vars) owns of =
-    (record { atoms = of.1.atoms; few = of.1.few_variables; some_object = some-object problem.objects vars of.1.no_objects }, (of.0, of.1.atoms))
-ready version problem building results (command.Learn name source) owns of = (tt, of)
-ready version problem building results (command.Show name) owns of = (tt, of)
-ready version problem building results (command.DisturbAtoms turn between edits) owns of = (note-atoms problem building edits of.1 of.2, tt)
-ready version problem building results (command.DisturbRooms turn between edits) owns of = (note-rooms problem building edits owns of.1, tt)
-ready version problem building results (command.Run name bindings) owns of = (binding-ready problem bindings of.1 of.2, of.0)
-ready version problem building results command.Facts owns of = (tt, tt)
+ready version problem building results (command.Plan name goal vars) owns of = (
+  (
+    record { atoms = of.1.atoms; few = of.1.few_variables; some_object = some-object problem.objects vars of.1.no_objects },
+    no-edits problem (at_first building),
+  ),
+  (of.0, of.1.atoms),
+)
+ready version problem building results (command.Learn name source) owns of = ((tt, no-edits problem (at_first building)), of)
+ready version problem building results (command.Show name) owns of = ((tt, no-edits problem (at_first building)), of)
+ready version problem building results (command.DisturbAtoms turn between edits) owns of =
+    ((tt, note-atoms problem building edits of.1 of.2), tt)
+ready version problem building results (command.DisturbRooms turn between edits) owns of =
+    ((tt, note-rooms problem building edits owns of.1), tt)
+ready version problem building results (command.Run name bindings) owns of =
+    ((binding-ready problem bindings of.1 of.2, no-edits problem (at_first building)), of.0)
+ready version problem building results command.Facts owns of = ((tt, no-edits problem (at_first building)), tt)
 
 pub ready-at : (script : ScriptValue) → IsInRange script → (k : ℕ) (c : command.Command) → k < length script.commands
     → IsReady script.problem script.building (length script.names.results) (get_or script.commands k c)
@@ -99,99 +108,55 @@ record KeepsParts (names : List ℕ) (old new : SessionState) : Type 0 where
   pub recorded : length new.recorded ≤ length old.recorded + 1
   pub learned : (name : ℕ) → Contains new.learned.names name → Contains old.learned.names name ⊎ Contains names name
 
-same-parts : (names : List ℕ) (old new : SessionState) → new ≡ old → KeepsParts names old new
-same-parts names old new same = subst (KeepsParts names old) (sym same) (record { recorded = omega arith; learned = λ name has. inl has })
-
--- the name of the table is the last one
-learning-parts : (problem : Problem) (name source : ℕ) (old : SessionState) (answer : Reply) (new : SessionState)
-    → TellsLearning problem old name source answer new → KeepsParts (name ∷ []) old new
-learning-parts problem name source old (reply.Unknown given) new is = same-parts (name ∷ []) old new is.2
-learning-parts problem name source old (reply.LearnRefused given why) new is = same-parts (name ∷ []) old new is.1.same
-learning-parts problem name source old (reply.Learned given params steps) new is =
-    subst (KeepsParts (name ∷ []) old) (sym is.1.learned)
-    (record { recorded = omega arith; learned = λ n has. Contains-append_cases old.learned.names (name ∷ []) n has })
-learning-parts problem name source old answer new is = absurd is
-
-search-parts : (task : Task) (name : ℕ) (old : SessionState) (answer : Reply) (new : SessionState) → TellsSearch task name old answer new → KeepsParts (name ∷ []) old new
-search-parts task name old (reply.Plan given count steps) new is = subst (KeepsParts (name ∷ []) old) (sym is.1.stored) (record { recorded = omega arith; learned = λ n has. inl has })
-search-parts task name old (reply.Exhausted given) new is = same-parts (name ∷ []) old new is.2
-search-parts task name old (reply.NodeLimit given nodes moves) new is = same-parts (name ∷ []) old new is.2
-search-parts task name old (reply.ShapeLimit given node formula shapes) new is = same-parts (name ∷ []) old new is.2
-search-parts task name old answer new is = absurd is
-
-show-parts : (old : SessionState) (name : ℕ) (answer : Reply) (new : SessionState) → TellsShow old name answer new → KeepsParts [] old new
-show-parts old name (reply.Unknown given) new is = same-parts [] old new is.2
-show-parts old name (reply.Shown given table) new is = same-parts [] old new is.2
-show-parts old name answer new is = absurd is
-
-notes-parts : (old : SessionState) (one : Recorded Edit) (answer : Reply) (new : SessionState) → Notes old one answer new → KeepsParts [] old new
-notes-parts old one (reply.Noted count) new is =
-    subst (KeepsParts [] old) (sym is.1) (record { recorded = omega (arith, length-append old.recorded (one ∷ [])); learned = λ name has. inl has })
-notes-parts old one answer new is = absurd is
-
-run-parts : (problem : Problem) (old : SessionState) (name : ℕ) (bound : List (ℕ × ℕ)) (answer : Reply) (new : SessionState)
-    → TellsRun problem old name bound answer new → KeepsParts [] old new
-run-parts problem old name bound (reply.Unknown given) new is = same-parts [] old new is.2
-run-parts problem old name bound (reply.UnknownParam param) new is = same-parts [] old new is.same
-run-parts problem old name bound (reply.Ran given told) new is = subst (KeepsParts [] old) (sym is.1.changed) (record { recorded = omega arith; learned = λ name has. inl has })
-run-parts problem old name bound answer new is = absurd is
-
-facts-parts : (old : SessionState) (answer : Reply) (new : SessionState) → TellsFacts old answer new → KeepsParts [] old new
-facts-parts old (reply.FactsAre atoms) new is = same-parts [] old new is.2
-facts-parts old answer new is = absurd is
-
-keeps-parts : (problem : Problem) (building : Option RoomState) (old : SessionState) (given : command.Command) (answer : Reply) (new : SessionState)
-    → IsRunnable problem building given → Lawful problem old given answer new → KeepsParts (result_given given) old new
-keeps-parts problem building old (command.Plan name goal vars) answer new runs is = search-parts (task_of problem old.learned.tables old.atoms goal vars) name old answer new is
-keeps-parts problem building old (command.Learn name source) answer new runs is = learning-parts problem name source old answer new is
-keeps-parts problem building old (command.Show name) answer new runs is = show-parts old name answer new is
-keeps-parts problem building old (command.DisturbAtoms turn between edits) answer new runs is = notes-parts old (recorded_for turn between (map of_atoms edits)) answer new is
-keeps-parts problem building old (command.DisturbRooms turn between edits) answer new runs is = notes-parts old (recorded_for turn between (map of_rooms edits)) answer new is
-keeps-parts problem building old (command.Run name bound) answer new runs is = run-parts problem old name bound answer new is
-keeps-parts problem building old command.Facts answer new runs is = facts-parts old answer new is
-
--- a command that can be run has edits of the problem alone
-own-edits : (problem : Problem) (building : Option RoomState) (given : command.Command) → IsRunnable problem building given → HasOwnEdits problem given
-own-edits problem building (command.Plan name goal vars) runs = tt
-own-edits problem building (command.Learn name source) runs = tt
-own-edits problem building (command.Show name) runs = tt
-own-edits problem building (command.DisturbAtoms turn between edits) runs = runs.own
-own-edits problem building (command.DisturbRooms turn between edits) runs = runs.own
-own-edits problem building (command.Run name bound) runs = tt
-own-edits problem building command.Facts runs = tt
+keeps-parts : (problem : Problem) (old : SessionState) (given : command.Command) (answer : Reply) (new : SessionState)
+    → Lawful problem old given answer new → KeepsParts (result_given given) old new
+keeps-parts problem old given answer new is =
+    replied problem old given (KeepsParts (result_given given) old) (record { recorded = omega arith; learned = λ n has. inl has })
+    (λ name made plan. record { recorded = omega arith; learned = λ n has. inl has })
+    -- the name of the table is the last one
+    (λ name source params steps new by is. subst (KeepsParts (result_given given) old) (sym is.learned)
+    (record {
+      recorded = omega arith;
+      learned = λ n has. subst (λ (c : command.Command). Contains old.learned.names n ⊎ Contains (result_given c) n) (sym by)
+          (Contains-append_cases old.learned.names (name ∷ []) n has);
+    }))
+    (λ turn between. record {
+      recorded = omega (arith, length-append old.recorded (recorded_for turn between (edits_given given) ∷ []));
+      learned = λ n has. inl has;
+    })
+    (λ name bound told new by is. subst (KeepsParts (result_given given) old) (sym is.changed)
+    (record { recorded = omega arith; learned = λ n has. inl has }))
+    answer new is
 
 -- the session after one command more
 abbrev pub after_command : SessionValue → SessionState → ℕ → SessionValue
 after_command session state done = record session { done = done; state = state }
 
 -- a command can be run as long as the same edits are taken
-runnable-later : (problem : Problem) (old new : Option RoomState) → TakeSame old new → (given : command.Command) → IsRunnable problem old given
+runnable-later : (problem : Problem) (old new : Option RoomState) → TakeSame old new → (given : command.Command)
+    → IsRunnable problem old given
     → IsRunnable problem new given
-runnable-later problem old new same (command.Plan name goal vars) runs = runs
-runnable-later problem old new same (command.Learn name source) runs = runs
-runnable-later problem old new same (command.Show name) runs = runs
-runnable-later problem old new same (command.DisturbAtoms turn between edits) runs =
-    record { own = runs.own; taken = takes-later old new (map of_atoms edits) same runs.taken }
-runnable-later problem old new same (command.DisturbRooms turn between edits) runs =
-    record { own = runs.own; taken = takes-later old new (map of_rooms edits) same runs.taken }
-runnable-later problem old new same (command.Run name bound) runs = runs
-runnable-later problem old new same command.Facts runs = runs
+runnable-later problem old new same given runs =
+    (runs.0, record { own = runs.1.own; taken = takes-later old new (edits_given given) same runs.1.taken })
 
-pub kept-after : (building left : Option RoomState) (session : SessionValue) (given : command.Command) (answer : Reply) (new : SessionState) (done : ℕ)
+pub kept-after : (building left : Option RoomState) (session : SessionValue) (given : command.Command) (answer : Reply) (new : SessionState)
+    (done : ℕ)
     → IsKeptSession building session → done ≡ session.done + 1 → session.done < length session.commands
     → given ≡ get_or session.commands session.done given → IsRunnable session.problem building given
     → Lawful session.problem session.state given answer new → IsPlaced session.problem left new → TakeSame building left
     → IsKeptSession left (after_command session new done)
 kept-after building left session given answer new done kept more below is runs lawful placed same =
-    let parts = keeps-parts session.problem building session.state given answer new runs lawful in
-    let names = names-next session.commands session.done given session.state.learned.names new.learned.names below is kept.learned parts.learned in
+    let parts = keeps-parts session.problem session.state given answer new lawful in
+    let names = names-next session.commands session.done given session.state.learned.names new.learned.names below is kept.learned
+    parts.learned in
     record {
       problem = kept.problem;
       names = kept.names;
       state = sessions_are_kept.kept session.problem session.state given answer new kept.state lawful;
-      own = sessions_are_kept.own session.problem session.state given answer new kept.problem kept.state kept.own (own-edits session.problem building given runs) lawful;
+      own = sessions_are_kept.own session.problem session.state given answer new kept.problem kept.state kept.own runs.1.own lawful;
       placed = placed;
-      commands = All-weaker (IsRunnable session.problem building) (IsRunnable session.problem left) (runnable-later session.problem building left same)
+      commands = All-weaker (IsRunnable session.problem building) (IsRunnable session.problem left)
+          (runnable-later session.problem building left same)
           session.commands kept.commands;
       tellable = kept.tellable;
       once = kept.once;
@@ -200,19 +165,24 @@ kept-after building left session given answer new done kept more below is runs l
       recorded = omega (arith, more, parts.recorded, kept.recorded);
     }
 
-pub named-after : (building : Option RoomState) (session : SessionValue) (given : command.Command) (answer : Reply) (new : SessionState) → IsKeptSession building session
-    → IsTellable session.problem (length session.names.results) given → Lawful session.problem session.state given answer new → IsNamed session.names answer
+pub named-after : (building : Option RoomState) (session : SessionValue) (given : command.Command) (answer : Reply) (new : SessionState)
+    → IsKeptSession building session
+    → IsTellable session.problem (length session.names.results) given → Lawful session.problem session.state given answer new
+    → IsNamed session.names answer
 named-after building session given answer new kept tellable lawful =
-    named-each session.problem session.names session.state given answer new kept.names kept.own.atoms kept.state.plans kept.state.learned tellable lawful
+    named-each session.problem session.names session.state given answer new kept.names kept.own.atoms kept.state.plans kept.state.learned
+    tellable lawful
 
 -- the kernels of its tables carry
-pub kernels-after : (building : Option RoomState) (session : SessionValue) (given : command.Command) (answer : Reply) (new : SessionState) → IsKeptSession building session
+pub kernels-after : (building : Option RoomState) (session : SessionValue) (given : command.Command) (answer : Reply) (new : SessionState)
+    → IsKeptSession building session
     → Lawful session.problem session.state given answer new → All (KernelsCarry session.problem) (tables_of new)
 kernels-after building session given answer new kept lawful =
     sessions_are_kept.kernels session.problem new (sessions_are_kept.kept session.problem session.state given answer new kept.state lawful)
 
 -- the command at the place
-pub command-at : (commands listed : List code.Command) (k : ℕ) (one : code.Command) → listed ≡ commands → k < length (map command_view commands)
+pub command-at : (commands listed : List code.Command) (k : ℕ) (one : code.Command) → listed ≡ commands
+    → k < length (map command_view commands)
     → one ≡ get_or listed k one → command_view one ≡ get_or (map command_view commands) k (command_view one)
 command-at commands listed k one same below is =
     let short : k < length commands = omega (arith, below, length-map commands command_view) in
@@ -220,7 +190,8 @@ command-at commands listed k one same below is =
     sym (get_or-map command_view commands k one (command_view one) short ∙ ap command_view here)
 
 -- what holds of all commands holds of the one at the place
-pub at-place : (P : command.Command → Type 0) (commands listed : List code.Command) (k : ℕ) (one : code.Command) → All P (map command_view commands)
+pub at-place : (P : command.Command → Type 0) (commands listed : List code.Command) (k : ℕ) (one : code.Command)
+    → All P (map command_view commands)
     → listed ≡ commands → k < length (map command_view commands) → one ≡ get_or listed k one → P (command_view one)
 at-place P commands listed k one all same below is =
     subst P (sym (command-at commands listed k one same below is)) (all k (command_view one) below)

@@ -53,13 +53,19 @@ steps-stay problem (inst ∷ steps) of =
 
 mark-stays : (problem : Problem) (mark : Mark) → IsAtomOf problem 0 mark.atom → mark_under [] mark ≡ mark
 mark-stays problem mark of =
-    ap (λ (args : List Term). record { atom = record { pred = mark.atom.pred; args = args }; row = mark.row; column = mark.column; index = mark.index })
+    ap (λ (args : List Term). record {
+      atom = record { pred = mark.atom.pred; args = args };
+      row = mark.row;
+      column = mark.column;
+      index = mark.index;
+    })
     (terms-stay problem mark.atom.args of.1)
 
 -- ---- the table
 
 -- a table of these steps and marks
-pub kept-proper : (problem : Problem) (table : Table) → All (IsInstanceOf problem) table.steps → All (λ mark. IsAtomOf problem 0 mark.atom) table.marks
+pub kept-proper : (problem : Problem) (table : Table) → All (IsInstanceOf problem) table.steps
+    → All (λ mark. IsAtomOf problem 0 mark.atom) table.marks
     → All (IsKept problem table.steps 1) table.marks → IsProper problem table [] 1
 kept-proper problem table instances atoms kept =
     All-each (λ mark. IsKept problem (map (instance_under []) table.steps) 1 (mark_under [] mark)) table.marks
@@ -83,9 +89,11 @@ built-plan problem atoms steps goal vars support instances supports of table = r
   proper = kept-proper problem (built steps goal vars support) instances (marks-are_of problem (rows_of support) of) supports.kept;
 }
 
-pub built-moves : (task : Task) (moves : List Move) (steps : List OpInst) (support : List (List Proof)) → steps ≡ steps_of task.tables [] moves
+pub built-moves : (task : Task) (moves : List Move) (steps : List OpInst) (support : List (List Proof))
+    → steps ≡ steps_of task.tables [] moves
     → MovesRows task (initial_node task) [] moves (rows_of support) → IsTableOfMoves task moves (built steps task.goal task.vars support)
-built-moves task moves steps support taken rows = record { params = refl; steps = taken; goal = refl; goal_vars = refl; rows = rows; marks = refl }
+built-moves task moves steps support taken rows =
+    record { params = refl; steps = taken; goal = refl; goal_vars = refl; rows = rows; marks = refl }
 
 -- what is told of a plan that is found, where its table is stored
 pub finds-plan : (task : Task) (name count : ℕ) (old new : SessionState) (plan : Found) (made : Table) → IsFoundPlan task plan
@@ -99,8 +107,10 @@ finds-plan task name count old new plan made is made_is table counted stored =
       taken = is.steps;
       carries = is.carries;
       made = made;
-      table = subst (IsTableOfMoves task plan.moves) (sym made_is) (built-moves task plan.moves plan.steps plan.support.items is.steps is.rows);
+      table = subst (IsTableOfMoves task plan.moves) (sym made_is)
+          (built-moves task plan.moves plan.steps plan.support.items is.steps is.rows);
       plan = subst (IsPlanTable task.problem) (sym made_is)
-          (built-plan task.problem task.initial plan.steps task.goal task.vars plan.support.items is.instances is.supports is.of_problem (subst (IsTable task.problem) made_is table));
+          (built-plan task.problem task.initial plan.steps task.goal task.vars plan.support.items is.instances is.supports is.of_problem
+          (subst (IsTable task.problem) made_is table));
       stored = stored;
     }

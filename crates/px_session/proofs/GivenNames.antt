@@ -23,11 +23,12 @@ apart-first : (n : ℕ) (names : List ℕ) → AreApart (n ∷ names) → All (�
 apart-first n names apart j d within = apart 0 (suc j) d (omega arith) (omega (arith, within))
 
 -- none is both before a place and after it
-apart-parts : (before after : List ℕ) (n : ℕ) → AreApart (before ++ after) → Contains before n → Contains after n → ⊥
+apart-parts : (before after : List ℕ) (n : ℕ) → AreApart (before ++ after) → Contains before n → ¬ Contains after n
 apart-parts [] after n apart here there = Contains-none n here
 apart-parts (one ∷ before) after n apart here there =
     elim (Contains-cases one before n here) [
-      | inl same ↦ All-at (λ other. one ≢ other) (before ++ after) n (apart-first one (before ++ after) apart) (Contains-append_right before after n there) same
+      | inl same ↦ All-at (λ other. one ≢ other) (before ++ after) n (apart-first one (before ++ after) apart)
+          (Contains-append_right before after n there) same
       | inr later ↦ apart-parts before after n (apart-rest one (before ++ after) apart) later there
     ]
 
@@ -45,22 +46,26 @@ apart-range count i j d less within same =
 
 -- ---- the names that commands give
 
-given-there : (commands : List Command) (k : ℕ) (c : Command) (name : ℕ) → k < length commands → Contains (result_given (get_or commands k c)) name
+given-there : (commands : List Command) (k : ℕ) (c : Command) (name : ℕ) → k < length commands
+    → Contains (result_given (get_or commands k c)) name
     → Contains (flat_map result_given commands) name
 given-there [] k c name below has = absurd (omega (arith, below))
 given-there (one ∷ commands) zero c name below has = Contains-append_left (result_given one) (flat_map result_given commands) name has
 given-there (one ∷ commands) (suc k) c name below has =
-    Contains-append_right (result_given one) (flat_map result_given commands) name (given-there commands k c name (omega (arith, below)) has)
+    Contains-append_right (result_given one) (flat_map result_given commands) name
+    (given-there commands k c name (omega (arith, below)) has)
 
 -- what the command at a place gives wasn't given before
 pub given-new : (commands : List Command) (k : ℕ) (c : Command) (name : ℕ) → k < length commands → AreApart (flat_map result_given commands)
-    → Contains (result_given (get_or commands k c)) name → Contains (flat_map result_given (take k commands)) name → ⊥
+    → Contains (result_given (get_or commands k c)) name → ¬ Contains (flat_map result_given (take k commands)) name
 given-new [] k c name below apart has before = absurd (omega (arith, below))
 given-new (one ∷ commands) zero c name below apart has before = Contains-none name before
 given-new (one ∷ commands) (suc k) c name below apart has before =
     elim (Contains-append_cases (result_given one) (flat_map result_given (take k commands)) name before) [
-      | inl first ↦ apart-parts (result_given one) (flat_map result_given commands) name apart first (given-there commands k c name (omega (arith, below)) has)
-      | inr later ↦ given-new commands k c name (omega (arith, below)) (apart-after (result_given one) (flat_map result_given commands) apart) has later
+      | inl first ↦ apart-parts (result_given one) (flat_map result_given commands) name apart first
+          (given-there commands k c name (omega (arith, below)) has)
+      | inr later ↦ given-new commands k c name (omega (arith, below))
+          (apart-after (result_given one) (flat_map result_given commands) apart) has later
     ]
 
 -- what the commands before a place gave, and the one at the place, is what the commands up to it gave

@@ -6,28 +6,28 @@ use Rattle.px_terms.specs.declared.problem.Problem.{Problem}
 use Rattle.px_world.specs.declared.thing.Thing.{Thing}
 use Rattle.px_rooms.specs.States.{RoomState, first_state}
 use Rattle.px_planex.specs.Turns.{Recorded}
-use Rattle.px_ends.specs.Tasks.{task_of}
 use Rattle.px_printer.specs.declared.reply.Reply.{Reply}
 use Rattle.px_printer.specs.declared.reply.Reply.TheVariants as reply
 use Rattle.px_script.specs.Commands as command
 use Rattle.px_script.specs.Content.{ScriptValue}
 use Rattle.px_script.specs.Ranges.{IsBuildingOf, IsInRange}
-use Rattle.px_session.specs.KeptSessions.{IsRunnable}
-use Rattle.px_session.specs.Lawful.{Lawful, TellsRun, recorded_for, turn_told}
-use Rattle.px_session.specs.Places.{IsPlaced, TakeSame, Takes}
+use Rattle.px_session.specs.Lawful.{Lawful, TellsRun, turn_told}
+use Rattle.px_session.specs.OwnStates.{edits_given}
+use Rattle.px_session.specs.Places.{IsPlaced, Takes}
 use Rattle.px_session.specs.RoomRuns.{AreAnswersIn, HasTakenEdits, IsAnswered, IsInBuilding, LeavesRooms, RoomsAreKept}
-use Rattle.px_session.specs.Sessions.{Edit, IsSession, SessionState, of_atoms, of_rooms, opening}
+use Rattle.px_session.specs.Sessions.{Edit, IsSession, SessionState, opening}
 use Rattle.px_session.specs.Transcripts.{AreAnswers}
 use Rattle.px_session.proofs.Executing.{ready-at}
 use Rattle.px_session.proofs.Kept.{sessions_are_kept}
 use Rattle.px_session.proofs.OneLearning.{any-right}
-use Rattle.px_session.proofs.Placing.{placed-facts, placed-learning, placed-notes, placed-run, placed-search, placed-show, same_taken, takes-later}
+use Rattle.px_session.proofs.Placing.{RunsNothing, placed-later, placed-run, same_taken, takes-later}
 use Rattle.px_session.proofs.RoomEdits.{at_first, placed-first}
 use Rattle.px_session.proofs.RoomRuns.{rules-left, run-in, same-left}
 
 -- ---- each command
 
-module _ (problem : Problem) (old : SessionState) (building : RoomState) (session : IsSession problem old) (inside : IsInBuilding problem building old) where
+module _ (problem : Problem) (old : SessionState) (building : RoomState) (session : IsSession problem old)
+    (inside : IsInBuilding problem building old) where
   abbrev Answered : command.Command → Reply → SessionState → Type 0
   Answered given answer new = (left : RoomState) × IsAnswered problem old building given answer new left
 
@@ -49,8 +49,10 @@ module _ (problem : Problem) (old : SessionState) (building : RoomState) (sessio
 
   run-answered : (name : ℕ) (bound : List (ℕ × ℕ)) (answer : Reply) (new : SessionState) → TellsRun problem old name bound answer new
       → Answered (command.Run name bound) answer new
-  run-answered name bound (reply.Unknown given) new is = as-it-was (command.Run name bound) (reply.Unknown given) new is refl (placed-as new is.2)
-  run-answered name bound (reply.UnknownParam param) new is = as-it-was (command.Run name bound) (reply.UnknownParam param) new is refl (placed-as new is.same)
+  run-answered name bound (reply.Unknown given) new is =
+      as-it-was (command.Run name bound) (reply.Unknown given) new is refl (placed-as new is.2)
+  run-answered name bound (reply.UnknownParam param) new is =
+      as-it-was (command.Run name bound) (reply.UnknownParam param) new is refl (placed-as new is.same)
   run-answered name bound (reply.Ran given told) new is =
       let right = any-right problem old session.plans session.learned name is.1.table is.1.named in
       let run = run-in problem is.1.table right bound old.recorded building old.atoms (map turn_told told) is.1.after inside.is_state
@@ -70,36 +72,26 @@ module _ (problem : Problem) (old : SessionState) (building : RoomState) (sessio
       )
   run-answered name bound answer new is = absurd is
 
-  answered : (given : command.Command) (answer : Reply) (new : SessionState) → HasTakenEdits (Some building) given → Lawful problem old given answer new
+  unmoved : (given : command.Command) → RunsNothing given → (answer : Reply) (new : SessionState)
+      → LeavesRooms old given answer building building
+      → HasTakenEdits (Some building) given → Lawful problem old given answer new → Answered given answer new
+  unmoved given no_run answer new leaves taken is =
+      as-it-was given answer new is leaves (placed-later problem (Some building) old inside.placed given no_run taken answer new is)
+
+  answered : (given : command.Command) (answer : Reply) (new : SessionState) → HasTakenEdits (Some building) given
+      → Lawful problem old given answer new
       → Answered given answer new
-  answered (command.Plan name goal vars) answer new taken is =
-      as-it-was (command.Plan name goal vars) answer new is refl
-      (placed-search problem (Some building) old inside.placed (task_of problem old.learned.tables old.atoms goal vars) name answer new is)
-  answered (command.Learn name source) answer new taken is =
-      as-it-was (command.Learn name source) answer new is refl (placed-learning problem (Some building) old inside.placed name source answer new is)
-  answered (command.Show name) answer new taken is =
-      as-it-was (command.Show name) answer new is refl (placed-show problem (Some building) old inside.placed name answer new is)
+  answered (command.Plan name goal vars) answer new taken is = unmoved (command.Plan name goal vars) tt answer new refl taken is
+  answered (command.Learn name source) answer new taken is = unmoved (command.Learn name source) tt answer new refl taken is
+  answered (command.Show name) answer new taken is = unmoved (command.Show name) tt answer new refl taken is
   answered (command.DisturbAtoms turn between edits) answer new taken is =
-      as-it-was (command.DisturbAtoms turn between edits) answer new is refl
-      (placed-notes problem (Some building) old inside.placed (recorded_for turn between (map of_atoms edits)) answer new taken is)
+      unmoved (command.DisturbAtoms turn between edits) tt answer new refl taken is
   answered (command.DisturbRooms turn between edits) answer new taken is =
-      as-it-was (command.DisturbRooms turn between edits) answer new is refl
-      (placed-notes problem (Some building) old inside.placed (recorded_for turn between (map of_rooms edits)) answer new taken is)
+      unmoved (command.DisturbRooms turn between edits) tt answer new refl taken is
   answered (command.Run name bound) answer new taken is = run-answered name bound answer new is
-  answered command.Facts answer new taken is =
-      as-it-was command.Facts answer new is refl (placed-facts problem (Some building) old inside.placed answer new is)
+  answered command.Facts answer new taken is = unmoved command.Facts tt answer new refl taken is
 
 -- ---- all commands
-
-taken-later : (old new : RoomState) → TakeSame (Some old) (Some new) → (given : command.Command) → HasTakenEdits (Some old) given
-    → HasTakenEdits (Some new) given
-taken-later old new same (command.Plan name goal vars) taken = tt
-taken-later old new same (command.Learn name source) taken = tt
-taken-later old new same (command.Show name) taken = tt
-taken-later old new same (command.DisturbAtoms turn between edits) taken = takes-later (Some old) (Some new) (map of_atoms edits) same taken
-taken-later old new same (command.DisturbRooms turn between edits) taken = takes-later (Some old) (Some new) (map of_rooms edits) same taken
-taken-later old new same (command.Run name bound) taken = tt
-taken-later old new same command.Facts taken = tt
 
 module _ (problem : Problem) where
   abbrev AllAnswered : SessionState → RoomState → List command.Command → List Reply → SessionState → Type 0
@@ -114,24 +106,16 @@ module _ (problem : Problem) where
   all-answered [] (answer ∷ answers) old building last session inside taken is = absurd is
   all-answered (first ∷ commands) [] old building last session inside taken is = absurd is
   all-answered (first ∷ commands) (answer ∷ answers) old building last session inside taken (next, lawful, later) =
-      let here = answered problem old building session inside first answer next (All-head (HasTakenEdits (Some building)) first commands taken) lawful in
-      let rest = all-answered commands answers next here.0 last (sessions_are_kept.kept problem old first answer next session lawful) here.1.inside
-      (All-weaker (HasTakenEdits (Some building)) (HasTakenEdits (Some here.0)) (taken-later building here.0 here.1.same) commands
+      let here = answered problem old building session inside first answer next
+      (All-head (HasTakenEdits (Some building)) first commands taken) lawful in
+      let rest = all-answered commands answers next here.0 last
+      (sessions_are_kept.kept problem old first answer next session lawful) here.1.inside
+      (All-weaker (HasTakenEdits (Some building)) (HasTakenEdits (Some here.0))
+      (λ later taken. takes-later (Some building) (Some here.0) (edits_given later) here.1.same taken) commands
       (All-tail (HasTakenEdits (Some building)) first commands taken)) later in
       (rest.0, (next, (here.0, here.1, rest.1)), rest.2)
 
 -- ---- scripts
-
--- a command that can be run has edits that are taken
-runnable-taken : (problem : Problem) (building : Option RoomState) (given : command.Command) → IsRunnable problem building given
-    → HasTakenEdits building given
-runnable-taken problem building (command.Plan name goal vars) runs = tt
-runnable-taken problem building (command.Learn name source) runs = tt
-runnable-taken problem building (command.Show name) runs = tt
-runnable-taken problem building (command.DisturbAtoms turn between edits) runs = runs.taken
-runnable-taken problem building (command.DisturbRooms turn between edits) runs = runs.taken
-runnable-taken problem building (command.Run name bound) runs = tt
-runnable-taken problem building command.Facts runs = tt
 
 module _ (script : ScriptValue) (things : List Thing) (range : IsInRange script) (has : script.building ≡ Some things) where
   its-building : IsBuildingOf script.names script.problem script.facts things
@@ -149,12 +133,13 @@ module _ (script : ScriptValue) (things : List Thing) (range : IsInRange script)
   takes-all : All (HasTakenEdits (Some (first_state things))) script.commands
   takes-all k c below =
       subst (λ (b : Option (List Thing)). HasTakenEdits (at_first b) (get_or script.commands k c)) has
-      (runnable-taken script.problem (at_first script.building) (get_or script.commands k c) (ready-at script range k c below).0)
+      (ready-at script range k c below).0.1.taken
 
 pub rooms_are_kept : RoomsAreKept
 rooms_are_kept = record {
   opened = opens;
-  kept = λ problem old building given answer new session inside taken is. answered problem old building session inside given answer new taken is;
+  kept = λ problem old building given answer new session inside taken is. answered problem old building session inside given answer new
+      taken is;
   answers = λ script things count answers last range has is.
       all-answered script.problem (take count script.commands) answers (opening script.facts) (first_state things) last
       (sessions_are_kept.opened script.problem script.facts range.facts.fact_set) (opens script things range has)

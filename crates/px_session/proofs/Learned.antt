@@ -5,7 +5,7 @@ use Rattle.std.proofs.lemmas.List.Elements.{All-weaker}
 use Rattle.px_terms.specs.declared.problem.Problem.{Problem}
 use Rattle.px_table.specs.declared.table.Table.{Table}
 use Rattle.px_table.specs.Tables.{IsTable}
-use Rattle.px_diff.specs.Learned.{AreLearned}
+use Rattle.px_entries.specs.Learned.{AreLearned}
 use Rattle.px_general.specs.declared.general_err.GeneralErr.{GeneralErr}
 use Rattle.px_general.specs.General.{Generalises}
 use Rattle.px_general.specs.Limits.{IsTooDeep, IsTooLong, IsTooWide}
@@ -35,7 +35,7 @@ are-learned problem state is = record {
 -- ---- a plan that is generalised
 
 -- what a call doesn't answer isn't so
-ok-not-err : (general : Table) (why : GeneralErr) → Ok general ≡ Err why → ⊥
+ok-not-err : (general : Table) (why : GeneralErr) → ¬ (Ok general ≡ Err why)
 ok-not-err general why same = cc
 
 pub not-answered : {P : Type 0} (general : Table) (why : GeneralErr) → (Ok general ≡ Err why) ↔ P → ¬ P
@@ -52,7 +52,8 @@ general-few problem old session source plan general named short is =
 -- ---- what is told
 
 -- none of the causes
-allowed : (state : SessionState) (plan : Table) → ¬ IsTooLong plan → ¬ IsTooDeep plan → ¬ IsTooWide plan → ¬ (32 ≤ length state.learned.tables)
+allowed : (state : SessionState) (plan : Table) → ¬ IsTooLong plan → ¬ IsTooDeep plan → ¬ IsTooWide plan
+    → ¬ (32 ≤ length state.learned.tables)
     → (why : Why) → ¬ RefusesLearning state plan why
 allowed state plan short low narrow room TooLong is = short is
 allowed state plan short low narrow room TooDeep is = low is.1

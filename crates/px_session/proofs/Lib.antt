@@ -6,6 +6,8 @@ pub mod OneReply
 pub mod GivenNames
 pub mod Learned
 pub mod Shapes
+pub mod Walks
+pub mod Replied
 pub mod Ascending
 pub mod Kept
 pub mod OneTranscript

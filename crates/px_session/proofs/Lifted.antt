@@ -25,30 +25,17 @@ module _ {E : Type 0} (leaves : E → List Atom → List Atom) (into : E → Edi
   disturbed-lifted : (edits : List E) (old : Running) → disturbed_by leaves_edit (map into edits) old ≡ disturbed_by leaves edits old
   disturbed-lifted edits old = ap (λ (atoms : List Atom). record { atoms = atoms; memory = old.memory }) (after-lifted edits old.atoms)
 
-  edits-before : (recorded : List (Recorded E)) (turn : ℕ)
-      → edits_at (map (as_edits into) recorded) turn false ≡ map into (edits_at recorded turn false)
-  edits-before [] turn = refl
-  edits-before (one ∷ recorded) turn = by (edits-before recorded turn) (is_at turn false one)
+  edits-lifted : (recorded : List (Recorded E)) (turn : ℕ) (between : Bool)
+      → edits_at (map (as_edits into) recorded) turn between ≡ map into (edits_at recorded turn between)
+  edits-lifted [] turn between = refl
+  edits-lifted (one ∷ recorded) turn between = by (edits-lifted recorded turn between) (is_at turn between one)
     where
-      by : edits_at (map (as_edits into) recorded) turn false ≡ map into (edits_at recorded turn false) → (b : Bool)
+      by : edits_at (map (as_edits into) recorded) turn between ≡ map into (edits_at recorded turn between) → (b : Bool)
           → flat_map (λ (r : Recorded Edit). r.edits) (cond b (as_edits into one
-          ∷ filter (is_at turn false) (map (as_edits into) recorded)) (filter (is_at turn false) (map (as_edits into) recorded)))
+          ∷ filter (is_at turn between) (map (as_edits into) recorded)) (filter (is_at turn between) (map (as_edits into) recorded)))
           ≡ map into (flat_map (λ (r : Recorded E). r.edits) (cond b (one
-          ∷ filter (is_at turn false) recorded) (filter (is_at turn false) recorded)))
-      by rest true = ap (λ l. map into one.edits ++ l) rest ∙ sym (map-append into one.edits (edits_at recorded turn false))
-      by rest false = rest
-
-  edits-between : (recorded : List (Recorded E)) (turn : ℕ)
-      → edits_at (map (as_edits into) recorded) turn true ≡ map into (edits_at recorded turn true)
-  edits-between [] turn = refl
-  edits-between (one ∷ recorded) turn = by (edits-between recorded turn) (is_at turn true one)
-    where
-      by : edits_at (map (as_edits into) recorded) turn true ≡ map into (edits_at recorded turn true) → (b : Bool)
-          → flat_map (λ (r : Recorded Edit). r.edits) (cond b (as_edits into one
-          ∷ filter (is_at turn true) (map (as_edits into) recorded)) (filter (is_at turn true) (map (as_edits into) recorded)))
-          ≡ map into (flat_map (λ (r : Recorded E). r.edits) (cond b (one
-          ∷ filter (is_at turn true) recorded) (filter (is_at turn true) recorded)))
-      by rest true = ap (λ l. map into one.edits ++ l) rest ∙ sym (map-append into one.edits (edits_at recorded turn true))
+          ∷ filter (is_at turn between) recorded) (filter (is_at turn between) recorded)))
+      by rest true = ap (λ l. map into one.edits ++ l) rest ∙ sym (map-append into one.edits (edits_at recorded turn between))
       by rest false = rest
 
   module _ (problem : Problem) (table : Table) (bound : List (ℕ × ℕ)) where
@@ -68,9 +55,17 @@ module _ {E : Type 0} (leaves : E → List Atom → List Atom) (into : E → Edi
     ends-lifted between sensed NoKernel turn new is = is
     ends-lifted between sensed Goal turn new is = is
     ends-lifted between sensed (Sensed i) turn new (inl (told, acts)) =
-        inl (told, subst (λ (r : Running). Happens leaves_edit problem table bound r Act Acted new) (sym (disturbed-lifted between sensed)) acts)
+        inl (
+          told,
+          subst (λ (r : Running). Happens leaves_edit problem table bound r Act Acted new)
+              (sym (disturbed-lifted between sensed)) acts,
+        )
     ends-lifted between sensed (Sensed i) turn new (inr (told, slips)) =
-        inr (told, subst (λ (r : Running). Happens leaves_edit problem table bound r Act Slipped new) (sym (disturbed-lifted between sensed)) slips)
+        inr (
+          told,
+          subst (λ (r : Running). Happens leaves_edit problem table bound r Act Slipped new)
+              (sym (disturbed-lifted between sensed)) slips,
+        )
     ends-lifted between sensed Disturbed turn new is = absurd is
     ends-lifted between sensed NotSensed turn new is = absurd is
     ends-lifted between sensed Slipped turn new is = absurd is
@@ -83,7 +78,8 @@ module _ {E : Type 0} (leaves : E → List Atom → List Atom) (into : E → Edi
       outcome,
       (
         sensed,
-        subst (λ (r : Running). Happens leaves_edit problem table bound r Sense outcome sensed) (sym (disturbed-lifted before old)) (sense-lifted outcome (disturbed_by leaves before old) sensed senses),
+        subst (λ (r : Running). Happens leaves_edit problem table bound r Sense outcome sensed) (sym (disturbed-lifted before old))
+            (sense-lifted outcome (disturbed_by leaves before old) sensed senses),
         ends-lifted between sensed outcome turn new ends,
       ),
     )
@@ -95,10 +91,13 @@ module _ {E : Type 0} (leaves : E → List Atom → List Atom) (into : E → Edi
     turns-lifted recorded number old (turn
         ∷ turns) new (mid, takes, rest) = (mid, here, by (turns-lifted recorded (suc number) mid turns new) rest)
       where
-        here : TakesTurn leaves_edit problem table bound (edits_at (map (as_edits into) recorded) number false) (edits_at (map (as_edits into) recorded) number true) old turn mid
+        here : TakesTurn leaves_edit problem table bound (edits_at (map (as_edits into) recorded) number false)
+            (edits_at (map (as_edits into) recorded) number true) old turn mid
         here =
-            subst (λ (l : List Edit). TakesTurn leaves_edit problem table bound l (edits_at (map (as_edits into) recorded) number true) old turn mid) (sym (edits-before recorded number))
-            (subst (λ (l : List Edit). TakesTurn leaves_edit problem table bound (map into (edits_at recorded number false)) l old turn mid) (sym (edits-between recorded number))
+            subst (λ (l : List Edit). TakesTurn leaves_edit problem table bound l
+            (edits_at (map (as_edits into) recorded) number true) old turn mid) (sym (edits-lifted recorded number false))
+            (subst (λ (l : List Edit). TakesTurn leaves_edit problem table bound (map into (edits_at recorded number false)) l old turn mid)
+            (sym (edits-lifted recorded number true))
             (turn-lifted (edits_at recorded number false) (edits_at recorded number true) old turn mid takes))
 
         by : (TakesTurns leaves problem table bound recorded (suc number) mid turns new
@@ -117,6 +116,8 @@ module _ {E : Type 0} (leaves : E → List Atom → List Atom) (into : E → Edi
 
 pub one_kind_runs : OneKindRuns
 one_kind_runs = record {
-  of_atoms_alone = λ problem table bound recorded atoms turns after is. run-lifted edited of_atoms (λ edit atoms. refl) problem table bound recorded atoms turns after is;
-  of_rooms_alone = λ problem table bound recorded atoms turns after is. run-lifted facts_edited of_rooms (λ edit atoms. refl) problem table bound recorded atoms turns after is;
+  of_atoms_alone = λ problem table bound recorded atoms turns after is. run-lifted edited of_atoms
+      (λ edit atoms. refl) problem table bound recorded atoms turns after is;
+  of_rooms_alone = λ problem table bound recorded atoms turns after is. run-lifted facts_edited of_rooms
+      (λ edit atoms. refl) problem table bound recorded atoms turns after is;
 }

@@ -139,7 +139,8 @@ module _ (problem : Problem) (names : NameLists) (all : AreNamesOf problem names
     named-facts answer new of is = absurd is
 
 -- how many disturbances are recorded is no name
-named-noted : (names : NameLists) (old : SessionState) (one : Recorded Edit) (answer : Reply) (new : SessionState) → Notes old one answer new
+named-noted : (names : NameLists) (old : SessionState) (one : Recorded Edit) (answer : Reply) (new : SessionState)
+    → Notes old one answer new
     → IsNamed names answer
 named-noted names old one (reply.Noted count) new is = tt
 named-noted names old one answer new is = absurd is
@@ -147,13 +148,17 @@ named-noted names old one answer new is = absurd is
 -- learning tells a name of the two that are given
 named-learning : (problem : Problem) (names : NameLists) (old : SessionState) (name source : ℕ) (answer : Reply) (new : SessionState)
     → name < length names.results → source < length names.results → TellsLearning problem old name source answer new → IsNamed names answer
-named-learning problem names old name source (reply.Unknown given) new below also is = same-result given source (length names.results) is.0 also
-named-learning problem names old name source (reply.LearnRefused given why) new below also is = same-result given name (length names.results) is.0 below
-named-learning problem names old name source (reply.Learned given params steps) new below also is = same-result given name (length names.results) is.0 below
+named-learning problem names old name source (reply.Unknown given) new below also is =
+    same-result given source (length names.results) is.0 also
+named-learning problem names old name source (reply.LearnRefused given why) new below also is =
+    same-result given name (length names.results) is.0 below
+named-learning problem names old name source (reply.Learned given params steps) new below also is =
+    same-result given name (length names.results) is.0 below
 named-learning problem names old name source answer new below also is = absurd is
 
 -- for each command that is built
-pub named-each : (problem : Problem) (names : NameLists) (old : SessionState) (given : command.Command) (answer : Reply) (new : SessionState)
+pub named-each : (problem : Problem) (names : NameLists) (old : SessionState) (given : command.Command) (answer : Reply)
+    (new : SessionState)
     → AreNamesOf problem names → All (IsAtomOf problem 0) old.atoms
     → All (IsPlanTable problem) old.plans.tables → All (IsLearnedTable problem) old.learned.tables
     → IsTellable problem (length names.results) given → Lawful problem old given answer new → IsNamed names answer

@@ -20,7 +20,7 @@ use Rattle.px_session.specs.Sessions.{IsLearnedTable, IsPlanTable, IsSession, Se
 
 -- ---- options
 
-pub none_or_some : {A : Type 0} (o : Option A) (a : A) → o ≡ None → o ≡ Some a → ⊥
+pub none_or_some : {A : Type 0} (o : Option A) (a : A) → o ≡ None → ¬ (o ≡ Some a)
 none_or_some o a e f = cc
 
 pub one_some : {A : Type 0} (o : Option A) (a b : A) → o ≡ Some a → o ≡ Some b → a ≡ b
@@ -42,7 +42,8 @@ table-there (one ∷ names) (first ∷ tables) name table e = by (table-there na
 
 pub plan-right : (problem : Problem) (old : SessionState) → IsSession problem old → (name : ℕ) (plan : Table)
     → table_named old.plans name ≡ Some plan → IsPlanTable problem plan
-plan-right problem old is name plan at = All-at (IsPlanTable problem) old.plans.tables plan is.plans (table-there old.plans.names old.plans.tables name plan at)
+plan-right problem old is name plan at =
+    All-at (IsPlanTable problem) old.plans.tables plan is.plans (table-there old.plans.names old.plans.tables name plan at)
 
 pub any-right : (problem : Problem) (old : SessionState) → All (IsPlanTable problem) old.plans.tables
     → All (IsLearnedTable problem) old.learned.tables → (name : ℕ) (table : Table) → any_table old name ≡ Some table → IsTable problem table
@@ -85,9 +86,10 @@ refused-one source old why other new later p q =
     (why-one old q.plan why other (subst (λ (x : Table). RefusesLearning old x why) plan p.refused) q.refused, p.same ∙ sym q.same)
 
 refused-or-learned : (problem : Problem) (name source : ℕ) (old : SessionState) (why : Why) (params steps : ℕ) (new later : SessionState)
-    → IsNotLearned source old why new → IsLearned problem name source old params steps later → ⊥
+    → IsNotLearned source old why new → ¬ IsLearned problem name source old params steps later
 refused-or-learned problem name source old why params steps new later p q =
-    q.allowed why (subst (λ (x : Table). RefusesLearning old x why) (one_some (table_named old.plans source) p.plan q.plan p.named q.named) p.refused)
+    q.allowed why (subst (λ (x : Table). RefusesLearning old x why)
+    (one_some (table_named old.plans source) p.plan q.plan p.named q.named) p.refused)
 
 -- ---- the reply
 
@@ -99,7 +101,8 @@ learned-one problem valid old session name source n m p q s t new later is_name 
     let plan : is.plan ≡ is_other.plan = one_some (table_named old.plans source) is.plan is_other.plan is.named is_other.named in
     let right = plan-right problem old session source is_other.plan is_other.named in
     let general : is.general ≡ is_other.general =
-    general_is_one problem is_other.plan is.general is_other.general valid right.table right.proper (subst (λ (x : Table). Generalises problem x is.general) plan is.generalises) is_other.generalises in
+    general_is_one problem is_other.plan is.general is_other.general valid right.table right.proper
+    (subst (λ (x : Table). Generalises problem x is.general) plan is.generalises) is_other.generalises in
     let names : n ≡ m = is_name ∙ sym other_name in
     let params : p ≡ q = is.params_are ∙ ap (λ (x : Table). x.params) general ∙ sym is_other.params_are in
     let steps : s ≡ t = is.steps_are ∙ ap (λ (x : Table). length x.steps) general ∙ sym is_other.steps_are in (
@@ -111,16 +114,22 @@ module _ (problem : Problem) (valid : IsValid problem) (old : SessionState) (ses
   pub learning-one : (name source : ℕ) (one other : Reply) (new later : SessionState) → TellsLearning problem old name source one new
       → TellsLearning problem old name source other later → SameReply one other × (new ≡ later)
   learning-one name source (reply.Unknown n) (reply.Unknown m) new later p q = (inl (ap reply.Unknown (p.0 ∙ sym q.0)), p.2 ∙ sym q.2)
-  learning-one name source (reply.Unknown n) (reply.LearnRefused m why) new later p q = absurd (none_or_some (table_named old.plans source) q.1.plan p.1 q.1.named)
-  learning-one name source (reply.Unknown n) (reply.Learned m params steps) new later p q = absurd (none_or_some (table_named old.plans source) q.1.plan p.1 q.1.named)
-  learning-one name source (reply.LearnRefused n why) (reply.Unknown m) new later p q = absurd (none_or_some (table_named old.plans source) p.1.plan q.1 p.1.named)
+  learning-one name source (reply.Unknown n) (reply.LearnRefused m why) new later p q =
+      absurd (none_or_some (table_named old.plans source) q.1.plan p.1 q.1.named)
+  learning-one name source (reply.Unknown n) (reply.Learned m params steps) new later p q =
+      absurd (none_or_some (table_named old.plans source) q.1.plan p.1 q.1.named)
+  learning-one name source (reply.LearnRefused n why) (reply.Unknown m) new later p q =
+      absurd (none_or_some (table_named old.plans source) p.1.plan q.1 p.1.named)
   learning-one name source (reply.LearnRefused n why) (reply.LearnRefused m other) new later p q =
       let same = refused-one source old why other new later p.1 q.1 in
       let names : n ≡ m = p.0 ∙ sym q.0 in
       (inl (λ i. reply.LearnRefused (names i) (same.0 i)), same.1)
-  learning-one name source (reply.LearnRefused n why) (reply.Learned m params steps) new later p q = absurd (refused-or-learned problem name source old why params steps new later p.1 q.1)
-  learning-one name source (reply.Learned n params steps) (reply.Unknown m) new later p q = absurd (none_or_some (table_named old.plans source) p.1.plan q.1 p.1.named)
-  learning-one name source (reply.Learned n params steps) (reply.LearnRefused m why) new later p q = absurd (refused-or-learned problem name source old why params steps later new q.1 p.1)
+  learning-one name source (reply.LearnRefused n why) (reply.Learned m params steps) new later p q =
+      absurd (refused-or-learned problem name source old why params steps new later p.1 q.1)
+  learning-one name source (reply.Learned n params steps) (reply.Unknown m) new later p q =
+      absurd (none_or_some (table_named old.plans source) p.1.plan q.1 p.1.named)
+  learning-one name source (reply.Learned n params steps) (reply.LearnRefused m why) new later p q =
+      absurd (refused-or-learned problem name source old why params steps later new q.1 p.1)
   learning-one name source (reply.Learned n params steps) (reply.Learned m others more) new later p q =
       let same = learned-one problem valid old session name source n m params others steps more new later p.0 q.0 p.1 q.1 in
       (inl same.0, same.1)

@@ -52,12 +52,17 @@ facts-one old one other new later p q = absurd p
 reply-one : (problem : Problem) (old : SessionState) (given : command.Command) (one other : Reply) (new later : SessionState)
     → IsValid problem → IsSession problem old
     → Lawful problem old given one new → Lawful problem old given other later → SameReply one other × (new ≡ later)
-reply-one problem old (command.Plan name goal vars) one other new later valid session p q = search-one (task_of problem old.learned.tables old.atoms goal vars) name old one other new later p q
-reply-one problem old (command.Learn name source) one other new later valid session p q = learning-one problem valid old session name source one other new later p q
+reply-one problem old (command.Plan name goal vars) one other new later valid session p q =
+    search-one (task_of problem old.learned.tables old.atoms goal vars) name old one other new later p q
+reply-one problem old (command.Learn name source) one other new later valid session p q =
+    learning-one problem valid old session name source one other new later p q
 reply-one problem old (command.Show name) one other new later valid session p q = show-one old name one other new later p q
-reply-one problem old (command.DisturbAtoms turn between edits) one other new later valid session p q = notes-one old (recorded_for turn between (map of_atoms edits)) one other new later p q
-reply-one problem old (command.DisturbRooms turn between edits) one other new later valid session p q = notes-one old (recorded_for turn between (map of_rooms edits)) one other new later p q
-reply-one problem old (command.Run name bound) one other new later valid session p q = run-one problem old name bound one other new later p q
+reply-one problem old (command.DisturbAtoms turn between edits) one other new later valid session p q =
+    notes-one old (recorded_for turn between (map of_atoms edits)) one other new later p q
+reply-one problem old (command.DisturbRooms turn between edits) one other new later valid session p q =
+    notes-one old (recorded_for turn between (map of_rooms edits)) one other new later p q
+reply-one problem old (command.Run name bound) one other new later valid session p q =
+    run-one problem old name bound one other new later p q
 reply-one problem old command.Facts one other new later valid session p q = facts-one old one other new later p q
 
 pub text-one : (names : NameLists) (one other : Reply) → SameReply one other → reply_text names one ≡ reply_text names other

@@ -69,7 +69,7 @@ module _ (problem : Problem) (old : SessionState) (name : ℕ) (bound : List (�
       )
 
   no-parameter-or-ran : (param : ℕ) (told : List Turn) (new later : SessionState) → HasNoParameter name bound old param new
-      → IsRunOf problem name bound old told later → ⊥
+      → ¬ IsRunOf problem name bound old told later
   no-parameter-or-ran param told new later p q =
       let table : p.table ≡ q.table = one_some (any_table old name) p.table q.table p.named q.named in
       none_or_some (first_unknown q.table bound) param q.known (ap (λ (x : Table). first_unknown x bound) (sym table) ∙ p.unknown)

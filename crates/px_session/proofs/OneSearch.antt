@@ -15,7 +15,8 @@ use Rattle.px_session.specs.Determined.{SameReply}
 use Rattle.px_session.specs.Lawful.{FindsPlan, TellsSearch}
 use Rattle.px_session.specs.Sessions.{SessionState}
 
-found-one : (task : Task) (name : ℕ) (old : SessionState) (given other count more : ℕ) (steps others : List OpInst) (new later : SessionState) → given ≡ name → other ≡ name
+found-one : (task : Task) (name : ℕ) (old : SessionState) (given other count more : ℕ) (steps others : List OpInst)
+    (new later : SessionState) → given ≡ name → other ≡ name
     → FindsPlan task name old count steps new → FindsPlan task name old more others later
     → (reply.Plan given count steps ≡ reply.Plan other more others) × (new ≡ later)
 found-one task name old given other count more steps others new later is_name other_name is is_other =
@@ -24,31 +25,45 @@ found-one task name old given other count more steps others new later is_name ot
     let counts : count ≡ more = is.counted ∙ ap length moves ∙ sym is_other.counted in
     let same_steps : steps ≡ others = is.taken ∙ ap (steps_of task.tables []) moves ∙ sym is_other.taken in
     let made : is.made ≡ is_other.made =
-    tables_are_one task is_other.moves is.made is_other.made (subst (λ (ms : List Move). IsTableOfMoves task ms is.made) moves is.table) is_other.table in (
+    tables_are_one task is_other.moves is.made is_other.made
+    (subst (λ (ms : List Move). IsTableOfMoves task ms is.made) moves is.table) is_other.table in (
       λ i. reply.Plan (names i) (counts i) (same_steps i),
       is.stored ∙ ap (λ (t : Table). record old { plans = with_table old.plans name t }) made ∙ sym is_other.stored,
     )
 
 pub search-one : (task : Task) (name : ℕ) (old : SessionState) (one other : Reply) (new later : SessionState)
     → TellsSearch task name old one new → TellsSearch task name old other later → SameReply one other × (new ≡ later)
-search-one task name old (reply.Plan n c s) (reply.Plan m d t) new later p q = let r = found-one task name old n m c d s t new later p.0 q.0 p.1 q.1 in (inl r.0, r.1)
-search-one task name old (reply.Plan n c s) (reply.Exhausted m) new later p q = absurd (ends_are_one.found_or_exhausted task p.1.moves p.1.found q.1)
-search-one task name old (reply.Plan n c s) (reply.NodeLimit m nodes d) new later p q = absurd (ends_are_one.found_or_node_limit task p.1.moves nodes d p.1.found q.1)
-search-one task name old (reply.Plan n c s) (reply.ShapeLimit m node formula shapes) new later p q = absurd (ends_are_one.shape_limit_or_found task node formula shapes p.1.moves q.1 p.1.found)
-search-one task name old (reply.Exhausted n) (reply.Plan m d t) new later p q = absurd (ends_are_one.found_or_exhausted task q.1.moves q.1.found p.1)
+search-one task name old (reply.Plan n c s) (reply.Plan m d t) new later p q = let r =
+    found-one task name old n m c d s t new later p.0 q.0 p.1 q.1 in (inl r.0, r.1)
+search-one task name old (reply.Plan n c s) (reply.Exhausted m) new later p q =
+    absurd (ends_are_one.found_or_exhausted task p.1.moves p.1.found q.1)
+search-one task name old (reply.Plan n c s) (reply.NodeLimit m nodes d) new later p q =
+    absurd (ends_are_one.found_or_node_limit task p.1.moves nodes d p.1.found q.1)
+search-one task name old (reply.Plan n c s) (reply.ShapeLimit m node formula shapes) new later p q =
+    absurd (ends_are_one.shape_limit_or_found task node formula shapes p.1.moves q.1 p.1.found)
+search-one task name old (reply.Exhausted n) (reply.Plan m d t) new later p q =
+    absurd (ends_are_one.found_or_exhausted task q.1.moves q.1.found p.1)
 search-one task name old (reply.Exhausted n) (reply.Exhausted m) new later p q = (inl (ap reply.Exhausted (p.0 ∙ sym q.0)), p.2 ∙ sym q.2)
-search-one task name old (reply.Exhausted n) (reply.NodeLimit m nodes d) new later p q = absurd (ends_are_one.node_limit_or_exhausted task nodes d q.1 p.1)
-search-one task name old (reply.Exhausted n) (reply.ShapeLimit m node formula shapes) new later p q = absurd (ends_are_one.shape_limit_or_exhausted task node formula shapes q.1 p.1)
-search-one task name old (reply.NodeLimit n nodes c) (reply.Plan m d t) new later p q = absurd (ends_are_one.found_or_node_limit task q.1.moves nodes c q.1.found p.1)
-search-one task name old (reply.NodeLimit n nodes c) (reply.Exhausted m) new later p q = absurd (ends_are_one.node_limit_or_exhausted task nodes c p.1 q.1)
+search-one task name old (reply.Exhausted n) (reply.NodeLimit m nodes d) new later p q =
+    absurd (ends_are_one.node_limit_or_exhausted task nodes d q.1 p.1)
+search-one task name old (reply.Exhausted n) (reply.ShapeLimit m node formula shapes) new later p q =
+    absurd (ends_are_one.shape_limit_or_exhausted task node formula shapes q.1 p.1)
+search-one task name old (reply.NodeLimit n nodes c) (reply.Plan m d t) new later p q =
+    absurd (ends_are_one.found_or_node_limit task q.1.moves nodes c q.1.found p.1)
+search-one task name old (reply.NodeLimit n nodes c) (reply.Exhausted m) new later p q =
+    absurd (ends_are_one.node_limit_or_exhausted task nodes c p.1 q.1)
 search-one task name old (reply.NodeLimit n nodes c) (reply.NodeLimit m more d) new later p q =
     let same = ends_are_one.node_limit task nodes more c d p.1 q.1 in
     let names : n ≡ m = p.0 ∙ sym q.0 in
     (inl (λ i. reply.NodeLimit (names i) (same.0 i) (same.1 i)), p.2 ∙ sym q.2)
-search-one task name old (reply.NodeLimit n nodes c) (reply.ShapeLimit m node formula shapes) new later p q = absurd (ends_are_one.shape_limit_or_node_limit task node formula shapes nodes c q.1 p.1)
-search-one task name old (reply.ShapeLimit n node formula shapes) (reply.Plan m d t) new later p q = absurd (ends_are_one.shape_limit_or_found task node formula shapes q.1.moves p.1 q.1.found)
-search-one task name old (reply.ShapeLimit n node formula shapes) (reply.Exhausted m) new later p q = absurd (ends_are_one.shape_limit_or_exhausted task node formula shapes p.1 q.1)
-search-one task name old (reply.ShapeLimit n node formula shapes) (reply.NodeLimit m nodes d) new later p q = absurd (ends_are_one.shape_limit_or_node_limit task node formula shapes nodes d p.1 q.1)
+search-one task name old (reply.NodeLimit n nodes c) (reply.ShapeLimit m node formula shapes) new later p q =
+    absurd (ends_are_one.shape_limit_or_node_limit task node formula shapes nodes c q.1 p.1)
+search-one task name old (reply.ShapeLimit n node formula shapes) (reply.Plan m d t) new later p q =
+    absurd (ends_are_one.shape_limit_or_found task node formula shapes q.1.moves p.1 q.1.found)
+search-one task name old (reply.ShapeLimit n node formula shapes) (reply.Exhausted m) new later p q =
+    absurd (ends_are_one.shape_limit_or_exhausted task node formula shapes p.1 q.1)
+search-one task name old (reply.ShapeLimit n node formula shapes) (reply.NodeLimit m nodes d) new later p q =
+    absurd (ends_are_one.shape_limit_or_node_limit task node formula shapes nodes d p.1 q.1)
 search-one task name old (reply.ShapeLimit n node formula shapes) (reply.ShapeLimit m other others kept) new later p q = (
   inr (record {
     name = n;

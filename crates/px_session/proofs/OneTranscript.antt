@@ -31,7 +31,8 @@ use Rattle.px_session.proofs.OneReply.{lawful_is_one}
 -- ---- the replies
 
 module _ (problem : Problem) (valid : IsValid problem) where
-  answers-one : (old : SessionState) → IsSession problem old → (commands : List Command) (answers others : List Reply) (last later : SessionState)
+  answers-one : (old : SessionState) → IsSession problem old → (commands : List Command) (answers others : List Reply)
+      (last later : SessionState)
       → AreAnswers problem old commands answers last → AreAnswers problem old commands others later
       → AllZip SameReply answers others × (last ≡ later)
   answers-one old session [] [] [] last later p q = (tt, p ∙ sym q)
@@ -50,7 +51,8 @@ script-one : (script : ScriptValue) (answers others : List Reply) → IsValid sc
     → (one : AreAnswersTo script answers) (other : AreAnswersTo script others) → AllZip SameReply answers others × (one.last ≡ other.last)
 script-one script answers others valid set one other =
     let session = sessions_are_kept.opened script.problem script.facts set in
-    answers-one script.problem valid (opening script.facts) session script.commands answers others one.last other.last one.lawful other.lawful
+    answers-one script.problem valid
+    (opening script.facts) session script.commands answers others one.last other.last one.lawful other.lawful
 
 -- ---- what is made of them
 
@@ -87,7 +89,8 @@ sums-one look is (a ∷ answers) (b ∷ others) same =
 
 counts-one : (test : Reply → Bool) → ((one other : Reply) → SameReply one other → test one ≡ test other) → (answers others : List Reply)
     → AllZip SameReply answers others → count_by test answers ≡ count_by test others
-counts-one test is answers others same = sums-one (λ x. cond (test x) 1 0) (λ one other e. ap (λ b. cond b 1 0) (is one other e)) answers others same
+counts-one test is answers others same =
+    sums-one (λ x. cond (test x) 1 0) (λ one other e. ap (λ b. cond b 1 0) (is one other e)) answers others same
 
 summary-line-one : (rooms seed commands : ℕ) (answers others : List Reply) → AllZip SameReply answers others
     → summary_line rooms seed commands answers ≡ summary_line rooms seed commands others
@@ -107,7 +110,8 @@ settled-script : (bytes : List ℕ) (script : ScriptValue) → IsScript stage_no
 settled-script bytes script is = let range = in-range stage_now bytes script is in (range.problem.valid, range.facts.fact_set)
 
 -- replies to what is one script
-settled-one : (one other : ScriptValue) (answers others : List Reply) → one ≡ other → IsSettled other → AreAnswersTo one answers → AreAnswersTo other others → AllZip SameReply answers others
+settled-one : (one other : ScriptValue) (answers others : List Reply) → one ≡ other → IsSettled other → AreAnswersTo one answers
+    → AreAnswersTo other others → AllZip SameReply answers others
 settled-one one other answers others same settled p q =
     (script-one other answers others settled.0 settled.1 (subst (λ (s : ScriptValue). AreAnswersTo s answers) same p) q).0
 

@@ -1,8 +1,7 @@
 -- The steps that a run tries are instances of the problem's operators, and what it leaves of atoms of the problem are such.
-use Rattle.std.specs.Prelude.{◌≡◌, ◌≤◌, ℕ, Bool, true, false, cond, Option, Some, None, List, [], ◌∷◌, ◌++◌, All, Contains, filter}
-use Rattle.std.specs.List.{flat_map}
+use Rattle.std.specs.Prelude.{◌≡◌, ℕ, true, false, Option, Some, None, List, [], ◌∷◌, All, Contains}
 use Rattle.std.proofs.Common.{zero, suc, refl, sym, ap, ◌∙◌, subst, inl, inr, arith}
-use Rattle.std.proofs.lemmas.List.Elements.{All-append, All-cons, All-head, All-map, All-nil, All-tail}
+use Rattle.std.proofs.lemmas.List.Elements.{All-cons, All-map, All-nil}
 use Rattle.px_base.specs.ListLaws.{All-at, All-each, Contains-cases}
 use Rattle.px_base.specs.SetLaws.{with_item-members}
 use Rattle.px_terms.specs.declared.atom.Atom.{Atom}
@@ -32,9 +31,10 @@ use Rattle.px_planex.specs.declared.event.Outcome.{Outcome}
 use Rattle.px_planex.specs.declared.event.Outcome.TheVariants.{Disturbed, Sensed, Acted, Slipped, Goal, NoKernel, NotSensed}
 use Rattle.px_planex.specs.Execution.{Happens, Memory, Running, remembered_step, step_of_kernel}
 use Rattle.px_planex.specs.Executors.{IsActable}
-use Rattle.px_planex.specs.Turns.{EndsTurn, Recorded, RunsTable, TakesTurn, TakesTurns, TurnValue, after_edits, disturbed_by, edits_at, is_at}
+use Rattle.px_planex.specs.Turns.{EndsTurn, Recorded, RunsTable, TakesTurn, TakesTurns, TurnValue, disturbed_by, edits_at}
 use Rattle.px_session.specs.OwnStates.{AreOwnEdits, IsOwnEdit}
 use Rattle.px_session.specs.Sessions.{Edit, leaves_edit, of_atoms, of_rooms}
+use Rattle.px_session.proofs.Walks.{run-keeps}
 
 -- the step, if there is one, is an instance of an operator of the problem
 abbrev pub IsOwnStep : Problem → Option OpInst → Type 0
@@ -51,17 +51,21 @@ module _ (problem : Problem) (table : Table) (is_table : IsTable problem table) 
   steps-own sigma given =
       All-map (IsInstanceOf problem) (instance_under sigma) table.steps
       (All-each (λ (step : OpInst). IsInstanceOf problem (instance_under sigma step)) table.steps
-      (λ step has. step_under-is_of problem table sigma step given (All-at (IsStepOf problem table.params) table.steps step is_table.in_range.steps has)))
+      (λ step has. step_under-is_of problem table sigma step given
+      (All-at (IsStepOf problem table.params) table.steps step is_table.in_range.steps has)))
 
-  step-own : (steps : List OpInst) (number : ℕ) (inst : OpInst) → All (IsInstanceOf problem) steps → step_at steps number ≡ Some inst → IsInstanceOf problem inst
+  step-own : (steps : List OpInst) (number : ℕ) (inst : OpInst) → All (IsInstanceOf problem) steps → step_at steps number ≡ Some inst
+      → IsInstanceOf problem inst
   step-own steps zero inst all at = absurd (cc)
   step-own steps (suc k) inst all at = All-got (IsInstanceOf problem) steps k inst all at
 
-  pub kernel-own : (kernel : KernelInstance) (inst : OpInst) → IsInstantiation problem table kernel.objects → step_of_kernel table kernel ≡ Some inst
+  pub kernel-own : (kernel : KernelInstance) (inst : OpInst) → IsInstantiation problem table kernel.objects
+      → step_of_kernel table kernel ≡ Some inst
       → IsInstanceOf problem inst
   kernel-own kernel inst given at = step-own (steps_under table kernel.objects) kernel.number inst (steps-own kernel.objects given) at
 
-  maybe-own : (kernel : KernelInstance) → IsInstantiation problem table kernel.objects → (step : Option OpInst) → step_of_kernel table kernel ≡ step
+  maybe-own : (kernel : KernelInstance) → IsInstantiation problem table kernel.objects → (step : Option OpInst)
+      → step_of_kernel table kernel ≡ step
       → IsOwnStep problem step
   maybe-own kernel given None at = tt
   maybe-own kernel given (Some inst) at = kernel-own kernel inst given at
@@ -89,9 +93,11 @@ module _ (problem : Problem) (table : Table) (is_table : IsTable problem table) 
   ends-step between sensed NoKernel turn new is can = told-own None turn (ap (λ (t : TurnValue). t.op) is.0) tt
   ends-step between sensed Goal turn new is can = told-own None turn (ap (λ (t : TurnValue). t.op) is.0) tt
   ends-step between sensed (Sensed i) turn new (inl (told, acts)) can =
-      told-own (remembered_step table sensed.memory) turn (ap (λ (t : TurnValue). t.op) told) (remembered-own sensed.memory.remembered sensed.memory.instance can)
+      told-own (remembered_step table sensed.memory) turn (ap (λ (t : TurnValue). t.op) told)
+      (remembered-own sensed.memory.remembered sensed.memory.instance can)
   ends-step between sensed (Sensed i) turn new (inr (told, slips)) can =
-      told-own (remembered_step table sensed.memory) turn (ap (λ (t : TurnValue). t.op) told) (remembered-own sensed.memory.remembered sensed.memory.instance can)
+      told-own (remembered_step table sensed.memory) turn (ap (λ (t : TurnValue). t.op) told)
+      (remembered-own sensed.memory.remembered sensed.memory.instance can)
   ends-step between sensed Disturbed turn new is can = absurd is
   ends-step between sensed NotSensed turn new is can = absurd is
   ends-step between sensed Slipped turn new is can = absurd is
@@ -146,28 +152,9 @@ module _ (problem : Problem) where
       All-each (IsAtomOf problem 0) (facts_edited one atoms) (λ q has.
       elim ((result_by-members (edit_schema one) atoms (record { op = 0; args = [] }) q).0 has) [
         | inl stays ↦ All-at (IsAtomOf problem 0) atoms q own stays.0
-        | inr added ↦ All-at (IsAtomOf problem 0) (edit_schema one).add q of (subst (λ (l : List Atom). Contains l q) (adds-plain one) added)
+        | inr added ↦ All-at (IsAtomOf problem 0) (edit_schema one).add q of
+            (subst (λ (l : List Atom). Contains l q) (adds-plain one) added)
       ])
-
-  edits-own : (edits : List Edit) (atoms : List Atom) → All (IsOwnEdit problem) edits → AreOwn atoms → AreOwn (after_edits leaves_edit edits atoms)
-  edits-own [] atoms of own = own
-  edits-own (edit ∷ edits) atoms of own =
-      edits-own edits (leaves_edit edit atoms) (All-tail (IsOwnEdit problem) edit edits of) (edit-own edit atoms (All-head (IsOwnEdit problem) edit edits of) own)
-
-  abbrev HasOwn : Recorded Edit → Type 0
-  HasOwn one = All (IsOwnEdit problem) one.edits
-
-  -- those of a turn and point
-  edits_at-own : (recorded : List (Recorded Edit)) (number : ℕ) (between : Bool) → AreOwnEdits problem recorded → All (IsOwnEdit problem) (edits_at recorded number between)
-  edits_at-own [] number between own = All-nil (IsOwnEdit problem)
-  edits_at-own (one ∷ recorded) number between own =
-      by (All-head HasOwn one recorded own) (edits_at-own recorded number between (All-tail HasOwn one recorded own)) (is_at number between one)
-    where
-      by : All (IsOwnEdit problem) one.edits → All (IsOwnEdit problem) (edits_at recorded number between) → (b : Bool)
-          → All (IsOwnEdit problem) (flat_map (λ (r : Recorded Edit). r.edits) (cond b (one
-          ∷ filter (is_at number between) recorded) (filter (is_at number between) recorded)))
-      by here rest true = All-append (IsOwnEdit problem) one.edits (edits_at recorded number between) here rest
-      by here rest false = rest
 
   module _ (valid : IsValid problem) where
     result-own : (atoms : List Atom) (inst : OpInst) → IsInstanceOf problem inst → AreOwn atoms → AreOwn (result_of problem atoms inst)
@@ -179,57 +166,18 @@ module _ (problem : Problem) where
         ])
 
     module _ (table : Table) (is_table : IsTable problem table) (bound : List (ℕ × ℕ)) where
-      abbrev IsOwnRunning : Running → Type 0
-      IsOwnRunning running = AreOwn running.atoms
+      acts-own : (outcome : Outcome) (old sensed before new : Running) → Happens leaves_edit problem table bound old Sense outcome sensed
+          → before.memory ≡ sensed.memory → Happens leaves_edit problem table bound before Act Acted new → AreOwn before.atoms
+          → AreOwn new.atoms
+      acts-own outcome old sensed before new senses same (kernel, remembered, holds, (inst, at, left)) own =
+          let can = sense-can problem table is_table bound outcome old sensed senses in
+          let able : IsActable problem table (Some kernel) =
+          subst (IsActable problem table) (ap (λ (m : Memory). m.remembered) (sym same) ∙ remembered) can in
+          subst (λ (r : Running). AreOwn r.atoms) (sym left)
+          (result-own before.atoms inst (kernel-own problem table is_table bound kernel inst able.2 at) own)
 
-      sense-own : (outcome : Outcome) (old new : Running) → Happens leaves_edit problem table bound old Sense outcome new → IsOwnRunning old → IsOwnRunning new
-      sense-own NoKernel old new is own = subst IsOwnRunning (sym is.1) own
-      sense-own Goal old new is own = subst IsOwnRunning (sym is.3) own
-      sense-own (Sensed i) old new is own = subst IsOwnRunning (sym is.4) own
-      sense-own Disturbed old new is own = absurd is
-      sense-own NotSensed old new is own = absurd is
-      sense-own Slipped old new is own = absurd is
-      sense-own Acted old new is own = absurd is
-
-      acts-own : (old new : Running) → Happens leaves_edit problem table bound old Act Acted new → IsActable problem table old.memory.remembered → IsOwnRunning old
-          → IsOwnRunning new
-      acts-own old new (kernel, remembered, holds, (inst, at, same)) can own =
-          let able : IsActable problem table (Some kernel) = subst (IsActable problem table) remembered can in
-          subst IsOwnRunning (sym same) (result-own old.atoms inst (kernel-own problem table is_table bound kernel inst able.2 at) own)
-
-      ends-own : (between : List Edit) (sensed : Running) (outcome : Outcome) (turn : TurnValue) (new : Running) → All (IsOwnEdit problem) between
-          → EndsTurn leaves_edit problem table bound between sensed outcome turn new → IsActable problem table sensed.memory.remembered → IsOwnRunning sensed
-          → IsOwnRunning new
-      ends-own between sensed NoKernel turn new edits is can own = subst IsOwnRunning (sym is.1) own
-      ends-own between sensed Goal turn new edits is can own = subst IsOwnRunning (sym is.1) own
-      ends-own between sensed (Sensed i) turn new edits (inl (told, acts)) can own =
-          acts-own (disturbed_by leaves_edit between sensed) new acts can (edits-own between sensed.atoms edits own)
-      ends-own between sensed (Sensed i) turn new edits (inr (told, slips)) can own =
-          subst IsOwnRunning (sym slips.3) (edits-own between sensed.atoms edits own)
-      ends-own between sensed Disturbed turn new edits is can own = absurd is
-      ends-own between sensed NotSensed turn new edits is can own = absurd is
-      ends-own between sensed Slipped turn new edits is can own = absurd is
-      ends-own between sensed Acted turn new edits is can own = absurd is
-
-      turn-own : (before between : List Edit) (old : Running) (turn : TurnValue) (new : Running) → All (IsOwnEdit problem) before → All (IsOwnEdit problem) between
-          → TakesTurn leaves_edit problem table bound before between old turn new → IsOwnRunning old → IsOwnRunning new
-      turn-own before between old turn new first second (outcome, (sensed, senses, ends)) own =
-          let disturbed = disturbed_by leaves_edit before old in
-          ends-own between sensed outcome turn new second ends (sense-can problem table is_table bound outcome disturbed sensed senses)
-          (sense-own outcome disturbed sensed senses (edits-own before old.atoms first own))
-
-      turns-own : (recorded : List (Recorded Edit)) (number : ℕ) (old : Running) (turns : List TurnValue) (new : Running) → AreOwnEdits problem recorded
-          → TakesTurns leaves_edit problem table bound recorded number old turns new → IsOwnRunning old → IsOwnRunning new
-      turns-own recorded number old [] new edits is own = absurd is
-      turns-own recorded number old (turn ∷ turns) new edits (mid, takes, inl (last, none, same)) own =
-          subst IsOwnRunning (sym same)
-          (turn-own (edits_at recorded number false) (edits_at recorded number true) old turn mid (edits_at-own recorded number false edits)
-          (edits_at-own recorded number true edits) takes own)
-      turns-own recorded number old (turn ∷ turns) new edits (mid, takes, inr (goes_on, later)) own =
-          turns-own recorded (suc number) mid turns new edits later
-          (turn-own (edits_at recorded number false) (edits_at recorded number true) old turn mid (edits_at-own recorded number false edits)
-          (edits_at-own recorded number true edits) takes own)
-
-      pub run-own : (recorded : List (Recorded Edit)) (atoms : List Atom) (turns : List TurnValue) (after : List Atom) → AreOwnEdits problem recorded
-          → RunsTable leaves_edit problem table bound recorded atoms turns after → All (IsAtomOf problem 0) atoms → All (IsAtomOf problem 0) after
-      run-own recorded atoms turns after edits (memory, takes) own = turns-own recorded 1 _ turns _ edits takes own
+      pub run-own : (recorded : List (Recorded Edit)) (atoms : List Atom) (turns : List TurnValue) (after : List Atom)
+          → AreOwnEdits problem recorded
+          → RunsTable leaves_edit problem table bound recorded atoms turns after → AreOwn atoms → AreOwn after
+      run-own recorded atoms turns after edits runs own =
+          run-keeps leaves_edit problem table bound AreOwn (IsOwnEdit problem) edit-own acts-own recorded atoms turns after edits runs own

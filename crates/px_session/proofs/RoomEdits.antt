@@ -49,7 +49,8 @@ module _ (objects height nodes shapes : ℕ) where
   in-room x r p q = ((omega arith, refl), All-cons IsTerm (Obj x) (Obj r ∷ []) p (one IsTerm (Obj r) q))
 
   -- the new fact of an edit that is admitted is an atom of the building's problem
-  edit-belongs : (state : RoomState) → objects ≡ length state.things + 1 → (edit : RoomEdit) → IsAdmitted state edit → All Belongs (edit_schema edit).add
+  edit-belongs : (state : RoomState) → objects ≡ length state.things + 1 → (edit : RoomEdit) → IsAdmitted state edit
+      → All Belongs (edit_schema edit).add
   edit-belongs state count (room_edit.Robot r) is =
       let here = inside state.things r a_room is in
       one Belongs (in_room (Obj 0) (Obj r)) (in-room 0 r (omega (arith, count)) (omega (arith, count, here)))
@@ -74,7 +75,8 @@ each-building P Q (Some things) follows is = follows things is
 abbrev pub OwnsRoomEdits : Problem → List Thing → Type 0
 OwnsRoomEdits problem things = (edit : RoomEdit) → IsAdmitted (first_state things) edit → IsOwnEdit problem (of_rooms edit)
 
-pub owns-room-edits : (names : NameLists) (problem : Problem) (facts : List Atom) (things : List Thing) → IsBuildingOf names problem facts things
+pub owns-room-edits : (names : NameLists) (problem : Problem) (facts : List Atom) (things : List Thing)
+    → IsBuildingOf names problem facts things
     → OwnsRoomEdits problem things
 owns-room-edits names problem facts things is edit admitted =
     subst (λ (p : Problem). All (IsAtomOf p 0) (edit_schema edit).add) (sym is.of_building)
@@ -86,14 +88,15 @@ edit-ground : (problem : Problem) (edit : AtomEdit) → IsEditOf problem edit �
 edit-ground problem (Add atom) of = atom_of-is_ground problem atom of
 edit-ground problem (Remove atom) of = atom_of-is_ground problem atom of
 
-some-none : true ≡ false → ⊥
+some-none : ¬ (true ≡ false)
 some-none same = cc
 
 -- the building as it stands at first, if there is one
 abbrev pub at_first : Option (List Thing) → Option RoomState
 at_first building = option_map first_state building
 
-pub note-atoms : (problem : Problem) (building : Option (List Thing)) (edits : List AtomEdit) → is_some building ≡ false → All (IsEditOf problem) edits
+pub note-atoms : (problem : Problem) (building : Option (List Thing)) (edits : List AtomEdit) → is_some building ≡ false
+    → All (IsEditOf problem) edits
     → AreEditsToNote problem (at_first building) (map of_atoms edits)
 note-atoms problem None edits out of = record {
   own = All-map (IsOwnEdit problem) of_atoms edits of;
@@ -105,14 +108,16 @@ pub note-rooms : (problem : Problem) (building : Option (List Thing)) (edits : L
     → AreRoomEditsOf building edits → AreEditsToNote problem (at_first building) (map of_rooms edits)
 note-rooms problem None edits owns of = absurd of
 note-rooms problem (Some things) edits owns of = record {
-  own = All-map (IsOwnEdit problem) of_rooms edits (All-weaker (IsAdmitted (first_state things)) (λ edit. IsOwnEdit problem (of_rooms edit)) owns edits of);
+  own = All-map (IsOwnEdit problem) of_rooms edits
+      (All-weaker (IsAdmitted (first_state things)) (λ edit. IsOwnEdit problem (of_rooms edit)) owns edits of);
   taken = All-map (Takes (Some (first_state things))) of_rooms edits of;
 }
 
 -- ---- the building
 
 -- the facts are the building's, and the problem has its rules
-pub placed-first : (names : NameLists) (problem : Problem) (facts : List Atom) (building : Option (List Thing)) → IfSome building (IsBuildingOf names problem facts)
+pub placed-first : (names : NameLists) (problem : Problem) (facts : List Atom) (building : Option (List Thing))
+    → IfSome building (IsBuildingOf names problem facts)
     → IsPlaceOf problem facts (at_first building)
 placed-first names problem facts None is = tt
 placed-first names problem facts (Some things) is = (
@@ -128,11 +133,13 @@ placed-first names problem facts (Some things) is = (
 abbrev things_of : Option Building → Option (List Thing)
 things_of building = option_map (λ building. building.things) building
 
-pub first-read : (building : Option Building) → option_map (λ building. first_state building.things) building ≡ at_first (things_of building)
+pub first-read : (building : Option Building) → option_map (λ building. first_state building.things) building ≡ at_first
+    (things_of building)
 first-read None = refl
 first-read (Some building) = refl
 
-pub read-building : (P : List Thing → Type 0) (building : Option Building) → IfSome (things_of building) P → IfSome building (λ building. P building.things)
+pub read-building : (P : List Thing → Type 0) (building : Option Building) → IfSome (things_of building) P
+    → IfSome building (λ building. P building.things)
 read-building P None is = tt
 read-building P (Some building) is = is
 

@@ -1,8 +1,7 @@
 -- What a run, and each lawful reply, does in a building.
-use Rattle.std.specs.Prelude.{◌≡◌, ◌⊎◌, ℕ, Bool, true, false, cond, Option, Some, List, [], ◌∷◌, filter, All, Contains}
-use Rattle.std.specs.List.{flat_map}
+use Rattle.std.specs.Prelude.{◌≡◌, ◌⊎◌, ℕ, Bool, true, false, Option, Some, List, [], ◌∷◌, All, Contains}
 use Rattle.std.proofs.Common.{suc, refl, sym, ap, ◌∙◌, subst, inl, inr}
-use Rattle.std.proofs.lemmas.List.Elements.{All-append, All-head, All-nil, All-tail}
+use Rattle.std.proofs.lemmas.List.Elements.{All-head, All-tail}
 use Rattle.px_base.specs.ListLaws.{All-each, Contains-cases, Contains-first, Contains-later, Contains-none}
 use Rattle.px_terms.specs.declared.atom.Atom.{Atom}
 use Rattle.px_terms.specs.declared.instance.OpInst.{OpInst}
@@ -21,12 +20,11 @@ use Rattle.px_rooms.proofs.Actions.{IsLeft, action-leaves, edit-leaves, left-adm
 use Rattle.px_rooms.proofs.Guarding.{refusals-allowed}
 use Rattle.px_rooms.proofs.Instances.{action-of-instance}
 use Rattle.px_match.specs.Matching.{KernelInstance}
-use Rattle.px_planex.specs.declared.event.Event.TheVariants.{Sense}
 use Rattle.px_planex.specs.declared.event.Outcome.{Outcome}
 use Rattle.px_planex.specs.declared.event.Outcome.TheVariants.{Disturbed, Sensed, Acted, Slipped, Goal, NoKernel, NotSensed}
-use Rattle.px_planex.specs.Execution.{Happens, RowHolds, Running, remembered_step, step_of_kernel}
+use Rattle.px_planex.specs.Execution.{RowHolds, Running, remembered_step, step_of_kernel}
 use Rattle.px_planex.specs.Executors.{IsActable}
-use Rattle.px_planex.specs.Turns.{EndsTurn, Recorded, RunsTable, TakesTurn, TakesTurns, TurnValue, after_edits, disturbed_by, edits_at, is_at}
+use Rattle.px_planex.specs.Turns.{EndsTurn, Recorded, RunsTable, TakesTurn, TakesTurns, TurnValue, after_edits, disturbed_by, edits_at}
 use Rattle.px_planex.proofs.Guarding.{guard_never}
 use Rattle.px_planex.proofs.Taking.{same_instance, same_result}
 use Rattle.px_session.specs.Places.{TakeSame, Takes, TakesAll}
@@ -34,6 +32,7 @@ use Rattle.px_session.specs.RoomRuns.{AreMade, AreTurnsInRooms, EndsInRooms, IsD
 use Rattle.px_session.specs.Sessions.{Edit, leaves_edit, of_atoms, of_rooms}
 use Rattle.px_session.proofs.OwnRuns.{kernel-own, sense-can}
 use Rattle.px_session.proofs.Placing.{takes-all-later, takes-later}
+use Rattle.px_session.proofs.Walks.{all-at, sense-atoms}
 
 -- ---- what stays of a building
 
@@ -56,23 +55,6 @@ rules-left problem old new left rules = subst (λ (p : Problem). HaveSameRules p
 taken-left : (old new : RoomState) (edits : List Edit) → IsLeft old new → All (Takes (Some old)) edits → All (Takes (Some new)) edits
 taken-left old new edits left taken = takes-later (Some old) (Some new) edits (same-left old new left) taken
 
-abbrev HasTaken : RoomState → Recorded Edit → Type 0
-HasTaken building one = All (Takes (Some building)) one.edits
-
--- those of a turn and point are taken where all are
-taken-at : (building : RoomState) (recorded : List (Recorded Edit)) (number : ℕ) (between : Bool) → TakesAll (Some building) recorded
-    → All (Takes (Some building)) (edits_at recorded number between)
-taken-at building [] number between taken = All-nil (Takes (Some building))
-taken-at building (one ∷ recorded) number between taken =
-    by (All-head (HasTaken building) one recorded taken)
-    (taken-at building recorded number between (All-tail (HasTaken building) one recorded taken)) (is_at number between one)
-  where
-    by : All (Takes (Some building)) one.edits → All (Takes (Some building)) (edits_at recorded number between) → (b : Bool)
-        → All (Takes (Some building)) (flat_map (λ (r : Recorded Edit). r.edits) (cond b (one
-        ∷ filter (is_at number between) recorded) (filter (is_at number between) recorded)))
-    by here rest true = All-append (Takes (Some building)) one.edits (edits_at recorded number between) here rest
-    by here rest false = rest
-
 -- ---- edits
 
 -- a state that the edits leave, and its facts
@@ -89,7 +71,8 @@ makes (of_rooms one ∷ edits) building is taken =
     let admitted = All-head (Takes (Some building)) (of_rooms one) edits taken in
     let leaves = edit-leaves building one is admitted in
     let next = state_edited one building in
-    let rest = makes edits next leaves.left.state (taken-left building next edits leaves.left (All-tail (Takes (Some building)) (of_rooms one) edits taken)) in
+    let rest = makes edits next leaves.left.state
+    (taken-left building next edits leaves.left (All-tail (Takes (Some building)) (of_rooms one) edits taken)) in
     record {
       after = rest.after;
       made = (admitted, rest.made);
@@ -99,7 +82,7 @@ makes (of_rooms one ∷ edits) building is taken =
 
 -- ---- steps
 
-clash : false ≡ true → ⊥
+clash : ¬ (false ≡ true)
 clash e = cc
 
 -- an atom is among some or not
@@ -128,7 +111,8 @@ module _ (problem : Problem) (table : Table) (is_table : IsTable problem table) 
       → RowHolds table kernel (rendering building) → step_of_kernel table kernel ≡ Some inst → IsMet building inst
   row-meets building is rules kernel inst given row at =
       let own = same_instance (building_rules building) problem inst rules (kernel-own problem table is_table bound kernel inst given at) in
-      All-each (Contains (rendering building)) (precondition (building_rules building) inst) (λ atom needed. elim (known (rendering building) atom) [
+      All-each (Contains (rendering building)) (precondition (building_rules building) inst)
+      (λ atom needed. elim (known (rendering building) atom) [
         | inl has ↦ has
         | inr not ↦ absurd (guard_never (building_rules building) problem table kernel (rendering building) inst is_table given rules row at
             (refusals-allowed building inst atom is own needed not))
@@ -163,7 +147,8 @@ module _ (problem : Problem) (table : Table) (is_table : IsTable problem table) 
     abbrev EndsTo : List Edit → RoomState → TurnValue → Type 0
     EndsTo between after turn = EndsInRooms between turn.op turn.end sensed after
 
-    stays : (between : List Edit) (turn same : TurnValue) (old new : Running) → old.atoms ≡ rendering sensed → turn ≡ same → EndsTo between sensed same
+    stays : (between : List Edit) (turn same : TurnValue) (old new : Running) → old.atoms ≡ rendering sensed → turn ≡ same
+        → EndsTo between sensed same
         → new ≡ old → Ends between turn sensed new.atoms
     stays between turn same old new facts told ends left = record {
       after = sensed;
@@ -172,19 +157,22 @@ module _ (problem : Problem) (table : Table) (is_table : IsTable problem table) 
       facts = ap (λ (r : Running). r.atoms) left ∙ facts;
     }
 
-    ends-in : (between : List Edit) → All (Takes (Some sensed)) between → (old : Running) (outcome : Outcome) (turn : TurnValue) (new : Running)
+    ends-in : (between : List Edit) → All (Takes (Some sensed)) between
+        → (old : Running) (outcome : Outcome) (turn : TurnValue) (new : Running)
         → old.atoms ≡ rendering sensed → IsActable problem table old.memory.remembered
         → EndsTurn leaves_edit problem table bound between old outcome turn new → Ends between turn sensed new.atoms
     ends-in between taken old NoKernel turn new facts can ends = stays between turn _ old new facts ends.0 refl ends.1
     ends-in between taken old Goal turn new facts can ends = stays between turn _ old new facts ends.0 refl ends.1
     ends-in between taken old (Sensed i) turn new facts can (inl (told, (kernel, remembered, row, (inst, at, same)))) =
         let first = makes between sensed is taken in
-        let seen : after_edits leaves_edit between old.atoms ≡ rendering first.after = ap (after_edits leaves_edit between) facts ∙ sym first.facts in
+        let seen : after_edits leaves_edit between old.atoms ≡ rendering first.after =
+        ap (after_edits leaves_edit between) facts ∙ sym first.facts in
         let able : IsActable problem table (Some kernel) = subst (IsActable problem table) remembered can in
         let second = does first.after first.left.state (rules-left problem sensed first.after first.left rules) kernel inst able.2
         (subst (RowHolds table kernel) seen row) at in
         let step : remembered_step table old.memory ≡ Some inst =
-        ap (λ (r : Option KernelInstance). remembered_step table (record { remembered = r; instance = old.memory.instance })) remembered ∙ at in
+        ap (λ (r : Option KernelInstance). remembered_step table (record { remembered = r; instance = old.memory.instance })) remembered
+        ∙ at in
         record {
           after = second.after;
           ends = subst (EndsTo between second.after) (sym told) (inst, step, (first.after, first.made, second.done));
@@ -204,16 +192,6 @@ module _ (problem : Problem) (table : Table) (is_table : IsTable problem table) 
     ends-in between taken old Slipped turn new facts can ends = absurd ends
     ends-in between taken old Acted turn new facts can ends = absurd ends
 
-  -- sensing leaves the atoms
-  sense-atoms : (outcome : Outcome) (old new : Running) → Happens leaves_edit problem table bound old Sense outcome new → new.atoms ≡ old.atoms
-  sense-atoms NoKernel old new is = ap (λ (r : Running). r.atoms) is.1
-  sense-atoms Goal old new is = ap (λ (r : Running). r.atoms) is.3
-  sense-atoms (Sensed i) old new is = ap (λ (r : Running). r.atoms) is.4
-  sense-atoms Disturbed old new is = absurd is
-  sense-atoms NotSensed old new is = absurd is
-  sense-atoms Slipped old new is = absurd is
-  sense-atoms Acted old new is = absurd is
-
   -- a turn leaves a state, and these atoms are its facts
   record TurnLeaves (before between : List Edit) (turn : TurnValue) (building : RoomState) (atoms : List Atom) : Type 0 where
     pub sensed : RoomState
@@ -231,7 +209,8 @@ module _ (problem : Problem) (table : Table) (is_table : IsTable problem table) 
       let disturbed = disturbed_by leaves_edit before old in
       let made = makes before building is first in
       let seen : sensed.atoms ≡ rendering made.after =
-      sense-atoms outcome disturbed sensed senses ∙ ap (after_edits leaves_edit before) facts ∙ sym made.facts in
+      sense-atoms leaves_edit problem table bound outcome disturbed sensed senses ∙ ap (after_edits leaves_edit before) facts
+      ∙ sym made.facts in
       let rest = ends-in made.after made.left.state (rules-left problem building made.after made.left rules) between
       (taken-left building made.after between made.left second) sensed outcome turn new seen
       (sense-can problem table is_table bound outcome disturbed sensed senses) ends in
@@ -245,19 +224,22 @@ module _ (problem : Problem) (table : Table) (is_table : IsTable problem table) 
       }
 
   -- turns leave a state, and these atoms are its facts
-  pub record RunLeaves (recorded : List (Recorded Edit)) (number : ℕ) (turns : List TurnValue) (building : RoomState) (atoms : List Atom) : Type 0 where
+  pub record RunLeaves (recorded : List (Recorded Edit)) (number : ℕ) (turns : List TurnValue) (building : RoomState)
+      (atoms : List Atom) : Type 0 where
     pub after : RoomState
     pub turned : AreTurnsInRooms recorded number turns building after
     pub left : IsLeft building after
     pub facts : atoms ≡ rendering after
 
   turns-in : (recorded : List (Recorded Edit)) (number : ℕ) (building : RoomState) (old : Running) (turns : List TurnValue) (new : Running)
-      → IsRoomState building → HaveSameRules (building_rules building) problem → TakesAll (Some building) recorded → old.atoms ≡ rendering building
+      → IsRoomState building → HaveSameRules (building_rules building) problem → TakesAll (Some building) recorded
+      → old.atoms ≡ rendering building
       → TakesTurns leaves_edit problem table bound recorded number old turns new → RunLeaves recorded number turns building new.atoms
   turns-in recorded number building old [] new is rules taken facts takes = absurd takes
   turns-in recorded number building old (turn ∷ turns) new is rules taken facts (mid, takes, inl (last, none, same)) =
       let here = turn-in (edits_at recorded number false) (edits_at recorded number true) building old turn mid is rules
-      (taken-at building recorded number false taken) (taken-at building recorded number true taken) facts takes in
+      (all-at (Takes (Some building)) recorded number false taken)
+      (all-at (Takes (Some building)) recorded number true taken) facts takes in
       record {
         after = here.after;
         turned = subst (λ (l : List TurnValue). AreTurnsInRooms recorded number (turn ∷ l) building here.after) (sym none)
@@ -267,8 +249,10 @@ module _ (problem : Problem) (table : Table) (is_table : IsTable problem table) 
       }
   turns-in recorded number building old (turn ∷ turns) new is rules taken facts (mid, takes, inr (goes_on, later)) =
       let here = turn-in (edits_at recorded number false) (edits_at recorded number true) building old turn mid is rules
-      (taken-at building recorded number false taken) (taken-at building recorded number true taken) facts takes in
-      let rest = turns-in recorded (suc number) here.after mid turns new here.left.state (rules-left problem building here.after here.left rules)
+      (all-at (Takes (Some building)) recorded number false taken)
+      (all-at (Takes (Some building)) recorded number true taken) facts takes in
+      let rest = turns-in recorded (suc number) here.after mid turns new here.left.state
+      (rules-left problem building here.after here.left rules)
       (takes-all-later (Some building) (Some here.after) recorded (same-left building here.after here.left) taken) here.facts later in
       record {
         after = rest.after;
@@ -278,6 +262,8 @@ module _ (problem : Problem) (table : Table) (is_table : IsTable problem table) 
       }
 
   pub run-in : (recorded : List (Recorded Edit)) (building : RoomState) (atoms : List Atom) (turns : List TurnValue) (after : List Atom)
-      → IsRoomState building → HaveSameRules (building_rules building) problem → TakesAll (Some building) recorded → atoms ≡ rendering building
+      → IsRoomState building → HaveSameRules (building_rules building) problem → TakesAll (Some building) recorded
+      → atoms ≡ rendering building
       → RunsTable leaves_edit problem table bound recorded atoms turns after → RunLeaves recorded 1 turns building after
-  run-in recorded building atoms turns after is rules taken facts (memory, takes) = turns-in recorded 1 building _ turns _ is rules taken facts takes
+  run-in recorded building atoms turns after is rules taken facts (memory, takes) =
+      turns-in recorded 1 building _ turns _ is rules taken facts takes

@@ -1,6 +1,6 @@
 -- What is told of a run, and of what it isn't run for.
-use Rattle.std.specs.Prelude.{◌≡◌, ◌<◌, ◌≤◌, ◌+◌, ◌&&◌, ℕ, Bool, true, false, not, cond, nat_le, nat_lt, Some, None, List, [], ◌∷◌, ◌++◌, length, map, take, find, option_map, All}
-use Rattle.std.proofs.Common.{zero, suc, get_or, refl, sym, ap, ◌∙◌, subst, arith}
+use Rattle.std.specs.Prelude.{◌≡◌, ◌≤◌, ◌&&◌, ℕ, Bool, true, false, not, cond, nat_le, nat_lt, Some, None, List, [], ◌∷◌, map, find, option_map, All}
+use Rattle.std.proofs.Common.{refl, sym, ◌∙◌, arith}
 use Rattle.std.proofs.lemmas.Bool.Decides.{nat_tests}
 use Rattle.std.proofs.lemmas.List.Elements.{All-head, All-tail}
 use Rattle.px_terms.specs.declared.atom.Atom.{Atom}
@@ -9,8 +9,6 @@ use Rattle.px_table.specs.declared.table.Table.{Table}
 use Rattle.px_match.specs.Matching.{first_bad}
 use Rattle.px_planex.specs.Turns.{RunsTable}
 use Rattle.px_printer.specs.declared.turn.Turn.{Turn}
-use Rattle.px_reader.specs.CommandViews.{binding_pair}
-use Rattle.px_reader.specs.declared.command.Binding.{Binding}
 use Rattle.px_session.specs.Lawful.{IsRunOf, first_unknown}
 use Rattle.px_session.specs.Running.{turn_told}
 use Rattle.px_session.specs.Sessions.{SessionState, any_table, leaves_edit}
@@ -20,11 +18,13 @@ use Rattle.px_session.specs.Sessions.{SessionState, any_table, leaves_edit}
 same-test : (params n : ℕ) → 1 ≤ n → not (nat_le 1 n && nat_le n params) ≡ nat_lt params n
 same-test params n from = grind (arith, nat_tests)
 
-pub bad-unknown : (table : Table) (bound : List (ℕ × ℕ)) → All (λ pair. 1 ≤ pair.0) bound → first_bad table bound ≡ first_unknown table bound
+pub bad-unknown : (table : Table) (bound : List (ℕ × ℕ)) → All (λ pair. 1 ≤ pair.0) bound
+    → first_bad table bound ≡ first_unknown table bound
 bad-unknown table [] from = refl
 bad-unknown table (pair ∷ bound) from =
     let test = same-test table.params pair.0 (All-head (λ (p : ℕ × ℕ). 1 ≤ p.0) pair bound from) in
-    by (not (nat_le 1 pair.0 && nat_le pair.0 table.params)) (nat_lt table.params pair.0) test (bad-unknown table bound (All-tail (λ (p : ℕ × ℕ). 1 ≤ p.0) pair bound from))
+    by (not (nat_le 1 pair.0 && nat_le pair.0 table.params)) (nat_lt table.params pair.0) test
+    (bad-unknown table bound (All-tail (λ (p : ℕ × ℕ). 1 ≤ p.0) pair bound from))
   where
     by : (a b : Bool) → a ≡ b → first_bad table bound ≡ first_unknown table bound
         → option_map (λ (p : ℕ × ℕ). p.0) (cond a (Some pair) (find (λ (p : ℕ × ℕ). not (nat_le 1 p.0 && nat_le p.0 table.params)) bound))
@@ -34,26 +34,13 @@ bad-unknown table (pair ∷ bound) from =
     by true false same rest = absurd (cc)
     by false true same rest = absurd (cc)
 
--- ---- bindings as pairs
-
-next-pair : (bindings : List Binding) (i : ℕ) (d : Binding) → i < length bindings
-    → map binding_pair (take (suc i) bindings) ≡ map binding_pair (take i bindings) ++ binding_pair (get_or bindings i d) ∷ []
-next-pair [] i d below = absurd (omega (arith, below))
-next-pair (one ∷ bindings) zero d below = refl
-next-pair (one ∷ bindings) (suc i) d below = ap (λ (l : List (ℕ × ℕ)). binding_pair one ∷ l) (next-pair bindings i d (omega (arith, below)))
-
-pub pairs-next : (bindings : List Binding) (made new : List (ℕ × ℕ)) (i : ℕ) (d : Binding) → i < length bindings
-    → made ≡ map binding_pair (take i bindings) → new ≡ made ++ binding_pair (get_or bindings i d) ∷ [] → new ≡ map binding_pair (take (i + 1) bindings)
-pairs-next bindings made new i d below made_is new_is =
-    let next : suc i ≡ i + 1 = omega arith in
-    new_is ∙ ap (λ (l : List (ℕ × ℕ)). l ++ binding_pair (get_or bindings i d) ∷ []) made_is ∙ sym (next-pair bindings i d below)
-    ∙ ap (λ n. map binding_pair (take n bindings)) next
-
 -- ---- a run
 
-pub run-told : (problem : Problem) (name : ℕ) (bound : List (ℕ × ℕ)) (old new : SessionState) (table : Table) (turns : List Turn) (after : List Atom)
+pub run-told : (problem : Problem) (name : ℕ) (bound : List (ℕ × ℕ)) (old new : SessionState) (table : Table) (turns : List Turn)
+    (after : List Atom)
     → All (λ pair. 1 ≤ pair.0) bound → any_table old name ≡ Some table → first_bad table bound ≡ None
-    → RunsTable leaves_edit problem table bound old.recorded old.atoms (map turn_told turns) after → new ≡ record old { atoms = after; recorded = [] }
+    → RunsTable leaves_edit problem table bound old.recorded old.atoms (map turn_told turns) after
+    → new ≡ record old { atoms = after; recorded = [] }
     → IsRunOf problem name bound old turns new
 run-told problem name bound old new table turns after from named known runs changed = record {
   table = table;

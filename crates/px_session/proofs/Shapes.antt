@@ -80,8 +80,16 @@ pub general-alike : (problem : Problem) (plan general : Table) → IsTable probl
     → Generalises problem plan general → IsAlike plan general
 general-alike problem plan general is_table no_params proper is =
     let own = has_instance problem plan is_table no_params proper general is in
-    let shape = (is.sound own.0 (kernel_under general own.0 1) (steps_under general own.0) (goal_under general own.0) (rows_under general own.0)
-    (record { count = own.1; proper = own.2; steps_are = refl; goal_is = refl; rows_are = refl; kernel = All-contains_itself (kernel_under general own.0 1) })).1 in
+    let shape = (is.sound own.0 (kernel_under general own.0 1) (steps_under general own.0) (goal_under general own.0)
+    (rows_under general own.0)
+    (record {
+      count = own.1;
+      proper = own.2;
+      steps_are = refl;
+      goal_is = refl;
+      rows_are = refl;
+      kernel = All-contains_itself (kernel_under general own.0 1);
+    })).1 in
     let ops = ap (λ (s : SupportShape). length s.operators) shape in
     record {
       steps =
@@ -94,4 +102,5 @@ pub general-short : (plan general : Table) → IsAlike plan general → ¬ IsToo
 general-short plan general are short long = short (subst (λ n. 64 < n) are.steps long)
 
 pub general-low : (plan general : Table) → IsAlike plan general → ¬ IsTooDeep plan → ¬ IsTooDeep general
-general-low plan general are low deep = low (any-alike (map skeleton) (Any (λ d. 56 < height d)) row-alike (rows_of general.proofs) (rows_of plan.proofs) are.rows deep)
+general-low plan general are low deep =
+    low (any-alike (map skeleton) (Any (λ d. 56 < height d)) row-alike (rows_of general.proofs) (rows_of plan.proofs) are.rows deep)

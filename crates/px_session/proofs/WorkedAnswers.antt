@@ -51,11 +51,14 @@ p_mark = record { atom = p; row = 1; column = 0; index = 0 }
 rows-are : rows_of p_at_once.proofs ≡ (fact p_leaf ∷ []) ∷ []
 rows-are = λ i. (derivation_of-fact p_leaf i ∷ []) ∷ []
 
+-- Alike: `test` of `px_match/proofs/DangerTable`, since a table is tested part by part, by names that compute.
 tested : is_table idle p_at_once ≡ true
 tested =
-    subst (λ (made : List (List Derivation)). (is_in_range idle p_at_once && (rows_prove idle.objects p_at_once.params idle.axioms idle p_at_once.steps p_at_once.goal made
+    subst (λ (made : List (List Derivation)). (is_in_range idle p_at_once
+    && (rows_prove idle.objects p_at_once.params idle.axioms idle p_at_once.steps p_at_once.goal made
     && (pointwise mark_eq p_at_once.marks (marks_from 1 made)
-    && (list_all (λ mark. is_atom_of idle p_at_once.params mark.atom) p_at_once.marks && list_all (is_named idle p_at_once.steps) p_at_once.marks)))) ≡ true)
+    && (list_all (λ mark. is_atom_of idle p_at_once.params mark.atom) p_at_once.marks
+    && list_all (is_named idle p_at_once.steps) p_at_once.marks)))) ≡ true)
     (sym rows-are) refl
 
 is-table : IsTable idle p_at_once
@@ -66,10 +69,13 @@ no-step zero inst at = cc
 no-step (suc k) inst at = cc
 
 is-proper : (objects : List ℕ) (i : ℕ) → IsProper idle p_at_once objects i
-is-proper objects i = one (λ (mark : Mark). IsKept idle [] i (record { atom = atom_under objects mark.atom; row = mark.row; column = mark.column; index = mark.index })) p_mark (λ k inst low after before at deleted. no-step k inst at)
+is-proper objects i = one (λ (mark : Mark). IsKept idle [] i
+    (record { atom = atom_under objects mark.atom; row = mark.row; column = mark.column; index = mark.index })) p_mark
+    (λ k inst low after before at deleted. no-step k inst at)
 
 carries : Carries idle (p ∷ []) [] 0 (p ∷ [])
-carries = (kernels_carry idle p_at_once is-table).carry [] (record { count = refl; objects = All-nil (λ n. n < 0) }) 1 (omega arith) (omega arith) (is-proper [] 1)
+carries = (kernels_carry idle p_at_once is-table).carry [] (record { count = refl; objects = All-nil (λ n. n < 0) }) 1 (omega arith)
+    (omega arith) (is-proper [] 1)
 
 -- ---- the states
 
@@ -112,7 +118,8 @@ set-p = (tt, tt)
 nothing-fits : NoKernelFits idle p_at_once [] []
 nothing-fits i objects fits =
     let first : i ≡ 1 = omega (arith, fits.from_one, fits.to_goal) in
-    Contains-none p (All-at (Contains []) (kernel_under p_at_once objects 1) p (subst (λ n. All (Contains []) (kernel_under p_at_once objects n)) first fits.holds) (Contains-first p []))
+    Contains-none p (All-at (Contains []) (kernel_under p_at_once objects 1) p
+    (subst (λ n. All (Contains []) (kernel_under p_at_once objects n)) first fits.holds) (Contains-first p []))
 
 abbrev goal_kernel : KernelInstance
 goal_kernel = record { number = 1; objects = [] }

@@ -21,7 +21,7 @@ use Rattle.px_session.specs.WorkedRooms.{WorkedRooms, with_robot}
 
 -- ---- atoms that are looked up
 
-clash : false ≡ true → ⊥
+clash : ¬ (false ≡ true)
 clash e = cc
 
 or-true : (b : Bool) → (b || true) ≡ true
@@ -31,7 +31,8 @@ or-true false = refl
 any-tested : (atoms : List Atom) (a : Atom) → list_any (atom_eq a) atoms ≡ true → Contains atoms a
 any-tested [] a is = absurd (cc)
 any-tested (x ∷ xs) a is = by (any-tested xs a) (atom_eq a x) refl is where
-  by : (list_any (atom_eq a) xs ≡ true → Contains xs a) → (b : Bool) → atom_eq a x ≡ b → (b || list_any (atom_eq a) xs) ≡ true → Contains (x ∷ xs) a
+  by : (list_any (atom_eq a) xs ≡ true → Contains xs a) → (b : Bool) → atom_eq a x ≡ b → (b || list_any (atom_eq a) xs) ≡ true
+      → Contains (x ∷ xs) a
   by later true same is = subst (Contains (x ∷ xs)) (sym ((atom_eq-decides a x).0 same)) (Contains-first x xs)
   by later false same is = Contains-later x xs a (later is)
 
@@ -45,7 +46,8 @@ any-of (x ∷ xs) a has = elim (Contains-cases x xs a has) [
 all-tested : (atoms needed : List Atom) → list_all (λ a. list_any (atom_eq a) atoms) needed ≡ true → All (Contains atoms) needed
 all-tested atoms [] is = All-nil (Contains atoms)
 all-tested atoms (a ∷ needed) is = by (all-tested atoms needed) (list_any (atom_eq a) atoms) refl is where
-  by : (list_all (λ x. list_any (atom_eq x) atoms) needed ≡ true → All (Contains atoms) needed) → (b : Bool) → list_any (atom_eq a) atoms ≡ b
+  by : (list_all (λ x. list_any (atom_eq x) atoms) needed ≡ true → All (Contains atoms) needed) → (b : Bool)
+      → list_any (atom_eq a) atoms ≡ b
       → (b && list_all (λ x. list_any (atom_eq x) atoms) needed) ≡ true → All (Contains atoms) (a ∷ needed)
   by rest true found is = All-cons (Contains atoms) a needed (any-tested atoms a found) (rest is)
   by rest false found is = absurd (clash is)

@@ -15,7 +15,7 @@ use Rattle.px_session.specs.Lawful.{Lawful, RefusesLearning, first_unknown}
 use Rattle.px_session.specs.Sessions.{SessionState, any_table, opening}
 
 -- A name without a table is unknown, whatever is bound, and a plan's name without a plan, whatever is learned. A bound parameter that the
--- table hasn't comes before the run. After these answers nothing has changed, what is recorded included.
+-- table does not have comes before the run. After these answers nothing has changed, what is recorded included.
 pub record CausesInOrder : Type 0 where
   pub no_plan : (problem : Problem) (old : SessionState) (name source : ℕ) (answer : Reply) (new : SessionState)
       → table_named old.plans source ≡ None → Lawful problem old (command.Learn name source) answer new → (answer ≡ reply.Unknown source)
@@ -33,14 +33,21 @@ pub record CausesInOrder : Type 0 where
   pub bad_parameter : (table : Table) (bound : List (ℕ × ℕ)) → All (λ (pair : ℕ × ℕ). 1 ≤ pair.0) bound
       → first_unknown table bound ≡ first_bad table bound
 
+-- P is a fact, and `plan N P`
+abbrev pub where_p : SessionState
+where_p = opening (p ∷ [])
+
+abbrev pub plan_p : command.Command
+plan_p = command.Plan 0 (p ∷ []) 0
+
 -- with one learned table
 abbrev pub one_learned : SessionState
-one_learned = record (opening (p ∷ [])) { learned = with_table no_tables 1 p_at_once }
+one_learned = record where_p { learned = with_table no_tables 1 p_at_once }
 
 -- Where P is a fact, a plan for it is neither exhausted nor has it a move; and a learned table is no plan.
 pub record RefusedReplies : Type 0 where
-  pub exhausted : (new : SessionState) → ¬ Lawful idle (opening (p ∷ [])) (command.Plan 0 (p ∷ []) 0) (reply.Exhausted 0) new
-  pub moved : (new : SessionState) → ¬ Lawful idle (opening (p ∷ [])) (command.Plan 0 (p ∷ []) 0) (reply.Plan 0 1 []) new
-  pub other_name : (new : SessionState) → ¬ Lawful idle (opening (p ∷ [])) (command.Plan 0 (p ∷ []) 0) (reply.Plan 1 0 []) new
-  pub not_stored : ¬ Lawful idle (opening (p ∷ [])) (command.Plan 0 (p ∷ []) 0) (reply.Plan 0 0 []) (opening (p ∷ []))
+  pub exhausted : (new : SessionState) → ¬ Lawful idle where_p plan_p (reply.Exhausted 0) new
+  pub moved : (new : SessionState) → ¬ Lawful idle where_p plan_p (reply.Plan 0 1 []) new
+  pub other_name : (new : SessionState) → ¬ Lawful idle where_p plan_p (reply.Plan 1 0 []) new
+  pub not_stored : ¬ Lawful idle where_p plan_p (reply.Plan 0 0 []) where_p
   pub no_plan : (new : SessionState) → ¬ Lawful idle one_learned (command.Learn 2 1) (reply.Learned 2 0 0) new

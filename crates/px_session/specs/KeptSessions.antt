@@ -1,16 +1,16 @@
 -- What a session keeps.
-use Rattle.std.specs.Prelude.{◌≢◌, ◌<◌, ◌≤◌, ℕ, Option, List, map, length, take, flat_map, All, AllPairs, Contains}
+use Rattle.std.specs.Prelude.{◌≢◌, ◌<◌, ◌≤◌, ℕ, Option, List, length, take, flat_map, All, AllPairs, Contains}
 use Rattle.px_terms.specs.declared.atom.Atom.{Atom}
 use Rattle.px_terms.specs.declared.problem.Problem.{Problem}
 use Rattle.px_terms.specs.Validity.{IsAtomOf, IsValid}
-use Rattle.px_script.specs.Commands.{Command, Plan, Learn, Show, DisturbAtoms, DisturbRooms, Run, Facts}
+use Rattle.px_script.specs.Commands.{Command, Plan, Run}
 use Rattle.px_rooms.specs.States.{RoomState}
 use Rattle.px_script.specs.Ranges.{result_given}
 use Rattle.px_session.specs.Named.{AreNamesOf, IsTellable}
 use Rattle.px_session.specs.Opened.{SessionValue}
-use Rattle.px_session.specs.OwnStates.{IsOwnEdit, IsOwnState}
+use Rattle.px_session.specs.OwnStates.{IsOwnEdit, IsOwnState, edits_given}
 use Rattle.px_session.specs.Places.{IsPlaced, Takes}
-use Rattle.px_session.specs.Sessions.{Edit, IsSession, of_atoms, of_rooms}
+use Rattle.px_session.specs.Sessions.{Edit, IsSession}
 
 -- the goal is one of the problem over at most twelve variables, and there is an object where there is a variable
 pub record IsGoalToPlan (problem : Problem) (goal : List Atom) (vars : ℕ) : Type 0 where
@@ -29,15 +29,15 @@ pub record AreEditsToNote (problem : Problem) (building : Option RoomState) (edi
   pub own : All (IsOwnEdit problem) edits
   pub taken : All (Takes building) edits
 
+-- what running a command asks of the problem's numbers that it has
+abbrev pub IsAnswerable : Problem → Command → Type 0
+IsAnswerable problem (Plan name goal vars) = IsGoalToPlan problem goal vars
+IsAnswerable problem (Run name bound) = IsBindingToRun problem bound
+IsAnswerable problem _ = Unit {0}
+
 -- what running a command asks for, where that is the session's building
 abbrev pub IsRunnable : Problem → Option RoomState → Command → Type 0
-IsRunnable problem building (Plan name goal vars) = IsGoalToPlan problem goal vars
-IsRunnable problem building (Learn name source) = Unit {0}
-IsRunnable problem building (Show name) = Unit {0}
-IsRunnable problem building (DisturbAtoms turn between edits) = AreEditsToNote problem building (map of_atoms edits)
-IsRunnable problem building (DisturbRooms turn between edits) = AreEditsToNote problem building (map of_rooms edits)
-IsRunnable problem building (Run name bound) = IsBindingToRun problem bound
-IsRunnable problem building Facts = Unit {0}
+IsRunnable problem building command = IsAnswerable problem command × AreEditsToNote problem building (edits_given command)
 
 -- The problem is valid, its numbers have names, and what the state has is its own; with a building its atoms are the building's facts. Each
 -- command can be run, and its reply told. The commands give each result once, and what is learned has names that commands gave which are

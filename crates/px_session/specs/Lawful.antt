@@ -27,7 +27,7 @@ use Rattle.px_session.specs.Sessions.{Edit, IsPlanTable, SessionState, any_table
 
 -- ---- plan
 
--- The search found so many moves, which take these steps. The table of the moves is stored under the name. It is as a plan's table, and
+-- The search found `count` moves, which take these steps. The table of the moves is stored under the name. It is as a plan's table, and
 -- the world's atoms carry the steps to the goal.
 pub record FindsPlan (task : Task) (name : ℕ) (old : SessionState) (count : ℕ) (steps : List OpInst) (new : SessionState) : Type 0 where
   pub moves : List Move
@@ -65,7 +65,8 @@ pub record IsNotLearned (source : ℕ) (old : SessionState) (why : Why) (new : S
   pub refused : RefusesLearning old plan why
   pub same : new ≡ old
 
--- The stored plan has no cause not to be learned. Its general table, of so many parameters and steps, is put last among the learned ones.
+-- The stored plan has no cause not to be learned. Its general table, of these numbers of parameters and steps, is put last among
+-- the learned ones.
 pub record IsLearned (problem : Problem) (name source : ℕ) (old : SessionState) (params steps : ℕ) (new : SessionState) : Type 0 where
   pub plan : Table
   pub named : table_named old.plans source ≡ Some plan
@@ -101,7 +102,7 @@ Notes old one answer new = ⊥
 
 -- ---- run
 
--- the first bound parameter that the table hasn't; parameters are counted from 1
+-- the first bound parameter that the table does not have; parameters are counted from 1
 abbrev pub first_unknown : Table → List (ℕ × ℕ) → Option ℕ
 first_unknown table bound = option_map (λ (pair : ℕ × ℕ). pair.0) (find (λ (pair : ℕ × ℕ). nat_lt table.params pair.0) bound)
 
@@ -116,7 +117,7 @@ end_told Slipped = BySlipping
 abbrev pub turn_told : Turn → TurnValue
 turn_told turn = record { kernel = turn.kernel; op = turn.op; end = end_told turn.end }
 
--- the name's table hasn't this parameter, the first of those that are bound; nothing changes, so what is recorded stays so
+-- the name's table does not have this parameter, the first of those that are bound; nothing changes, so what is recorded stays so
 pub record HasNoParameter (name : ℕ) (bound : List (ℕ × ℕ)) (old : SessionState) (param : ℕ) (new : SessionState) : Type 0 where
   pub table : Table
   pub named : any_table old name ≡ Some table
@@ -134,7 +135,7 @@ pub record IsRunOf (problem : Problem) (name : ℕ) (bound : List (ℕ × ℕ))
   pub runs : RunsTable leaves_edit problem table bound old.recorded old.atoms (map turn_told told) after
   pub changed : new ≡ record old { atoms = after; recorded = [] }
 
--- the name has no table, and nothing changes; or its table hasn't a bound parameter; or it is run
+-- the name has no table, and nothing changes; or its table lacks a bound parameter; or it is run
 abbrev pub TellsRun : Problem → SessionState → ℕ → List (ℕ × ℕ) → Reply → SessionState → Type 0
 TellsRun problem old name bound (reply.Unknown given) new = (given ≡ name) × (any_table old name ≡ None) × (new ≡ old)
 TellsRun problem old name bound (reply.UnknownParam param) new = HasNoParameter name bound old param new

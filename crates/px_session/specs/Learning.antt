@@ -9,6 +9,7 @@ use Rattle.px_printer.specs.declared.reply.Why.TheVariants.{Full}
 -- The table is put last, and its parameters and steps are told; or the library has its 32 tables, and is as it was.
 abbrev pub IsPut : LibraryValue → ℕ → Table → Reply → LibraryValue → Type 0
 IsPut old name table (reply.Learned given params steps) new =
-    (given ≡ name) × (params ≡ table.params) × (steps ≡ length table.steps) × (¬ (32 ≤ length old.tables)) × (new ≡ with_table old name table)
+    (given ≡ name) × (params ≡ table.params) × (steps ≡ length table.steps) × (¬ (32 ≤ length old.tables))
+    × (new ≡ with_table old name table)
 IsPut old name table (reply.LearnRefused given why) new = (given ≡ name) × (why ≡ Full) × (32 ≤ length old.tables) × (new ≡ old)
 IsPut old name table answer new = ⊥

@@ -15,8 +15,8 @@ pub record AreNamesOf (problem : Problem) (names : NameLists) : Type 0 where
   pub predicates : length names.predicates ≡ length problem.arities
   pub operators : length names.operators ≡ length problem.schemas
 
--- A plan has the name of a result, and a goal of atoms of the problem with these variables; to learn takes the names of two results; to show
--- a table, or to run one, takes the name of a result. Edits and the facts have no names of results.
+-- A plan has the name of a result, and a goal of atoms of the problem with these variables; to learn takes the names of two results; to
+-- show a table, or to run one, takes the name of a result. Edits and the facts have no names of results.
 abbrev pub IsTellable : Problem → ℕ → Command → Type 0
 IsTellable problem results (Plan name goal vars) = (name < results) × All (IsAtomOf problem vars) goal
 IsTellable problem results (Learn name source) = (name < results) × (source < results)

@@ -1,5 +1,5 @@
 -- Where a session's atoms, and the edits that it has recorded, are of the problem.
-use Rattle.std.specs.Prelude.{List, map, All}
+use Rattle.std.specs.Prelude.{List, [], map, All}
 use Rattle.px_terms.specs.declared.problem.Problem.{Problem}
 use Rattle.px_terms.specs.Validity.{IsAtomOf}
 use Rattle.px_rooms.specs.Changes.{edit_schema}
@@ -17,11 +17,15 @@ IsOwnEdit problem (of_rooms one) = All (IsAtomOf problem 0) (edit_schema one).ad
 abbrev pub AreOwnEdits : Problem → List (Recorded Edit) → Type 0
 AreOwnEdits problem recorded = All (λ one. All (IsOwnEdit problem) one.edits) recorded
 
--- the edits of the command, if it has some, are so
+-- the edits that a command gives to record
+abbrev pub edits_given : Command → List Edit
+edits_given (DisturbAtoms turn between edits) = map of_atoms edits
+edits_given (DisturbRooms turn between edits) = map of_rooms edits
+edits_given _ = []
+
+-- they are so
 abbrev pub HasOwnEdits : Problem → Command → Type 0
-HasOwnEdits problem (DisturbAtoms turn between edits) = All (IsOwnEdit problem) (map of_atoms edits)
-HasOwnEdits problem (DisturbRooms turn between edits) = All (IsOwnEdit problem) (map of_rooms edits)
-HasOwnEdits problem _ = Unit {0}
+HasOwnEdits problem command = All (IsOwnEdit problem) (edits_given command)
 
 -- the world's atoms, and the edits that are recorded for the next run, are of the problem
 pub record IsOwnState (problem : Problem) (state : SessionState) : Type 0 where

@@ -10,10 +10,11 @@ use Rattle.px_rooms.specs.States.{IsRoomState, RoomState, first_state}
 use Rattle.px_planex.specs.Turns.{AtGoal, AtNoKernel, ByActing, BySlipping, Recorded, TurnEnd, TurnValue, edits_at}
 use Rattle.px_printer.specs.declared.reply.Reply.{Reply}
 use Rattle.px_printer.specs.declared.reply.Reply.TheVariants as reply
-use Rattle.px_script.specs.Commands.{Command, DisturbAtoms, DisturbRooms, Run}
+use Rattle.px_script.specs.Commands.{Command, Run}
 use Rattle.px_script.specs.Content.{ScriptValue}
 use Rattle.px_script.specs.Ranges.{IsInRange}
 use Rattle.px_session.specs.Lawful.{Lawful, turn_told}
+use Rattle.px_session.specs.OwnStates.{edits_given}
 use Rattle.px_session.specs.Places.{IsPlaced, TakeSame, Takes}
 use Rattle.px_session.specs.Sessions.{Edit, IsSession, SessionState, of_atoms, of_rooms, opening}
 use Rattle.px_session.specs.Transcripts.{AreAnswers}
@@ -57,11 +58,9 @@ pub record IsInBuilding (problem : Problem) (building : RoomState) (state : Sess
   pub is_state : IsRoomState building
   pub placed : IsPlaced problem (Some building) state
 
--- the edits of the command, if it has some, are taken
+-- the edits that the command gives are taken
 abbrev pub HasTakenEdits : Option RoomState → Command → Type 0
-HasTakenEdits building (DisturbAtoms turn between edits) = All (Takes building) (map of_atoms edits)
-HasTakenEdits building (DisturbRooms turn between edits) = All (Takes building) (map of_rooms edits)
-HasTakenEdits building _ = Unit {0}
+HasTakenEdits building command = All (Takes building) (edits_given command)
 
 -- what a reply leaves of the building: a run that is told leaves what its turns leave, and any other reply the building as it was
 abbrev pub LeavesRooms : SessionState → Command → Reply → RoomState → RoomState → Type 0
@@ -97,5 +96,6 @@ pub record RoomsAreKept : Type 0 where
   pub answers : (script : ScriptValue) (things : List Thing) (count : ℕ) (answers : List Reply) (last : SessionState)
       → IsInRange script → script.building ≡ Some things
       → AreAnswers script.problem (opening script.facts) (take count script.commands) answers last
-      → (end : RoomState) × AreAnswersIn script.problem (opening script.facts) (first_state things) (take count script.commands) answers last end
+      → (end : RoomState) × AreAnswersIn script.problem (opening script.facts) (first_state things)
+      (take count script.commands) answers last end
       × IsInBuilding script.problem end last

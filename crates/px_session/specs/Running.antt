@@ -41,7 +41,7 @@ pub record IsDisturbed (edits : List Edit) (old new : Place) : Type 0 where
 
 -- ---- places
 
--- The world has the executor's rules, and so many places. With so many atoms more there is room for its atoms.
+-- The world has the executor's rules, and at least this many places. With as many atoms more there is room for its atoms.
 pub record HasPlaces (planex : PlanexValue) (places : ℕ) (world : Place) : Type 0 where
   pub rules : HaveSameRules (place_rules world) planex.problem
   pub spare : places ≤ place_spare world
@@ -52,11 +52,11 @@ abbrev pub adds_most : List Schema → ℕ
 adds_most [] = 0
 adds_most (schema ∷ schemas) = max (length schema.add) (adds_most schemas)
 
--- so many turns has a run at most
+-- how many turns a run has at most
 abbrev pub most_turns : Table → List (Recorded Edit) → ℕ
 most_turns table recorded = (length recorded + 1) * (length table.steps + 1)
 
--- how many places the turns may take, if there are so many, from that number on
+-- how many places that many turns may take, from that number on
 abbrev pub places_from : Problem → List (Recorded Edit) → ℕ → ℕ → ℕ
 places_from problem recorded turns number = edits_from number recorded + turns * adds_most problem.schemas
 
@@ -68,7 +68,7 @@ places_of_turn problem recorded number = edits_for recorded number + adds_most p
 abbrev pub places_of_action : Problem → List (Recorded Edit) → ℕ → ℕ
 places_of_action problem recorded number = length (edits_at recorded number true) + adds_most problem.schemas
 
--- the world has at most so many atoms more, and so many places fewer
+-- the world has at most `places` atoms more, and `places` places fewer
 pub record HasTaken (places : ℕ) (old new : Place) : Type 0 where
   pub number : length (place_atoms new) ≤ length (place_atoms old) + places
   pub spare : place_spare old ≤ place_spare new + places
@@ -80,7 +80,8 @@ pub record HasTaken (places : ℕ) (old new : Place) : Type 0 where
 -- what is left of the turn after kernel `i` was sensed
 abbrev pub EndsSensed : PlanexValue → List (Recorded Edit) → ℕ → ℕ → List Atom → Turn → List Atom → Memory → Type 0
 EndsSensed planex recorded number i atoms turn after memory =
-    EndsTurn leaves_edit planex.problem planex.table planex.bound (edits_at recorded number true) (running atoms planex.memory) (Sensed i) (turn_told turn) (running after memory)
+    EndsTurn leaves_edit planex.problem planex.table planex.bound (edits_at recorded number true) (running atoms planex.memory) (Sensed i)
+    (turn_told turn) (running after memory)
 
 -- the turn of that number, from these atoms on
 abbrev pub TakesNumbered : PlanexValue → List (Recorded Edit) → ℕ → List Atom → Turn → List Atom → Memory → Type 0
@@ -91,4 +92,5 @@ TakesNumbered planex recorded number atoms turn after memory =
 -- the turns from that number on
 abbrev pub TakesFrom : PlanexValue → List (Recorded Edit) → ℕ → List Atom → List TurnValue → List Atom → Memory → Type 0
 TakesFrom planex recorded number atoms turns after memory =
-    TakesTurns leaves_edit planex.problem planex.table planex.bound recorded number (running atoms planex.memory) turns (running after memory)
+    TakesTurns leaves_edit planex.problem planex.table planex.bound recorded number (running atoms planex.memory) turns
+    (running after memory)

@@ -21,7 +21,7 @@ use std::alloc::Global;
 /// Runs a command in the state, of which that is the building, if there is one.
 ///
 /// # Errors
-/// `NoMemory` where there is none for the command or its reply. The state and the building are then as they were.
+/// `NoMemory` where there is no memory for the command or its reply. The state and the building are then as they were.
 #[tactic(auto, using(crate::proofs::Placing::same_taken))]
 pub(crate) fn run_command(
     alloc: Global,
@@ -72,7 +72,7 @@ pub(crate) fn run_command(
     }
 }
 
-/// The bindings as pairs of a parameter and an object.
+/// Returns the bindings as pairs of a parameter and an object.
 fn pairs(alloc: Global, bindings: &[Binding]) -> Result<Vec<(u32, u32)>, NoMemory>
     ensures { IfOk result (λ bound. bound.items ≡ map binding_pair bindings.now) }
 {

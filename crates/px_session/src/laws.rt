@@ -26,7 +26,8 @@ pub fn replies_are_named()
     ensures { RepliesAreNamed }
 {}
 
-/// A script with a valid problem, whose facts are a set, has at most one list of lawful replies, but for questions at limits of shapes, and one text.
+/// A script with a valid problem, whose facts are a set, has at most one list of lawful replies, but for questions at limits of shapes, and
+/// one text.
 pub fn answers_are_one()
     ensures { AnswersAreOne }
 {}

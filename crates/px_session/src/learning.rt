@@ -17,7 +17,7 @@ use std::alloc::Global;
 /// Puts a table into the library under a new name, and tells how many parameters and steps it has, or that the library is full.
 ///
 /// # Errors
-/// `NoMemory` where there is none for one table more. The library is then as it was.
+/// `NoMemory` where there is no memory for one table more. The library is then as it was.
 fn put_into(library: &mut Library, name: u32, general: Table) -> Result<Reply, NoMemory>
     requires new_name { ¬ Contains library.old.names name }
     requires few { length library.old.tables ≤ 32 }

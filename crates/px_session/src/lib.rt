@@ -27,8 +27,8 @@
 //! - `Transcript` in `specs/Transcripts` is what is to be written for the bytes of a script: the texts of lawful replies to its
 //!   commands, one after the other. `Summary` in `specs/Demo` is the line of the demo, whose script
 //!   `px_demo` makes. Both are determined ([`answers_are_one`], [`transcripts_are_one`]).
-//! - Which of some causes of a refusal comes first, and that nothing has changed after a name or a parameter is unknown, is in `specs/Causes`
-//!   ([`causes_in_order`]), with some replies that aren't lawful ([`refused_replies`]).
+//! - Which of some causes of a refusal comes first, and that nothing has changed after a name or a parameter is unknown, is in
+//!   `specs/Causes` ([`causes_in_order`]), with some replies that aren't lawful ([`refused_replies`]).
 //! - Each lawful reply has a name for each number that it prints as one (`specs/Named`,
 //!   [`replies_are_named`]).
 //! - A run by edits of atoms alone, or of rooms alone, is a session's run with the same disturbances (`specs/Runs`,
@@ -55,12 +55,8 @@ mod planning;
 mod plans;
 mod running;
 mod session;
-#[cfg(test)]
-mod slow_runs;
 mod state;
 mod stored_runs;
-#[cfg(test)]
-mod tests;
 mod turns;
 mod within;
 

@@ -22,10 +22,10 @@ pub(crate) enum Place<'a> {
     Rooms(RoomWorld),
 }
 
-/// The world of a run: the building, which is handed over, or else a copy of the facts with room for so many more.
+/// Returns the world of a run: the building, which is handed over, or else a copy of the facts with room for `more` further ones.
 ///
 /// # Errors
-/// `NoMemory` where there is none for the copy. The building, if there is one, takes none.
+/// `NoMemory` where there is no memory for the copy. The building, if there is one, takes none.
 pub(crate) fn enter<'a>(
     alloc: Global,
     problem: &'a Problem,
@@ -47,7 +47,7 @@ pub(crate) fn enter<'a>(
     }
 }
 
-/// The building, if the world is one.
+/// Returns the building, if the world is one.
 pub(crate) fn leave(place: Place<'_>) -> Option<RoomWorld>
     ensures { result ≡ building_of place.entry }
 {

@@ -15,10 +15,11 @@ use px_terms::{Atom, Problem};
 use std::alloc::Global;
 
 impl State {
+    // Alike: `store_plan` below and `search` of `px_search`, since each asks the same of the problem and its goal.
     /// Searches for a plan from the world's atoms to the goal. The table of a plan that is found is stored under the name.
     ///
     /// # Errors
-    /// `NoMemory` where there is none for the search, for the table or for its place. No plan is stored then.
+    /// `NoMemory` where there is no memory for the search, for the table or for its place. No plan is stored then.
     pub(crate) fn plan(
         &mut self,
         alloc: Global,
@@ -32,7 +33,8 @@ impl State {
         requires few_variables { vars ≤ 12 }
         requires some_object { 0 < vars → 0 < problem.now.objects }
         requires session { IsSession problem.now self.old }
-        ensures told { IfOk result (λ reply. TellsSearch (task_of problem.now self.old.learned.tables self.old.atoms goal.now vars) name self.old reply self.new) }
+        ensures told { IfOk result (λ reply. TellsSearch
+            (task_of problem.now self.old.learned.tables self.old.atoms goal.now vars) name self.old reply self.new) }
         ensures kept { OnErr result (self.new ≡ self.old) }
     {
         match search(
@@ -77,7 +79,8 @@ impl State {
         requires problem { IsValid problem.now }
         requires goal { All (IsAtomOf problem.now vars) goal.now }
         requires found { IsFoundPlan (task_of problem.now self.old.learned.tables self.old.atoms goal.now vars) found }
-        ensures told { IfOk result (λ reply. TellsSearch (task_of problem.now self.old.learned.tables self.old.atoms goal.now vars) name self.old reply self.new) }
+        ensures told { IfOk result (λ reply. TellsSearch
+            (task_of problem.now self.old.learned.tables self.old.atoms goal.now vars) name self.old reply self.new) }
         ensures kept { OnErr result (self.new ≡ self.old) }
     {
         let Found {

@@ -30,7 +30,7 @@ impl std::marker::Model for Plans {
 }
 
 impl Plans {
-    /// No plan. Takes no memory.
+    /// No plan. Does not allocate.
     pub(crate) fn new(alloc: Global) -> Plans
         ensures { result ≡ no_tables }
     {
@@ -43,7 +43,7 @@ impl Plans {
     /// Puts a table last, under its name.
     ///
     /// # Errors
-    /// `NoMemory` where there is none for one table more. The table is then dropped, and the plans are as they were.
+    /// `NoMemory` where there is no memory for one table more. The table is then dropped, and the plans are as they were.
     pub(crate) fn store(&mut self, name: u32, table: Table) -> Result<(), NoMemory>
         ensures stored { OnOk result (self.new ≡ with_table self.old name table) }
         ensures kept { OnErr result (self.new ≡ self.old) }
@@ -56,7 +56,7 @@ impl Plans {
         Ok(())
     }
 
-    /// The table of that name, or `None` where the name has none. Takes no memory.
+    /// Returns the table of that name, or `None` where the name has none. Does not allocate.
     pub(crate) fn find(&self, name: u32) -> Option<&Table>
         ensures { option_map (λ table. table.now) result ≡ table_named self.now name }
     {

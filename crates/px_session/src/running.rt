@@ -49,7 +49,7 @@ pub(crate) struct Run {
     pub(crate) facts: Model,
 }
 
-/// How many atoms an operator adds at most.
+/// Returns how many atoms an operator adds at most.
 fn most_adds(problem: &Problem) -> usize
     ensures { adds_most problem.now.schemas ≤ result }
 {
@@ -62,7 +62,7 @@ fn most_adds(problem: &Problem) -> usize
     most
 }
 
-/// How many edits are recorded, if a number of places can say it.
+/// Returns how many edits are recorded, if a number of places can say it.
 fn count_edits(recorded: &[Disturbance]) -> Option<usize>
     ensures { IfSome result (λ count. count ≡ edits_in recorded.now) }
 {
@@ -73,7 +73,7 @@ fn count_edits(recorded: &[Disturbance]) -> Option<usize>
     Some(count)
 }
 
-/// One more than the turns that a run has at most, if a number can say it.
+/// Returns one more than the turns that a run has at most, if a number can say it.
 fn count_turns(table: &Table, recorded: &[Disturbance]) -> Option<usize>
     ensures { IfSome result (λ count. most_turns table.now recorded.now < count) }
 {
@@ -82,7 +82,7 @@ fn count_turns(table: &Table, recorded: &[Disturbance]) -> Option<usize>
     between.checked_mul(kernels)?.checked_add(1)
 }
 
-/// How many places a run with so many turns may take, if a number of places can say it.
+/// Returns how many places a run of these turns may take, if a number of places can say it.
 fn count_places(problem: &Problem, recorded: &[Disturbance], turns: usize) -> Option<usize>
     ensures { IfSome result (λ count. places_from problem.now recorded.now turns 1 ≤ count) }
 {
@@ -92,7 +92,7 @@ fn count_places(problem: &Problem, recorded: &[Disturbance], turns: usize) -> Op
     Some(places)
 }
 
-/// A list without a turn, with room for so many.
+/// Returns a list without a turn, with room for as many.
 fn reserve_turns(alloc: Global, most: usize) -> Result<Vec<Turn>, NoMemory>
     ensures none { IfOk result (λ turns. turns.items ≡ []) }
     ensures room { IfOk result (λ turns. most ≤ vec_capacity turns) }
@@ -106,7 +106,7 @@ fn reserve_turns(alloc: Global, most: usize) -> Result<Vec<Turn>, NoMemory>
 /// memory before the first turn.
 ///
 /// # Errors
-/// `UnknownParam` with the first bound parameter that the table hasn't, and `NoMemory`.
+/// `UnknownParam` with the first bound parameter that the table does not have, and `NoMemory`.
 #[tactic(auto, using(crate::proofs::Placing::same_taken))]
 pub(crate) fn run_table(
     alloc: Global,
@@ -123,7 +123,8 @@ pub(crate) fn run_table(
     requires once { AllPairs (λ one other. one.0 ≢ other.0) bound.now }
     requires place { IsPlaceOf problem.now facts.now.atoms building.old }
     requires taken { TakesAll building.old recorded.now }
-    ensures runs { IfOk result (λ run. RunsTable leaves_edit problem.now table.now bound.now recorded.now facts.now.atoms (map turn_told run.turns) run.facts.atoms) }
+    ensures runs { IfOk result (λ run. RunsTable leaves_edit problem.now table.now bound.now recorded.now facts.now.atoms
+        (map turn_told run.turns) run.facts.atoms) }
     ensures known { OnOk result (first_bad table.now bound.now ≡ None) }
     ensures unknown { (n : ℕ) → IsErrOf result (RunErr.UnknownParam n) → first_bad table.now bound.now ≡ Some n }
     ensures place { IfOk result (λ run. IsPlaceOf problem.now run.facts.atoms building.new) }

@@ -62,10 +62,10 @@ impl std::marker::Model for Session {
 }
 
 impl Session {
-    /// The session before the first command of the script.
+    /// Returns the session before the first command of the script.
     ///
     /// # Errors
-    /// `NoMemory` where there is none for it.
+    /// `NoMemory` where there is no memory for it.
     pub fn new(alloc: Global, script: Script) -> Result<Session, NoMemory>
         ensures opened { IfOk result (λ session. session ≡ opened (content script)) }
     {
@@ -81,28 +81,28 @@ impl Session {
         })
     }
 
-    /// How many commands the script has. Takes no memory.
+    /// Returns how many commands the script has. Does not allocate.
     pub fn count(&self) -> usize
         ensures { result ≡ length self.now.commands }
     {
         self.commands.as_slice().len()
     }
 
-    /// The script's names. Takes no memory.
+    /// Returns the script's names. Does not allocate.
     pub fn names(&self) -> &Names
         ensures { result.now ≡ self.now.names }
     {
         &self.names
     }
 
-    /// How many commands are done. Takes no memory.
+    /// Returns how many commands are done. Does not allocate.
     pub fn done(&self) -> usize
         ensures { result ≡ self.now.done }
     {
         self.done
     }
 
-    /// The world's atoms. Takes no memory.
+    /// Returns the world's atoms. Does not allocate.
     pub fn facts(&self) -> &Model
         ensures { result.now.atoms ≡ self.now.state.atoms }
     {
@@ -112,11 +112,12 @@ impl Session {
     /// Answers command `k`, the next one.
     ///
     /// # Errors
-    /// `NoMemory` where there is none for the answer. The session is then as it was.
+    /// `NoMemory` where there is no memory for the answer. The session is then as it was.
     pub fn execute(&mut self, k: usize) -> Result<Reply, NoMemory>
         requires below { k < length self.old.commands }
         requires next { k ≡ self.old.done }
-        ensures lawful { IfOk result (λ reply. Lawful self.old.problem self.old.state (slice_index_or self.old.commands k Facts) reply self.new.state) }
+        ensures lawful { IfOk result (λ reply. Lawful self.old.problem self.old.state
+            (slice_index_or self.old.commands k Facts) reply self.new.state) }
         ensures frame { OnOk result (self.new ≡ record self.old { done = k + 1; state = self.new.state }) }
         ensures kept { OnErr result (self.new ≡ self.old) }
         ensures named { IfOk result (IsNamed self.old.names) }
@@ -135,7 +136,7 @@ impl Session {
     }
 }
 
-/// The world of a building as it stands at first, if there is one.
+/// Returns the world of a building as it stands at first, if there is one.
 fn world_of(alloc: Global, building: &Option<Building>) -> Result<Option<RoomWorld>, NoMemory>
     requires buildings { IfSome building.now (λ building. IsBuilding building.things) }
     requires short { IfSome building.now (λ building. length building.things < 4294967295) }

@@ -40,7 +40,7 @@ impl std::marker::Model for State {
 }
 
 impl State {
-    /// The state before the first command, where these are the facts. Takes no memory.
+    /// Returns the state before the first command, where these are the facts. Does not allocate.
     pub(crate) fn opening(alloc: Global, facts: Model) -> State
         ensures { result ≡ opening facts.atoms }
     {
@@ -52,7 +52,7 @@ impl State {
         }
     }
 
-    /// The table of the stored plan of that name, or the learned table. Takes no memory.
+    /// Returns the table of the stored plan of that name, or the learned table. Does not allocate.
     pub(crate) fn table(&self, name: u32) -> Option<&Table>
         ensures { option_map (λ table. table.now) result ≡ any_table self.now name }
     {
@@ -65,7 +65,7 @@ impl State {
     /// Shows the table of that name.
     ///
     /// # Errors
-    /// `NoMemory` where there is none for a copy of the table.
+    /// `NoMemory` where there is no memory for a copy of the table.
     pub(crate) fn show(&self, name: u32) -> Result<Reply, NoMemory>
         ensures told { IfOk result (λ reply. TellsShow self.now name reply self.now) }
     {
@@ -81,7 +81,7 @@ impl State {
     /// Tells the world's atoms.
     ///
     /// # Errors
-    /// `NoMemory` where there is none for a copy of them.
+    /// `NoMemory` where there is no memory for a copy of them.
     pub(crate) fn tell_facts(&self, alloc: Global) -> Result<Reply, NoMemory>
         ensures told { IfOk result (λ reply. TellsFacts self.now reply self.now) }
     {
@@ -93,7 +93,7 @@ impl State {
     /// Records edits for the next run.
     ///
     /// # Errors
-    /// `NoMemory` where there is none for one disturbance more. Nothing is recorded then.
+    /// `NoMemory` where there is no memory for one disturbance more. Nothing is recorded then.
     pub(crate) fn note(
         &mut self,
         turn: u32,

@@ -19,7 +19,7 @@ impl State {
     /// there is one, disturbed by all that is recorded. The world is then the one after the run, and nothing is recorded.
     ///
     /// # Errors
-    /// `NoMemory` where there is none for the run. The state is then as it was.
+    /// `NoMemory` where there is no memory for the run. The state is then as it was.
     #[tactic(auto, using(crate::proofs::Placing::same_taken))]
     pub(crate) fn run(
         &mut self,

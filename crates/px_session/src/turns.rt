@@ -59,7 +59,8 @@ fn act_in_turn(
     requires taken { TakesAll (building_of world.old) recorded.now }
     requires remembers { planex.old.memory.remembered ≢ None }
     requires places { HasPlaces planex.old (places_of_action planex.old.problem recorded.now number) world.old }
-    ensures ends { EndsSensed planex.old recorded.now number kernel (place_atoms world.old) result (place_atoms world.new) planex.new.memory }
+    ensures ends { EndsSensed planex.old recorded.now number kernel (place_atoms world.old) result
+        (place_atoms world.new) planex.new.memory }
     ensures frame { planex.new ≡ record planex.old { memory = planex.new.memory } }
     ensures taken { HasTaken (places_of_action planex.old.problem recorded.now number) world.old world.new }
 {
@@ -118,7 +119,7 @@ fn ends_run(end: TurnEnd) -> bool
 }
 
 /// Takes turns, from the first on, up to the goal or to a sensing that finds no kernel, and puts them into the list, which has room for
-/// all of them. Takes no memory.
+/// all of them. Does not allocate.
 pub(crate) fn take_turns(
     planex: &mut Planex<'_>,
     world: &mut Place<'_>,
@@ -135,7 +136,8 @@ pub(crate) fn take_turns(
     requires none { turns.items ≡ [] }
     requires room { most ≤ vec_capacity turns }
     requires places { HasPlaces planex.old (places_from planex.old.problem recorded.now most 1) world.old }
-    ensures turns { TakesFrom planex.old recorded.now 1 (place_atoms world.old) (map turn_told result.items) (place_atoms world.new) planex.new.memory }
+    ensures turns { TakesFrom planex.old recorded.now 1 (place_atoms world.old) (map turn_told result.items)
+        (place_atoms world.new) planex.new.memory }
     ensures room { length (place_atoms world.new) ≤ planex.old.room }
     ensures rules { HaveSameRules (place_rules world.new) planex.old.problem }
     ensures takes { TakeSame (building_of world.old) (building_of world.new) }

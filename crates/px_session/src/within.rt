@@ -1,7 +1,7 @@
 //! Adding an item where there is room for it.
 ghost use Rattle.std.specs.Prelude.{◌≡◌, ◌<◌, ◌≤◌, ◌++◌, ◌∷◌, [], vec_len, vec_capacity};
 
-/// Puts an item last where there is room for it. Takes no memory.
+/// Puts an item last where there is room for it. Does not allocate.
 pub(crate) fn push_within<T: Drop>(items: &mut Vec<T>, item: T)
     requires room { vec_len items.old < vec_capacity items.old }
     ensures put { items.new.items ≡ items.old.items ++ item ∷ [] }

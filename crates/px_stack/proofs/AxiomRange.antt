@@ -1,17 +1,15 @@
 -- Attempts at the axioms, one after the other.
 use Rattle.std.proofs.Common.{◌≡◌, ◌⊎◌, ℕ, zero, suc, ◌<◌, ◌≤◌, Bool, true, false, Some, List, length, get_or, slice_get, refl, ap, sym, ◌∙◌, arith, inl, inr}
 use Rattle.std.specs.Prelude.{All}
+use Rattle.std.proofs.lemmas.Bool.{cases_lt}
 use Rattle.px_terms.specs.declared.clause.Clause.{Clause}
 use Rattle.px_stack.specs.declared.open.OpenGoal.{OpenGoal}
 use Rattle.px_stack.specs.States.{StackValue}
 use Rattle.px_stack.specs.Ranges.{TriesRange}
 use Rattle.px_stack.specs.Places.{NeverStep, ComesStep}
 use Rattle.px_stack.specs.Axioms.{HasRoom, IsFit, IsFrom, NeverClause, TriesClause, NeverAxiom, ComesAxiom}
-use Rattle.px_proof.specs.PlaceLaws.{All-got, slice_get-read}
+use Rattle.px_proof.specs.PlaceLaws.{All-got, slice_get-read, some_same}
 use Rattle.px_stack.proofs.Trying.{never-next, range-found}
-
-some_same : {X : Type 0} {a b : X} → Some a ≡ Some b → a ≡ b
-some_same e = cc
 
 -- where there is room, trying the clause is trying its places
 pub with_room : (number : ℕ) (clause : Clause) (goal : OpenGoal) (from : ℕ) (old new : StackValue) (found : Bool) → HasRoom goal clause.lits →
@@ -29,17 +27,16 @@ without_room number clause goal from old no_room = record {
 
 -- the place to begin with is one
 same_start : (number from place a b : ℕ) → IsFrom number from place a → IsFrom number from place b → a ≡ b
-same_start number from place a b h k = go (decide number from)
+same_start number from place a b h k = elim (cases_lt number from) [
+  | inl less ↦ apart (λ e. omega (arith, e, less))
+  | inr past ↦ elim (cases_lt from number) [
+    | inl more ↦ apart (λ e. omega (arith, e, more))
+    | inr upto ↦ let e : number ≡ from = omega (arith, past, upto) in h.here e ∙ sym (k.here e)
+  ]
+]
   where
-    decide : (m n : ℕ) → (m ≡ n) ⊎ (¬ (m ≡ n))
-    decide zero zero = inl refl
-    decide zero (suc n) = inr (λ e. omega (arith, e))
-    decide (suc m) zero = inr (λ e. omega (arith, e))
-    decide (suc m) (suc n) = elim (decide m n) [ inl e ↦ inl (ap suc e) | inr other ↦ inr (λ e. other (omega (arith, e))) ]
-
-    go : (number ≡ from) ⊎ (¬ (number ≡ from)) → a ≡ b
-    go (inl e) = h.here e ∙ sym (k.here e)
-    go (inr other) = h.later other ∙ sym (k.later other)
+    apart : ¬ (number ≡ from) → a ≡ b
+    apart other = h.later other ∙ sym (k.later other)
 
 module _ (axioms : List Clause) (goal : OpenGoal) (from place k : ℕ) (clause : Clause) (old mid new : StackValue) (start : ℕ) (found : Bool) (is : slice_get axioms k ≡ Some clause) (begins : IsFrom k from place start) (same : mid ≡ old) (tried : TriesClause k clause goal start mid new found) where
   pub axiom-comes : found ≡ true → from ≤ k → k < length axioms → ((j : ℕ) → from ≤ j → j < k → NeverAxiom axioms old goal from place j) →
@@ -54,7 +51,7 @@ module _ (axioms : List Clause) (goal : OpenGoal) (from place k : ℕ) (clause :
         none.0 ∙ same,
         rw next_is (never-next (NeverAxiom axioms old goal from place) from k never
             (λ other other_is other_start other_begins p after within.
-            let e : clause ≡ other = some_same (sym is ∙ other_is) in
+            let e : clause ≡ other = some_same clause other (sym is ∙ other_is) in
             let f : other_start ≡ start = same_start k from place other_start start other_begins begins in
             (rw e at places) p (rw (sym f) after) within)),
       )

@@ -3,7 +3,8 @@ use Rattle.std.proofs.Common.{◌≡◌, ℕ, zero, suc, ◌<◌, ◌≤◌, Boo
 use Rattle.std.specs.Prelude.{All}
 use Rattle.std.specs.Cmp.{tied_itself, upto}
 use Rattle.std.specs.Cmp.Lexicographic.{slice_cmp}
-use Rattle.std.specs.List.{AllByRecursion}
+use Rattle.std.proofs.lemmas.List.Elements.{All-from_recursion}
+use Rattle.std.proofs.lemmas.Option.{get_or_from_slice_get, slice_get_within}
 use Rattle.std.specs.List.Sorted.{IsStrictlySortedBy, IsPartitionedBy, IsPartitionPoint}
 use Rattle.std.specs.Ordering.{is_gt, is_le, is_lt, nat_cmp, ordering_then}
 use Rattle.std.specs.declared.cmp.Ordering.{Ordering}
@@ -37,17 +38,12 @@ fronts_up (suc n) (x ∷ xs) (y ∷ ys) up = then_up (term_cmp x y) (slice_cmp t
 beginnings_up : (n : ℕ) (a b : Atom) → is_gt (atom_cmp a b) ≡ false → is_gt (atom_cmp (beginning n a) (beginning n b)) ≡ false
 beginnings_up n a b up = then_up (nat_cmp a.pred b.pred) (slice_cmp term_cmp a.args b.args) (slice_cmp term_cmp (take n a.args) (take n b.args)) (fronts_up n a.args b.args) up
 
-all_read : {X : Type 0} (P : X → Type 0) (xs : List X) (k : ℕ) (d : X) → AllByRecursion P xs → k < length xs → P (get_or xs k d)
-all_read P [] k d all within = absurd (omega (arith, within))
-all_read P (x ∷ xs) zero d all within = all.0
-all_read P (x ∷ xs) (suc k) d all within = all_read P xs k d all.1 (omega (arith, within))
-
 -- a fact isn't greater than a later one
 facts_up : (facts : List Atom) → IsAtomSet facts → (i j : ℕ) (d : Atom) → i ≤ j → j < length facts → is_gt (atom_cmp (get_or facts i d) (get_or facts j d)) ≡ false
 unfolding IsStrictlySortedBy
 facts_up [] up i j d le within = absurd (omega (arith, within))
 facts_up (a ∷ facts) up zero zero d le within = ap is_gt (tied_itself atom_cmp-total a)
-facts_up (a ∷ facts) up zero (suc j) d le within = ap is_gt (all_read (λ b. atom_cmp a b ≡ Less) facts j d up.0 (omega (arith, within)))
+facts_up (a ∷ facts) up zero (suc j) d le within = ap is_gt (All-from_recursion (λ b. atom_cmp a b ≡ Less) facts up.0 j d (omega (arith, within)))
 facts_up (a ∷ facts) up (suc i) zero d le within = absurd (omega (arith, le))
 facts_up (a ∷ facts) up (suc i) (suc j) d le within = facts_up facts up.1 i j d (omega (arith, le)) (omega (arith, within))
 
@@ -120,11 +116,6 @@ alike n atom fact objects is_ground sigma tau same =
     let front_is : take n fact.args ≡ take n atom.args = sym (ap (take n) args_are) ∙ fronts_stay sigma n atom.args objects in
     λ i. record { pred = pred_is i; args = front_is i }
 
-some_read : (facts : List Atom) (k : ℕ) (fact : Atom) → slice_get facts k ≡ Some fact → (k < length facts) × (get_or facts k fact ≡ fact)
-some_read [] k fact at = absurd (cc)
-some_read (a ∷ facts) zero fact at = let same : a ≡ fact = cc in (omega arith, same)
-some_read (a ∷ facts) (suc k) fact at = let rest = some_read facts k fact at in (omega (arith, rest.0), rest.1)
-
 module _ (facts : List Atom) (n : ℕ) (atom : Atom) (objects : All IsObject (take n atom.args)) where
   level : (fact : Atom) → IsGround fact → (sigma tau : List Term) → substitute_atom sigma atom ≡ substitute_atom tau fact → atom_cmp (beginning n fact) (beginning n atom) ≡ Equal
   level fact is_ground sigma tau same = ap (λ a. atom_cmp a (beginning n atom)) (alike n atom fact objects is_ground sigma tau same) ∙ tied_itself atom_cmp-total (beginning n atom)
@@ -134,12 +125,10 @@ module _ (facts : List Atom) (n : ℕ) (atom : Atom) (objects : All IsObject (ta
   has-its-facts first end within below upto_end = record {
     within = within;
     before = λ k fact at less is_ground sigma tau same.
-        let read = some_read facts k fact at in
-        let less_here : is_before n atom fact ≡ true = ap (is_before n atom) (sym read.1) ∙ below.0 k fact (omega arith) less in
+        let less_here : is_before n atom fact ≡ true = ap (is_before n atom) (sym (get_or_from_slice_get facts k fact fact at)) ∙ below.0 k fact (omega arith) less in
         absurd (never_lt (sym (ap is_lt (level fact is_ground sigma tau same)) ∙ less_here));
     after = λ k fact at past is_ground sigma tau same.
-        let read = some_read facts k fact at in
-        let more_here : is_not_after n atom fact ≡ false = ap (is_not_after n atom) (sym read.1) ∙ upto_end.1 k fact past read.0 in
+        let more_here : is_not_after n atom fact ≡ false = ap (is_not_after n atom) (sym (get_or_from_slice_get facts k fact fact at)) ∙ upto_end.1 k fact past (slice_get_within facts k fact at) in
         absurd (never_gt (sym (ap is_le (level fact is_ground sigma tau same)) ∙ more_here));
   }
     where

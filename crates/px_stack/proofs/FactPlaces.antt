@@ -1,5 +1,6 @@
 -- Facts that are passed over.
 use Rattle.std.proofs.Common.{◌≡◌, ◌⊎◌, ℕ, zero, suc, ◌<◌, ◌≤◌, Bool, true, false, Some, List, length, slice_get, refl, ap, sym, ◌∙◌, arith, inl, inr}
+use Rattle.std.proofs.lemmas.Bool.{cases_lt}
 use Rattle.std.specs.Prelude.{All}
 use Rattle.px_terms.specs.Language.{IsObject}
 use Rattle.px_terms.specs.declared.atom.Atom.{Atom}
@@ -37,13 +38,8 @@ module _ (objects : ℕ) (facts : List Atom) (old : StackValue) (goal : OpenGoal
       TriesRange (NeverFact objects facts old goal) (ComesFact objects facts old goal) from (length facts) old now false
   never-after now number same past never =
       range-none (NeverFact objects facts old goal) (ComesFact objects facts old goal) from (length facts) (length facts) old now same
-      (λ j after within. go j after (less_or_not j number)) (omega arith)
+      (λ j after within. go j after (cases_lt j number)) (omega arith)
     where
-      less_or_not : (m n : ℕ) → (m < n) ⊎ (n ≤ m)
-      less_or_not m zero = inr (omega arith)
-      less_or_not zero (suc n) = inl (omega arith)
-      less_or_not (suc m) (suc n) = elim (less_or_not m n) [ inl h ↦ inl (omega (arith, h)) | inr h ↦ inr (omega (arith, h)) ]
-
       go : (j : ℕ) → from ≤ j → (j < number) ⊎ (number ≤ j) → NeverFact objects facts old goal j
       go j after (inl h) = never j after h
       go j after (inr h) = λ fact at below. apart-never old goal ends fact ends_are (has.after j fact at (omega (arith, past, h)) (λ k d within. object_is objects _ (below k d within)))

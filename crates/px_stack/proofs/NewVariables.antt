@@ -1,12 +1,15 @@
 -- New variables: their numbers, and a match after them, seen from before them.
 use Rattle.std.proofs.Common.{◌≡◌, ◌↔◌, ℕ, ◌+◌, ◌<◌, ◌≤◌, Bool, true, false, List, [], ◌∷◌, ◌++◌, length, take, replicate, get_or, refl, ap, sym, ◌∙◌, arith, length-append, zero, suc, map}
 use Rattle.std.specs.Prelude.{All, set}
+use Rattle.std.proofs.Math.Seq.{take-append_seam, take-suc-set}
+use Rattle.std.proofs.lemmas.List.{take-take}
 use Rattle.px_terms.specs.Clauses.{ArePlainBelow}
 use Rattle.px_terms.specs.Language.{IsPlainBelow, IsVariableBelow, substitute}
 use Rattle.px_terms.specs.declared.term.Term.{Term}
 use Rattle.px_terms.specs.declared.term.Term.TheVariants.{Obj, Var, Any}
 use Rattle.px_terms.specs.declared.clause.Lit.{Lit}
 use Rattle.px_proof.specs.Literals.{substitute_literal}
+use Rattle.px_proof.specs.SubstitutionLaws.{each_choice}
 use Rattle.px_unify.specs.declared.change.Change.{Change}
 use Rattle.px_unify.specs.declared.change.Change.TheVariants.{Fresh}
 use Rattle.px_unify.specs.ChangeLaws.{Fits-fresh, variables-fresh}
@@ -40,19 +43,14 @@ pub length-variables : (first count : ℕ) → length (variables_from first coun
 length-variables first zero = refl
 length-variables first (suc count) = ap suc (length-variables (suc first) count)
 
-variables-more : (first count : ℕ) → variables_from first (suc count) ≡ variables_from first count ++ Var (first + count) ∷ []
+pub variables-more : (first count : ℕ) → variables_from first (suc count) ≡ variables_from first count ++ Var (first + count) ∷ []
 variables-more first zero = ap (λ (k : ℕ). Var k ∷ []) (omega arith)
 variables-more first (suc count) =
     ap (λ ts. Var first ∷ ts) (variables-more (suc first) count) ∙ ap (λ (k : ℕ). Var first ∷ (variables_from (suc first) count ++ Var k ∷ [])) (omega arith)
 
-take-set : {X : Type 0} (xs : List X) (k : ℕ) (x : X) → k < length xs → take (suc k) (set xs k x) ≡ take k xs ++ x ∷ []
-take-set [] k x within = absurd (omega (arith, within))
-take-set (y ∷ xs) zero x within = refl
-take-set (y ∷ xs) (suc k) x within = ap (λ ys. y ∷ ys) (take-set xs k x (omega (arith, within)))
-
 pub variables-next : (first k : ℕ) (terms : List Term) → k < length terms → take k terms ≡ variables_from first k → (next : ℕ) → next ≡ suc k → (term : Term) → term ≡ Var (first + k) → take next (set terms k term) ≡ variables_from first next
 variables-next first k terms within are next next_is term is =
-    rw (next_is, is) (take-set terms k (Var (first + k)) within ∙ ap (λ ts. ts ++ Var (first + k) ∷ []) are ∙ sym (variables-more first k))
+    rw (next_is, is) (take-suc-set terms k (Var (first + k)) within ∙ ap (λ ts. ts ++ Var (first + k) ∷ []) are ∙ sym (variables-more first k))
 
 shifted : (first count v : ℕ) → v < count → substitute (variables_from first count) (Var v) ≡ Var (first + v)
 shifted first count v within = go first count v within
@@ -61,16 +59,6 @@ shifted first count v within = go first count v within
     go first zero v within = absurd (omega (arith, within))
     go first (suc count) zero within = ap (λ (k : ℕ). Var k) (omega arith)
     go first (suc count) (suc v) within = go (suc first) count v (omega (arith, within)) ∙ ap (λ (k : ℕ). Var k) (omega arith)
-
-take-longer : {X : Type 0} (a b : ℕ) (xs : List X) → a ≤ b → take a (take b xs) ≡ take a xs
-take-longer zero b xs le = refl
-take-longer (suc a) zero xs le = absurd (omega (arith, le))
-take-longer (suc a) (suc b) [] le = refl
-take-longer (suc a) (suc b) (x ∷ xs) le = ap (λ ys. x ∷ ys) (take-longer a b xs (omega (arith, le)))
-
-take-all : {X : Type 0} (xs ys : List X) → take (length xs) (xs ++ ys) ≡ xs
-take-all [] ys = refl
-take-all (x ∷ xs) ys = ap (λ zs. x ∷ zs) (take-all xs ys)
 
 module _ (old fresh new : List Change) (count : ℕ) (goal lit : Lit) (added : fresh ≡ old ++ replicate count Fresh) where
   long : length old ≤ length fresh
@@ -86,7 +74,7 @@ module _ (old fresh new : List Change) (count : ℕ) (goal lit : Lit) (added : f
         (λ now. let h = both.0 now in ((fits sigma).0 h.0, h.1), λ h. both.1 ((fits sigma).1 h.0, h.1));
     variables = λ is_found. (is.grows refl).variables ∙ (rw added (variables-fresh old count));
     prefix = λ is_found.
-        sym (take-longer (length old) (length fresh) new long) ∙ ap (take (length old)) (is.grows refl).prefix ∙ ap (take (length old)) added ∙ take-all old (replicate count Fresh);
+        sym (take-take (length old) (length fresh) new long) ∙ ap (take (length old)) (is.grows refl).prefix ∙ ap (take (length old)) added ∙ take-append_seam old (replicate count Fresh);
     grown = λ is_found. omega (arith, long, (is.grows refl).grown);
     solvable = λ is_found. is.solvable refl;
     never = λ is_not. absurd (cc);
@@ -101,7 +89,7 @@ module _ (old fresh new : List Change) (count : ℕ) (goal lit : Lit) (added : f
     grown = λ is_found. absurd (cc);
     solvable = λ is_found. absurd (cc);
     never = λ is_not sigma now same. is.never refl sigma ((fits sigma).1 now) same;
-    same = λ is_not. undone ∙ ap (take (length old)) (is.same refl ∙ added) ∙ take-all old (replicate count Fresh);
+    same = λ is_not. undone ∙ ap (take (length old)) (is.same refl ∙ added) ∙ take-append_seam old (replicate count Fresh);
   }
 
 -- the new literal is over the old and the new variables
@@ -110,16 +98,8 @@ shifted-term first count (Obj o) below = tt
 shifted-term first count (Var v) below = let e : substitute (variables_from first count) (Var v) ≡ Var (first + v) = shifted first count v below in rw e (omega (arith, below))
 shifted-term first count Any below = below
 
-shifted-args : (first count : ℕ) (ts : List Term) → All (IsPlainBelow count) ts → All (IsPlainBelow (first + count)) (map (substitute (variables_from first count)) ts)
-shifted-args first count [] all = λ k d within. absurd (omega (arith, within))
-shifted-args first count (t ∷ ts) all = λ k d within. at (shifted-args first count ts (λ j e inside. all (suc j) e (omega (arith, inside)))) k d within
-  where
-    at : All (IsPlainBelow (first + count)) (map (substitute (variables_from first count)) ts) → (k : ℕ) (d : Term) → k < length (map (substitute (variables_from first count)) (t ∷ ts)) → IsPlainBelow (first + count) (get_or (map (substitute (variables_from first count)) (t ∷ ts)) k d)
-    at later zero d within = shifted-term first count t (all 0 d (omega arith))
-    at later (suc k) d within = later k d (omega (arith, within))
-
 pub shifted-lit : (first count : ℕ) (l : Lit) → IsLitBelow count l → IsLitBelow (first + count) (substitute_literal (variables_from first count) l)
-shifted-lit first count l below = shifted-args first count l.atom.args below
+shifted-lit first count l below = each_choice (variables_from first count) (IsPlainBelow count) (IsPlainBelow (first + count)) (shifted-term first count) l.atom.args below
 
 -- the same with equal parts
 pub match-as : (old new : List Change) (count : ℕ) (goal lit lit_as : Lit) (found found_as : Bool) → lit ≡ lit_as → found ≡ found_as → MatchesFresh old new count goal lit found → MatchesFresh old new count goal lit_as found_as

@@ -1,6 +1,8 @@
 -- The parts of a step, pushed from the last to the first.
 use Rattle.std.proofs.Common.{◌≡◌, ℕ, zero, suc, ◌+◌, ◌<◌, ◌≤◌, true, false, cond, ◌⊎◌, inl, inr, List, [], ◌∷◌, ◌++◌, length, map, drop, get_or, slice_get, Some, refl, ap, sym, ◌∙◌, arith, length-append, append_assoc, drop-cons}
 use Rattle.std.specs.Prelude.{nat_eq, remove}
+use Rattle.std.proofs.lemmas.List.{append-nil, drop_all, get_or-map, length-map}
+use Rattle.px_unify.proofs.Slots.{slice_get-push}
 use Rattle.px_proof.specs.Literals.{substitute_literal, complement_of, positive_of}
 use Rattle.px_terms.specs.declared.atom.Atom.{Atom}
 use Rattle.px_terms.specs.declared.term.Term.{Term}
@@ -41,26 +43,15 @@ pub parts-all : (lits : List Lit) (theta : List Term) (place k : ℕ) → k ≡ 
 parts-all lits theta place k is = rw is (ap (map complement_of) (sym (remove-without (instance_of lits theta) 0 place ∙ ap (λ p. without 0 p (instance_of lits theta)) (omega arith))))
 
 length-instance : (lits : List Lit) (theta : List Term) → length (instance_of lits theta) ≡ length lits
-length-instance [] theta = refl
-length-instance (l ∷ lits) theta = ap suc (length-instance lits theta)
-
-drop-all : {X : Type 0} (xs : List X) (k : ℕ) → length xs ≤ k → drop k xs ≡ []
-drop-all [] zero past = refl
-drop-all [] (suc k) past = refl
-drop-all (x ∷ xs) zero past = absurd (omega (arith, past))
-drop-all (x ∷ xs) (suc k) past = drop-all xs k (omega (arith, past))
+length-instance lits theta = length-map lits (substitute_literal theta)
 
 pub parts-none : (lits : List Lit) (theta : List Term) (place k : ℕ) → length lits ≤ k → parts_from lits theta place k ≡ []
-parts-none lits theta place k past = let e : drop k (instance_of lits theta) ≡ [] = drop-all (instance_of lits theta) k (omega (arith, past, length-instance lits theta)) in rw e refl
-
-instance_at : (lits : List Lit) (theta : List Term) (k : ℕ) (d : Lit) → k < length lits → get_or (instance_of lits theta) k (substitute_literal theta d) ≡ substitute_literal theta (get_or lits k d)
-instance_at [] theta k d within = absurd (omega (arith, within))
-instance_at (l ∷ lits) theta zero d within = refl
-instance_at (l ∷ lits) theta (suc k) d within = instance_at lits theta k d (omega (arith, within))
+parts-none lits theta place k past = let e : drop k (instance_of lits theta) ≡ [] = drop_all k (instance_of lits theta) (omega (arith, past, length-instance lits theta)) in rw e refl
 
 drop-instance : (lits : List Lit) (theta : List Term) (k : ℕ) (d : Lit) → k < length lits → drop k (instance_of lits theta) ≡ substitute_literal theta (get_or lits k d) ∷ drop (suc k) (instance_of lits theta)
 drop-instance lits theta k d within =
-    drop-cons (instance_of lits theta) k (substitute_literal theta d) (omega (arith, within, length-instance lits theta)) ∙ ap (λ l. l ∷ drop (suc k) (instance_of lits theta)) (instance_at lits theta k d within)
+    drop-cons (instance_of lits theta) k (substitute_literal theta d) (omega (arith, within, length-instance lits theta))
+    ∙ ap (λ l. l ∷ drop (suc k) (instance_of lits theta)) (get_or-map (substitute_literal theta) lits k d (substitute_literal theta d) within)
 
 -- the literal at the place is passed over, and each other one is a part
 pub parts-pass : (lits : List Lit) (theta : List Term) (place k : ℕ) (d : Lit) → k < length lits → k ≡ place → parts_from lits theta place k ≡ parts_from lits theta place (suc k)
@@ -84,16 +75,10 @@ opened-more start more arena g path lits goals is path_is above next opened =
 
 -- a goal that names older places keeps the arena in order
 pub older-push : (arena : List OpenGoal) (g : OpenGoal) → AreOlder arena → g.above ≤ length arena → g.next ≤ length arena → AreOlder (arena ++ g ∷ [])
-older-push arena g older above next i other at = elim (pushed arena i at) [
+older-push arena g older above next i other at = elim (slice_get-push arena g other i at) [
   | inl h ↦ older i other h
   | inr h ↦ rw (h.0, ← h.1) (above, next)
 ]
-  where
-    pushed : (xs : List OpenGoal) (k : ℕ) → slice_get (xs ++ g ∷ []) k ≡ Some other → (slice_get xs k ≡ Some other) ⊎ ((k ≡ length xs) × (g ≡ other))
-    pushed [] zero e = let same : g ≡ other = cc in inr (refl, same)
-    pushed [] (suc k) e = absurd (cc)
-    pushed (x ∷ xs) zero e = inl e
-    pushed (x ∷ xs) (suc k) e = elim (pushed xs k e) [ inl h ↦ inl h | inr h ↦ inr (ap suc h.0, h.1) ]
 
 -- the parts from the k-th literal on are open, before the goals at the next place
 pub record AreOpened (start : List OpenGoal) (lits : List Lit) (theta : List Term) (place at next budget : ℕ) (arena : List OpenGoal) (front k : ℕ) : Type 0 where
@@ -105,15 +90,11 @@ pub record AreOpened (start : List OpenGoal) (lits : List Lit) (theta : List Ter
 module _ (start : List OpenGoal) (lits : List Lit) (theta : List Term) (place at next budget : ℕ) where
   pub opened-start : (k : ℕ) → k ≡ length lits → next ≤ length start → AreOpened start lits theta place at next budget start next k
   opened-start k is older = record {
-    grown = ([], sym (nil-right start));
+    grown = ([], sym (append-nil start));
     older = older;
     arena_older = λ h. h;
     opened = let e : parts_from lits theta place k ≡ [] = parts-none lits theta place k (omega (arith, is)) in rw e refl;
   }
-    where
-      nil-right : {X : Type 0} (xs : List X) → xs ++ [] ≡ xs
-      nil-right [] = refl
-      nil-right (x ∷ xs) = ap (λ ys. x ∷ ys) (nil-right xs)
 
   module _ (arena : List OpenGoal) (front j k : ℕ) (are : AreOpened start lits theta place at next budget arena front j) (after : j ≡ suc k) (within : k < length lits) (d : Lit) where
     pub opened-pass : (k_now : ℕ) (arena_now : List OpenGoal) (front_now : ℕ) → k_now ≡ k → k ≡ place → arena_now ≡ arena → front_now ≡ front → AreOpened start lits theta place at next budget arena_now front_now k_now
@@ -159,7 +140,7 @@ module _ (formula : List Atom) (height : ℕ) where
   asked-start arena k empty is = rw empty (record {
     older = omega arith;
     arena_older = λ i g at. absurd (cc);
-    opened = let e : drop k formula ≡ [] = drop-all formula k (omega (arith, is)) in rw e refl;
+    opened = let e : drop k formula ≡ [] = drop_all k formula (omega (arith, is)) in rw e refl;
   })
 
   pub asked-next : (arena : List OpenGoal) (front j k : ℕ) → AreAsked formula height arena front j → j ≡ suc k → k < length formula → (d : Atom) →
@@ -171,14 +152,10 @@ module _ (formula : List Atom) (height : ℕ) where
         older = omega (arith, length-append arena (g ∷ []));
         arena_older = older-push arena g are.arena_older (omega arith) are.older;
         opened =
-            opened-more [] arena arena g [] (map positive_of (drop j formula)) [] refl refl (omega arith) are.older (are.opened ∙ sym (nil-right (goals_under [] height (map positive_of (drop j formula)))))
-            ∙ nil-right (goals_under [] height (positive_of (get_or formula k d) ∷ map positive_of (drop j formula)))
+            opened-more [] arena arena g [] (map positive_of (drop j formula)) [] refl refl (omega arith) are.older (are.opened ∙ sym (append-nil (goals_under [] height (map positive_of (drop j formula)))))
+            ∙ append-nil (goals_under [] height (positive_of (get_or formula k d) ∷ map positive_of (drop j formula)))
             ∙ ap (λ atoms. goals_under [] height (map positive_of atoms)) (sym (drop-cons formula k d within ∙ ap (λ n. get_or formula k d ∷ drop n formula) (sym after)));
       })
     where
       g : OpenGoal
       g = record { lit = positive_of (get_or formula k d); above = 0; next = front; budget = height }
-
-      nil-right : {X : Type 0} (xs : List X) → xs ++ [] ≡ xs
-      nil-right [] = refl
-      nil-right (x ∷ xs) = ap (λ ys. x ∷ ys) (nil-right xs)

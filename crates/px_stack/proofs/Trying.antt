@@ -1,6 +1,8 @@
 -- Attempts over a range.
 use Rattle.std.proofs.Common.{◌≡◌, ◌⊎◌, ℕ, zero, suc, ◌<◌, ◌≤◌, Bool, true, false, Some, IfOk, Result, Ok, Err, List, [], ◌∷◌, length, get_or, slice_get, refl, ap, sym, ◌∙◌, arith, inl, inr}
+use Rattle.std.proofs.lemmas.Bool.{cases_lt}
 use Rattle.std.specs.Prelude.{All}
+use Rattle.px_proof.specs.PlaceLaws.{slice_get-read, some_same}
 use Rattle.px_terms.specs.declared.term.Term.{Term}
 use Rattle.px_terms.specs.declared.term.Term.TheVariants.{Obj, Var, Any}
 use Rattle.px_terms.specs.Language.{IsPlainBelow}
@@ -18,20 +20,9 @@ object-below objects n Any within = within
 pub objects-below : (objects n : ℕ) (ts : List Term) → All (IsObjectBelow objects) ts → All (IsPlainBelow n) ts
 objects-below objects n ts all = λ k d within. object-below objects n _ (all k d within)
 
-pub slice_get-read : {X : Type 0} (xs : List X) (k : ℕ) (d : X) → k < length xs → slice_get xs k ≡ Some (get_or xs k d)
-slice_get-read [] k d within = absurd (omega (arith, within))
-slice_get-read (x ∷ xs) zero d within = refl
-slice_get-read (x ∷ xs) (suc k) d within = slice_get-read xs k d (omega (arith, within))
-
-last_or_before : (j k : ℕ) → j < suc k → (j ≡ k) ⊎ (j < k)
-last_or_before zero zero less = inl refl
-last_or_before zero (suc k) less = inr (omega arith)
-last_or_before (suc j) zero less = absurd (omega (arith, less))
-last_or_before (suc j) (suc k) less = elim (last_or_before j k (omega (arith, less))) [ inl e ↦ inl (ap suc e) | inr h ↦ inr (omega (arith, h)) ]
-
 -- one more number at which nothing comes
 pub never-next : (Never : ℕ → Type 0) (from k : ℕ) → ((j : ℕ) → from ≤ j → j < k → Never j) → Never k → (j : ℕ) → from ≤ j → j < suc k → Never j
-never-next Never from k before here j after less = elim (last_or_before j k less) [ inl e ↦ rw e here | inr h ↦ before j after h ]
+never-next Never from k before here j after less = elim (cases_lt j k) [ inl h ↦ before j after h | inr last ↦ let e : j ≡ k = omega (arith, last, less) in rw e here ]
 
 pub range-found : (Never : ℕ → Type 0) (Comes : ℕ → StackValue → Type 0) (from to : ℕ) (old new : StackValue) (k : ℕ) → from ≤ k → k < to → Comes k new → ((j : ℕ) → from ≤ j → j < k → Never j) → TriesRange Never Comes from to old new true
 range-found Never Comes from to old new k after within comes never = record { least = λ is_found. (k, after, within, comes, never); no_more = λ is_not. absurd (cc) }
@@ -49,10 +40,7 @@ module _ (objects : ℕ) (facts : List Atom) (goal : OpenGoal) (from k : ℕ) (d
       (new ≡ old) × ((j : ℕ) → from ≤ j → j < j_next → NeverFact objects facts old goal j)
   fact-never is_not j_next next never =
       let none = rw same at (tried.never is_not) in
-      (none.0, rw next (never-next (NeverFact objects facts old goal) from k never (λ fact is below. let e : get_or facts k d ≡ fact = some_same (sym (slice_get-read facts k d within) ∙ is) in (rw e at none.1) below)))
-    where
-      some_same : {X : Type 0} {a b : X} → Some a ≡ Some b → a ≡ b
-      some_same e = cc
+      (none.0, rw next (never-next (NeverFact objects facts old goal) from k never (λ fact is below. let e : get_or facts k d ≡ fact = some_same _ fact (sym (slice_get-read facts k d within) ∙ is) in (rw e at none.1) below)))
 
 -- what follows where an attempt wasn't without memory
 pub if_ok : {E : Type 0} (r : Result Bool E) (P Q : Bool → Type 0) → ((x : Bool) → P x → Q x) → IfOk r P → IfOk r Q

@@ -29,10 +29,10 @@ fn try_ancestor(
     stack.close_by(Tick::Anc(number), &goal.lit, goal.next, &lit)
 }
 
-/// Closes the first goal by the nearest literal above it, from the number on, that does.
+/// Closes the first goal by the nearest literal above it, from the number on, whose complement closes it.
 ///
 /// # Errors
-/// `NoMemory` where there is none for the choice. The state is then of no further use.
+/// `NoMemory` if memory for the choice runs out. The state is then of no further use.
 pub fn try_ancestors(stack: &mut Stack, goal: &OpenGoal, from: usize) -> Result<bool, NoMemory>
     requires few { length (path_at stack.old.goals goal.now.above) < 4294967296 }
     requires above_older { goal.now.above ≤ length stack.old.goals }

@@ -6,7 +6,7 @@ ghost use Rattle.px_stack.specs.Ranges.{TriesRange};
 ghost use Rattle.px_stack.specs.Axioms.{IsFit, HasRoom, IsFrom, TriesClause, NeverAxiom, ComesAxiom};
 
 use crate::open::{OpenGoal, Stack};
-use crate::places::try_places;
+use px_proof::Tick;
 use px_terms::{ClauseArena, Lit, NoMemory};
 
 /// Does the height of the goal leave room for the parts of the clause?
@@ -16,14 +16,14 @@ fn has_room(goal: &OpenGoal, lits: &[Lit]) -> bool
     lits.len() <= 1 || 2 <= goal.budget
 }
 
-/// The first place to try: the given one at the first axiom, and else 0.
+/// The first place to try: the given one at the first axiom, and 0 at the others.
 fn start_place(number: usize, from: usize, place: usize) -> usize
     ensures { IsFrom number from place result }
 {
     if number == from { place } else { 0 }
 }
 
-/// Closes the first goal by the first literal of the clause, from the place on, that does, if there is room.
+/// Closes the first goal by the first literal of the clause, from the given place on, that closes it, if there is room.
 fn try_clause(
     stack: &mut Stack,
     number: u32,
@@ -42,13 +42,20 @@ fn try_clause(
     if !has_room(goal, lits) {
         return Ok(false);
     }
-    try_places(stack, number, vars, lits, goal, from)
+    for place in from..lits.len() {
+        match stack.close_by_step(Tick::Step(number, place as u32), goal, vars, lits, place) {
+            Ok(true) => return Ok(true),
+            Ok(false) => {}
+            Err(NoMemory) => return Err(NoMemory),
+        }
+    }
+    Ok(false)
 }
 
-/// Closes the first goal by the first literal of the first axiom, from the place of the axiom `from` on, that does.
+/// Closes the first goal by the first literal that closes it, from the given place of the axiom `from` on.
 ///
 /// # Errors
-/// `NoMemory` where there is none for the choice, the variables and the parts. The state is then of no further use.
+/// `NoMemory` if memory for the choice, the variables or the parts runs out. The state is then of no further use.
 pub fn try_axioms(
     stack: &mut Stack,
     axioms: &ClauseArena,

@@ -8,7 +8,7 @@ ghost use Rattle.px_stack.specs.Beginnings.{HasItsFacts, beginning};
 use px_terms::{Atom, Term};
 use std::cmp::Ordering;
 
-/// How many of the terms stand before the first that is no object.
+/// How many terms stand before the first one that is no object.
 fn leading_objects(terms: &[Term]) -> usize
     ensures within { result ≤ length terms.now }
     ensures objects { All IsObject (take result terms.now) }
@@ -22,14 +22,14 @@ fn leading_objects(terms: &[Term]) -> usize
     terms.len()
 }
 
-/// The first terms, so many, or all where there are fewer.
+/// The first `count` terms, or all of them if there are fewer.
 fn front(terms: &[Term], count: usize) -> &[Term]
     ensures { result.now ≡ take count terms.now }
 {
     &terms[..count.min(terms.len())]
 }
 
-/// How the two atoms compare without their arguments after the first ones, so many.
+/// Compares two atoms by their predicates and their first `count` arguments.
 fn compare_beginnings(count: usize, a: &Atom, b: &Atom) -> Ordering
     ensures { result ≡ atom_cmp (beginning count a.now) (beginning count b.now) }
 {

@@ -29,16 +29,11 @@ fn is_object_below(objects: u32, term: Term) -> bool
 fn all_below(objects: u32, terms: &[Term]) -> bool
     ensures { IsTrue result ↔ All (IsObjectBelow objects) terms.now }
 {
-    for term in terms {
-        if !is_object_below(objects, *term) {
-            return false;
-        }
-    }
-    true
+    terms.iter().all(|term| is_object_below(objects, *term))
 }
 
-/// Closes the first goal, whose atom `ends` is where the bindings are followed, by the fact, if it has objects of the
-/// problem alone.
+/// Closes the first goal by the fact if all arguments of the fact are objects of the problem. `ends` is the goal's atom
+/// with its bindings followed.
 fn try_fact(
     stack: &mut Stack,
     objects: u32,
@@ -64,10 +59,10 @@ fn try_fact(
     stack.close_by(Tick::Fact(number), &goal.lit, goal.next, &lit)
 }
 
-/// Closes the first goal by the first fact from the number on that does.
+/// Closes the first goal by the first fact, from the number on, that closes it.
 ///
 /// # Errors
-/// `NoMemory` where there is none for the choice. The state is then of no further use.
+/// `NoMemory` if memory for the choice runs out. The state is then of no further use.
 pub fn try_facts(
     stack: &mut Stack,
     objects: u32,

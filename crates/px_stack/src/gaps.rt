@@ -11,7 +11,7 @@ use px_terms::NoMemory;
 /// Closes the first goal by a gap.
 ///
 /// # Errors
-/// `NoMemory` where there is none for the choice. The state is then of no further use.
+/// `NoMemory` if memory for the choice runs out. The state is then of no further use.
 pub fn close_by_gap(stack: &mut Stack, goal: &OpenGoal) -> Result<bool, NoMemory>
     requires { IsLitBelow (variables_of stack.old.changes) goal.now.lit }
     ensures { IfOk result (λ found. ClosesBy stack.old stack.new Tick.Gap goal.now.lit goal.now.lit goal.now.next found) }

@@ -62,7 +62,7 @@ impl Stack {
     /// The state in which nothing is closed, and one place for each atom of the formula is open.
     ///
     /// # Errors
-    /// `NoMemory` where there is none for the places and variables.
+    /// `NoMemory` if memory for the places or the variables runs out.
     pub fn new(alloc: Global, formula: &[Atom], vars: u32, height: u32) -> Result<Stack, NoMemory>
         requires { vars ≤ 1000000 }
         ensures { IfOk result (λ stack. IsOpening formula.now vars height stack) }
@@ -196,7 +196,7 @@ impl Stack {
         Ok(true)
     }
 
-    /// Opens the place again that was closed last.
+    /// Opens again the place that was closed last.
     pub fn retract_last(&mut self) -> Option<Tick>
         requires { CanRetract self.old }
         ensures last { IfSome result (λ tick. (choice : Choice) × (rest : List Choice) × (self.old.choices ≡ choice ∷ rest) × (choice.tick ≡ tick) × (self.new ≡ retracted self.old choice rest)) }

@@ -16,7 +16,7 @@ use px_terms::{Atom, Lit, NoMemory, Term};
 /// The most variables that an axiom has.
 pub(crate) const MOST: usize = 12;
 
-/// The variables from `first` on, so many.
+/// The variables from number `first` on: the first `count` terms of the array.
 pub(crate) fn variables_after(first: u32, count: u32) -> [Term; MOST]
     requires few { count ≤ 12 }
     requires small { first + count ≤ 1000000 }
@@ -29,7 +29,7 @@ pub(crate) fn variables_after(first: u32, count: u32) -> [Term; MOST]
     terms
 }
 
-/// Puts a goal last, and answers its place.
+/// Appends a goal and returns its place.
 fn push_goal(goals: &mut Vec<OpenGoal>, goal: OpenGoal) -> Result<usize, NoMemory>
     ensures items { IfOk result (λ place. goals.new.items ≡ goals.old.items ++ goal ∷ []) }
     ensures place { IfOk result (λ place. place ≡ suc (length goals.old.items)) }
@@ -41,7 +41,7 @@ fn push_goal(goals: &mut Vec<OpenGoal>, goal: OpenGoal) -> Result<usize, NoMemor
 }
 
 /// Opens the parts of a clause that is used at its literal `place` under `theta`, before the goals that follow `goal`,
-/// which has place `at`.
+/// which has place `at`. Returns the place of the first part.
 pub(crate) fn push_parts(
     goals: &mut Vec<OpenGoal>,
     lits: &[Lit],
@@ -79,7 +79,7 @@ pub(crate) fn push_parts(
     Ok(front)
 }
 
-/// Opens a place for each atom of the formula, from the last to the first, and answers the place of the first.
+/// Opens a place for each atom of the formula, from the last to the first, and returns the place of the first.
 pub(crate) fn open_formula(
     goals: &mut Vec<OpenGoal>,
     formula: &[Atom],

@@ -11,7 +11,7 @@ use Rattle.px_ends.proofs.MoveLaws.{order, same_move}
 use Rattle.px_ends.proofs.Exclusion.{at_end}
 
 -- a list is empty, or has a last item
-ends-in : {A : Type 0} (xs : List A) → (xs ≡ []) ⊎ ((front : List A) × (last : A) × (xs ≡ front ++ last ∷ []))
+pub ends-in : {A : Type 0} (xs : List A) → (xs ≡ []) ⊎ ((front : List A) × (last : A) × (xs ≡ front ++ last ∷ []))
 ends-in [] = inl refl
 ends-in (x ∷ xs) = elim (ends-in xs) [
   | inl e ↦ inr ([], x, ap (λ t. x ∷ t) e)
@@ -31,7 +31,8 @@ module _ (task : Task) where
   abbrev Least : List Move → Type 0
   Least moves = IsLeast may next IsBefore start moves
 
-  can-front : (node : Node) (ms : List Move) (m : Move) → CanMake may next node (ms ++ m ∷ []) → CanMake may next node ms × may (reached may next node ms) m
+  -- moves that can be made, without the last one
+  pub can-front : (node : Node) (ms : List Move) (m : Move) → CanMake may next node (ms ++ m ∷ []) → CanMake may next node ms × may (reached may next node ms) m
   can-front node [] m can = (tt, can.0)
   can-front node (k ∷ ms) m can = let rest = can-front (next node k) ms m can.1 in ((can.0, rest.0), rest.1)
 
@@ -67,7 +68,7 @@ module _ (task : Task) where
         ]
   ]
     where
-      not-behind : (lists : List (List Move)) → BeginsWith task lists → (p q : List Move) (j i : ℕ) → slice_get lists j ≡ Some p → slice_get lists i ≡ Some q → IsBefore p q → i ≤ j → ⊥
+      not-behind : (lists : List (List Move)) → BeginsWith task lists → (p q : List Move) (j i : ℕ) → slice_get lists j ≡ Some p → slice_get lists i ≡ Some q → IsBefore p q → ¬ (i ≤ j)
       not-behind lists begins p q j i at_j at_i before behind = elim (order_of i j) [
         | inl less ↦ order.irreflexive p (order.transitive p q p before (places_ascend may next IsBefore start order lists begins i j q p less at_i at_j))
         | inr not_less ↦

@@ -6,8 +6,8 @@ use Rattle.std.proofs.lemmas.List.Elements.{All-contains_itself, Contains-push}
 use Rattle.px_table.specs.declared.entry.Move.{Move}
 use Rattle.px_table.specs.declared.entry.Move.TheVariants.{Apply, Push}
 use Rattle.px_table.specs.declared.node.Node.{Node}
-use Rattle.px_diff.specs.Entries.{Obligation, IsApplicable}
-use Rattle.px_diff.specs.Questions.{Proving, AsksOf}
+use Rattle.px_gaps.specs.Needs.{Obligation, IsApplicable}
+use Rattle.px_gaps.specs.Questions.{Proving, AsksOf}
 use Rattle.px_ends.proofs.ByStop.{asked_by_stop}
 use Rattle.px_ends.proofs.Frontier.{reached-append}
 use Rattle.px_ends.proofs.MoveLaws.{order, same_move}

@@ -20,9 +20,9 @@ use Rattle.px_table.specs.declared.entry.Move.TheVariants.{Apply, Push}
 use Rattle.px_table.specs.declared.node.Node.{Node}
 use Rattle.px_table.specs.declared.table.Table.{Table}
 use Rattle.px_table.specs.Tables.{rows_of}
-use Rattle.px_diff.proofs.RowSteps.{steps-count}
-use Rattle.px_diff.specs.Entries.{IsEntry, effect_of, obligations_of, table_at}
-use Rattle.px_diff.specs.Learned.{AreLearned}
+use Rattle.px_entries.proofs.RowSteps.{steps-count}
+use Rattle.px_entries.specs.Entries.{IsEntry, effect_of, obligations_of, table_at}
+use Rattle.px_entries.specs.Learned.{AreLearned}
 use Rattle.px_ends.specs.Made.{EntryRows, IsFirstRow, MovesRows, TopRows, top_steps}
 use Rattle.px_ends.specs.Tasks.{Task, after, initial_node, needs_with, steps_of}
 use Rattle.px_support.specs.declared.walk.Walk.{Walk}
@@ -97,7 +97,7 @@ applied-instance problem tables inst old new row stack model steps first rows =
 -- ---- move by move
 
 module _ (task : Task) where
-  -- so many moves are taken
+  -- as many moves as the number are taken
   pub record IsGoing (moves : List Move) (i : ℕ) (walk : Walk) : Type 0 where
     pub takeable : AreTakeable task (node_in walk) (drop i moves)
     pub entries : All (IsEntry task.problem task.tables) (node_in walk).stack

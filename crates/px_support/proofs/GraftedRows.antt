@@ -8,7 +8,7 @@ use Rattle.px_terms.specs.declared.atom.Atom.{Atom}
 use Rattle.px_terms.specs.declared.instance.OpInst.{OpInst}
 use Rattle.px_terms.specs.declared.problem.Problem.{Problem}
 use Rattle.px_terms.specs.declared.term.Term.{Term}
-use Rattle.px_terms.specs.declared.term.Term.TheVariants.{Obj, Var, Any}
+use Rattle.px_terms.specs.declared.term.Term.TheVariants.{Obj}
 use Rattle.px_terms.specs.Instances.{IsGround}
 use Rattle.px_terms.specs.Language.{IsObject}
 use Rattle.px_terms.specs.Operators.{results_of}
@@ -24,7 +24,7 @@ use Rattle.px_proof.specs.Proves.{IsName, IsTree, from_atoms}
 use Rattle.px_proof.specs.ProvesLaws.{proves_by, terms_from}
 use Rattle.px_proof.specs.Substitution.{derivation_under, leaf_under}
 use Rattle.px_proof.specs.SubstitutionLaws.{leaf_atoms-under, leaves-under}
-use Rattle.px_question.proofs.RowLaws.{answers-make_rows}
+use Rattle.px_question.proofs.RowLaws.{IsName-from_term, IsObject-from_name, IsTermOf-from_name, answers-make_rows}
 use Rattle.px_question.specs.Rows.{IsAnswerProof, IsRowProof}
 use Rattle.px_table.specs.declared.mark.Mark.{Mark}
 use Rattle.px_table.specs.declared.table.Table.{Table}
@@ -34,27 +34,12 @@ use Rattle.px_table.specs.Prefixes.{IsMacro}
 use Rattle.px_table.specs.Supports.{IsProofOf, ProvesEachOf}
 use Rattle.px_table.specs.Tables.{IsTable}
 use Rattle.px_table.specs.UnderLaws.{IsNamed-under}
-use Rattle.px_diff.proofs.RowSteps.{mark-is_of}
+use Rattle.px_entries.proofs.RowSteps.{mark-is_of}
 use Rattle.px_ends.specs.Made.{IsGraft, IsPart}
 use Rattle.px_support.proofs.Lists.{each-mapped, step-behind, step-found, step-front, step-within}
 use Rattle.px_support.proofs.Marking.{IsSupported, IsSupportedRow}
 use Rattle.px_support.proofs.RowLeaves.{proof-supported}
 use Rattle.px_support.proofs.TreesUnder.{choice-under, proves-under}
-
-term-name : (problem : Problem) (t : Term) → IsTermOf problem 0 t → IsName problem.objects 0 t
-term-name problem (Obj n) h = h
-term-name problem (Var v) h = h
-term-name problem Any h = h
-
-name-term : (problem : Problem) (t : Term) → IsName problem.objects 0 t → IsTermOf problem 0 t
-name-term problem (Obj n) h = h
-name-term problem (Var v) h = h
-name-term problem Any h = h
-
-name-object : (objects : ℕ) (t : Term) → IsName objects 0 t → IsObject t
-name-object objects (Obj n) h = tt
-name-object objects (Var v) h = absurd (omega (arith, h))
-name-object objects Any h = absurd h
 
 positive : (n : ℕ) → (n == 0) ≡ false → 0 < n
 positive zero e = absurd (cc)
@@ -185,9 +170,9 @@ module _ (problem : Problem) (valid : IsValid problem) (initial : List Atom) (ta
           (λ leaf has. (
             subst (λ (atoms : List Atom). Contains atoms (atom_with leaf.atom)) (sym (leaf_atoms-under objects_for d))
                 (Contains-mapped atom_with (leaf_atoms (leaves_of d)) leaf.atom (Contains-mapped (λ (l : Leaf). l.atom) (leaves_of d) leaf has)),
-            λ k e below. term-name problem _ ((leaf-of leaf (marked leaf has)).1 k e below),
+            λ k e below. IsName-from_term problem _ ((leaf-of leaf (marked leaf has)).1 k e below),
           )) proof.proves;
-      terms = λ k e below. term-name problem _ (of.1 k e below);
+      terms = λ k e below. IsName-from_term problem _ (of.1 k e below);
     }
 
     -- ---- and put onto the parts
@@ -212,14 +197,14 @@ module _ (problem : Problem) (valid : IsValid problem) (initial : List Atom) (ta
       new-proves : IsProofOf IsObject problem.axioms (atom_with atom) new
       new-proves = record {
         proves = proves_by problem.axioms (from_atoms (IsName problem.objects 0) (leaf_atoms (leaves_of new))) (from_atoms IsObject (leaf_atoms (leaves_of new)))
-            (record { choices = name-object problem.objects; gaps = λ a h. h; opens = λ h. h }) [] (positive_of (atom_with atom)) new
-            (λ leaf has h. (h.0, λ k e below. name-object problem.objects _ (h.1 k e below))) tree.proves;
-        terms = λ k e below. name-object problem.objects _ (tree.terms k e below);
+            (record { choices = IsObject-from_name problem.objects; gaps = λ a h. h; opens = λ h. h }) [] (positive_of (atom_with atom)) new
+            (λ leaf has h. (h.0, λ k e below. IsObject-from_name problem.objects _ (h.1 k e below))) tree.proves;
+        terms = λ k e below. IsObject-from_name problem.objects _ (tree.terms k e below);
       }
 
       new-of_problem : IsOfProblem problem new
       new-of_problem = (
-        (λ k e below. name-term problem _ (terms_from (IsName problem.objects 0) problem.axioms (leaf_atoms (leaves_of new)) [] (positive_of (atom_with atom)) new tree.proves k e below)),
+        (λ k e below. IsTermOf-from_name problem _ (terms_from (IsName problem.objects 0) problem.axioms (leaf_atoms (leaves_of new)) [] (positive_of (atom_with atom)) new tree.proves k e below)),
         All-map (HasArity problem) (λ (l : Leaf). l.atom) (leaves_of new) (λ k e below. (leaves-good k e below).of.0),
       )
 

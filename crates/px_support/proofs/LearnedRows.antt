@@ -28,7 +28,7 @@ use Rattle.px_table.specs.Prefixes.{IsMacro}
 use Rattle.px_table.specs.RowLaws.{leaf_marked}
 use Rattle.px_table.specs.Supports.{ProvesEachOf, RowsProve}
 use Rattle.px_table.specs.Tables.{IsTable, rows_of}
-use Rattle.px_diff.specs.Entries.{initial_atoms}
+use Rattle.px_entries.specs.Entries.{initial_atoms}
 use Rattle.px_support.specs.Grafted.{IsGraftable}
 use Rattle.px_support.proofs.Lists.{each-mapped}
 

@@ -25,10 +25,11 @@ use Rattle.px_table.specs.declared.table.Table.{Table}
 use Rattle.px_table.specs.Kernels.{steps_under}
 use Rattle.px_table.specs.Prefixes.{IsMacro}
 use Rattle.px_table.specs.Tables.{IsTable, rows_of}
-use Rattle.px_diff.proofs.RowSteps.{steps-count, steps-ground}
-use Rattle.px_diff.proofs.RowTurns.{in_turn, row_obligations}
-use Rattle.px_diff.specs.Entries.{IsEntry, Obligation, effect_of, initial_atoms, obligations_of, row_needs, table_at}
-use Rattle.px_diff.specs.Learned.{AreLearned}
+use Rattle.px_entries.proofs.RowSteps.{steps-count, steps-ground}
+use Rattle.px_entries.proofs.RowTurns.{in_turn, row_obligations}
+use Rattle.px_entries.specs.Entries.{IsEntry, effect_of, initial_atoms, obligations_of, row_needs, table_at}
+use Rattle.px_gaps.specs.Needs.{Obligation}
+use Rattle.px_entries.specs.Learned.{AreLearned}
 use Rattle.px_ends.specs.Made.{IsGraft, MacroRows}
 use Rattle.px_support.specs.declared.macros.Learned.{Learned}
 use Rattle.px_support.specs.declared.macros.Within.{Within}
@@ -66,7 +67,7 @@ module _ (problem : Problem) (learned : Learned) where
   abbrev pub needs_from : ℕ → List Atom → List OpInst → Type 0
   needs_from place facts steps = All (IsFindable problem) (row_obligations problem learned.table.now learned.sigma.now facts (suc place) steps)
 
-  -- so many steps are taken
+  -- as many steps as the number are taken
   pub record IsWithin (old : Walk) (place : ℕ) (within : Within) : Type 0 where
     pub stack : within.walk.stack.items ≡ old.stack.items
     pub steps : within.walk.steps.items ++ drop place (steps_in learned) ≡ old.steps.items ++ steps_in learned

@@ -16,9 +16,9 @@ use Rattle.px_table.specs.Kernels.{instance_under, steps_under}
 use Rattle.px_table.specs.Prefixes.{IsMacro}
 use Rattle.px_table.specs.Tables.{IsStepOf, IsTable}
 use Rattle.px_ops.specs.KeepLaws.{has_at}
-use Rattle.px_diff.proofs.RowSteps.{object-of}
-use Rattle.px_diff.specs.Entries.{IsEntry, table_at}
-use Rattle.px_diff.specs.Learned.{AreLearned}
+use Rattle.px_entries.proofs.RowSteps.{object-of}
+use Rattle.px_entries.specs.Entries.{IsEntry, table_at}
+use Rattle.px_entries.specs.Learned.{AreLearned}
 
 -- the table of the number, of which the entry takes first steps
 module _ (problem : Problem) (tables : List Table) (learned : AreLearned problem tables) (number prefix : ℕ) (sigma : List ℕ) (entry : IsEntry problem tables (Macro number prefix sigma)) where

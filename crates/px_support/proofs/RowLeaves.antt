@@ -21,7 +21,7 @@ use Rattle.px_question.specs.Rows.{IsAnswerProof}
 use Rattle.px_question.specs.Settings.{proofs_in, setting_of}
 use Rattle.px_table.specs.Carrying.{contains_at}
 use Rattle.px_table.specs.Marks.{row_leaves, step_at}
-use Rattle.px_diff.specs.AnswerRows.{HasOtherLeaves}
+use Rattle.px_entries.specs.AnswerRows.{HasOtherLeaves}
 use Rattle.px_ends.specs.Made.{IsFirstRow, IsSource, IsSourced}
 use Rattle.px_support.proofs.Lists.{step-within}
 use Rattle.px_support.proofs.Marking.{IsSupported, IsSupportedRow}

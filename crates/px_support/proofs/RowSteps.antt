@@ -17,7 +17,7 @@ use Rattle.px_table.specs.declared.entry.Entry.{Entry}
 use Rattle.px_table.specs.declared.entry.Entry.TheVariants.{Op}
 use Rattle.px_table.specs.declared.table.Table.{Table}
 use Rattle.px_table.specs.Tables.{rows_of}
-use Rattle.px_diff.specs.Entries.{obligations_of}
+use Rattle.px_entries.specs.Entries.{obligations_of}
 use Rattle.px_ends.specs.Made.{IsFirstRow, IsSourced}
 use Rattle.px_support.specs.Asking.{IsFindable}
 

@@ -1,7 +1,7 @@
 -- What the code finds about sources, step by step and leaf by leaf.
 use Rattle.std.specs.Prelude.{◌≡◌, ◌≢◌, ◌⊎◌, ◌==◌, true, false, ◌≤◌, ◌<◌, ◌+◌, ℕ, not, cond, Some, List, [], ◌∷◌, ◌++◌, length, map, slice_get, slice_index_or, take, All, Contains, Result, Ok, Err, IfOk}
 use Rattle.std.specs.List.{AllZip}
-use Rattle.std.proofs.Common.{zero, suc, refl, sym, ap, ◌∙◌, subst, inl, inr, arith}
+use Rattle.std.proofs.Common.{refl, sym, ap, ◌∙◌, subst, inl, inr, arith}
 use Rattle.std.proofs.lemmas.List.{length-map, map-append, take_more}
 use Rattle.std.proofs.lemmas.List.Elements.{All-cons, All-head, All-nil, All-push, All-tail, AllZip-push}
 use Rattle.std.proofs.lemmas.Option.{slice_get_read}
@@ -71,59 +71,9 @@ module _ (problem : Problem) (steps : List OpInst) (atom : Atom) where
   abbrev pub NotAddedByLast : ℕ → Type 0
   NotAddedByLast passed = (k : ℕ) (inst : OpInst) → length steps < k + passed → step_at steps k ≡ Some inst → ¬ Contains (adds problem inst) atom
 
-  above : (count k : ℕ) → count < k → (inst : OpInst) → step_at steps k ≡ Some inst → length steps ≡ count → ⊥
-  above count k less inst at is = let w = within steps k at in omega (arith, less, w, is)
-    where
-      get-within : (xs : List OpInst) (k : ℕ) → slice_get xs k ≡ Some inst → k < length xs
-      get-within [] k at = absurd (cc)
-      get-within (y ∷ xs) zero at = omega arith
-      get-within (y ∷ xs) (suc k) at = let r = get-within xs k at in omega (arith, r)
-
-      within : (xs : List OpInst) (k : ℕ) → step_at xs k ≡ Some inst → k ≤ length xs
-      within xs zero at = absurd (cc)
-      within xs (suc k) at = let r = get-within xs k at in omega (arith, r)
-
-  pub none_passed : NotAddedByLast 0
-  none_passed k inst less at = absurd (above (length steps) k (omega (arith, less)) inst at refl)
-
-  -- the step of a number
-  pub step-here : (column : ℕ) (place : ℕ) (inst : OpInst) → column ≡ suc place → place < length steps → inst ≡ slice_index_or steps place inst → step_at steps column ≡ Some inst
-  step-here column place inst number below is = ap (step_at steps) number ∙ slice_get_read steps (length steps) place inst refl below is
-
-  -- the leaf of the last step that adds the atom
-  pub source-added : (passed column index : ℕ) (inst : OpInst) → column + passed ≡ length steps → 0 < column → step_at steps column ≡ Some inst → IsFirstPlace (adds problem inst) atom index → NotAddedByLast passed
-      → IsSource problem steps (record { column = column; index = index; atom = atom })
-  source-added passed column index inst number some at place none = record {
-    initial = λ e. absurd (omega (arith, some, e));
-    adder = λ _. (inst, at, place.here, place.first);
-    last = λ k other after at. none k other (omega (arith, after, number)) at;
-  }
-
-  pub source-initial : (passed : ℕ) → length steps ≤ passed → NotAddedByLast passed → IsSource problem steps (record { column = 0; index = 0; atom = atom })
-  source-initial passed all none = record {
-    initial = λ e. refl;
-    adder = λ some. absurd (omega (arith, some));
-    last = λ k other after at. none k other (omega (arith, after, all)) at;
-  }
-
-  -- one step more doesn't add it
-  pub one_more_passed : (passed column : ℕ) (inst : OpInst) → column + passed ≡ length steps → step_at steps column ≡ Some inst → ¬ Contains (adds problem inst) atom → NotAddedByLast passed → NotAddedByLast (passed + 1)
-  one_more_passed passed column inst number at never none k other less at_k = elim (here_or_after column k (omega (arith, less, number))) [
-    | inl same ↦
-        let is : inst ≡ other = some_same inst other (sym at ∙ ap (step_at steps) same ∙ at_k) in
-        subst (λ (x : OpInst). ¬ Contains (adds problem x) atom) is never
-    | inr after ↦ none k other (omega (arith, after, number)) at_k
-  ]
-    where
-      here_or_after : (a b : ℕ) → a < b + 1 → (a ≡ b) ⊎ (a < b)
-      here_or_after a b h = grind arith
-
 -- ---- the leaves of a proof
 
 module _ (problem : Problem) (made : List OpInst) where
-  pub no_sources : AreSources problem made [] []
-  no_sources = ([], refl, All-nil (IsSource problem made), refl)
-
   map-push : {A B : Type 0} (f : A → B) (xs : List A) (x : A) → map f (xs ++ x ∷ []) ≡ map f xs ++ f x ∷ []
   map-push f [] x = refl
   map-push f (y ∷ xs) x = ap (λ l. f y ∷ l) (map-push f xs x)

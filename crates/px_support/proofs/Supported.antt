@@ -2,6 +2,7 @@
 use Rattle.std.specs.Prelude.{◌≡◌, List, [], All, Result, Ok, Err, IfOk}
 use Rattle.std.proofs.Common.{sym, subst}
 use Rattle.std.proofs.lemmas.List.Elements.{Contains-push}
+use Rattle.px_base.proofs.Loops.{ok_map}
 use Rattle.px_base.specs.declared.no_memory.NoMemory.{NoMemory}
 use Rattle.px_terms.specs.declared.instance.OpInst.{OpInst}
 use Rattle.px_terms.specs.Plans.{Carries}
@@ -9,16 +10,12 @@ use Rattle.px_terms.specs.Validity.{IsAtomOf, IsInstanceOf, IsValid}
 use Rattle.px_table.specs.declared.entry.Move.{Move}
 use Rattle.px_table.specs.Supports.{Supports}
 use Rattle.px_table.specs.Tables.{AreOfProblem, rows_of}
-use Rattle.px_diff.specs.Learned.{AreLearned}
+use Rattle.px_entries.specs.Learned.{AreLearned}
 use Rattle.px_ends.specs.Ends.{AreMoves, IsFound}
 use Rattle.px_ends.specs.Made.{MovesRows}
 use Rattle.px_ends.specs.Tasks.{Task, initial_node, steps_of}
 use Rattle.px_support.specs.declared.support.Support.{Support}
 use Rattle.px_support.specs.MadeSupports.{AreSupport, MovesSupport}
-
-pub if_ok : {A E : Type 0} (P Q : A → Type 0) → ((a : A) → P a → Q a) → (result : Result A E) → IfOk result P → IfOk result Q
-if_ok P Q each (Ok a) is = each a is
-if_ok P Q each (Err e) is = tt
 
 pub found-moves : (task : Task) (moves : List Move) → IsFound task moves → AreMoves task moves
 found-moves task moves found = (found.stop.beginning.least moves (Contains-push found.earlier moves)).made
@@ -48,13 +45,13 @@ module _ (law : MovesSupport) (task : Task) (moves : List Move) (result : Result
     by (Err e) steps rows = tt
 
   pub if_supports : IfOk result (λ support. Supports task.problem task.initial support.steps task.goal task.vars (rows_of support.rows.items))
-  if_supports = if_ok (IsSupport task) (λ support. Supports task.problem task.initial support.steps task.goal task.vars (rows_of support.rows.items)) (λ support is. is.supports) result if_support
+  if_supports = ok_map (IsSupport task) (λ support. Supports task.problem task.initial support.steps task.goal task.vars (rows_of support.rows.items)) (λ support is. is.supports) result if_support
 
   pub if_of_problem : IfOk result (λ support. AreOfProblem task.problem (rows_of support.rows.items))
-  if_of_problem = if_ok (IsSupport task) (λ support. AreOfProblem task.problem (rows_of support.rows.items)) (λ support is. is.of_problem) result if_support
+  if_of_problem = ok_map (IsSupport task) (λ support. AreOfProblem task.problem (rows_of support.rows.items)) (λ support is. is.of_problem) result if_support
 
   pub if_instances : IfOk result (λ support. All (IsInstanceOf task.problem) support.steps)
-  if_instances = if_ok (IsSupport task) (λ support. All (IsInstanceOf task.problem) support.steps) (λ support is. is.instances) result if_support
+  if_instances = ok_map (IsSupport task) (λ support. All (IsInstanceOf task.problem) support.steps) (λ support is. is.instances) result if_support
 
   pub if_carries : IfOk result (λ support. Carries task.problem task.initial support.steps task.vars task.goal)
-  if_carries = if_ok (IsSupport task) (λ support. Carries task.problem task.initial support.steps task.vars task.goal) (λ support is. is.carries) result if_support
+  if_carries = ok_map (IsSupport task) (λ support. Carries task.problem task.initial support.steps task.vars task.goal) (λ support is. is.carries) result if_support

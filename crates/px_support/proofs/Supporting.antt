@@ -30,9 +30,9 @@ use Rattle.px_table.specs.SupportLaws.{support_carries}
 use Rattle.px_table.specs.Supports.{ProvesEachOf, ProvesGoal, RowsProve, Supports}
 use Rattle.px_table.specs.Tables.{AreOfProblem, IsTable, rows_of}
 use Rattle.px_table.specs.UnderLaws.{precondition-under}
-use Rattle.px_diff.specs.AnswerRows.{AnswersSupport}
-use Rattle.px_diff.specs.Entries.{IsEntry, effect_of, table_at}
-use Rattle.px_diff.specs.Learned.{AreLearned}
+use Rattle.px_entries.specs.AnswerRows.{AnswersSupport}
+use Rattle.px_entries.specs.Entries.{IsEntry, effect_of, table_at}
+use Rattle.px_entries.specs.Learned.{AreLearned}
 use Rattle.px_ends.specs.Made.{IsFirstRow, MacroRows, MovesRows}
 use Rattle.px_ends.specs.Moves.{CanMake}
 use Rattle.px_ends.specs.Tasks.{Task, after, IsAllowed, steps_of}

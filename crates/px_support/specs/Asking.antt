@@ -1,4 +1,4 @@
--- What is asked, as the code has it, and what has to be found by the prover on the way.
+-- What a search is asked, as the code has it, and what has to be found by the prover on the way.
 use Rattle.std.specs.Prelude.{◌≢◌, ◌<◌, ◌≤◌, List, [], ◌∷◌, All}
 use Rattle.px_terms.specs.declared.problem.Problem.{Problem}
 use Rattle.px_terms.specs.Validity.{IsValid, IsAtomOf}
@@ -8,8 +8,9 @@ use Rattle.px_question.specs.Settings.{setting_of}
 use Rattle.px_table.specs.declared.entry.Move.{Move}
 use Rattle.px_table.specs.declared.entry.Move.TheVariants.{Apply, Push}
 use Rattle.px_table.specs.declared.node.Node.{Node}
-use Rattle.px_diff.specs.Entries.{Obligation, HasAnswer, IsEntry}
-use Rattle.px_diff.specs.Learned.{AreLearned}
+use Rattle.px_entries.specs.Entries.{IsEntry}
+use Rattle.px_gaps.specs.Needs.{Obligation, HasAnswer}
+use Rattle.px_entries.specs.Learned.{AreLearned}
 use Rattle.px_ends.specs.Tasks.{Task, after, goal_from, needs_at, task_of}
 use Rattle.px_support.specs.declared.asked.Asked.{Asked}
 

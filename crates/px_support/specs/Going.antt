@@ -1,5 +1,5 @@
 -- How far the code has gone through the moves, and what a move adds to that.
-use Rattle.std.specs.Prelude.{◌≡◌, ◌≤◌, ◌*◌, List, [], ◌∷◌, ◌++◌, All, length, reverse}
+use Rattle.std.specs.Prelude.{◌≡◌, ◌≤◌, ◌+◌, ◌*◌, List, [], ◌∷◌, ◌++◌, All, length, reverse}
 use Rattle.px_terms.specs.declared.instance.OpInst.{OpInst}
 use Rattle.px_terms.specs.declared.problem.Problem.{Problem}
 use Rattle.px_terms.specs.Operators.{results_of}
@@ -11,11 +11,16 @@ use Rattle.px_table.specs.declared.entry.Move.TheVariants.{Apply, Push}
 use Rattle.px_table.specs.declared.node.Node.{Node}
 use Rattle.px_table.specs.declared.table.Table.{Table}
 use Rattle.px_table.specs.Tables.{rows_of}
-use Rattle.px_diff.specs.Entries.{effect_of}
+use Rattle.px_entries.specs.Entries.{effect_of}
 use Rattle.px_ends.specs.Made.{EntryRows, IsFirstRow, MovesRows, TopRows, top_steps}
 use Rattle.px_ends.specs.Tasks.{Task, after, goal_from, initial_node, steps_of}
 use Rattle.px_support.specs.declared.walk.Walk.{Walk}
 use Rattle.px_support.specs.Asking.{IsFindable}
+
+-- the steps that are taken have objects for arguments, and there are numbers for the columns of those that one entry more makes
+pub record HasRoom (problem : Problem) (walk : Walk) : Type 0 where
+  pub all_ground : All (IsGroundInstanceOf problem) walk.steps.items
+  pub short : length walk.steps.items + 64 ≤ 4294967295
 
 -- the node that is reached; the code has the top entry last
 abbrev pub node_in : Walk → Node

@@ -6,7 +6,7 @@ use Rattle.px_proof.specs.Derivation.{Derivation}
 use Rattle.px_table.specs.declared.entry.Move.{Move}
 use Rattle.px_table.specs.Supports.{Supports}
 use Rattle.px_table.specs.Tables.{AreOfProblem}
-use Rattle.px_diff.specs.Learned.{AreLearned}
+use Rattle.px_entries.specs.Learned.{AreLearned}
 use Rattle.px_ends.specs.Ends.{AreMoves}
 use Rattle.px_ends.specs.Made.{MovesRows}
 use Rattle.px_ends.specs.Tasks.{Task, initial_node, steps_of}

@@ -1,4 +1,4 @@
-//! What the moves are for.
+//! What a search is asked.
 
 use px_ops::Model;
 use px_table::Table;

@@ -1,17 +1,17 @@
 //! Applying a MACROP: the first steps of a learned table, with the table's rows put onto the first proofs of their initial facts.
-ghost use Rattle.std.specs.Prelude.{◌≡◌, ◌+◌, ◌<◌, ◌≤◌, length, map, slice_get, All, IfOk, Some};
+ghost use Rattle.std.specs.Prelude.{◌≡◌, ◌+◌, ◌<◌, ◌≤◌, length, slice_get, All, IfOk, Some};
 ghost use Rattle.px_terms.specs.Validity.{IsGroundInstanceOf};
-ghost use Rattle.px_diff.specs.Entries.{IsEntry, initial_atoms, obligations_of};
+ghost use Rattle.px_entries.specs.Entries.{IsEntry, initial_atoms, obligations_of};
 ghost use Rattle.px_table.specs.declared.entry.Entry.{Entry};
 ghost use Rattle.px_support.specs.Asking.{IsAskable, IsFindable};
-ghost use Rattle.px_support.specs.Going.{IsEntryApplied};
+ghost use Rattle.px_support.specs.Going.{HasRoom, IsEntryApplied};
 ghost use Rattle.px_support.specs.MacroSteps.{IsLearnedOf, IsMacroApplied, IsStepTaken, NeedsOfMacro};
 
 use crate::asked::Asked;
 use crate::grafts::{Graft, learned_row, object_terms};
 use crate::walk::Walk;
 use px_base::{NoMemory, push};
-use px_diff::{initial_of, left_of, step_under};
+use px_entries::{initial_of, left_of, step_under};
 use px_ops::{Model, apply_op};
 use px_proof::Proof;
 use px_table::Table;
@@ -51,7 +51,7 @@ fn proofs_at(table: &Table, place: u32) -> &[Proof]
 fn take_step(
     asked: &Asked,
     learned: &Learned,
-    within: Within,
+    mut within: Within,
     place: u32,
 ) -> Result<Within, NoMemory>
     requires asked { IsAskable asked.now }
@@ -62,35 +62,24 @@ fn take_step(
     requires short { length within.walk.steps.items ≤ 4294967295 }
     ensures { IfOk result (IsStepTaken asked.now.problem.now learned.now place within) }
 {
-    let Within { walk, facts } = within;
-    let Walk {
-        stack,
-        model,
-        mut steps,
-        mut rows,
-    } = walk;
     let step = step_under(learned.table, learned.sigma, place);
     let formula = initial_of(asked.alloc, learned.table, learned.sigma, place + 1)?;
     let graft = Graft {
         alloc: asked.alloc,
         problem: asked.problem,
-        steps: &steps,
+        steps: &within.walk.steps,
         formula: &formula,
         terms: learned.terms,
         shift: learned.shift,
     };
-    let row = learned_row(&graft, &facts, proofs_at(learned.table, place))?;
-    let facts = left_of(asked.alloc, asked.problem, &facts, &step)?;
-    let model = apply_op(asked.alloc, asked.problem, &model, &step)?;
-    push(&mut steps, step)?;
-    push(&mut rows, row)?;
-    let walk = Walk {
-        stack,
-        model,
-        steps,
-        rows,
-    };
-    Ok(Within { walk, facts })
+    let row = learned_row(&graft, &within.facts, proofs_at(learned.table, place))?;
+    let facts = left_of(asked.alloc, asked.problem, &within.facts, &step)?;
+    let model = apply_op(asked.alloc, asked.problem, &within.walk.model, &step)?;
+    within.facts = facts;
+    within.walk.model = model;
+    push(&mut within.walk.steps, step)?;
+    push(&mut within.walk.rows, row)?;
+    Ok(within)
 }
 
 /// Takes the steps in order.
@@ -121,8 +110,7 @@ pub fn apply_macro(
     requires asked { IsAskable asked.now }
     requires entry { IsEntry asked.now.problem.now asked.now.tables.now (Entry.Macro number prefix sigma.now) }
     requires findable { All (IsFindable asked.now.problem.now) (obligations_of asked.now.problem.now asked.now.tables.now walk.model.atoms (Entry.Macro number prefix sigma.now)) }
-    requires steps { All (IsGroundInstanceOf asked.now.problem.now) walk.steps.items }
-    requires short { length walk.steps.items + 64 ≤ 4294967295 }
+    requires room { HasRoom asked.now.problem.now walk }
     ensures { IfOk result (IsEntryApplied asked.now.problem.now asked.now.tables.now (Entry.Macro number prefix sigma.now) walk) }
 {
     let table = &asked.tables[number as usize];

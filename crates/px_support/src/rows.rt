@@ -1,5 +1,5 @@
 //! Rows of first proofs whose facts name where they come from.
-ghost use Rattle.std.specs.Prelude.{◌≡◌, ◌≤◌, ◌<◌, length, map, All, IfOk};
+ghost use Rattle.std.specs.Prelude.{◌≤◌, ◌<◌, length, map, All, IfOk};
 ghost use Rattle.std.specs.List.{AllZip};
 ghost use Rattle.px_terms.specs.Validity.{IsAtomOf, IsGroundInstanceOf, IsValid};
 ghost use Rattle.px_proof.specs.ProofTerm.{derivation_of};

@@ -2,7 +2,6 @@
 ghost use Rattle.std.specs.Prelude.{◌≡◌, ◌≤◌, None, length, map, All, Contains, IfOk, IfSome};
 ghost use Rattle.px_terms.specs.Operators.{adds as adds_of};
 ghost use Rattle.px_terms.specs.Validity.{IsGroundInstanceOf, IsValid};
-ghost use Rattle.px_proof.specs.Derivation.{leaves_of};
 ghost use Rattle.px_proof.specs.ProofTerm.{derivation_of};
 ghost use Rattle.px_ends.specs.Made.{IsSource, IsSourced};
 ghost use Rattle.px_support.specs.Sources.{AreSources, HasFirstLeaves, IsFirstPlace};

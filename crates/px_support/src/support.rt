@@ -1,13 +1,12 @@
 //! The support of the moves that a search found.
-ghost use Rattle.std.specs.Prelude.{◌≡◌, ◌≤◌, ◌<◌, ◌*◌, [], length, All, IfOk};
+ghost use Rattle.std.specs.Prelude.{◌≡◌, ◌<◌, ◌*◌, [], length, All, IfOk};
 ghost use Rattle.px_terms.specs.Plans.{Carries};
-ghost use Rattle.px_terms.specs.Validity.{IsAtomOf, IsInstanceOf, IsValid};
+ghost use Rattle.px_terms.specs.Validity.{IsInstanceOf};
 ghost use Rattle.px_table.specs.Supports.{Supports};
 ghost use Rattle.px_table.specs.Tables.{AreOfProblem, rows_of};
-ghost use Rattle.px_diff.specs.Learned.{AreLearned};
 ghost use Rattle.px_ends.specs.Ends.{IsFound};
 ghost use Rattle.px_ends.specs.Made.{MovesRows};
-ghost use Rattle.px_ends.specs.Tasks.{initial_node, steps_of, task_of};
+ghost use Rattle.px_ends.specs.Tasks.{initial_node, steps_of};
 ghost use Rattle.px_support.specs.Asking.{IsAskable, task_for};
 ghost use Rattle.px_support.specs.Going.{AreTaken};
 
@@ -16,10 +15,8 @@ use crate::laws::moves_have_supports;
 use crate::rows::first_row;
 use crate::walk::{Walk, take_all};
 use px_base::{NoMemory, Sequence, push};
-use px_ops::Model;
-use px_table::{Move, Row, Table};
-use px_terms::{Atom, OpInst, Problem};
-use std::alloc::Global;
+use px_table::{Move, Row};
+use px_terms::OpInst;
 
 /// The steps of a plan with the proofs that carry them.
 #[derive(Drop)]
@@ -67,38 +64,18 @@ fn with_goal(asked: &Asked, walk: Walk, moves: &[Move]) -> Result<Support, NoMem
 ///
 /// # Errors
 /// `NoMemory` where there is none.
-pub fn support_of(
-    alloc: Global,
-    problem: &Problem,
-    initial: &Model,
-    goal: &[Atom],
-    vars: u32,
-    tables: &[Table],
-    moves: &[Move],
-) -> Result<Support, NoMemory>
-    requires problem { IsValid problem.now }
-    requires goal { All (IsAtomOf problem.now vars) goal.now }
-    requires few_variables { vars ≤ 12 }
-    requires some_object { 0 < vars → 0 < problem.now.objects }
-    requires tables { AreLearned problem.now tables.now }
-    requires found { IsFound (task_of problem.now tables.now initial.now.atoms goal.now vars) moves.now }
-    ensures steps { IfOk result (λ support. support.steps ≡ steps_of tables.now [] moves.now) }
-    ensures rows { IfOk result (λ support. MovesRows (task_of problem.now tables.now initial.now.atoms goal.now vars) (initial_node (task_of problem.now tables.now initial.now.atoms goal.now vars)) [] moves.now (rows_of support.rows.items)) }
-    ensures supports { IfOk result (λ support. Supports problem.now initial.now.atoms support.steps goal.now vars (rows_of support.rows.items)) }
-    ensures of_problem { IfOk result (λ support. AreOfProblem problem.now (rows_of support.rows.items)) }
-    ensures instances { IfOk result (λ support. All (IsInstanceOf problem.now) support.steps) }
-    ensures carries { IfOk result (λ support. Carries problem.now initial.now.atoms support.steps vars goal.now) }
+pub fn support_of(asked: &Asked, moves: &[Move]) -> Result<Support, NoMemory>
+    requires asked { IsAskable asked.now }
+    requires found { IsFound (task_for asked.now) moves.now }
+    ensures steps { IfOk result (λ support. support.steps ≡ steps_of asked.now.tables.now [] moves.now) }
+    ensures rows { IfOk result (λ support. MovesRows (task_for asked.now) (initial_node (task_for asked.now)) [] moves.now (rows_of support.rows.items)) }
+    ensures supports { IfOk result (λ support. Supports asked.now.problem.now asked.now.initial.now.atoms support.steps asked.now.goal.now asked.now.vars (rows_of support.rows.items)) }
+    ensures of_problem { IfOk result (λ support. AreOfProblem asked.now.problem.now (rows_of support.rows.items)) }
+    ensures instances { IfOk result (λ support. All (IsInstanceOf asked.now.problem.now) support.steps) }
+    ensures carries { IfOk result (λ support. Carries asked.now.problem.now asked.now.initial.now.atoms support.steps asked.now.vars asked.now.goal.now) }
     ensures short { IfOk result (λ support. length support.steps < 4294967295) }
 {
-    let asked = Asked {
-        alloc,
-        problem,
-        tables,
-        initial,
-        goal,
-        vars,
-    };
     moves_have_supports();
-    let walk = take_all(&asked, moves)?;
-    with_goal(&asked, walk, moves)
+    let walk = take_all(asked, moves)?;
+    with_goal(asked, walk, moves)
 }

@@ -1,12 +1,12 @@
 //! Going through the moves: the stack and the model as they change, the steps that are taken, and their rows.
-ghost use Rattle.std.specs.Prelude.{◌≡◌, ◌≤◌, ◌+◌, ◌*◌, ◌++◌, ◌∷◌, [], length, map, reverse, All, IfOk};
+ghost use Rattle.std.specs.Prelude.{◌≡◌, ◌≤◌, ◌*◌, [], length, All, IfOk};
 ghost use Rattle.px_terms.specs.Operators.{precondition};
-ghost use Rattle.px_terms.specs.Validity.{IsGroundInstanceOf, IsInstanceOf, IsValid};
-ghost use Rattle.px_diff.specs.Entries.{IsEntry, obligations_of};
+ghost use Rattle.px_terms.specs.Validity.{IsInstanceOf};
+ghost use Rattle.px_entries.specs.Entries.{IsEntry, obligations_of};
 ghost use Rattle.px_ends.specs.Tasks.{initial_node};
 ghost use Rattle.px_table.specs.declared.entry.Entry.{Entry};
 ghost use Rattle.px_support.specs.Asking.{AreTakeable, IsAskable, IsFindable, IsTakeable, task_for};
-ghost use Rattle.px_support.specs.Going.{AreTaken, IsEntryApplied, IsTaken, node_in};
+ghost use Rattle.px_support.specs.Going.{AreTaken, HasRoom, IsEntryApplied, IsTaken, node_in};
 
 use crate::asked::Asked;
 use crate::macros::apply_macro;
@@ -31,7 +31,7 @@ pub struct Walk {
 }
 
 impl Walk {
-    /// Nothing is done yet. Takes no memory.
+    /// Nothing is done yet. Does not allocate.
     fn new(alloc: Global, model: Model) -> Walk
         ensures stack { result.stack.items ≡ [] }
         ensures model { result.model.atoms ≡ model.atoms }
@@ -48,31 +48,27 @@ impl Walk {
 }
 
 /// Applies the operator's instance: its precondition is proved, and then it is the next step.
-fn apply_instance(asked: &Asked, walk: Walk, inst: &OpInst) -> Result<Walk, NoMemory>
+fn apply_instance(asked: &Asked, mut walk: Walk, inst: &OpInst) -> Result<Walk, NoMemory>
     requires asked { IsAskable asked.now }
     requires inst { IsInstanceOf asked.now.problem.now inst.now }
     requires findable { IsFindable asked.now.problem.now (record { formula = precondition asked.now.problem.now inst.now; vars = 0; facts = walk.model.atoms }) }
-    requires steps { All (IsGroundInstanceOf asked.now.problem.now) walk.steps.items }
-    requires short { length walk.steps.items + 64 ≤ 4294967295 }
+    requires room { HasRoom asked.now.problem.now walk }
     ensures { IfOk result (IsEntryApplied asked.now.problem.now asked.now.tables.now (Entry.Op inst.now) walk) }
 {
-    let Walk {
-        stack,
-        model,
-        mut steps,
-        mut rows,
-    } = walk;
     let formula = precondition_of(asked.alloc, asked.problem, inst)?;
-    let row = first_row(asked.alloc, asked.problem, &steps, &model, &formula, 0)?;
-    let model = apply_op(asked.alloc, asked.problem, &model, inst)?;
-    push(&mut steps, *inst)?;
-    push(&mut rows, row)?;
-    Ok(Walk {
-        stack,
-        model,
-        steps,
-        rows,
-    })
+    let row = first_row(
+        asked.alloc,
+        asked.problem,
+        &walk.steps,
+        &walk.model,
+        &formula,
+        0,
+    )?;
+    let model = apply_op(asked.alloc, asked.problem, &walk.model, inst)?;
+    walk.model = model;
+    push(&mut walk.steps, *inst)?;
+    push(&mut walk.rows, row)?;
+    Ok(walk)
 }
 
 /// Applies the entry.
@@ -80,8 +76,7 @@ fn apply_entry(asked: &Asked, walk: Walk, entry: &Entry) -> Result<Walk, NoMemor
     requires asked { IsAskable asked.now }
     requires entry { IsEntry asked.now.problem.now asked.now.tables.now entry.now }
     requires findable { All (IsFindable asked.now.problem.now) (obligations_of asked.now.problem.now asked.now.tables.now walk.model.atoms entry.now) }
-    requires steps { All (IsGroundInstanceOf asked.now.problem.now) walk.steps.items }
-    requires short { length walk.steps.items + 64 ≤ 4294967295 }
+    requires room { HasRoom asked.now.problem.now walk }
     ensures { IfOk result (IsEntryApplied asked.now.problem.now asked.now.tables.now entry.now walk) }
 {
     match entry {
@@ -95,52 +90,26 @@ fn apply_entry(asked: &Asked, walk: Walk, entry: &Entry) -> Result<Walk, NoMemor
 }
 
 /// Takes the top entry from the stack and applies it.
-fn apply_top(asked: &Asked, walk: Walk) -> Result<Walk, NoMemory>
+fn apply_top(asked: &Asked, mut walk: Walk) -> Result<Walk, NoMemory>
     requires asked { IsAskable asked.now }
     requires takeable { IsTakeable (task_for asked.now) (node_in walk) Move.Apply }
     requires stack { All (IsEntry asked.now.problem.now asked.now.tables.now) (node_in walk).stack }
-    requires steps { All (IsGroundInstanceOf asked.now.problem.now) walk.steps.items }
-    requires short { length walk.steps.items + 64 ≤ 4294967295 }
+    requires room { HasRoom asked.now.problem.now walk }
     ensures { IfOk result (IsTaken (task_for asked.now) Move.Apply walk) }
 {
-    let Walk {
-        mut stack,
-        model,
-        steps,
-        rows,
-    } = walk;
-    match stack.pop() {
-        Some(entry) => {
-            let below = Walk {
-                stack,
-                model,
-                steps,
-                rows,
-            };
-            apply_entry(asked, below, &entry)
-        }
+    match walk.stack.pop() {
+        Some(entry) => apply_entry(asked, walk, &entry),
         None => unreachable!(),
     }
 }
 
 /// Puts the entry on the stack.
-fn push_entry(asked: &Asked, walk: Walk, entry: &Entry) -> Result<Walk, NoMemory>
+fn push_entry(asked: &Asked, mut walk: Walk, entry: &Entry) -> Result<Walk, NoMemory>
     ensures { IfOk result (IsTaken (task_for asked.now) (Move.Push entry.now) walk) }
 {
-    let Walk {
-        mut stack,
-        model,
-        steps,
-        rows,
-    } = walk;
     let copy = entry.try_copy()?;
-    push(&mut stack, copy)?;
-    Ok(Walk {
-        stack,
-        model,
-        steps,
-        rows,
-    })
+    push(&mut walk.stack, copy)?;
+    Ok(walk)
 }
 
 /// Takes the move.
@@ -148,8 +117,7 @@ fn take(asked: &Asked, walk: Walk, m: &Move) -> Result<Walk, NoMemory>
     requires asked { IsAskable asked.now }
     requires takeable { IsTakeable (task_for asked.now) (node_in walk) m.now }
     requires stack { All (IsEntry asked.now.problem.now asked.now.tables.now) (node_in walk).stack }
-    requires steps { All (IsGroundInstanceOf asked.now.problem.now) walk.steps.items }
-    requires short { length walk.steps.items + 64 ≤ 4294967295 }
+    requires room { HasRoom asked.now.problem.now walk }
     ensures { IfOk result (IsTaken (task_for asked.now) m.now walk) }
 {
     match m {

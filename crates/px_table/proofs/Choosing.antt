@@ -104,7 +104,7 @@ choice_at first zero j v goal atoms below is = absurd (omega (arith, below))
 choice_at first (suc count) zero v goal atoms below is = ap (λ n. chosen_or_any (choice_of n goal atoms)) (let e : first ≡ v = omega arith in e)
 choice_at first (suc count) (suc j) v goal atoms below is = choice_at (suc first) count j v goal atoms (omega (arith, below)) (omega (arith, is))
 
-length-variables : (first count : ℕ) → length (variables_from first count) ≡ count
+pub length-variables : (first count : ℕ) → length (variables_from first count) ≡ count
 length-variables first zero = refl
 length-variables first (suc count) = ap suc (length-variables (suc first) count)
 

@@ -1,8 +1,6 @@
-pub mod AddedSupport
 pub mod Choosing
 pub mod DecidingLaws
 pub mod Fronts
-pub mod GivenSupport
 pub mod KeptSteps
 pub mod KernelSteps
 pub mod Layers

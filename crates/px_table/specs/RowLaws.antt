@@ -24,7 +24,8 @@ pub record HasRow (P : List Derivation → Type 0) (marks : List Mark) (r : ℕ)
   pub fact_of : P row
   pub marked : (leaf : Leaf) → Contains (row_leaves row) leaf → Contains marks (mark_of r leaf)
 
-first_row : (r : ℕ) (row : List Derivation) (rows : List (List Derivation)) (leaf : Leaf) → Contains (row_leaves row) leaf → Contains (marks_from r (row ∷ rows)) (mark_of r leaf)
+-- each leaf of a row makes a mark of it
+pub first_row : (r : ℕ) (row : List Derivation) (rows : List (List Derivation)) (leaf : Leaf) → Contains (row_leaves row) leaf → Contains (marks_from r (row ∷ rows)) (mark_of r leaf)
 first_row r row rows leaf has =
     Contains-append_left (row_marks r row) (marks_from (suc r) rows) (mark_of r leaf)
     (Contains-each_once mark_eq mark_eq-decides (map (mark_of r) (row_leaves row)) (mark_of r leaf) (Contains-mapped (mark_of r) (row_leaves row) leaf has))

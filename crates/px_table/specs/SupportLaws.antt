@@ -9,7 +9,6 @@ use Rattle.px_terms.specs.declared.clause.Lit.{Lit}
 use Rattle.px_terms.specs.declared.instance.OpInst.{OpInst}
 use Rattle.px_terms.specs.declared.problem.Problem.{Problem}
 use Rattle.px_terms.specs.declared.term.Term.{Term}
-use Rattle.px_terms.specs.declared.term.Term.TheVariants.{Obj, Var, Any}
 use Rattle.px_terms.specs.Language.{IsObject}
 use Rattle.px_terms.specs.Operators.{precondition}
 use Rattle.px_terms.specs.Plans.{Carries, GoalHolds}
@@ -25,6 +24,7 @@ use Rattle.px_proof.specs.PlaceLaws.{All-back, All-front, All-got, Contains-mapp
 use Rattle.px_proof.specs.Proves.{Proves, ProvesEach, IsName, from_atoms, parts_of}
 use Rattle.px_proof.specs.Soundness.{follows}
 use Rattle.px_proof.specs.TruthLaws.{literal-under}
+use Rattle.px_proof.specs.ProvesLaws.{name_of_term}
 use Rattle.px_table.specs.declared.mark.Mark.{Mark}
 use Rattle.px_table.specs.Carrying.{IsCarried, KernelHolds, RowHolds, carry_meets, carry_ends}
 use Rattle.px_table.specs.Marks.{IsKept, mark_eq, mark_of, marks_from, row_leaves, row_marks, step_at}
@@ -138,13 +138,8 @@ support_carries problem atoms steps goal goal_vars rows are support = support-ca
 
 -- ---- proofs over objects are proofs over the problem's objects
 
-name_of : (problem : Problem) (t : Term) → IsTermOf problem 0 t → IsName problem.objects 0 t
-name_of problem (Obj n) h = h
-name_of problem (Var v) h = h
-name_of problem Any h = h
-
 names_of : (problem : Problem) (ts : List Term) → All (IsTermOf problem 0) ts → All (IsName problem.objects 0) ts
-names_of problem ts all k d below = name_of problem _ (all k d below)
+names_of problem ts all k d below = name_of_term problem 0 _ (all k d below)
 
 module _ (problem : Problem) (atoms : List Atom) where
   mutual

@@ -1,5 +1,5 @@
 -- What objects for parameters make of atoms, operator instances and marks, and what these then say in a state.
-use Rattle.std.specs.Prelude.{◌≡◌, ◌↔◌, ℕ, ◌<◌, ◌≤◌, Some, List, [], ◌∷◌, ◌++◌, length, map, slice_get, slice_index, All}
+use Rattle.std.specs.Prelude.{◌≡◌, ◌↔◌, ℕ, ◌<◌, Some, List, [], ◌∷◌, ◌++◌, length, map, slice_get, slice_index, All}
 use Rattle.std.proofs.Common.{zero, suc, refl, sym, ap, ◌∙◌, subst, append_assoc, length-append, arith}
 use Rattle.std.proofs.lemmas.List.{length-map, map-append}
 use Rattle.std.proofs.lemmas.List.Elements.{All-map}
@@ -17,7 +17,7 @@ use Rattle.px_terms.specs.ValidityLaws.{atom-is_of}
 use Rattle.px_proof.specs.Literals.{positive_of}
 use Rattle.px_proof.specs.PlaceLaws.{slice_get-map}
 use Rattle.px_proof.specs.SubstitutionLaws.{literal_twice}
-use Rattle.px_proof.specs.TruthLaws.{elements_of, literal-under, object-within}
+use Rattle.px_proof.specs.TruthLaws.{elements_of, literal-under, object-within, element_within}
 use Rattle.px_terms.specs.Language.{IsObject, substitute}
 use Rattle.px_table.specs.declared.mark.Mark.{Mark}
 use Rattle.px_table.specs.declared.table.Table.{Table}
@@ -121,11 +121,6 @@ elements-are_values state is sigma = (
   length-map (map Obj sigma) (element_of state []) ∙ length-map sigma Obj,
   All-map (λ e. e < state.size) (element_of state []) (map Obj sigma) (All-map (λ t. element_of state [] t < state.size) Obj sigma (λ k d below. object-within state is [] (Obj _) tt)),
 )
-
-element_within : (size : ℕ) → 1 ≤ size → (elements : List ℕ) (n : ℕ) → All (λ e. e < size) elements → slice_index elements n < size
-element_within size some [] n within = some
-element_within size some (e ∷ elements) zero within = within 0 0 (omega arith)
-element_within size some (e ∷ elements) (suc n) within = element_within size some elements n (λ k d below. within (suc k) d (omega (arith, below)))
 
 -- each term has an element of the state
 pub term-within : (state : State) → IsState state → (values : List ℕ) → All (λ e. e < state.size) values → (t : Term) → element_of state values t < state.size

@@ -21,7 +21,7 @@ use std::alloc::Global;
 /// leaves what its operator describes, each precondition is met, and a run of all steps ends in the goal (Lifschitz 1987).
 ///
 /// # Errors
-/// `NoMemory` where there is none for the table. The support is then dropped.
+/// `NoMemory` where there is no memory for the table. The support is then dropped.
 pub fn build(
     alloc: Global,
     problem: &Problem,
@@ -58,7 +58,7 @@ pub fn build(
 /// parameters.
 ///
 /// # Errors
-/// `NoMemory` where there is none for the list.
+/// `NoMemory` where there is no memory for the list.
 pub fn marks(alloc: Global, rows: &[Row]) -> Result<Sequence<Mark>, NoMemory>
     requires { length rows.now ≤ 4294967295 }
     ensures { IfOk result (λ marks. marks ≡ marks_from 1 (rows_of rows.now)) }

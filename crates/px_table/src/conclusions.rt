@@ -49,7 +49,7 @@ fn atom_at(axioms: &ClauseArena, clause: u32, theta: &[Term], place: u32) -> Opt
     Some(apply(theta, &lits[place as usize].atom))
 }
 
-/// Does the proof prove an atom over so many objects and parameters?
+/// Does the proof prove an atom over these numbers of objects and parameters?
 fn proves_some(axioms: &ClauseArena, objects: u32, params: u32, proof: &Proof) -> bool
     ensures { IsTrue result ↔ ProvesSome axioms.now objects params proof.now }
 {
@@ -59,7 +59,7 @@ fn proves_some(axioms: &ClauseArena, objects: u32, params: u32, proof: &Proof) -
     }
 }
 
-/// Does each of the proofs prove an atom over them?
+/// Does each of the proofs?
 pub fn each_proves_some(axioms: &ClauseArena, objects: u32, params: u32, row: &[Proof]) -> bool
     ensures { IsTrue result ↔ All (ProvesSome axioms.now objects params) row.now }
 {

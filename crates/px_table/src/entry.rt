@@ -25,7 +25,7 @@ impl Entry {
     /// An equal entry, in memory of the same allocator.
     ///
     /// # Errors
-    /// `NoMemory` where there is none for the copy.
+    /// `NoMemory` where there is no memory for the copy.
     pub fn try_copy(&self) -> Result<Entry, NoMemory>
         ensures { IfOk result (λ copy. copy ≡ self.now) }
     {
@@ -60,7 +60,7 @@ impl Move {
     /// An equal move, in memory of the same allocator.
     ///
     /// # Errors
-    /// `NoMemory` where there is none for the copy.
+    /// `NoMemory` where there is no memory for the copy.
     pub fn try_copy(&self) -> Result<Move, NoMemory>
         ensures { IfOk result (λ copy. copy ≡ self.now) }
     {

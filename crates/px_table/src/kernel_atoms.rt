@@ -17,7 +17,7 @@ use std::alloc::Global;
 /// row. Numbers past the goal's row give no atom.
 ///
 /// # Errors
-/// `NoMemory` where there is none for the list.
+/// `NoMemory` where there is no memory for the list.
 pub fn kernel(alloc: Global, table: &Table, i: u32) -> Result<Vec<Atom>, NoMemory>
     ensures { IfOk result (λ atoms. atoms.items ≡ kernel_of table.now i) }
 {

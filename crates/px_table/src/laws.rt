@@ -38,7 +38,7 @@ pub fn rows_meet_preconditions()
     ensures { RowsMeetPreconditions }
 {}
 
-/// A support carries its steps to its goal whatever objects it is over, also over ones that the problem hasn't: of the
+/// A support carries its steps to its goal whatever objects it is over, also over ones that the problem does not have: of the
 /// problem with that many objects, and some number is enough (Lifschitz 1987).
 pub fn supports_carry()
     ensures { SupportsCarry }

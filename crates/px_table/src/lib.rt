@@ -20,10 +20,10 @@
 //! - [`proper`] tells whether, with objects for the parameters, no step from `i` on deletes what it stands between. Two
 //!   parameters may have one object. Its yes implies that this instance carries. It asks for a table, for an object of
 //!   the problem for each parameter, and for a number from 1 to one more than there are steps.
-//! - [`is_macro`] tells whether so many of a table's first steps, with these objects, may be taken as one operator
+//! - [`is_macro`] tells whether a number of a table's first steps, with these objects, may be taken as one operator
 //!   (`IsMacro` of `specs/Prefixes.antt`). [`proper_prefix`] is the part of it about deletions, and [`is_used`] tells
 //!   which parameters the steps use; a parameter that they don't use has object 0.
-//! - [`atom_with`] and [`instance_with`] put objects into an atom or a step, without memory.
+//! - [`atom_with`] and [`instance_with`] put objects into an atom or a step, and do not allocate.
 //! - "Carries" is `Carries` of `px_terms`: in each run of the steps that begins where the facts hold, each precondition
 //!   is met, and a run of all steps ends in the goal.
 //! - What the definitions say is proved as laws: an atom is in a kernel exactly where a mark between has it
@@ -43,7 +43,7 @@
 //! - [`Node`] is a world model with a stack of entries, the top one first. Contracts see it as these two lists
 //!   (`NodeValue` in `specs/NodeValue.antt`); how much room is left in its model doesn't count. Two nodes are equal, and
 //!   are hashed alike, where these are the same (`specs/Nodes.antt`, with the laws in `specs/NodeLaws.antt`).
-//! - `try_copy` of each answers an equal value, or `NoMemory`. `check_table`, `proper` and `is_macro` take no memory.
+//! - `try_copy` of each answers an equal value, or `NoMemory`. `check_table`, `proper` and `is_macro` do not allocate.
 #![tactic(auto)]
 
 mod building;
@@ -60,12 +60,6 @@ mod prefix;
 mod proper_instance;
 mod ranges;
 mod table;
-#[cfg(test)]
-mod table_tests;
-#[cfg(test)]
-mod test_problems;
-#[cfg(test)]
-mod tests;
 mod under_objects;
 mod validation;
 

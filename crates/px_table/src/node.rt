@@ -28,7 +28,7 @@ impl std::marker::Model for Node {
 }
 
 impl Node {
-    /// The node of a model and a stack. Takes no memory.
+    /// The node of a model and a stack. Does not allocate.
     pub fn new(model: Model, stack: Sequence<Entry>) -> Node
         ensures { result ≡ record { model = model.atoms; stack = stack } }
     {
@@ -52,7 +52,7 @@ impl Node {
     /// An equal node, each part in memory of its own allocator.
     ///
     /// # Errors
-    /// `NoMemory` where there is none for the copy.
+    /// `NoMemory` where there is no memory for the copy.
     pub fn try_copy(&self) -> Result<Node, NoMemory>
         ensures { IfOk result (λ copy. copy ≡ self.now) }
     {

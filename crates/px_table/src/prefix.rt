@@ -15,7 +15,7 @@ use px_terms::{OpInst, Problem, Term};
 /// Are they two or more of the table's first steps with objects for its parameters that a search may take as one operator
 /// (Fikes, Hart and Nilsson 1972)? They are where there is an object of the problem for each parameter that these steps or
 /// the marks of their rows use, and object 0 for each other one, and where no step deletes a mark of their rows that it
-/// stands between (`proper_prefix`). Takes no memory.
+/// stands between (`proper_prefix`). Does not allocate.
 pub fn is_macro(problem: &Problem, table: &Table, prefix: u32, sigma: &[u32]) -> bool
     requires problem { IsValid problem.now }
     requires table { IsTable problem.now table.now }
@@ -28,7 +28,7 @@ pub fn is_macro(problem: &Problem, table: &Table, prefix: u32, sigma: &[u32]) ->
 }
 
 /// Does no step, with the objects of `sigma` for the parameters, delete a mark of the first rows between whose column and row
-/// it stands? Marks of later rows don't count, and objects that the problem hasn't may stand in `sigma`. Takes no memory.
+/// it stands? Marks of later rows don't count, and objects that the problem does not have may stand in `sigma`. Does not allocate.
 pub fn proper_prefix(problem: &Problem, table: &Table, prefix: u32, sigma: &[u32]) -> bool
     requires problem { IsValid problem.now }
     requires table { IsTable problem.now table.now }
@@ -57,7 +57,7 @@ fn is_kept_within(problem: &Problem, table: &Table, prefix: u32, sigma: &[u32], 
     is_kept(problem, table, sigma, 1, mark)
 }
 
-/// Does the parameter occur in the first steps, or in the marks of their rows? Takes no memory.
+/// Does the parameter occur in the first steps, or in the marks of their rows? Does not allocate.
 pub fn is_used(table: &Table, prefix: u32, parameter: u32) -> bool
     ensures { IsTrue result ↔ IsUsed table.now prefix parameter }
 {

@@ -19,7 +19,7 @@ use px_terms::{Atom, OpInst, Problem, Schema};
 ///
 /// A proper instance carries the steps from `i` on: in each run of them that begins in a state in which the instance holds,
 /// in which the axioms hold throughout, and each step of which leaves what its operator describes, each precondition is
-/// met, and a run of all of them ends in the goal (Lifschitz 1987). Takes no memory.
+/// met, and a run of all of them ends in the goal (Lifschitz 1987). Does not allocate.
 pub fn proper(problem: &Problem, table: &Table, sigma: &[u32], i: u32) -> bool
     requires problem { IsValid problem.now }
     requires table { IsTable problem.now table.now }
@@ -76,11 +76,8 @@ pub fn is_kept(problem: &Problem, table: &Table, sigma: &[u32], first: u32, mark
 fn may_delete(schema: &Schema, pred: u32) -> bool
     ensures { IsTrue result ↔ Any (λ pattern. pattern.pred ≡ pred) schema.now.del }
 {
-    schema
-        .del
-        .as_slice()
-        .iter()
-        .any(|pattern| pattern.pred() == pred)
+    let patterns = schema.del.as_slice();
+    patterns.iter().any(|pattern| pattern.pred() == pred)
 }
 
 /// Does the step's instance delete the atom?

@@ -5,7 +5,8 @@ ghost use Rattle.px_table.specs.Tables.{IsInRange, IsStepOf};
 use crate::table::Table;
 use px_terms::{OpInst, Problem, are_atoms_of, is_term_of};
 
-/// Is it an instance of an operator of the problem over its objects and so many parameters?
+/// Is it an instance of an operator of the problem over its objects and the first `params` parameters?
+// Alike: `is_instance_of` of `px_terms`, which is the test of an instance without parameters by a definition of its own.
 pub fn is_step_of(problem: &Problem, params: u32, inst: &OpInst) -> bool
     ensures { IsTrue result ↔ IsStepOf problem.now params inst.now }
 {

@@ -28,7 +28,7 @@ impl Model for Row {
 }
 
 impl Row {
-    /// The row of these proofs. Takes no memory.
+    /// The row of these proofs. Does not allocate.
     pub fn from_proofs(proofs: Vec<Proof>) -> Row
         ensures { result ≡ proofs.items }
     {
@@ -44,7 +44,7 @@ impl Row {
         self.proofs.as_slice()
     }
 
-    /// The proofs, for the caller to keep. Takes no memory.
+    /// The proofs, for the caller to keep. Does not allocate.
     pub fn into_proofs(self) -> Vec<Proof>
         ensures { result.items ≡ self }
     {
@@ -54,7 +54,7 @@ impl Row {
     /// An equal row.
     ///
     /// # Errors
-    /// `NoMemory` where there is none for the copy.
+    /// `NoMemory` where there is no memory for the copy.
     pub fn try_copy(&self) -> Result<Row, NoMemory>
         ensures { IfOk result (λ copy. copy ≡ self.now) }
     {
@@ -89,7 +89,7 @@ impl Table {
     /// An equal table.
     ///
     /// # Errors
-    /// `NoMemory` where there is none for the copy.
+    /// `NoMemory` where there is no memory for the copy.
     pub fn try_copy(&self) -> Result<Table, NoMemory>
         ensures { IfOk result (λ copy. copy ≡ self.now) }
     {

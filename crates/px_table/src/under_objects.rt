@@ -1,4 +1,5 @@
 //! Atoms and operator instances, with objects for parameters.
+// Alike: `apply` and `apply_inst` of `px_terms`, which replace variables by terms: a list of those would have to be allocated here.
 ghost use Rattle.std.specs.Prelude.{◌≡◌, ◌≤◌, ◌++◌, All, map, drop, length};
 ghost use Rattle.px_terms.specs.declared.term.Term.TheVariants.{Obj};
 ghost use Rattle.px_terms.specs.Language.{IsVariableBelow, substitute};

@@ -25,7 +25,7 @@ use px_terms::{OpInst, Problem, is_atom_of};
 ///
 /// Then each proper instance of each kernel carries the steps that are left (Fikes, Hart and Nilsson 1972): in each run of
 /// them that begins in a state in which the instance holds, in which the axioms hold throughout, and each step of which
-/// leaves what its operator describes, each precondition is met, and a run of all of them ends in the goal. Takes no memory.
+/// leaves what its operator describes, each precondition is met, and a run of all of them ends in the goal. Does not allocate.
 pub fn check_table(problem: &Problem, table: &Table) -> bool
     requires { IsValid problem.now }
     ensures exact { IsTrue result ↔ IsTable problem.now table.now }

@@ -37,7 +37,7 @@ HoldsUnder state values atom = Contains (slice_index_or state.tuples atom.pred [
 abbrev pub Holds : State → Atom → Type 0
 Holds state atom = HoldsUnder state [] atom
 
--- `values` has an element of the state for each of so many variables
+-- `values` has an element of the state for each of the variables
 abbrev pub AreValues : State → ℕ → List ℕ → Type 0
 AreValues state vars values = (length values ≡ vars) × All (λ e. e < state.size) values
 
@@ -54,7 +54,7 @@ AxiomsHold problem state = All (λ clause. (values : List ℕ) → AreValues sta
 
 -- the second state is one that the instance may leave: where the precondition holds, all adds hold afterwards,
 -- and so does each ground atom of the problem that held and isn't deleted. Nothing is asked of atoms with
--- numbers that the problem hasn't, since no operator speaks of them.
+-- numbers that the problem does not have, since no operator speaks of them.
 pub record Described (problem : Problem) (inst : OpInst) (before after : State) : Type 0 where
   pub kept : All (Holds before) (precondition problem inst) → (atom : Atom) → IsAtomOf problem 0 atom → Holds before atom → ¬ IsDeleted (schema_of problem inst) inst atom → Holds after atom
   pub added : All (Holds before) (precondition problem inst) → All (Holds after) (adds problem inst)

@@ -41,7 +41,7 @@ impl Model for Atom {
 }
 
 impl Atom {
-    /// The atom of a predicate with these arguments; `None` exactly where there are more than six. Takes no memory.
+    /// Returns the atom of a predicate with these arguments; `None` exactly where there are more than six. Does not allocate.
     pub fn new(pred: u32, args: &[Term]) -> Option<Atom>
         ensures fits { IsSome result ↔ (length args.now ≤ 6) }
         ensures value { IfSome result (λ atom. atom ≡ record { pred = pred; args = args.now }) }
@@ -58,14 +58,14 @@ impl Atom {
         })
     }
 
-    /// The number of the predicate.
+    /// Returns the number of the predicate.
     pub fn pred(&self) -> u32
         ensures { result ≡ self.now.pred }
     {
         self.pred
     }
 
-    /// The arguments, from the left.
+    /// Returns the arguments, from the left.
     pub fn args(&self) -> &[Term]
         ensures value { result.now ≡ self.now.args }
         ensures at_most { length self.now.args ≤ 6 }
@@ -125,6 +125,7 @@ impl Hash for Atom {
     }
 }
 
+// Alike: `OpInst` in instance.rt, a list of at most 8 terms in place of 6. With one type for both an instance would pass for an atom.
 /// Are the two atoms the same?
 pub fn equal(a: &Atom, b: &Atom) -> bool
     ensures { IsTrue result ↔ (a.now ≡ b.now) }
@@ -132,7 +133,7 @@ pub fn equal(a: &Atom, b: &Atom) -> bool
     *a == *b
 }
 
-/// The atom with each variable replaced by the map's term of its number.
+/// Returns the atom with each variable replaced by the map's term of its number.
 pub fn apply(map: &[Term], atom: &Atom) -> Atom
     requires { All (IsVariableBelow (length map.now)) atom.now.args }
     ensures { result ≡ substitute_atom map.now atom.now }
@@ -157,7 +158,7 @@ pub fn instance_of(atom: &Atom, pattern: &Atom) -> bool
     fills(atom, pattern)
 }
 
-/// The same for any two atoms.
+/// Does `atom` come from `pattern` so? The two may be any atoms.
 fn fills(atom: &Atom, pattern: &Atom) -> bool
     ensures { result ≡ is_instance atom.now pattern.now }
 {

@@ -73,7 +73,7 @@ impl ClauseArena {
     ///
     /// # Errors
     /// `BadLength` exactly where there is no literal or more than six; else `Full` exactly where 64 clauses are there;
-    /// else `NoMemory`, where there is none. A refused clause leaves the arena as it was.
+    /// else `NoMemory`, where there is no memory. A refused clause leaves the arena as it was.
     pub fn push(&mut self, vars: u32, lits: &[Lit]) -> Result<u32, ArenaErr>
         requires { ArePlainBelow vars lits.now }
         ensures number { IfOk result (λ number. number ≡ length self.old) }
@@ -107,7 +107,7 @@ impl ClauseArena {
         self.clauses.len() as u32
     }
 
-    /// The clauses, by number.
+    /// Returns the clauses, by number.
     pub(crate) fn clauses(&self) -> &[Clause]
         ensures value { result.now ≡ self.now }
         ensures arena { IsArena self.now }

@@ -40,7 +40,7 @@ impl Model for OpInst {
 }
 
 impl OpInst {
-    /// The operator with these arguments; `None` exactly where there are more than eight. Takes no memory.
+    /// Returns the operator with these arguments; `None` exactly where there are more than eight. Does not allocate.
     pub fn new(op: u32, args: &[Term]) -> Option<OpInst>
         ensures fits { IsSome result ↔ (length args.now ≤ 8) }
         ensures value { IfSome result (λ inst. inst ≡ record { op = op; args = args.now }) }
@@ -57,14 +57,14 @@ impl OpInst {
         })
     }
 
-    /// The number of the operator.
+    /// Returns the number of the operator.
     pub fn op(&self) -> u32
         ensures { result ≡ self.now.op }
     {
         self.op
     }
 
-    /// The arguments, by parameter.
+    /// Returns the arguments, by parameter.
     pub fn args(&self) -> &[Term]
         ensures value { result.now ≡ self.now.args }
         ensures at_most { length self.now.args ≤ 8 }
@@ -122,7 +122,7 @@ impl Hash for OpInst {
     }
 }
 
-/// The instance with each variable replaced by the map's term of its number.
+/// Returns the instance with each variable replaced by the map's term of its number.
 pub fn apply_inst(map: &[Term], inst: &OpInst) -> OpInst
     requires { All (IsVariableBelow (length map.now)) inst.now.args }
     ensures { result ≡ substitute_instance map.now inst.now }

@@ -85,7 +85,7 @@ pub fn is_term_of(problem: &Problem, vars: u64, term: &Term) -> bool
     }
 }
 
-/// The same, or the wild card.
+/// Is the term such a one, or the wild card?
 fn is_pattern_term_of(problem: &Problem, vars: u64, term: &Term) -> bool
     ensures { IsTrue result ↔ IsPatternTermOf problem.now vars term.now }
 {
@@ -123,7 +123,8 @@ pub fn are_atoms_of(problem: &Problem, vars: u64, atoms: &[Atom]) -> bool
     atoms.iter().all(|atom| is_atom_of(problem, vars, atom))
 }
 
-/// The same of a delete pattern, in which the wild card may stand.
+// Alike: `is_atom_of`. One function over a test of terms would hide what each asks for.
+/// Is the atom such a one, where the wild card may stand, too?
 fn is_pattern_of(problem: &Problem, vars: u64, atom: &Atom) -> bool
     ensures { IsTrue result ↔ IsPatternOf problem.now vars atom.now }
 {

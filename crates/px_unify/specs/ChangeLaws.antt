@@ -164,7 +164,7 @@ SomeFits old now Condition narrowed solvable chosen count =
     let both = (narrowed found.0).0 found.2 in
     (found.0, found.1, both.0, both.1, found.3)
 
--- the objects numbered from the first on, so many
+-- that number of objects, numbered from the first on
 abbrev numbered : ℕ → ℕ → List Term
 numbered first zero = []
 numbered first (suc n) = Obj first ∷ numbered (suc first) n

@@ -2,7 +2,7 @@
 use Rattle.std.proofs.Common.{◌≡◌, ◌↔◌, ℕ, zero, suc, ◌+◌, ◌<◌, ◌≤◌, Bool, true, false, Some, List, [], ◌∷◌, ◌++◌, length, map, replicate, take, drop, refl, ap, sym, subst, ◌∙◌, arith, length-append}
 use Rattle.std.specs.Prelude.{All}
 use Rattle.std.specs.List.{AllByRecursion}
-use Rattle.std.proofs.lemmas.List.{append-nil}
+use Rattle.std.proofs.lemmas.List.{append-nil, length-take-le, take-append-drop}
 use Rattle.std.proofs.lemmas.List.Elements.{All-take, All-drop, All-append, All-nil, All-weaker}
 use Rattle.px_terms.specs.declared.atom.Atom.{Atom}
 use Rattle.px_terms.specs.declared.clause.Clause.{Clause}
@@ -79,10 +79,10 @@ module _ (loose : Bool) (s : Setting) (valid : IsSetting s) (formula : List Atom
   list-of ticks (p, now, (objects, enough, below, solves)) =
       let k = length p.goals in
       let front : List ℕ = take p.variables objects in
-      let front_long : length front ≡ p.variables = length-front p.variables objects enough in
+      let front_long : length front ≡ p.variables = length-take-le p.variables objects enough in
       let over = goals-over s vars formula scoped in
       let grown : vars ≤ p.variables = variables_grow loose s ticks vars (goals_of s formula) p now in
-      let whole : objects ≡ front ++ drop p.variables objects = split p.variables objects in
+      let whole : objects ≡ front ++ drop p.variables objects = sym (take-append-drop p.variables objects) in
       let long : p.variables ≤ length (object_terms front) = omega (arith, front_long, length-objects front) in
       let split_solves : Solves loose s (object_terms front ++ object_terms (drop p.variables objects)) vars (goals_of s formula) ticks =
       subst (λ (tau : List Term). Solves loose s tau vars (goals_of s formula) ticks) (ap object_terms whole ∙ objects-append front (drop p.variables objects)) solves in
@@ -92,8 +92,8 @@ module _ (loose : Bool) (s : Setting) (valid : IsSetting s) (formula : List Atom
       open_after-joined loose s ticks (replicate k Open) vars (goals_of s formula) p (record { variables = p.variables; goals = [] }) now (opens-after loose s p.goals p.variables k refl) in
       let solved : Solves loose s (object_terms front) vars (goals_of s formula) (ticks ++ replicate k Open) =
       solves-joined loose s (object_terms front) ticks (replicate k Open) vars (goals_of s formula) p now front_solves (opens-solve loose s (object_terms front) p.goals p.variables k refl) in
-      let again : front ≡ take vars front ++ drop vars front = split vars front in
-      let first_long : length (take vars front) ≡ vars = length-front vars front (omega (arith, grown, front_long)) in
+      let again : front ≡ take vars front ++ drop vars front = sym (take-append-drop vars front) in
+      let first_long : length (take vars front) ≡ vars = length-take-le vars front (omega (arith, grown, front_long)) in
       let sum : length (take vars front) + length (drop vars front) ≡ p.variables = sym (length-append (take vars front) (drop vars front)) ∙ ap length (sym again) ∙ front_long in
       let front_below : All (λ o. o < s.objects) front = All-take (λ o. o < s.objects) p.variables objects below in
       let found = list-solved loose s valid formula vars scoped (ticks ++ replicate k Open) (take vars front) (drop vars front) first_long
@@ -101,16 +101,6 @@ module _ (loose : Bool) (s : Setting) (valid : IsSetting s) (formula : List Atom
       (ends ∙ ap (λ n. Some (record { variables = n; goals = [] })) (sym sum))
       (subst (λ (os : List ℕ). Solves loose s (object_terms os) vars (goals_of s formula) (ticks ++ replicate k Open)) again solved) in
       (take vars front, found.0, found.1, found.2 ∙ ap (λ o. ticks ++ replicate (left_of o) Open) (sym now))
-    where
-      split : {X : Type 0} (k : ℕ) (xs : List X) → xs ≡ take k xs ++ drop k xs
-      split zero xs = refl
-      split (suc k) [] = refl
-      split (suc k) (x ∷ xs) = ap (λ ys. x ∷ ys) (split k xs)
-
-      length-front : (k : ℕ) (xs : List ℕ) → k ≤ length xs → length (take k xs) ≡ k
-      length-front zero xs within = refl
-      length-front (suc k) [] within = absurd (omega (arith, within))
-      length-front (suc k) (x ∷ xs) within = ap suc (length-front k xs (omega (arith, within)))
 
   -- the shapes of unfinished lists are those of possible lists of ticks that are not finished
   pub partial-from : (shape : List Tick) → IsPartialShape (rules_for loose s) s formula vars shape →

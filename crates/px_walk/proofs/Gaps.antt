@@ -2,7 +2,8 @@
 use Rattle.std.proofs.Common.{◌≡◌, ◌∙◌, ℕ, zero, suc, ◌+◌, ◌≤◌, Bool, true, Option, Some, None, List, [], ◌∷◌, ◌++◌, length, map, take, drop, slice_get, refl, ap, sym, subst, arith, append_assoc, length-append}
 use Rattle.std.specs.Prelude.{IsSomeAnd, nat_eq}
 use Rattle.std.specs.List.{AllByRecursion, list_any}
-use Rattle.std.proofs.lemmas.List.{length-map, map-append}
+use Rattle.std.proofs.Math.Seq.{drop-append_seam, take-append_seam}
+use Rattle.std.proofs.lemmas.List.{length-map, map-append, take-append-drop}
 use Rattle.px_terms.specs.declared.atom.Atom.{Atom}
 use Rattle.px_terms.specs.declared.clause.Lit.{Lit}
 use Rattle.px_terms.specs.declared.term.Term.{Term}
@@ -21,7 +22,7 @@ use Rattle.px_walk.specs.GapAtoms.{gap_at, after_closing, gap_atoms}
 use Rattle.px_walk.specs.Pending.{Goal, Closing, Pending, Solves, closing_at, closing_of, fresh_of, vars_of, goals_below, goals_of, open_after}
 use Rattle.px_walk.specs.Possible.{rules_for}
 use Rattle.px_walk.specs.Scope.{IsAtomIn, IsSetting}
-use Rattle.px_walk.proofs.Lifting.{goal_under, closing_under, same_closing, regrouped, longer, enough, later_ends, take_drop, length-take_within}
+use Rattle.px_walk.proofs.Lifting.{goal_under, closing_under, same_closing, regrouped, longer, first_chosen, later_ends}
 use Rattle.px_walk.proofs.Lists.{solves-list, walk_each, goals_ground, each-are, ground_goals}
 use Rattle.px_walk.proofs.Trees.{AreProved, rules_of, joined, ticks_of-joined, choices-joined, terms-objects, ticks-pos, has_room-true, parts-proved, step_room, step_closing}
 
@@ -37,19 +38,13 @@ gaps-joined none qs = refl
 gaps-joined (also p ps) qs = ap (λ atoms. gaps_of p ++ atoms) (gaps-joined ps qs) ∙ sym (append_assoc (gaps_of p) (all_gaps_of ps) (all_gaps_of qs))
 
 pub taken : (theta rest : List ℕ) (k : ℕ) → length theta ≡ k → take k (theta ++ rest) ≡ theta
-taken [] rest zero long = refl
-taken [] rest (suc k) long = absurd (omega (arith, long))
-taken (x ∷ theta) rest zero long = absurd (omega (arith, long))
-taken (x ∷ theta) rest (suc k) long = ap (λ xs. x ∷ xs) (taken theta rest k (omega (arith, long)))
+taken theta rest k long = ap (λ n. take n (theta ++ rest)) (sym long) ∙ take-append_seam theta rest
 
-pub dropped : (theta rest : List ℕ) (k : ℕ) → length theta ≡ k → drop k (theta ++ rest) ≡ rest
-dropped [] rest zero long = refl
-dropped [] rest (suc k) long = absurd (omega (arith, long))
-dropped (x ∷ theta) rest zero long = absurd (omega (arith, long))
-dropped (x ∷ theta) rest (suc k) long = dropped theta rest k (omega (arith, long))
+dropped : (theta rest : List ℕ) (k : ℕ) → length theta ≡ k → drop k (theta ++ rest) ≡ rest
+dropped theta rest k long = ap (λ n. drop n (theta ++ rest)) (sym long) ∙ drop-append_seam theta rest
 
 module _ (loose : Bool) (s : Setting) where
-  pub closed_gap : (theta : List Term) (goal : Goal) (atom : Atom) → goal.lit.positive ≡ true → goal.lit.atom.pred ≡ atom.pred → loose ≡ true → list_any (nat_eq atom.pred) s.added ≡ true →
+  closed_gap : (theta : List Term) (goal : Goal) (atom : Atom) → goal.lit.positive ≡ true → goal.lit.atom.pred ≡ atom.pred → loose ≡ true → list_any (nat_eq atom.pred) s.added ≡ true →
       closing_of loose s theta goal Gap ≡ Some (record { equal_to = goal.lit; parts = [] })
   closed_gap theta goal atom positive pred is_loose added = rw (is_loose, positive, pred, added) refl
 
@@ -95,9 +90,8 @@ module _ (loose : Bool) (s : Setting) where
   gaps_under valid (tick ∷ ticks) old chosen [] ends solves = absurd solves
   gaps_under valid (tick ∷ ticks) old chosen (goal ∷ goals) ends solves =
       let k = fresh_of s tick in
-      let within : k ≤ length chosen = enough loose s old chosen tick goal goals ticks ends solves in
-      let long : length (take k chosen) ≡ k = length-take_within k chosen within in
-      let splits : chosen ≡ take k chosen ++ drop k chosen = take_drop k chosen in
+      let long : length (take k chosen) ≡ k = first_chosen loose s old chosen tick goal goals ticks ends solves in
+      let splits : chosen ≡ take k chosen ++ drop k chosen = sym (take-append-drop k chosen) in
       rw (same_closing loose s valid old (take k chosen) (drop k chosen) chosen tick goal splits long)
       (go (closing_at loose s (length old) goal tick) refl solves
       (λ closing is. rw (regrouped loose s valid old (take k chosen) (drop k chosen) chosen tick goal splits long, longer loose s valid old (take k chosen) (drop k chosen) chosen tick goal splits long)

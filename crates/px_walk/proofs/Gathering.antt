@@ -1,62 +1,72 @@
 -- Gap lists are what finished lists of ticks give, and each such list comes directly after one that goes on.
-use Rattle.std.proofs.Common.{◌≡◌, ◌↔◌, ◌⊎◌, ◌∙◌, ℕ, ◌+◌, ◌<◌, ◌≤◌, true, Some, List, [], ◌∷◌, ◌++◌, length, map, take, drop, refl, ap, sym, subst, arith, inl, inr, length-append}
+use Rattle.std.proofs.Common.{◌≡◌, ◌↔◌, ◌⊎◌, ◌∙◌, ℕ, ◌+◌, ◌<◌, ◌≤◌, Bool, true, Some, List, [], ◌∷◌, ◌++◌, length, map, take, drop, refl, ap, sym, subst, arith, inl, inr, length-append}
 use Rattle.std.specs.Prelude.{All, Contains}
 use Rattle.std.specs.List.{AllByRecursion}
+use Rattle.std.proofs.lemmas.List.{length-take-le, take-append-drop}
 use Rattle.std.proofs.lemmas.List.Elements.{All-take, All-drop, All-append}
 use Rattle.px_terms.specs.declared.atom.Atom.{Atom}
 use Rattle.px_terms.specs.Substitution.{substitute_atom}
 use Rattle.px_proof.specs.declared.shape.Tick.{Tick}
-use Rattle.std.proofs.lemmas.List.Elements.{Contains-append_left, Contains-append_cases, Contains-push}
-use Rattle.px_base.specs.ListLaws.{Contains-none, Contains-one}
-use Rattle.px_terms.specs.AtomSets.{IsAtomSet}
-use Rattle.px_question.specs.declared.gap_list.GapList.{GapList}
+use Rattle.px_base.specs.ListLaws.{Contains-none}
 use Rattle.px_proof.specs.Derivation.{Derivations, none, also}
 use Rattle.px_proof.specs.Proves.{ProvesEach}
 use Rattle.px_proof.specs.Shapes.{ticks_of}
 use Rattle.px_question.specs.Answers.{IsList, object_terms, all_choices_of}
 use Rattle.px_question.specs.Gaps.{IsGapList, all_gaps_of}
 use Rattle.px_question.specs.Settings.{Setting, loose_gaps_in}
-use Rattle.px_walk.specs.GapAtoms.{gap_atoms, variables_in, Gives, GivesAfter, AreGathered}
+use Rattle.px_walk.specs.GapAtoms.{gap_atoms, variables_in, Gives}
 use Rattle.px_walk.specs.Pending.{Goal, Pending, Solves, goals_of, open_after}
 use Rattle.px_walk.specs.Possible.{IsClosing, IsPossible, IsFinished, IsGoingOn, left_of}
 use Rattle.px_walk.specs.Scope.{IsAtomIn, IsSetting}
-use Rattle.px_walk.specs.Search.{AreAll}
 use Rattle.px_walk.proofs.Bridge.{closed-list, finished-ends, finished-opened, finished-possible, choices-of-list}
 use Rattle.px_walk.proofs.Gaps.{gaps-are, taken}
-use Rattle.px_walk.proofs.Lifting.{take_drop, length-take_within, variables_grow}
+use Rattle.px_walk.proofs.Lifting.{variables_grow}
 use Rattle.px_walk.proofs.Lists.{list-solved}
 use Rattle.px_walk.proofs.Padding.{goes_on}
 use Rattle.px_walk.proofs.Starts.{possible-front}
 
-pub no_goals : (p : Pending) → length p.goals ≡ 0 → p ≡ record { variables = p.variables; goals = [] }
+no_goals : (p : Pending) → length p.goals ≡ 0 → p ≡ record { variables = p.variables; goals = [] }
 no_goals p empty = go p.goals refl empty
   where
     go : (goals : List Goal) → p.goals ≡ goals → length p.goals ≡ 0 → p ≡ record { variables = p.variables; goals = [] }
     go [] is empty = ap (λ gs. record { variables = p.variables; goals = gs }) is
     go (g ∷ goals) is empty = absurd (omega (arith, empty, ap length is))
 
+-- the values of all variables after a finished list are those of the formula's, and then those of the steps'
+pub record AreParted (loose : Bool) (s : Setting) (formula : List Atom) (vars : ℕ) (ticks : List Tick) (values : List ℕ) : Type 0 where
+  pub whole : values ≡ take vars values ++ drop vars values
+  pub count : length (take vars values) ≡ vars
+  pub ends : open_after loose s vars (goals_of s formula) ticks ≡ Some (record { variables = length (take vars values) + length (drop vars values); goals = [] })
+
+pub values-parted : (loose : Bool) (s : Setting) (formula : List Atom) (vars : ℕ) (ticks : List Tick) (values : List ℕ) → IsPossible loose s formula vars ticks → IsFinished loose s formula vars ticks →
+    length values ≡ variables_in (open_after loose s vars (goals_of s formula) ticks) → AreParted loose s formula vars ticks values
+values-parted loose s formula vars ticks values possible finished count =
+    let p = possible.1.0 in
+    let now : open_after loose s vars (goals_of s formula) ticks ≡ Some p = possible.1.1 in
+    let none_left : length p.goals ≡ 0 = ap left_of (sym now) ∙ finished in
+    let long : length values ≡ p.variables = count ∙ ap variables_in now in
+    let grown : vars ≤ p.variables = variables_grow loose s ticks vars (goals_of s formula) p now in
+    let whole : values ≡ take vars values ++ drop vars values = sym (take-append-drop vars values) in
+    let sum : p.variables ≡ length (take vars values) + length (drop vars values) = sym long ∙ ap length whole ∙ length-append (take vars values) (drop vars values) in
+    record {
+      whole = whole;
+      count = length-take-le vars values (omega (arith, long, grown));
+      ends = now ∙ ap (λ q. Some q) (no_goals p none_left) ∙ ap (λ n. Some (record { variables = n; goals = [] })) sum;
+    }
+
 module _ (s : Setting) (valid : IsSetting s) (formula : List Atom) (vars : ℕ) (scoped : AllByRecursion (IsAtomIn s.objects vars) formula) where
   -- what a finished list gives is a gap list
   pub gives-list : (ticks : List Tick) (objects : List ℕ) (gaps : List Atom) → Gives s formula vars ticks objects gaps → IsGapList s formula vars objects gaps
   gives-list ticks objects gaps (possible, finished, (values, gives)) =
-      let p = possible.1.0 in
-      let now : open_after true s vars (goals_of s formula) ticks ≡ Some p = possible.1.1 in
-      let none_left : length p.goals ≡ 0 = ap left_of (sym now) ∙ finished in
-      let count : length values ≡ p.variables = gives.count ∙ ap variables_in now in
-      let grown : vars ≤ p.variables = variables_grow true s ticks vars (goals_of s formula) p now in
-      let whole : values ≡ take vars values ++ drop vars values = take_drop vars values in
-      let first_long : length (take vars values) ≡ vars = length-take_within vars values (omega (arith, count, grown)) in
-      let sum : p.variables ≡ length (take vars values) + length (drop vars values) = sym count ∙ ap length whole ∙ length-append (take vars values) (drop vars values) in
-      let ends : open_after true s vars (goals_of s formula) ticks ≡ Some (record { variables = length (take vars values) + length (drop vars values); goals = [] }) =
-      now ∙ ap (λ q. Some q) (no_goals p none_left) ∙ ap (λ n. Some (record { variables = n; goals = [] })) sum in
-      let found = list-solved true s valid formula vars scoped ticks (take vars values) (drop vars values) first_long
-      (All-take (λ o. o < s.objects) vars values gives.below) (All-drop (λ o. o < s.objects) vars values gives.below) ends
-      (subst (λ (os : List ℕ). Solves true s (object_terms os) vars (goals_of s formula) ticks) whole gives.solves) in
+      let parted = values-parted true s formula vars ticks values possible finished gives.count in
+      let found = list-solved true s valid formula vars scoped ticks (take vars values) (drop vars values) parted.count
+      (All-take (λ o. o < s.objects) vars values gives.below) (All-drop (λ o. o < s.objects) vars values gives.below) parted.ends
+      (subst (λ (os : List ℕ). Solves true s (object_terms os) vars (goals_of s formula) ticks) parted.whole gives.solves) in
       let closed : IsList (loose_gaps_in s) s formula vars (take vars values) found.0 = closed-list true s valid formula vars scoped (take vars values) found.0 (subst (AllByRecursion IsClosing) (sym found.2) possible.0) found.1 in
       let atoms : all_gaps_of found.0 ≡ map (substitute_atom (object_terms values)) (gap_atoms true s vars (goals_of s formula) ticks) =
       gaps-are true s valid formula vars scoped (take vars values) found.0 found.1
       ∙ ap (λ ts. map (substitute_atom (object_terms (take vars values ++ all_choices_of found.0))) (gap_atoms true s vars (goals_of s formula) ts)) found.2
-      ∙ ap (λ os. map (substitute_atom (object_terms os)) (gap_atoms true s vars (goals_of s formula) ticks)) (ap (λ os. take vars values ++ os) found.3 ∙ sym whole) in (
+      ∙ ap (λ os. map (substitute_atom (object_terms os)) (gap_atoms true s vars (goals_of s formula) ticks)) (ap (λ os. take vars values ++ os) found.3 ∙ sym parted.whole) in (
         found.0,
         subst (λ (os : List ℕ). IsList (loose_gaps_in s) s formula vars os found.0) (sym gives.chosen) closed,
         λ atom. subst (λ (closed : List Atom). Contains gaps atom ↔ Contains closed atom) (sym atoms) (gives.same atom),
@@ -135,30 +145,3 @@ module _ (s : Setting) (valid : IsSetting s) (formula : List Atom) (vars : ℕ) 
           nothing none each atom has = Contains-none atom has
           nothing (also d ds) each atom has = each
       no_atoms (a ∷ atoms) empty objects gaps = absurd (omega (arith, empty))
-
-  -- ---- what is gathered at each visit, and at the end
-
-  pub gathered-none : AreGathered s formula vars [] []
-  gathered-none list = (λ has. absurd (Contains-none list has), λ h. absurd (Contains-none h.0 h.1))
-
-  -- one more visit gives what is directly after it
-  pub gathered-more : (seen : List (List Tick)) (here : List Tick) (old new : List GapList) → AreGathered s formula vars seen old →
-      ((list : GapList) → Contains new list ↔ (Contains old list ⊎ GivesAfter s formula vars here list)) → AreGathered s formula vars (seen ++ here ∷ []) new
-  gathered-more seen here old new are grows list = (
-    λ has. elim ((grows list).0 has) [
-      | inl before ↦ let from = (are list).0 before in (from.0, Contains-append_left seen (here ∷ []) from.0 from.1, from.2)
-      | inr gives ↦ (here, Contains-push seen here, gives)
-    ],
-    λ h. (grows list).1 (elim (Contains-append_cases seen (here ∷ []) h.0 h.1) [
-      | inl before ↦ inl ((are list).1 (h.0, before, h.2))
-      | inr last ↦ inr (subst (λ (front : List Tick). GivesAfter s formula vars front list) (sym (Contains-one here h.0 last)) h.2)
-    ]),
-  )
-
-  -- after all visits they are all gap lists whose atoms are sets
-  pub gathered-all : (0 < vars → 0 < s.objects) → 0 < length formula → (limit : ℕ) (seen : List (List Tick)) (lists : List GapList) → AreAll (IsGoingOn true s formula vars) limit seen → AreGathered s formula vars seen lists →
-      (list : GapList) → Contains lists list ↔ (IsGapList s formula vars list.objects list.gaps × IsAtomSet list.gaps)
-  gathered-all some has_atom limit seen lists all are list = (
-    λ has. let from = (are list).0 has in (gives-list (from.0 ++ from.2.1.0 ∷ []) list.objects list.gaps from.2.1.1, from.2.0),
-    λ h. let found = all-gathered some has_atom seen all.covers list.objects list.gaps h.0 in (are list).1 (found.0, found.2, (h.1, (found.1, found.3))),
-  )

@@ -19,6 +19,5 @@ pub mod GapOutcomes
 pub mod Gaps
 pub mod Gathering
 pub mod Values
-pub mod Building
 pub mod Answering
 pub mod Closings

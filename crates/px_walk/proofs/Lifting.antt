@@ -2,7 +2,7 @@
 use Rattle.std.proofs.Common.{◌≡◌, ℕ, zero, suc, ◌+◌, ◌-◌, ◌<◌, ◌≤◌, Bool, true, false, ◌&&◌, cond, Option, Some, None, List, [], ◌∷◌, ◌++◌, length, map, take, drop, slice_get, slice_index_or, refl, ap, sym, ◌∙◌, arith, length-append, append_assoc}
 use Rattle.std.specs.Prelude.{All, IsSomeAnd, nat_eq}
 use Rattle.std.specs.List.{AllByRecursion, list_any}
-use Rattle.std.proofs.lemmas.List.{map-append}
+use Rattle.std.proofs.lemmas.List.{length-take-le, map-append, take-append-drop}
 use Rattle.std.proofs.lemmas.List.Elements.{All-take, All-drop}
 use Rattle.px_terms.specs.Language.{substitute, IsObject}
 use Rattle.px_proof.specs.Literals.{substitute_literal}
@@ -120,7 +120,7 @@ module _ (loose : Bool) (s : Setting) (valid : IsSetting s) (old theta rest chos
   longer = length-append old theta ∙ ap (λ k. length old + k) long
 
   -- the new variables have the objects that are chosen next
-  pub new_theta : map (substitute (object_terms (old ++ chosen))) (variables_from (length old) (fresh_of s tick)) ≡ object_terms theta
+  new_theta : map (substitute (object_terms (old ++ chosen))) (variables_from (length old) (fresh_of s tick)) ≡ object_terms theta
   new_theta = rw (splits, ← long) (new_objects old theta rest)
 
   -- the closing on the ground is the one over variables, under the objects
@@ -155,16 +155,6 @@ pub open_after-step : (loose : Bool) (s : Setting) (n : ℕ) (goal : Goal) (goal
     open_after loose s n (goal ∷ goals) (tick ∷ ticks) ≡ open_after loose s (n + fresh_of s tick) (closing.parts ++ goals) ticks
 open_after-step loose s n goal goals tick ticks closing is = rw is refl
 
-pub take_drop : {X : Type 0} (k : ℕ) (xs : List X) → xs ≡ take k xs ++ drop k xs
-take_drop zero xs = refl
-take_drop (suc k) [] = refl
-take_drop (suc k) (x ∷ xs) = ap (λ ys. x ∷ ys) (take_drop k xs)
-
-pub length-take_within : {X : Type 0} (k : ℕ) (xs : List X) → k ≤ length xs → length (take k xs) ≡ k
-length-take_within zero xs within = refl
-length-take_within (suc k) [] within = absurd (omega (arith, within))
-length-take_within (suc k) (x ∷ xs) within = ap suc (length-take_within k xs (omega (arith, within)))
-
 -- variables are only added
 pub variables_grow : (loose : Bool) (s : Setting) (ticks : List Tick) (n : ℕ) (goals : List Goal) (p : Pending) → open_after loose s n goals ticks ≡ Some p → n ≤ p.variables
 variables_grow loose s [] n goals p ends = rw (← some_same _ _ ends) (omega arith)
@@ -182,12 +172,16 @@ module _ (loose : Bool) (s : Setting) (old chosen : List ℕ) (tick : Tick) (goa
   ends_from closing is = sym (open_after-step loose s (length old) goal goals tick ticks closing is) ∙ ends
 
   -- each new variable has an object
-  pub enough : Solves loose s (object_terms (old ++ chosen)) (length old) (goal ∷ goals) (tick ∷ ticks) → fresh_of s tick ≤ length chosen
+  enough : Solves loose s (object_terms (old ++ chosen)) (length old) (goal ∷ goals) (tick ∷ ticks) → fresh_of s tick ≤ length chosen
   enough solves = go (closing_at loose s (length old) goal tick) refl _ solves
     where
       go : (o : Option Closing) → closing_at loose s (length old) goal tick ≡ o → (P : Closing → Type 0) → IsSomeAnd o P → fresh_of s tick ≤ length chosen
       go None is P closes = absurd closes
       go (Some closing) is P closes = omega (arith, variables_grow loose s ticks (length old + fresh_of s tick) (closing.parts ++ goals) _ (ends_from closing is))
+
+  -- they are the first that are chosen
+  pub first_chosen : Solves loose s (object_terms (old ++ chosen)) (length old) (goal ∷ goals) (tick ∷ ticks) → length (take (fresh_of s tick) chosen) ≡ fresh_of s tick
+  first_chosen solves = length-take-le (fresh_of s tick) chosen (enough solves)
 
   pub later_ends : (closing : Closing) → closing_at loose s (length old) goal tick ≡ Some closing → (theta rest : List ℕ) → chosen ≡ theta ++ rest → length theta ≡ fresh_of s tick →
       open_after loose s (length (old ++ theta)) (closing.parts ++ goals) ticks ≡ Some (record { variables = length (old ++ theta) + length rest; goals = [] })
@@ -218,9 +212,8 @@ module _ (loose : Bool) (s : Setting) (valid : IsSetting s) where
   runs_from_solves (tick ∷ ticks) old chosen [] below ends solves = absurd solves
   runs_from_solves (tick ∷ ticks) old chosen (goal ∷ goals) below ends solves =
       let k = fresh_of s tick in
-      let within : k ≤ length chosen = enough loose s old chosen tick goal goals ticks ends solves in
-      let long : length (take k chosen) ≡ k = length-take_within k chosen within in
-      let splits : chosen ≡ take k chosen ++ drop k chosen = take_drop k chosen in (
+      let long : length (take k chosen) ≡ k = first_chosen loose s old chosen tick goal goals ticks ends solves in
+      let splits : chosen ≡ take k chosen ++ drop k chosen = sym (take-append-drop k chosen) in (
         take k chosen,
         drop k chosen,
         splits,

@@ -1,6 +1,7 @@
 -- One more tick at the end.
 use Rattle.std.proofs.Common.{◌≡◌, ◌↔◌, ℕ, ◌+◌, ◌≤◌, Bool, Option, Some, None, List, [], ◌∷◌, ◌++◌, refl, ap, sym, ◌∙◌, arith, append_assoc}
 use Rattle.std.specs.Prelude.{IsSomeAnd}
+use Rattle.px_proof.specs.PlaceLaws.{some_same}
 use Rattle.px_proof.specs.Literals.{substitute_literal}
 use Rattle.px_terms.specs.declared.term.Term.{Term}
 use Rattle.px_terms.specs.declared.atom.Atom.{Atom}
@@ -10,9 +11,6 @@ use Rattle.px_question.specs.Answers.{object_terms}
 use Rattle.px_walk.specs.Pending.{Goal, Closing, Pending, Solves, open_after, closing_at, fresh_of, goals_of, IsFeasible}
 use Rattle.px_walk.specs.Order.{IsPrefixClosed}
 use Rattle.px_walk.proofs.Lifting.{variables_grow}
-
-some_same : {X : Type 0} {a b : X} → Some a ≡ Some b → a ≡ b
-some_same e = cc
 
 module _ (loose : Bool) (s : Setting) where
   open_after-step : (n : ℕ) (goal : Goal) (goals : List Goal) (tick : Tick) (ticks : List Tick) (closing : Closing) → closing_at loose s n goal tick ≡ Some closing →
@@ -25,7 +23,7 @@ module _ (loose : Bool) (s : Setting) where
         open_after loose s n start ticks ≡ Some (record { variables = last; goals = goal ∷ goals }) → closing_at loose s last goal tick ≡ Some closing →
         open_after loose s n start (ticks ++ tick ∷ []) ≡ Some (record { variables = last + fresh_of s tick; goals = closing.parts ++ goals })
     open_after-push [] n start closing now is =
-        let same = some_same now in
+        let same = some_same _ _ now in
         let n_is : n ≡ last = ap (λ (p : Pending). p.variables) same in
         let start_is : start ≡ goal ∷ goals = ap (λ (p : Pending). p.goals) same in
         rw (start_is, n_is, is) refl
@@ -44,7 +42,7 @@ module _ (loose : Bool) (s : Setting) where
     pub solves-push : (tau : List Term) (ticks : List Tick) (n : ℕ) (start : List Goal) → open_after loose s n start ticks ≡ Some (record { variables = last; goals = goal ∷ goals }) →
         Solves loose s tau n start (ticks ++ tick ∷ []) ↔ (Solves loose s tau n start ticks × IsSomeAnd (closing_at loose s last goal tick) (λ closing. substitute_literal tau goal.lit ≡ substitute_literal tau closing.equal_to))
     solves-push tau [] n start now =
-        let same = some_same now in
+        let same = some_same _ _ now in
         let n_is : n ≡ last = ap (λ (p : Pending). p.variables) same in
         let start_is : start ≡ goal ∷ goals = ap (λ (p : Pending). p.goals) same in
         rw (start_is, n_is) (here (closing_at loose s last goal tick))

@@ -2,10 +2,13 @@
 use Rattle.std.proofs.Common.{◌≡◌, ◌∙◌, ℕ, zero, suc, ◌<◌, ◌≤◌, Some, None, List, [], ◌∷◌, length, replicate, slice_get, slice_index_or, refl, ap, sym, subst, arith}
 use Rattle.std.specs.Prelude.{All, slice_index}
 use Rattle.std.specs.List.{AllByRecursion}
+use Rattle.std.proofs.lemmas.Grind.{same_number_lists}
+use Rattle.std.proofs.lemmas.List.{ext_get_or, get_or-map}
 use Rattle.std.proofs.lemmas.List.Elements.{All-from_recursion}
 use Rattle.std.proofs.lemmas.Option.{get_or_from_slice_get, slice_get_within}
 use Rattle.px_terms.specs.declared.term.Term.{Term}
 use Rattle.px_terms.specs.declared.term.Term.TheVariants.{Obj, Var, Any}
+use Rattle.px_proof.specs.PlaceLaws.{slice_get-read}
 use Rattle.px_unify.specs.declared.change.Change.{Change}
 use Rattle.px_unify.specs.Changes.{AreOneUnder, Fits, HasSolutions, IsRoot, IsUnbound, slots_of, variables_of}
 use Rattle.px_question.specs.Answers.{AtMost, object_terms}
@@ -13,33 +16,12 @@ use Rattle.px_walk.specs.Values.{AreValues, value_of}
 use Rattle.px_walk.proofs.Least.{at_most-places}
 use Rattle.px_walk.proofs.Lifting.{length-objects}
 
-term_at : (values : List ℕ) (v : ℕ) → v < length values → slice_index_or (object_terms values) v Any ≡ Obj (slice_index values v)
-term_at [] v within = absurd (omega (arith, within))
-term_at (x ∷ values) zero within = refl
-term_at (x ∷ values) (suc v) within = term_at values v (omega (arith, within))
+-- the term of a value
+pub term_at : (values : List ℕ) (v : ℕ) → v < length values → slice_index_or (object_terms values) v Any ≡ Obj (slice_index values v)
+term_at values v within = get_or-map (λ (n : ℕ). Obj n) values v 0 Any within
 
 term_there : (values : List ℕ) (v : ℕ) → v < length values → slice_get (object_terms values) v ≡ Some (Obj (slice_index values v))
-term_there [] v within = absurd (omega (arith, within))
-term_there (x ∷ values) zero within = refl
-term_there (x ∷ values) (suc v) within = term_there values v (omega (arith, within))
-
-same_terms : (xs ys : List Term) → length xs ≡ length ys → ((v : ℕ) → v < length xs → slice_index_or xs v Any ≡ slice_index_or ys v Any) → xs ≡ ys
-same_terms [] [] long same = refl
-same_terms [] (y ∷ ys) long same = absurd (omega (arith, long))
-same_terms (x ∷ xs) [] long same = absurd (omega (arith, long))
-same_terms (x ∷ xs) (y ∷ ys) long same =
-    let here : x ≡ y = same 0 (omega arith) in
-    let rest = same_terms xs ys (omega (arith, long)) (λ v within. same (suc v) (omega (arith, within))) in
-    λ i. here i ∷ rest i
-
-same_numbers : (xs ys : List ℕ) → length xs ≡ length ys → ((v : ℕ) → v < length xs → slice_index xs v ≡ slice_index ys v) → xs ≡ ys
-same_numbers [] [] long same = refl
-same_numbers [] (y ∷ ys) long same = absurd (omega (arith, long))
-same_numbers (x ∷ xs) [] long same = absurd (omega (arith, long))
-same_numbers (x ∷ xs) (y ∷ ys) long same =
-    let here : x ≡ y = same 0 (omega arith) in
-    let rest = same_numbers xs ys (omega (arith, long)) (λ v within. same (suc v) (omega (arith, within))) in
-    λ i. here i ∷ rest i
+term_there values v within = slice_get-read (object_terms values) v Any (omega (arith, within, length-objects values)) ∙ ap (λ (t : Term). Some t) (term_at values v within)
 
 all_numbers : (P : ℕ → Type 0) (xs : List ℕ) → ((v : ℕ) → v < length xs → P (slice_index xs v)) → AllByRecursion P xs
 all_numbers P [] each = tt
@@ -67,7 +49,7 @@ module _ (changes : List Change) (chosen values : List ℕ) (are : AreValues cha
   pub values-fit : HasSolutions changes → length chosen ≡ variables_of changes → Fits (object_terms values) changes
   values-fit solvable long =
       let found = solvable (object_terms chosen) (length-objects chosen ∙ long) in
-      let same : found.0 ≡ object_terms values = same_terms found.0 (object_terms values) (found.1 ∙ sym are.count ∙ sym (length-objects values))
+      let same : found.0 ≡ object_terms values = ext_get_or Any found.0 (object_terms values) (found.1 ∙ sym are.count ∙ sym (length-objects values))
       (λ v within. let inside : v < length values = omega (arith, within, found.1, are.count) in let one = are.each v inside in at found.0 found.2 found.3 v inside one.0 one.1 one.2 one.3) in
       subst (λ (sigma : List Term). Fits sigma changes) same found.2
     where
@@ -97,7 +79,7 @@ module _ (changes : List Change) (chosen values : List ℕ) (are : AreValues cha
 -- a solution is what the bindings give where its own objects are chosen
 pub values-same : (changes : List Change) (others values : List ℕ) → AreValues changes others values → length others ≡ variables_of changes → Fits (object_terms others) changes → values ≡ others
 values-same changes others values are long fits =
-    same_numbers values others (are.count ∙ sym long)
+    same_number_lists values others (are.count ∙ sym long)
     (λ v within.
     let one = are.each v within in
     let inside : v < length others = omega (arith, within, are.count, long) in

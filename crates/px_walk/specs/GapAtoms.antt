@@ -4,8 +4,6 @@ use Rattle.px_terms.specs.declared.atom.Atom.{Atom}
 use Rattle.px_terms.specs.Substitution.{substitute_atom}
 use Rattle.px_proof.specs.declared.shape.Tick.{Tick}
 use Rattle.px_proof.specs.declared.shape.Tick.TheVariants.{Fact, Anc, Step, Gap, Open}
-use Rattle.px_terms.specs.AtomSets.{IsAtomSet}
-use Rattle.px_question.specs.declared.gap_list.GapList.{GapList}
 use Rattle.px_question.specs.Answers.{object_terms}
 use Rattle.px_question.specs.Settings.{Setting}
 use Rattle.px_walk.specs.Pending.{Goal, Closing, Pending, Solves, closing_at, fresh_of, goals_of, open_after}
@@ -47,11 +45,3 @@ pub record GivesUnder (s : Setting) (formula : List Atom) (vars : ℕ) (ticks : 
 abbrev pub Gives : Setting → List Atom → ℕ → List Tick → List ℕ → List Atom → Type 0
 Gives s formula vars ticks objects gaps =
     IsPossible true s formula vars ticks × IsFinished true s formula vars ticks × ((values : List ℕ) × GivesUnder s formula vars ticks objects gaps values)
-
--- a finished list directly after this one gives the gap list, whose atoms are a set
-abbrev pub GivesAfter : Setting → List Atom → ℕ → List Tick → GapList → Type 0
-GivesAfter s formula vars front list = IsAtomSet list.gaps × ((tick : Tick) × Gives s formula vars (front ++ tick ∷ []) list.objects list.gaps)
-
--- the gap lists are those that finished lists directly after one of the seen ones give
-abbrev pub AreGathered : Setting → List Atom → ℕ → List (List Tick) → List GapList → Type 0
-AreGathered s formula vars seen lists = (list : GapList) → Contains lists list ↔ ((front : List Tick) × Contains seen front × GivesAfter s formula vars front list)

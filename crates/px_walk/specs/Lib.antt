@@ -6,5 +6,4 @@ pub mod Search
 pub mod Ends
 pub mod GapAtoms
 pub mod Values
-pub mod Building
 pub mod OneList

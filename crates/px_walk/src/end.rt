@@ -8,6 +8,6 @@ pub enum End {
     Found,
     /// There is no finished proof.
     NoMore,
-    /// So many unfinished proofs come first; these are their shapes.
+    /// At the limit of unfinished proofs; these are their shapes.
     Limit(Vec<Shape>),
 }

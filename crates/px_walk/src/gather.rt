@@ -3,9 +3,9 @@ ghost use Rattle.std.specs.Prelude.{◌≡◌, ◌<◌, ◌≤◌, ◌+◌, ◌+
 ghost use Rattle.px_proof.specs.declared.shape.Tick.{Tick};
 ghost use Rattle.px_walk.specs.Search.{AreAll, LimitComes};
 
-use crate::steps::{advance, keep};
+use crate::steps::advance;
 use crate::walk::Walk;
-use px_base::NoMemory;
+use px_base::{NoMemory, push};
 use px_proof::Shape;
 use std::alloc::Global;
 
@@ -17,10 +17,10 @@ pub trait Gather<Q, W: Walk<Q>> {
     // what is gathered is that of these lists, and nothing else
     ghost gathered: { Q → Self → List (List Tick) → Type 0 };
 
-    /// Gathers what the list gives that the walk stands at, and leaves the walk there.
+    /// Gathers what the list at which the walk stands gives, and leaves the walk there.
     ///
     /// # Errors
-    /// `NoMemory`, where there is none.
+    /// `NoMemory` if memory runs out.
     fn gather(&mut self, question: &Q, walk: &mut W) -> Result<(), NoMemory>
         requires stands { W.stands question.now walk.old }
         requires possible { W.possible question.now (W.ticks walk.old) }
@@ -30,11 +30,11 @@ pub trait Gather<Q, W: Walk<Q>> {
         ensures still { OnOk result (W.stands question.now walk.new) };
 }
 
-/// Walks from the start to the last list and gathers at each, unless there are so many; then answers the shapes of the
-/// first ones.
+/// Walks from the start to the last list and gathers at each. If there are `limit` lists or more, returns the shapes of the
+/// first `limit` instead.
 ///
 /// # Errors
-/// `NoMemory`, where there is none.
+/// `NoMemory` if memory runs out.
 pub fn walk_to_end<Q, W: Walk<Q>, G: Gather<Q, W>>(
     alloc: Global,
     question: &Q,
@@ -55,7 +55,7 @@ pub fn walk_to_end<Q, W: Walk<Q>, G: Gather<Q, W>>(
     let mut shapes = Vec::new(alloc);
     for count in 0..limit {
         let shape = walk.shape(question)?;
-        keep(&mut shapes, shape)?;
+        push(&mut shapes, shape)?;
         if count + 1 == limit {
             return Ok(Some(shapes));
         }

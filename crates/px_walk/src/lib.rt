@@ -8,22 +8,23 @@
 //! # Calling it
 //!
 //! - [`Walk`] is what a state offers: `try_after` closes the first open place by the least possible tick after a given
-//!   one, `retract` opens the last place again and answers its tick. Its ghost members
+//!   one, `retract` opens the last place again and returns its tick. Its ghost members
 //!   say which lists are possible, which are finished, and which states belong to a question; `most` is how many ticks
 //!   there may be, so that a state can bound its variables.
 //! - [`advance`] goes on to the next possible list: the least after the one where the walk stands, and no other is between.
-//!   Its false says that none is after it.
+//!   `false` means that no list comes after it.
 //! - [`walk_to_finished`] starts at the empty list and stops at the first finished one, or where there is none, or where
 //!   as many unfinished ones as the limit have been met; then [`End::Limit`] has their shapes, in order.
 //! - [`walk_to_end`] visits all lists and lets a [`Gather`] gather at each, or stops at the limit. It is for walks over
 //!   lists that all have an open place; what is finished is gathered from the list before it.
-//! - Whatever takes memory answers `NoMemory` where there is none. The walk may then stand anywhere, and isn't gone on with.
+//! - Each call that takes memory returns `NoMemory` if memory runs out. The walk may then stand anywhere, and must not be
+//!   continued.
 //!
 //! What the visits say of a question is proved here too, over lists and bindings alone. `specs/Pending` says which closings
 //! a tick makes and what is then open, `specs/Possible` which lists of ticks are possible and finished, `specs/Order`
 //! and `specs/Search` what is visited. Of `proofs/`: `Attempts` and `Objects` say what unification tells of one more
-//! tick, `Outcomes` and `GapOutcomes` what the ends of a walk say of the definitions in `px_question`, `Values`, `Building`
-//! and `Answering` which objects and proofs the bindings then give, and `Gathering` which gap lists.
+//! tick, `Outcomes` and `GapOutcomes` what the ends of a walk say of the definitions in `px_question`, `Values` and
+//! `Answering` which objects the bindings then give, and `Gathering` which gap lists.
 #![tactic(auto)]
 
 mod end;

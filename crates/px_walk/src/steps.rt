@@ -7,14 +7,14 @@ ghost use Rattle.px_walk.specs.Search.{ComesFirst, NoneComes, LimitComes};
 
 use crate::end::End;
 use crate::walk::Walk;
-use px_base::NoMemory;
+use px_base::{NoMemory, push};
 use px_proof::{Shape, Tick};
 use std::alloc::Global;
 
-/// Goes on to the next list of the walk, and answers whether there is one.
+/// Goes on to the next list of the walk, and returns whether there is one.
 ///
 /// # Errors
-/// `NoMemory`, where there is none.
+/// `NoMemory` if memory runs out.
 pub fn advance<Q, W: Walk<Q>>(question: &Q, walk: &mut W) -> Result<bool, NoMemory>
     requires stands { W.stands question.now walk.old }
     requires room { length (W.ticks walk.old) < W.most question.now }
@@ -33,20 +33,10 @@ pub fn advance<Q, W: Walk<Q>>(question: &Q, walk: &mut W) -> Result<bool, NoMemo
     Ok(true)
 }
 
-/// Puts a shape last.
-pub fn keep(shapes: &mut Vec<Shape>, shape: Shape) -> Result<(), NoMemory>
-    ensures { IfOk result (λ _. shapes.new.items ≡ shapes.old.items ++ shape ∷ []) }
-{
-    match shapes.push(shape) {
-        Ok(()) => Ok(()),
-        Err(_) => Err(NoMemory),
-    }
-}
-
-/// Walks from the start to the first finished proof, unless so many unfinished ones come first.
+/// Walks from the start to the first finished proof, unless `limit` unfinished ones come first.
 ///
 /// # Errors
-/// `NoMemory`, where there is none.
+/// `NoMemory` if memory runs out.
 pub fn walk_to_finished<Q, W: Walk<Q>>(
     alloc: Global,
     question: &Q,
@@ -70,7 +60,7 @@ pub fn walk_to_finished<Q, W: Walk<Q>>(
             return Ok(End::Found);
         }
         let shape = walk.shape(question)?;
-        keep(&mut shapes, shape)?;
+        push(&mut shapes, shape)?;
         if count + 1 == limit {
             return Ok(End::Limit(shapes));
         }

@@ -38,14 +38,14 @@ pub trait Walk<Q> {
     /// Closes the first open place by the least tick after `last` that is possible; without `last`, by the least one.
     ///
     /// # Errors
-    /// `NoMemory`, where there is none.
+    /// `NoMemory` if memory runs out.
     fn try_after(&mut self, question: &Q, last: Option<Tick>) -> Result<bool, NoMemory>
         requires stands { stands question.now self.old }
         requires room { length (ticks self.old) < most question.now }
         ensures tried { IfOk result (λ found. TriesAfter (possible question.now) (ticks self.old) (ticks self.new) last found) }
         ensures still { OnOk result (stands question.now self.new) };
 
-    /// Opens the place again that was closed last, and answers its tick.
+    /// Opens again the place that was closed last, and returns its tick.
     fn retract(&mut self, question: &Q) -> Option<Tick>
         requires stands { stands question.now self.old }
         ensures last { IfSome result (λ tick. ticks self.old ≡ ticks self.new ++ tick ∷ []) }
@@ -53,7 +53,7 @@ pub trait Walk<Q> {
         ensures same { IfNone result (ticks self.new ≡ ticks self.old) }
         ensures still { stands question.now self.new };
 
-    /// Is no place open?
+    /// Returns whether no place is open.
     fn is_finished(&self, question: &Q) -> bool
         requires stands { stands question.now self.now }
         ensures { IsTrue result ↔ finished question.now (ticks self.now) };
@@ -61,7 +61,7 @@ pub trait Walk<Q> {
     /// The shape, with a tick for each open place too.
     ///
     /// # Errors
-    /// `NoMemory`, where there is none.
+    /// `NoMemory` if memory runs out.
     fn shape(&self, question: &Q) -> Result<Shape, NoMemory>
         requires stands { stands question.now self.now }
         ensures { IfOk result (λ shape. shape ≡ shape_of question.now (ticks self.now)) };

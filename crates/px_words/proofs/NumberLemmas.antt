@@ -18,8 +18,10 @@ digit-value : (d : ℕ) → 48 ≤ d → d ≤ 57 → digit_value d ≡ d - 48
 digit-value d low high =
     let above : ltb d 48 ≡ false = le-ltb d 48 low in
     let below : ltb d 58 ≡ true = lt-ltb d 58 (omega (arith, high)) in
-    cond-false (ltb d 48) 36 (cond (ltb d 58) (d - 48) (cond (ltb d 65) 36 (cond (ltb d 91) (d - 55) (cond (ltb d 97) 36 (cond (ltb d 123) (d - 87) 36))))) above
-    ∙ cond-true (ltb d 58) (d - 48) (cond (ltb d 65) 36 (cond (ltb d 91) (d - 55) (cond (ltb d 97) 36 (cond (ltb d 123) (d - 87) 36)))) below
+    cond-false (ltb d 48) 36 (cond (ltb d 58) (d - 48)
+    (cond (ltb d 65) 36 (cond (ltb d 91) (d - 55) (cond (ltb d 97) 36 (cond (ltb d 123) (d - 87) 36))))) above
+    ∙ cond-true (ltb d 58) (d - 48)
+    (cond (ltb d 65) 36 (cond (ltb d 91) (d - 55) (cond (ltb d 97) 36 (cond (ltb d 123) (d - 87) 36)))) below
 
 digit-below : (d : ℕ) → is_ascii_digit d ≡ true → digit_value d < 10
 digit-below d is =
@@ -55,7 +57,8 @@ plain-number (d ∷ ds) is =
     let short = and_parts (nat_le 1 (length (d ∷ ds))) (nat_le (length (d ∷ ds)) 10 && list_all is_ascii_digit (d ∷ ds)) is in
     let digits = and_parts (nat_le (length (d ∷ ds)) 10) (list_all is_ascii_digit (d ∷ ds)) short.1 in
     let first = and_parts (is_ascii_digit d) (list_all is_ascii_digit ds) digits.1 in
-    let same : without_leading_plus (d ∷ ds) ≡ d ∷ ds = ap (λ (b : Bool). drop (cond b 1 0) (d ∷ ds)) (other-than d 43 first.0 (omega arith)) in
+    let same : without_leading_plus (d ∷ ds) ≡ d ∷ ds = ap (λ (b : Bool). drop (cond b 1 0) (d ∷ ds))
+    (other-than d 43 first.0 (omega arith)) in
     record {
       first = d;
       rest = ds;
@@ -71,11 +74,13 @@ pub read_right : (least most number : ℕ) (text : List ℕ) → is_number text 
     → in_range least most number ≡ number_within least most text
 read_right least most number text is read =
     let plain = plain-number text is in
-    ap (in_range least most) (read ∙ ap (digits_value 10) plain.unsigned) ∙ sym (cond-true (is_number text) (in_range least most (digits_value 10 text)) None is)
+    ap (in_range least most) (read ∙ ap (digits_value 10) plain.unsigned)
+    ∙ sym (cond-true (is_number text) (in_range least most (digits_value 10 text)) None is)
 
 -- a number that is too large for the type is out of the range
 pub unread_right : (least most : ℕ) (text : List ℕ) → most < 2 ^ 32 → is_number text ≡ true
-    → ¬ (IsNumeral 10 (without_leading_plus text) × (digits_value 10 (without_leading_plus text) < 2 ^ 32)) → None ≡ number_within least most text
+    → ¬ (IsNumeral 10 (without_leading_plus text) × (digits_value 10 (without_leading_plus text) < 2 ^ 32))
+    → None ≡ number_within least most text
 unread_right least most text small is unread =
     let plain = plain-number text is in
     let value = digits_value 10 text in

@@ -18,7 +18,8 @@ within-range least most n = cond_both (nat_le least n && nat_le n most) (Some n)
     (λ both. let parts = and_parts (nat_le least n) (nat_le n most) both in (leb-true least n parts.0, leb-true n most parts.1)) (λ out. tt)
 
 number-ranges : (least most : ℕ) (text : List ℕ) → IfSome (number_within least most text) (IsBetween least most)
-number-ranges least most text = cond_both (is_number text) (in_range least most (digits_value 10 text)) None (λ (o : Option ℕ). IfSome o (IsBetween least most))
+number-ranges least most text =
+    cond_both (is_number text) (in_range least most (digits_value 10 text)) None (λ (o : Option ℕ). IfSome o (IsBetween least most))
     (λ is. within-range least most (digits_value 10 text)) (λ is. tt)
 
 both-ranges : (rooms seed : Option ℕ) → IfSome rooms (IsBetween 3 12) → IfSome seed (IsBetween 0 2147483647)
@@ -29,7 +30,8 @@ both-ranges (Some rooms) (Some seed) p q = (p.0, p.1, q.1)
 
 demo-ranges : (word rooms seed : List ℕ) → HasRanges (order_in word (Some rooms) (Some seed))
 demo-ranges word rooms seed = cond_both (bytes_eq word (codes "demo")) (demo_order rooms seed) None HasRanges
-    (λ is. both-ranges (number_within 3 12 rooms) (number_within 0 2147483647 seed) (number-ranges 3 12 rooms) (number-ranges 0 2147483647 seed)) (λ is. tt)
+    (λ is. both-ranges (number_within 3 12 rooms) (number_within 0 2147483647 seed) (number-ranges 3 12 rooms)
+    (number-ranges 0 2147483647 seed)) (λ is. tt)
 
 run-ranges : (word : List ℕ) → HasRanges (order_in word None None)
 run-ranges word = cond_both (bytes_eq word (codes "run")) _ None HasRanges (λ is. tt) (λ is. tt)

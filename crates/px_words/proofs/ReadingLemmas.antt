@@ -43,7 +43,8 @@ no-hyphen : (d : ℕ) (ds : List ℕ) → eqb d 45 ≡ false → strip_byte 45 (
 no-hyphen d ds plain = rw plain refl
 
 no-long : (d : ℕ) (ds : List ℕ) → eqb d 45 ≡ false → long_of (d ∷ ds) ≡ None
-no-long d ds plain = ap (λ (rest : Option (List ℕ)). option_and_then long_of_rest (option_and_then (strip_byte 45) rest)) (no-hyphen d ds plain)
+no-long d ds plain = ap (λ (rest : Option (List ℕ)). option_and_then long_of_rest (option_and_then (strip_byte 45) rest))
+    (no-hyphen d ds plain)
 
 no-short : (d : ℕ) (ds : List ℕ) → eqb d 45 ≡ false → short_of (d ∷ ds) ≡ None
 no-short d ds plain = ap (option_and_then short_of_rest) (no-hyphen d ds plain)
@@ -54,7 +55,8 @@ no-end d ds plain = rw plain refl
 plain-word : (rules : List Rule) (held : Held) (position d : ℕ) (ds : List ℕ) → eqb d 45 ≡ false
     → word_met rules [] false idle position (d ∷ ds) held ≡ (held, value)
 plain-word rules held position d ds plain =
-    ap₂ (λ (is_end : Bool) (long : Option (List ℕ × Option (List ℕ))). if is_end then (held, trailing position) else long_or_other rules idle (d ∷ ds) long held)
+    ap₂ (λ (is_end : Bool) (long : Option (List ℕ × Option (List ℕ))). if is_end then
+    (held, trailing position) else long_or_other rules idle (d ∷ ds) long held)
     (no-end d ds plain) (no-long d ds plain)
     ∙ ap (λ (short : Option (List ℕ)). short_or_plain rules idle (d ∷ ds) short held) (no-short d ds plain)
 
@@ -64,14 +66,17 @@ plain-walked : (rules : List Rule) (held : Held) (position d : ℕ) (ds : List �
     ≡ to_positional rules (arg_by_index rules position) (d ∷ ds) (before_word held position) held
 unfolding walked
 plain-walked rules held position d ds plain =
-    ap (λ (met : Held × Step). after_step rules (d ∷ ds) (before_word held position) met.0 met.1) (plain-word rules held position d ds plain)
+    ap (λ (met : Held × Step). after_step rules (d ∷ ds) (before_word held position) met.0 met.1)
+    (plain-word rules held position d ds plain)
 
 plain-passes : (shape : Shape) (held : Held) (position d : ℕ) (ds : List ℕ) → eqb d 45 ≡ false
     → word_passes shape [] false idle (d ∷ ds) held ≡ true
 plain-passes shape held position d ds plain =
-    ap₂ (λ (is_end : Bool) (long : Option (List ℕ × Option (List ℕ))). is_end || flag_word_passes shape.rules shape.args_override_self long (d ∷ ds) held)
+    ap₂ (λ (is_end : Bool) (long : Option (List ℕ × Option (List ℕ))). is_end
+    || flag_word_passes shape.rules shape.args_override_self long (d ∷ ds) held)
     (no-end d ds plain) (no-long d ds plain)
-    ∙ ap (λ (short : Option (List ℕ)). option_map_or (λ (flags : List ℕ). bundle_passes shape.rules shape.args_override_self flags held) short true) (no-short d ds plain)
+    ∙ ap (λ (short : Option (List ℕ)). option_map_or
+    (λ (flags : List ℕ). bundle_passes shape.rules shape.args_override_self flags held) short true) (no-short d ds plain)
 
 plain-turn : (shape : Shape) (held : Held) (position d : ℕ) (ds : List ℕ) → eqb d 45 ≡ false
     → turn_passes shape [] (before_word held position) (d ∷ ds) ≡ step_passes shape position held value
@@ -134,7 +139,8 @@ some-cond : {A : Type 0} (b : Bool) (x : Option A) → is_some (if b then x else
 some-cond true x is = (refl, is)
 some-cond false x is = absurd (true≢false (sym is))
 
-some-both : (rooms seed : Option ℕ) → is_some (option_and_then (λ (n : ℕ). option_map (Demo n) seed) rooms) ≡ true → (is_some rooms ≡ true) × (is_some seed ≡ true)
+some-both : (rooms seed : Option ℕ) → is_some (option_and_then (λ (n : ℕ). option_map (Demo n) seed) rooms) ≡ true
+    → (is_some rooms ≡ true) × (is_some seed ≡ true)
 some-both None seed is = absurd (true≢false (sym is))
 some-both (Some rooms) None is = absurd (true≢false (sym is))
 some-both (Some rooms) (Some seed) is = (refl, refl)
@@ -194,7 +200,8 @@ values-order words is = elim (taken-shape words is) [
       (ap order-from (demo-values demo.first demo.rest demo.second demo.more demo.plain demo.plain_too))
 ]
 
-pub reads : (found : Found) (words : List (List ℕ)) → is_some (order_of words) ≡ true → rows_of found ≡ matches_of planex words → order_read found ≡ order_of words
+pub reads : (found : Found) (words : List (List ℕ)) → is_some (order_of words) ≡ true → rows_of found ≡ matches_of planex words
+    → order_read found ≡ order_of words
 reads found words taken is = read-from found (matches_of planex words) is ∙ values-order words taken
 
 pub takes-them : (words : List (List ℕ)) → is_some (order_of words) ≡ true → takes planex words ≡ true

@@ -2,6 +2,7 @@
 use Rattle.std.proofs.Common.{refl}
 use Rattle.px_words.specs.Worked.{WorkedWords}
 
+-- Alike: `general_facts` of `px_general/proofs/Touching`, since both only list what computes.
 pub worked_words : WorkedWords
 worked_words = record {
   run = refl;

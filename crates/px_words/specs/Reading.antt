@@ -14,7 +14,8 @@ word_rule = record (new_rule (codes "WORD")) { required = true }
 
 -- a first word, and two that may be left out; the program's name isn't among them
 abbrev pub planex : App
-planex = with_rule (with_rule (with_rule (on_top (λ top. record top { no_binary_name = true }) (new_app (codes "planex"))) word_rule) (new_rule (codes "ROOMS"))) (new_rule (codes "SEED"))
+planex = with_rule (with_rule (with_rule (on_top (λ top. record top { no_binary_name = true }) (new_app (codes "planex"))) word_rule)
+    (new_rule (codes "ROOMS"))) (new_rule (codes "SEED"))
 
 -- what a first word orders, with the two words that may follow it
 abbrev pub order_in : List ℕ → (rooms seed : Option (List ℕ)) → Option Order
@@ -25,4 +26,5 @@ order_in word (Some rooms) None = None
 
 -- what the words order that `clap` found
 abbrev pub order_read : Found → Option Order
-order_read found = option_and_then (λ word. order_in word (first_value found (codes "ROOMS")) (first_value found (codes "SEED"))) (first_value found (codes "WORD"))
+order_read found = option_and_then (λ word. order_in word (first_value found (codes "ROOMS")) (first_value found (codes "SEED")))
+    (first_value found (codes "WORD"))

@@ -31,10 +31,10 @@ impl<'a> std::marker::Model for AtomWorld<'a> {
 }
 
 impl<'a> AtomWorld<'a> {
-    /// The world of these facts, with room for at least `spare` further atoms.
+    /// Returns the world of these facts, with room for at least `spare` further atoms.
     ///
     /// # Errors
-    /// `NoMemory` where there is none for the facts and the room.
+    /// `NoMemory` where there is no memory for the facts and the room.
     pub fn new(
         _alloc: Global,
         problem: &'a Problem,

@@ -10,7 +10,9 @@ use std::alloc::Global;
 use std::process::Abort;
 use std::rt::HostRuntime;
 
-/// The problem without objects whose operator needs OFF, deletes it and adds ON.
+// Alike: `moving_problem` of the tests of `px_ops`, since tests lend nothing to those of other crates.
+
+/// Returns the problem without objects whose operator needs OFF, deletes it and adds ON.
 fn switch_problem(alloc: Global, rt: &impl Abort) -> Result<Problem, NoMemory>
     ensures valid { IfOk result IsValid }
     ensures shape { IfOk result (λ p. (length p.schemas ≡ 1) × ((slice_index_or p.schemas 0 no_schema).params ≡ 0) × (length (slice_index_or p.schemas 0 no_schema).add ≡ 1)) }
@@ -24,15 +26,11 @@ fn switch_problem(alloc: Global, rt: &impl Abort) -> Result<Problem, NoMemory>
         del: Sequence::from_vec(Vec::from_array(alloc, [off])?),
         add: Sequence::from_vec(Vec::from_array(alloc, [on])?),
     };
-    let mut schemas = Vec::new(alloc);
-    if schemas.push(schema).is_err() {
-        return Err(NoMemory);
-    }
     Ok(Problem {
         objects: 0,
         arities: Sequence::from_vec(Vec::from_array(alloc, [0u8, 0u8])?),
         axioms: ClauseArena::new(alloc),
-        schemas: Sequence::from_vec(schemas),
+        schemas: Sequence::from_vec(Vec::from_array(alloc, [schema])?),
         height: 4,
         nodes: 10000,
         shapes: 10000,

@@ -1,5 +1,4 @@
-use Rattle.px_script.proofs.Kept.{in-range}
-use Rattle.px_script.proofs.Stage.{of-stage}
+use Rattle.px_script.proofs.Kept.{in-range, of-stage}
 use Rattle.px_script.proofs.is_in_range.Goals as goal
 
 pub returns-clause-range : goal.returns-clause-range

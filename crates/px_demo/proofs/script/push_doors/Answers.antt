@@ -5,4 +5,5 @@ use Rattle.px_demo.proofs.script.push_doors.Goals as goal
 
 pub loop-door-preserved : goal.loop-door-preserved
 loop-door-preserved c =
-    grows _ _ _ _ _ _ c.in_ok-push_door.ensures (first-line door_line c.loop-door.door c.args.count (omega (arith, c.loop-door-test.true))) c.loop-door.invariant
+    grows _ _ _ _ _ _ c.in_ok-push_door.ensures
+    (first-line door_line c.loop-door.door c.args.count (omega (arith, c.loop-door-test.true))) c.loop-door.invariant

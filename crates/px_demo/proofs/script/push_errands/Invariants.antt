@@ -8,7 +8,8 @@ use Rattle.px_demo.proofs.script.push_errands.Given as goal
 -- the lines so far, and those that are left; and where the numbers and the robot are
 abbrev pub invariant-loop-done : goal.invariant-loop-done
 invariant-loop-done l =
-    (string_bytes l.text ++ text_of (flat_map (λ j. errand_lines j (room_after l.rooms l.seed j)) (range_with_len (l.done + 1) (l.rooms - l.done)))
+    (string_bytes l.text ++ text_of
+    (flat_map (λ j. errand_lines j (room_after l.rooms l.seed j)) (range_with_len (l.done + 1) (l.rooms - l.done)))
     ≡ string_bytes l.initial.text ++ text_of (errands l.rooms l.seed))
     × (l.number ≡ number_after l.seed l.done) × (l.room ≡ room_after l.rooms l.seed l.done)
     × (l.number < 2147483648) × (1 ≤ l.room) × (l.room ≤ l.rooms)

@@ -1,6 +1,6 @@
 use Rattle.std.proofs.Common.{take}
 use Rattle.px_diff.specs.Gathering.{Gathers}
-use Rattle.px_diff.specs.Instances.{IsCovered}
+use Rattle.px_entries.specs.Instances.{IsCovered}
 use Rattle.px_diff.proofs.first_instances.gather_first.Given as goal
 
 abbrev pub invariant-loop-place : goal.invariant-loop-place

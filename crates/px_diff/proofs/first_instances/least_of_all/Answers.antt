@@ -1,10 +1,10 @@
 use Rattle.std.proofs.Common.{List, subst, inl, inr, arith}
 use Rattle.std.proofs.lemmas.List.{take_all}
 use Rattle.px_diff.specs.Firsts.{IsAtMost}
-use Rattle.px_diff.specs.Instances.{IsCovered, StandsFor}
-use Rattle.px_diff.specs.declared.partial.PartialInstance.{PartialInstance}
+use Rattle.px_entries.specs.Instances.{IsCovered, StandsFor}
+use Rattle.px_entries.specs.declared.partial.PartialInstance.{PartialInstance}
 use Rattle.px_diff.proofs.FirstOrder.{at_most-both, at_most-itself}
-use Rattle.px_diff.proofs.Grows.{one_next, one_none}
+use Rattle.px_gaps.proofs.Grows.{one_next, one_none}
 use Rattle.px_diff.proofs.first_instances.least_of_all.Goals as goal
 
 pub loop-partial-init : goal.loop-partial-init

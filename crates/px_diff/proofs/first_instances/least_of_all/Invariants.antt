@@ -1,7 +1,7 @@
 use Rattle.std.proofs.Common.{take}
 use Rattle.px_terms.specs.declared.instance.OpInst.{OpInst}
 use Rattle.px_diff.specs.Firsts.{IsAtMost}
-use Rattle.px_diff.specs.Instances.{IsCovered}
+use Rattle.px_entries.specs.Instances.{IsCovered}
 use Rattle.px_diff.proofs.first_instances.least_of_all.Given as goal
 
 abbrev pub invariant-loop-partial : goal.invariant-loop-partial

@@ -1,6 +1,6 @@
 use Rattle.px_terms.specs.Operators.{adds}
 use Rattle.std.specs.Prelude.{Contains}
-use Rattle.px_diff.specs.Closings.{OneOf}
+use Rattle.px_gaps.specs.Closings.{OneOf}
 use Rattle.px_diff.proofs.FirstLemmas.{covers-permuted}
 use Rattle.px_diff.proofs.firsts.ordered_matches.Goals as goal
 

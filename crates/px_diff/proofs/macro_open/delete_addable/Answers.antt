@@ -1,6 +1,6 @@
 use Rattle.px_base.specs.ListLaws.{All-at}
 use Rattle.px_diff.specs.MacroOpen.{DeletesAddable}
-use Rattle.px_diff.proofs.Loops.{all_before_next, all_whole, contains_here, is_false, is_true, said_no, said_yes}
+use Rattle.px_base.proofs.Loops.{all_before_next, all_whole, contains_here, is_false, is_true, said_no, said_yes}
 use Rattle.px_diff.proofs.macro_open.delete_addable.Goals as goal
 
 pub returns-then-not-deletes_addable : goal.returns-then-not-deletes_addable

@@ -1,4 +1,4 @@
-use Rattle.px_diff.specs.Bindings.{open_count}
+use Rattle.px_gaps.specs.Bindings.{open_count}
 use Rattle.px_diff.specs.Macros.{GathersEntries, IsMacroBefore}
 use Rattle.px_diff.proofs.macros.+keep_all.Given as goal
 
@@ -7,5 +7,5 @@ decreases-keep_all l = open_count l.terms.now
 
 abbrev pub invariant-loop-object : goal.invariant-loop-object
 invariant-loop-object l =
-    GathersEntries l.request.problem.now l.request.tables.now l.request.wanted.now l.request.stack.now l.request.model.now.atoms
-    (IsMacroBefore l.request.problem.now.objects l.front.number l.front.count l.terms l.parameter l.object) l.initial.found.items l.found.items
+    GathersEntries l.front.request.problem.now l.front.request.tables.now l.front.request.wanted.now l.front.request.stack.now l.front.request.model.now.atoms
+    (IsMacroBefore l.front.request.problem.now.objects l.front.number l.front.count l.terms l.parameter l.object) l.initial.found.items l.found.items

@@ -7,5 +7,5 @@ decreases-keep_by_rows l = length l.numbers.now
 
 abbrev pub invariant-loop-choice : goal.invariant-loop-choice
 invariant-loop-choice l =
-    GathersEntries l.request.problem.now l.request.tables.now l.request.wanted.now l.request.stack.now l.request.model.now.atoms
-    (IsMacroAmong l.request.problem.now.objects l.front.number l.front.count l.terms (take l.choice-index l.choices) l.rows) l.initial.found.items l.found.items
+    GathersEntries l.front.request.problem.now l.front.request.tables.now l.front.request.wanted.now l.front.request.stack.now l.front.request.model.now.atoms
+    (IsMacroAmong l.front.request.problem.now.objects l.front.number l.front.count l.terms (take l.choice-index l.choices) l.rows) l.initial.found.items l.found.items

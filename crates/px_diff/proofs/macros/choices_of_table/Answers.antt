@@ -1,8 +1,8 @@
 use Rattle.std.proofs.Common.{◌≡◌, ◌∙◌, ℕ, length, ap, sym, subst, arith}
 use Rattle.std.specs.Prelude.{All}
 use Rattle.px_table.specs.Tables.{IsStepOf}
-use Rattle.px_diff.specs.Bindings.{AreUnbound, IsBinding}
-use Rattle.px_diff.proofs.Describing.{unbound-binding}
+use Rattle.px_gaps.specs.Bindings.{AreUnbound, IsBinding}
+use Rattle.px_gaps.proofs.Describing.{unbound-binding}
 use Rattle.px_diff.proofs.macros.choices_of_table.Goals as goal
 
 pub one_matches-requires-clause-steps : goal.one_matches-requires-clause-steps
@@ -14,15 +14,14 @@ pub one_matches-requires-clause-binding : goal.one_matches-requires-clause-bindi
 one_matches-requires-clause-binding c =
     subst (IsBinding c.args.request.now.problem.now.objects) (sym c.as_slice-terms.ensures.value) (unbound-binding c.args.request.now.problem.now.objects c.args.table.now.params c.in_ok-made.made.items c.in_ok-made.ensures (λ _. omega (arith, c.if-problem-eq0.false)))
 
-pub choices_of_rows-requires-clause-terms : goal.choices_of_rows-requires-clause-terms
-choices_of_rows-requires-clause-terms c = ap length c.as_slice-terms.ensures.value ∙ c.in_ok-made.ensures.count
-
-pub choices_of_rows-requires-clause-binding : goal.choices_of_rows-requires-clause-binding
-choices_of_rows-requires-clause-binding c =
-    subst (IsBinding c.args.request.now.problem.now.objects) (sym c.as_slice-terms.ensures.value) (unbound-binding c.args.request.now.problem.now.objects c.args.table.now.params c.in_ok-made.made.items c.in_ok-made.ensures (λ _. omega (arith, c.if-problem-eq0.false)))
-
-pub choices_of_rows-requires-clause-few_parameters : goal.choices_of_rows-requires-clause-few_parameters
-choices_of_rows-requires-clause-few_parameters c = omega (arith, c.if-table-gt4096.false)
+pub choices_of_rows-requires : goal.choices_of_rows-requires
+choices_of_rows-requires c = record {
+  valid = c.requires.problem;
+  is_table = c.requires.table;
+  long = ap length c.as_slice-terms.ensures.value ∙ c.in_ok-made.ensures.count;
+  binding = subst (IsBinding c.args.request.now.problem.now.objects) (sym c.as_slice-terms.ensures.value) (unbound-binding c.args.request.now.problem.now.objects c.args.table.now.params c.in_ok-made.made.items c.in_ok-made.ensures (λ _. omega (arith, c.if-problem-eq0.false)));
+  few = omega (arith, c.if-table-gt4096.false);
+}
 
 pub returns : goal.returns
 returns c = record {

@@ -7,47 +7,50 @@ use Rattle.px_table.specs.declared.entry.Entry.{Entry}
 use Rattle.px_table.specs.declared.entry.Entry.TheVariants.{Macro}
 use Rattle.px_terms.specs.declared.instance.OpInst.{OpInst}
 use Rattle.px_terms.specs.declared.term.Term.{Term}
-use Rattle.px_diff.specs.Bindings.{IsBinding, first_values}
-use Rattle.px_diff.specs.Closings.{OneOf}
+use Rattle.px_gaps.specs.Bindings.{IsBinding, first_values}
+use Rattle.px_gaps.specs.Closings.{OneOf}
 use Rattle.px_diff.specs.Macros.{GathersEntries, IsMacroBy, IsOfFront}
-use Rattle.px_diff.specs.Parameters.{IsMatch}
+use Rattle.px_entries.specs.Parameters.{IsMatch}
 use Rattle.px_diff.specs.RowQuestions.{AreTableChoices}
 use Rattle.px_diff.proofs.EntryLemmas.{entries_relevant}
 use Rattle.px_diff.proofs.FittingLemmas.{some_found}
 use Rattle.px_diff.proofs.GatherLemmas.{front-table, matches-as, told-same, wide-gather}
-use Rattle.px_diff.proofs.Loops.{on_ok}
+use Rattle.px_base.proofs.Loops.{on_ok}
 use Rattle.px_diff.proofs.MacroLemmas.{of_matches, of_zeros}
-use Rattle.px_diff.proofs.ParameterLemmas.{first-binding}
+use Rattle.px_entries.proofs.ParameterLemmas.{first-binding}
 use Rattle.px_diff.proofs.RowSplitting.{choices-long, limited-long, rows-taken}
 use Rattle.px_diff.proofs.macros.gather_front.Goals as goal
 
-pub returns-then-request-eq0-clause-gathers : goal.returns-then-request-eq0-clause-gathers
-returns-then-request-eq0-clause-gathers c =
-    let problem = c.args.request.now.problem.now in
-    let tables = c.args.request.now.tables.now in
-    let is_table = front-table problem tables c.args.front.now c.requires.tables c.requires.front.of_tables in
-    on_ok c.keep_open.result (entries_relevant c.args.request.now.problem.now c.args.request.now.tables.now c.args.request.now.wanted.now c.args.request.now.stack.now c.args.request.now.model.now.atoms (λ (entry : Entry). Macro c.args.front.now.number c.args.front.now.count c.deref.result.now ≡ entry) (IsOfFront c.args.front.now.number c.args.front.now.count) c.args.found.now.items c.keep_open.new.found.items
+pub returns-then-problem-eq0-clause-gathers : goal.returns-then-problem-eq0-clause-gathers
+returns-then-problem-eq0-clause-gathers c =
+    let problem = c.args.front.now.request.problem.now in
+    let tables = c.args.front.now.request.tables.now in
+    let is_table = front-table c.args.front.now c.requires.front in
+    on_ok c.keep_open.result (entries_relevant c.args.front.now.request.problem.now c.args.front.now.request.tables.now c.args.front.now.request.wanted.now c.args.front.now.request.stack.now c.args.front.now.request.model.now.atoms (λ (entry : Entry). Macro c.args.front.now.number c.args.front.now.count c.deref.result.now ≡ entry) (IsOfFront c.args.front.now.number c.args.front.now.count) c.args.found.now.items c.keep_open.new.found.items
     (λ entry relevant of. ap (λ (l : List ℕ). Macro c.args.front.now.number c.args.front.now.count l) (c.deref.ensures.value ∙ c.in_ok-sigma.ensures ∙ ap first_values c.as_slice-terms.ensures.value)
-    ∙ of_zeros problem tables c.args.request.now.wanted.now c.args.request.now.stack.now c.args.front.now.number c.args.front.now.count c.args.front.now.table.now c.requires.front.of_tables.table is_table c.in_ok-start.start.items c.in_ok-start.ensures c.if-request-eq0.true entry relevant of))
+    ∙ of_zeros problem tables c.args.front.now.request.wanted.now c.args.front.now.request.stack.now c.args.front.now.number c.args.front.now.count c.args.front.now.table.now c.requires.front.table is_table c.in_ok-start.start.items c.in_ok-start.ensures c.if-problem-eq0.true entry relevant of))
     c.keep_open.ensures.gathers
+
+pub macro_matches-requires-clause-problem : goal.macro_matches-requires-clause-problem
+macro_matches-requires-clause-problem c = c.requires.front.problem
 
 pub macro_matches-requires-clause-steps : goal.macro_matches-requires-clause-steps
 macro_matches-requires-clause-steps c =
-    let problem = c.args.request.now.problem.now in
+    let problem = c.args.front.now.request.problem.now in
     let table = c.args.front.now.table.now in
-    let is_table = front-table problem c.args.request.now.tables.now c.args.front.now c.requires.tables c.requires.front.of_tables in
+    let is_table = front-table c.args.front.now c.requires.front in
     let long : length c.as_slice-terms.result.now ≡ table.params = ap length c.as_slice-terms.ensures.value ∙ c.in_ok-start.ensures.count in
     subst (λ (n : ℕ). All (IsStepOf problem n) (take c.args.front.now.count c.as_slice.result.now)) (sym long)
     (subst (λ (l : List OpInst). All (IsStepOf problem table.params) (take c.args.front.now.count l)) (sym c.as_slice.ensures) (All-take (IsStepOf problem table.params) c.args.front.now.count table.steps is_table.in_range.steps))
 
 pub macro_matches-requires-clause-binding : goal.macro_matches-requires-clause-binding
 macro_matches-requires-clause-binding c =
-    let problem = c.args.request.now.problem.now in
-    subst (IsBinding problem.objects) (sym c.as_slice-terms.ensures.value) (first-binding problem c.args.front.now.table.now c.args.front.now.count c.in_ok-start.start.items c.in_ok-start.ensures (omega (arith, c.if-request-eq0.false)))
+    let problem = c.args.front.now.request.problem.now in
+    subst (IsBinding problem.objects) (sym c.as_slice-terms.ensures.value) (first-binding problem c.args.front.now.table.now c.args.front.now.count c.in_ok-start.start.items c.in_ok-start.ensures (omega (arith, c.if-problem-eq0.false)))
 
 pub keep_listed-requires-clause-matches : goal.keep_listed-requires-clause-matches
 keep_listed-requires-clause-matches c =
-    let problem = c.args.request.now.problem.now in
+    let problem = c.args.front.now.request.problem.now in
     let table = c.args.front.now.table.now in
     let long : length c.as_slice-terms.result.now ≡ table.params = ap length c.as_slice-terms.ensures.value ∙ c.in_ok-start.ensures.count in
     let all = c.in_ok-made.ensures.form (All-nil (IsMatch problem.objects (length c.as_slice-terms.result.now))) in
@@ -55,7 +58,7 @@ keep_listed-requires-clause-matches c =
 
 pub keep_matches-requires-clause-matches : goal.keep_matches-requires-clause-matches
 keep_matches-requires-clause-matches c =
-    let problem = c.args.request.now.problem.now in
+    let problem = c.args.front.now.request.problem.now in
     let table = c.args.front.now.table.now in
     let long : length c.as_slice-terms.result.now ≡ table.params = ap length c.as_slice-terms.ensures.value ∙ c.in_ok-start.ensures.count in
     let all = c.in_ok-made.ensures.form (All-nil (IsMatch problem.objects (length c.as_slice-terms.result.now))) in
@@ -63,52 +66,52 @@ keep_matches-requires-clause-matches c =
 
 pub keep_matches-requires-clause-rows : goal.keep_matches-requires-clause-rows
 keep_matches-requires-clause-rows c =
-    let problem = c.args.request.now.problem.now in
+    let problem = c.args.front.now.request.problem.now in
     let table = c.args.front.now.table.now in
     let found = c.in-Some.known in
-    let told = some_found (AreTableChoices problem c.args.request.now.model.now.atoms table) c.args.rows.now found c.in-Some.is c.requires.rows in
+    let told = some_found (AreTableChoices problem c.args.front.now.request.model.now.atoms table) c.args.rows.now found c.in-Some.is c.requires.rows in
     subst (λ (l : List (List (List Term))). All (All (λ (choice : List Term). length choice ≡ table.params)) (take c.args.front.now.count l)) (sym c.as_slice-in-Some.ensures)
-    (All-take (All (λ (choice : List Term). length choice ≡ table.params)) c.args.front.now.count found.choices (choices-long (setting_of problem c.args.request.now.model.now.atoms) table told.terms (length table.steps) found.choices found.limited told.known))
+    (All-take (All (λ (choice : List Term). length choice ≡ table.params)) c.args.front.now.count found.choices (choices-long (setting_of problem c.args.front.now.request.model.now.atoms) table told.terms (length table.steps) found.choices found.limited told.known))
 
 pub keep_matches-requires-clause-limited : goal.keep_matches-requires-clause-limited
 keep_matches-requires-clause-limited c =
-    let problem = c.args.request.now.problem.now in
+    let problem = c.args.front.now.request.problem.now in
     let table = c.args.front.now.table.now in
     let found = c.in-Some.known in
-    let told = some_found (AreTableChoices problem c.args.request.now.model.now.atoms table) c.args.rows.now found c.in-Some.is c.requires.rows in
+    let told = some_found (AreTableChoices problem c.args.front.now.request.model.now.atoms table) c.args.rows.now found c.in-Some.is c.requires.rows in
     subst (λ (l : List (List (List Term))). All (All (λ (choice : List Term). length choice ≡ table.params)) (take c.args.front.now.count l)) (sym c.as_slice-in-Some-2.ensures)
-    (All-take (All (λ (choice : List Term). length choice ≡ table.params)) c.args.front.now.count found.limited (limited-long (setting_of problem c.args.request.now.model.now.atoms) table told.terms (length table.steps) found.choices found.limited told.known))
+    (All-take (All (λ (choice : List Term). length choice ≡ table.params)) c.args.front.now.count found.limited (limited-long (setting_of problem c.args.front.now.request.model.now.atoms) table told.terms (length table.steps) found.choices found.limited told.known))
 
 pub returns-in-Some-clause-gathers : goal.returns-in-Some-clause-gathers
 returns-in-Some-clause-gathers c =
-    let problem = c.args.request.now.problem.now in
-    let tables = c.args.request.now.tables.now in
-    let wanted = c.args.request.now.wanted.now in
-    let stack = c.args.request.now.stack.now in
-    let model = c.args.request.now.model.now.atoms in
+    let problem = c.args.front.now.request.problem.now in
+    let tables = c.args.front.now.request.tables.now in
+    let wanted = c.args.front.now.request.wanted.now in
+    let stack = c.args.front.now.request.stack.now in
+    let model = c.args.front.now.request.model.now.atoms in
     let table = c.args.front.now.table.now in
     let number = c.args.front.now.number in
     let count = c.args.front.now.count in
     let s = setting_of problem model in
-    let is_table = front-table problem tables c.args.front.now c.requires.tables c.requires.front.of_tables in
+    let is_table = front-table c.args.front.now c.requires.front in
     let found = c.in-Some.known in
     let told = some_found (AreTableChoices problem model table) c.args.rows.now found c.in-Some.is c.requires.rows in
-    let known = rows-taken s table told.terms (length table.steps) count found.choices found.limited c.requires.front.of_tables.within told.known in
+    let known = rows-taken s table told.terms (length table.steps) count found.choices found.limited c.requires.front.within told.known in
     let matched = matches-as problem wanted count c.as_slice-terms.result.now c.in_ok-start.start.items c.as_slice.result.now table.steps c.in_ok-made.made.items c.as_slice-terms.ensures.value c.as_slice.ensures c.in_ok-made.ensures in
     on_ok c.keep_matches.result (λ gathers.
-    wide-gather problem tables wanted stack number count table c.requires.front.of_tables.table is_table model told.set told.terms told.unbound told.some_object (take count found.choices) (take count found.limited) known c.in_ok-start.start.items c.in_ok-start.ensures c.in_ok-made.made.items matched c.args.found.now.items
+    wide-gather problem tables wanted stack number count table c.requires.front.table is_table model told.set told.terms told.unbound told.some_object (take count found.choices) (take count found.limited) known c.in_ok-start.start.items c.in_ok-start.ensures c.in_ok-made.made.items matched c.args.found.now.items
     c.keep_matches.new.found.items
     (told-same problem tables wanted stack model number count c.as_slice-matches.result.now c.in_ok-made.made.items c.as_slice-in-Some.result.now found.choices c.as_slice-in-Some-2.result.now found.limited c.args.found.now.items c.keep_matches.new.found.items c.as_slice-matches.ensures.value c.as_slice-in-Some.ensures c.as_slice-in-Some-2.ensures
     gathers)) c.keep_matches.ensures.gathers
 
 pub returns-clause-gathers : goal.returns-clause-gathers
 returns-clause-gathers c =
-    let problem = c.args.request.now.problem.now in
-    let tables = c.args.request.now.tables.now in
-    let wanted = c.args.request.now.wanted.now in
+    let problem = c.args.front.now.request.problem.now in
+    let tables = c.args.front.now.request.tables.now in
+    let wanted = c.args.front.now.request.wanted.now in
     let table = c.args.front.now.table.now in
-    let is_table = front-table problem tables c.args.front.now c.requires.tables c.requires.front.of_tables in
+    let is_table = front-table c.args.front.now c.requires.front in
     let matched = matches-as problem wanted c.args.front.now.count c.as_slice-terms.result.now c.in_ok-start.start.items c.as_slice.result.now table.steps c.in_ok-made.made.items c.as_slice-terms.ensures.value c.as_slice.ensures c.in_ok-made.ensures in
-    on_ok c.keep_listed.result (λ gathers. entries_relevant c.args.request.now.problem.now c.args.request.now.tables.now c.args.request.now.wanted.now c.args.request.now.stack.now c.args.request.now.model.now.atoms (λ (entry : Entry). OneOf c.in_ok-made.made.items (λ (terms : List Term). IsMacroBy problem.objects c.args.front.now.number c.args.front.now.count terms entry)) (IsOfFront c.args.front.now.number c.args.front.now.count) c.args.found.now.items c.keep_listed.new.found.items
-    (of_matches problem tables wanted c.args.request.now.stack.now c.args.front.now.number c.args.front.now.count table c.requires.front.of_tables.table is_table c.in_ok-start.start.items c.in_ok-start.ensures c.in_ok-made.made.items (omega (arith, c.if-request-eq0.false)) matched)
-    (subst (λ (l : List (List Term)). GathersEntries c.args.request.now.problem.now c.args.request.now.tables.now c.args.request.now.wanted.now c.args.request.now.stack.now c.args.request.now.model.now.atoms (λ (entry : Entry). OneOf l (λ (terms : List Term). IsMacroBy problem.objects c.args.front.now.number c.args.front.now.count terms entry)) c.args.found.now.items c.keep_listed.new.found.items) c.as_slice-matches.ensures.value gathers)) c.keep_listed.ensures.gathers
+    on_ok c.keep_listed.result (λ gathers. entries_relevant c.args.front.now.request.problem.now c.args.front.now.request.tables.now c.args.front.now.request.wanted.now c.args.front.now.request.stack.now c.args.front.now.request.model.now.atoms (λ (entry : Entry). OneOf c.in_ok-made.made.items (λ (terms : List Term). IsMacroBy problem.objects c.args.front.now.number c.args.front.now.count terms entry)) (IsOfFront c.args.front.now.number c.args.front.now.count) c.args.found.now.items c.keep_listed.new.found.items
+    (of_matches problem tables wanted c.args.front.now.request.stack.now c.args.front.now.number c.args.front.now.count table c.requires.front.table is_table c.in_ok-start.start.items c.in_ok-start.ensures c.in_ok-made.made.items (omega (arith, c.if-problem-eq0.false)) matched)
+    (subst (λ (l : List (List Term)). GathersEntries c.args.front.now.request.problem.now c.args.front.now.request.tables.now c.args.front.now.request.wanted.now c.args.front.now.request.stack.now c.args.front.now.request.model.now.atoms (λ (entry : Entry). OneOf l (λ (terms : List Term). IsMacroBy problem.objects c.args.front.now.number c.args.front.now.count terms entry)) c.args.found.now.items c.keep_listed.new.found.items) c.as_slice-matches.ensures.value gathers)) c.keep_listed.ensures.gathers

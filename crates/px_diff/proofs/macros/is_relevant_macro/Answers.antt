@@ -4,42 +4,45 @@ use Rattle.px_table.specs.Kernels.{steps_under}
 use Rattle.px_table.specs.declared.entry.Entry.{Entry}
 use Rattle.px_terms.specs.Validity.{IsInstanceOf}
 use Rattle.px_terms.specs.declared.instance.OpInst.{OpInst}
-use Rattle.px_diff.specs.Closings.{OneOf}
+use Rattle.px_gaps.specs.Closings.{OneOf}
 use Rattle.px_terms.specs.Operators.{IsAdded}
 use Rattle.px_diff.specs.Pushes.{IsRelevant}
 use Rattle.px_diff.proofs.GatherLemmas.{front-table}
-use Rattle.px_diff.proofs.Loops.{is_false, said_no, said_yes}
+use Rattle.px_base.proofs.Loops.{is_false, said_no, said_yes}
 use Rattle.px_diff.proofs.MacroLemmas.{macro_adds, prefix-instances, relevance_macro}
-use Rattle.px_diff.proofs.RowSteps.{steps-variables}
+use Rattle.px_entries.proofs.RowSteps.{steps-variables}
 use Rattle.px_diff.proofs.macros.is_relevant_macro.Goals as goal
 
 pub returns-then-is_stacked : goal.returns-then-is_stacked
 returns-then-is_stacked c = is_false (λ relevant. relevant.fresh (said_yes c.is_stacked.result c.is_stacked.ensures c.if-is_stacked.true))
 
 pub steps_with-requires-clause-prefix : goal.steps_with-requires-clause-prefix
-steps_with-requires-clause-prefix c = c.requires.front.of_tables.within
+steps_with-requires-clause-prefix c = c.requires.front.within
 
 pub steps_with-requires-clause-steps : goal.steps_with-requires-clause-steps
 steps_with-requires-clause-steps c =
-    steps-variables c.args.request.now.problem.now c.args.front.now.table.now c.args.sigma.now (front-table c.args.request.now.problem.now c.args.request.now.tables.now c.args.front.now c.requires.tables c.requires.front.of_tables) c.requires.sigma.count
+    steps-variables c.args.front.now.request.problem.now c.args.front.now.table.now c.args.sigma.now (front-table c.args.front.now c.requires.front) c.requires.sigma.count
+
+pub add_wanted-requires-clause-problem : goal.add_wanted-requires-clause-problem
+add_wanted-requires-clause-problem c = c.requires.front.problem
 
 pub add_wanted-requires-clause-steps : goal.add_wanted-requires-clause-steps
 add_wanted-requires-clause-steps c =
-    subst (All (IsInstanceOf c.args.request.now.problem.now)) (sym (c.deref.ensures.value ∙ c.in_ok-steps.ensures))
-    (prefix-instances c.args.request.now.problem.now c.args.front.now.table.now c.args.front.now.count c.args.sigma.now (front-table c.args.request.now.problem.now c.args.request.now.tables.now c.args.front.now c.requires.tables c.requires.front.of_tables) c.requires.sigma)
+    subst (All (IsInstanceOf c.args.front.now.request.problem.now)) (sym (c.deref.ensures.value ∙ c.in_ok-steps.ensures))
+    (prefix-instances c.args.front.now.request.problem.now c.args.front.now.table.now c.args.front.now.count c.args.sigma.now (front-table c.args.front.now c.requires.front) c.requires.sigma)
 
 pub returns : goal.returns
 returns c =
-    let problem = c.args.request.now.problem.now in
-    let tables = c.args.request.now.tables.now in
-    let wanted = c.args.request.now.wanted.now in
-    let stack = c.args.request.now.stack.now in
+    let problem = c.args.front.now.request.problem.now in
+    let tables = c.args.front.now.request.tables.now in
+    let wanted = c.args.front.now.request.wanted.now in
+    let stack = c.args.front.now.request.stack.now in
     let table = c.args.front.now.table.now in
-    let is_table = front-table problem tables c.args.front.now c.requires.tables c.requires.front.of_tables in
+    let is_table = front-table c.args.front.now c.requires.front in
     let same = c.deref.ensures.value ∙ c.in_ok-steps.ensures in
     let adds : IsTrue c.add_wanted.result ↔ OneOf wanted (IsAdded problem (take c.args.front.now.count (steps_under table c.args.sigma.now))) = subst (λ (l : List OpInst). IsTrue c.add_wanted.result ↔ OneOf wanted (IsAdded problem l)) same c.add_wanted.ensures in (
       λ yes'. subst (IsRelevant problem tables wanted stack) (sym c.requires.entry)
-          (relevance_macro problem tables wanted stack c.args.front.now.number c.args.front.now.count table c.requires.front.of_tables.table is_table c.args.sigma.now c.requires.sigma
-          (subst (λ (e : Entry). Contains stack e → ⊥) c.requires.entry (said_no c.is_stacked.result c.is_stacked.ensures c.if-is_stacked.false)) (adds.0 yes')),
-      λ relevant. adds.1 (macro_adds problem tables wanted stack c.args.front.now.number c.args.front.now.count table c.requires.front.of_tables.table is_table c.args.sigma.now (subst (IsRelevant problem tables wanted stack) c.requires.entry relevant)),
+          (relevance_macro problem tables wanted stack c.args.front.now.number c.args.front.now.count table c.requires.front.table is_table c.args.sigma.now c.requires.sigma
+          (subst (λ (e : Entry). ¬ Contains stack e) c.requires.entry (said_no c.is_stacked.result c.is_stacked.ensures c.if-is_stacked.false)) (adds.0 yes')),
+      λ relevant. adds.1 (macro_adds problem tables wanted stack c.args.front.now.number c.args.front.now.count table c.requires.front.table is_table c.args.sigma.now (subst (IsRelevant problem tables wanted stack) c.requires.entry relevant)),
     )

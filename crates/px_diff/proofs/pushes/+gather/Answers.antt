@@ -1,12 +1,28 @@
 use Rattle.std.proofs.Common.{◌≡◌, ◌<◌, ◌+◌, ℕ, List, sym, ◌∙◌, subst, inl, inr, arith}
 use Rattle.std.specs.Prelude.{All, slice_index}
+use Rattle.px_prover.proofs.PatternLists.{patterns-are}
+use Rattle.px_prover.specs.PatternLists.{lists_of}
+use Rattle.px_question.specs.Settings.{setting_of}
+use Rattle.px_terms.specs.declared.atom.Atom.{Atom}
 use Rattle.px_terms.specs.declared.instance.OpInst.{OpInst}
+use Rattle.px_terms.specs.Operators.{precondition}
 use Rattle.px_terms.specs.Validity.{IsAtomOf}
-use Rattle.px_diff.specs.Instances.{Fills, StandsFor}
+use Rattle.px_gaps.specs.GapAnswers.{IsGapAnswer}
+use Rattle.px_entries.specs.Instances.{Fills, StandsFor}
+use Rattle.px_entries.specs.Rest.{IsRestAnswer}
+use Rattle.px_gaps.proofs.Describing.{answer-listed}
+use Rattle.px_diff.proofs.FittingLemmas.{some_found}
+use Rattle.px_gaps.proofs.GapLemmas.{none-provable}
+use Rattle.px_diff.proofs.Opening.{all-gathered}
+use Rattle.px_entries.proofs.RestLaws.{rest-all}
+use Rattle.px_diff.proofs.RestOpening.{rest-gathered}
 use Rattle.px_diff.proofs.Gathered.{gathers_less, gathers_part}
-use Rattle.px_diff.proofs.Loops.{level_or_below, on_ok}
-use Rattle.px_diff.proofs.PartialLemmas.{needs-are, stands-closed}
+use Rattle.px_base.proofs.Loops.{level_or_below, on_ok}
+use Rattle.px_entries.proofs.PartialLemmas.{needs-are, stands-closed}
 use Rattle.px_diff.proofs.pushes.+gather.Goals as goal
+
+pub precondition_of-requires-clause-count : goal.precondition_of-requires-clause-count
+precondition_of-requires-clause-count t c = c.requires.partial.count
 
 pub rest_answer-requires-clause-formula : goal.rest_answer-requires-clause-formula
 rest_answer-requires-clause-formula t c =
@@ -15,6 +31,44 @@ rest_answer-requires-clause-formula t c =
 pub ask_gaps-requires-clause-formula : goal.ask_gaps-requires-clause-formula
 ask_gaps-requires-clause-formula t c =
     subst (All (IsAtomOf c.args.request.now.problem.now c.args.partial.now.vars)) (sym (c.deref-2.ensures.value ∙ c.in_ok-formula.ensures)) (needs-are c.args.request.now.problem.now c.args.partial.now c.requires.problem c.requires.partial)
+
+pub keep_open-requires-clause-answer : goal.keep_open-requires-clause-answer
+keep_open-requires-clause-answer t c =
+    let problem = c.args.request.now.problem.now in
+    let partial = c.args.partial.now in
+    let rest = subst (λ (l : List Atom). IsRestAnswer problem c.args.request.now.model.now.atoms l partial.vars c.in-Some.answer.patterns.items c.in-Some.answer.provable.atoms) (c.deref.ensures.value ∙ c.in_ok-formula.ensures)
+    (some_found (λ answer. IsRestAnswer problem c.args.request.now.model.now.atoms c.deref.result.now partial.vars answer.patterns.items answer.provable.atoms) c.in_ok-answer.field-0 c.in-Some.answer c.in-Some.is c.in_ok-answer.ensures) in
+    (rest.rest, rest-all (IsAtomOf problem partial.vars) problem (precondition problem partial.inst) rest.rest rest.is_rest (needs-are problem partial c.requires.problem c.requires.partial), rest.answer)
+
+pub returns-in-Some-clause-gathers : goal.returns-in-Some-clause-gathers
+returns-in-Some-clause-gathers t c =
+    let problem = c.args.request.now.problem.now in
+    let partial = c.args.partial.now in
+    let patterns = c.in-Some.answer.patterns.items in
+    let provable = c.in-Some.answer.provable.atoms in
+    let model = c.args.request.now.model.now.atoms in
+    let rest = subst (λ (l : List Atom). IsRestAnswer problem model l partial.vars patterns provable) (c.deref.ensures.value ∙ c.in_ok-formula.ensures)
+    (some_found (λ answer. IsRestAnswer problem model c.deref.result.now partial.vars answer.patterns.items answer.provable.atoms) c.in_ok-answer.field-0 c.in-Some.answer c.in-Some.is c.in_ok-answer.ensures) in
+    let listed = patterns-are (setting_of problem model) rest.rest partial.vars patterns rest.answer.all in
+    rest-gathered problem c.requires.problem model partial c.requires.partial rest.rest rest.is_rest (lists_of problem.objects patterns) listed provable
+    (none-provable (setting_of problem model) rest.rest partial.vars patterns provable rest.answer)
+    c.args.request.now.tables.now c.args.request.now.wanted.now c.args.request.now.stack.now c.atoms-facts.ensures.model.ascending rest.few rest.answer.unlimited c.args.found.now.items c.keep_open.new.found.items c.in_ok-keep_open-in-Some.ensures
+
+pub keep_open-requires-in-Ok-clause-answer : goal.keep_open-requires-in-Ok-clause-answer
+keep_open-requires-in-Ok-clause-answer t c =
+    (c.deref-2.result.now, subst (All (IsAtomOf c.args.request.now.problem.now c.args.partial.now.vars)) (sym (c.deref-2.ensures.value ∙ c.in_ok-formula.ensures)) (needs-are c.args.request.now.problem.now c.args.partial.now c.requires.problem c.requires.partial), c.in-Ok.ensures.answer)
+
+pub returns-in-Ok-clause-gathers : goal.returns-in-Ok-clause-gathers
+returns-in-Ok-clause-gathers t c =
+    let problem = c.args.request.now.problem.now in
+    let partial = c.args.partial.now in
+    let patterns = c.in-Ok.answer.patterns.items in
+    let provable = c.in-Ok.answer.provable.atoms in
+    let s = setting_of problem c.args.request.now.model.now.atoms in
+    let answer = subst (λ (l : List Atom). IsGapAnswer s l partial.vars patterns provable) (c.deref-2.ensures.value ∙ c.in_ok-formula.ensures) c.in-Ok.ensures.answer in
+    all-gathered problem c.requires.problem c.args.request.now.model.now.atoms partial c.requires.partial (lists_of problem.objects patterns) (answer-listed s (precondition problem partial.inst) partial.vars patterns provable answer) provable
+    (none-provable s (precondition problem partial.inst) partial.vars patterns provable answer)
+    c.args.request.now.tables.now c.args.request.now.wanted.now c.args.request.now.stack.now answer.unlimited c.args.found.now.items c.keep_open-in-Ok.new.found.items c.in_ok-keep_open-in-Ok.ensures
 
 pub returns-then-partial-eq0-clause-gathers : goal.returns-then-partial-eq0-clause-gathers
 returns-then-partial-eq0-clause-gathers t c =

@@ -2,7 +2,7 @@ use Rattle.std.proofs.Common.{◌<◌, ℕ, List}
 use Rattle.std.specs.Prelude.{slice_index}
 use Rattle.px_terms.specs.declared.instance.OpInst.{OpInst}
 use Rattle.px_diff.specs.Gathering.{Gathers}
-use Rattle.px_diff.specs.Instances.{Fills}
+use Rattle.px_entries.specs.Instances.{Fills}
 use Rattle.px_diff.proofs.pushes.+gather.Given as goal
 
 abbrev pub decreases-gather : goal.decreases-gather

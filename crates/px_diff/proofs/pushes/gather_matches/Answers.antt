@@ -1,8 +1,8 @@
 use Rattle.std.proofs.Common.{◌+◌, take}
-use Rattle.px_diff.specs.Instances.{IsCovered, StandsFor}
-use Rattle.px_diff.specs.declared.partial.PartialInstance.{PartialInstance}
+use Rattle.px_entries.specs.Instances.{IsCovered, StandsFor}
+use Rattle.px_entries.specs.declared.partial.PartialInstance.{PartialInstance}
 use Rattle.px_diff.proofs.Gathered.{gathers_part}
-use Rattle.px_diff.proofs.Grows.{one_next}
+use Rattle.px_gaps.proofs.Grows.{one_next}
 use Rattle.px_diff.proofs.pushes.gather_matches.Goals as goal
 
 pub loop-partial-preserved : goal.loop-partial-preserved

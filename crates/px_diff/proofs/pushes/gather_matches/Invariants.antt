@@ -1,6 +1,6 @@
 use Rattle.std.proofs.Common.{take}
 use Rattle.px_diff.specs.Gathering.{Gathers}
-use Rattle.px_diff.specs.Instances.{IsCovered}
+use Rattle.px_entries.specs.Instances.{IsCovered}
 use Rattle.px_diff.proofs.pushes.gather_matches.Given as goal
 
 abbrev pub invariant-loop-partial : goal.invariant-loop-partial

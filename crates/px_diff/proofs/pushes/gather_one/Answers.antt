@@ -8,26 +8,27 @@ use Rattle.px_question.specs.Settings.{setting_of}
 use Rattle.px_terms.specs.declared.atom.Atom.{Atom}
 use Rattle.px_terms.specs.Validity.{IsAtomOf}
 use Rattle.px_terms.specs.ValidityLaws.{precondition-is_of}
-use Rattle.px_diff.specs.Entries.{HasAnswer}
-use Rattle.px_diff.specs.Questions.{LimitsRelevant}
+use Rattle.px_gaps.specs.Needs.{HasAnswer}
+use Rattle.px_diff.specs.Pushes.{LimitsRelevant}
 use Rattle.px_diff.proofs.Gathered.{gathers_one}
-use Rattle.px_diff.proofs.Limits.{limit_weaker}
-use Rattle.px_diff.proofs.Loops.{said_yes}
-use Rattle.px_diff.proofs.Opening.{answered_unlimited, limits_finding, limits_proving, needed_by, open_one}
+use Rattle.px_gaps.proofs.Limits.{limit_weaker}
+use Rattle.px_base.proofs.Loops.{said_yes}
+use Rattle.px_diff.proofs.Opening.{limits_finding, limits_proving}
+use Rattle.px_entries.proofs.OpenNeeds.{answered_unlimited, needed_by, open_one}
 use Rattle.px_diff.proofs.pushes.gather_one.Goals as goal
 
 pub prove-requires-clause-formula : goal.prove-requires-clause-formula
 prove-requires-clause-formula c = subst (All (IsAtomOf c.args.request.now.problem.now 0)) (sym c.requires.formula) (precondition-is_of c.args.request.now.problem.now c.args.inst.now c.requires.problem c.requires.inst)
 
-pub returns-in_ok-keep-in-Ok-clause-gathers : goal.returns-in_ok-keep-in-Ok-clause-gathers
-returns-in_ok-keep-in-Ok-clause-gathers c =
+pub returns-in_ok-push-in-Ok-clause-gathers : goal.returns-in_ok-push-in-Ok-clause-gathers
+returns-in_ok-push-in-Ok-clause-gathers c =
     let problem = c.args.request.now.problem.now in
     let model = c.args.request.now.model.now.atoms in
     let inst = c.args.inst.now in
     let s = setting_of problem model in
     let relevant = said_yes c.is_relevant.result c.is_relevant.ensures c.if-not-is_relevant.false in
     let answer : HasAnswer problem (needed_by problem model inst) = subst (λ (l : List Atom). IsAnswer s l 0) c.requires.formula (_, _, c.in-Ok.ensures.first.finished) in
-    gathers_one problem c.args.request.now.tables.now c.args.request.now.wanted.now c.args.request.now.stack.now model inst c.args.found.now.items c.keep.new.found.items c.in_ok-keep-in-Ok.ensures
+    gathers_one problem c.args.request.now.tables.now c.args.request.now.wanted.now c.args.request.now.stack.now model inst c.args.found.now.items c.push.new.items.items c.in_ok-push-in-Ok.ensures.ok
     (record { relevant = relevant; open_entry = open_one problem model inst (inl answer) })
     (answered_unlimited problem model inst answer (λ shapes limited. c.in-Ok.ensures.few shapes (subst (λ (l : List Atom). IsLimited s l 0 shapes) (sym c.requires.formula) limited)))
 

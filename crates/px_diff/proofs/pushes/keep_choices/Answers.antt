@@ -2,11 +2,11 @@ use Rattle.std.proofs.Common.{◌≡◌, ◌⊎◌, ℕ, List, sym, subst, arith
 use Rattle.std.specs.Prelude.{◌↔◌, Contains}
 use Rattle.std.proofs.lemmas.List.{take_all}
 use Rattle.px_base.specs.ListLaws.{All-at}
-use Rattle.px_diff.specs.Closings.{OneOf}
+use Rattle.px_gaps.specs.Closings.{OneOf}
 use Rattle.px_diff.specs.Gathering.{AreObjectsFor, instance_by}
 use Rattle.px_diff.specs.Requests.{IsRelevantFor}
-use Rattle.px_diff.proofs.Grows.{grouped, grown, one_next}
-use Rattle.px_diff.proofs.Loops.{contains_here}
+use Rattle.px_gaps.proofs.Grows.{grouped, grown, one_next}
+use Rattle.px_base.proofs.Loops.{contains_here}
 use Rattle.px_diff.proofs.pushes.keep_choices.Goals as goal
 
 pub keep_relevant-requires-clause-objects : goal.keep_relevant-requires-clause-objects

@@ -1,6 +1,6 @@
 use Rattle.std.specs.Prelude.{◌≡◌, ◌↔◌, ◌⊎◌, ℕ, List, take, Contains}
 use Rattle.px_terms.specs.declared.instance.OpInst.{OpInst}
-use Rattle.px_diff.specs.Closings.{OneOf}
+use Rattle.px_gaps.specs.Closings.{OneOf}
 use Rattle.px_diff.specs.Gathering.{instance_by}
 use Rattle.px_diff.specs.Requests.{IsRelevantFor}
 use Rattle.px_diff.proofs.pushes.keep_choices.Given as goal

@@ -5,11 +5,11 @@ use Rattle.px_prover.specs.PatternLists.{lists_of}
 use Rattle.px_prover.specs.declared.pattern.GapPattern.{GapPattern}
 use Rattle.px_question.specs.Settings.{setting_of}
 use Rattle.px_terms.specs.declared.atom.Atom.{Atom}
-use Rattle.px_diff.specs.Closings.{IsChosenIn}
-use Rattle.px_diff.specs.Described.{IsPlainPattern}
+use Rattle.px_gaps.specs.Closings.{IsChosenIn}
+use Rattle.px_gaps.specs.Described.{IsPlainPattern}
 use Rattle.px_diff.specs.Requests.{IsRelevantFor}
-use Rattle.px_diff.proofs.Describing.{patterns-plain, provable-ground, then-same}
-use Rattle.px_diff.proofs.Loops.{on_ok}
+use Rattle.px_gaps.proofs.Describing.{patterns-plain, provable-ground, then-same}
+use Rattle.px_base.proofs.Loops.{on_ok}
 use Rattle.px_diff.proofs.Opening.{chosen-for, chosen-open}
 use Rattle.px_diff.proofs.RestOpening.{stands-by}
 use Rattle.px_diff.proofs.pushes.keep_open.Goals as goal

@@ -1,7 +1,7 @@
 use Rattle.std.proofs.Common.{sym, subst}
 use Rattle.std.specs.Prelude.{All}
 use Rattle.px_terms.specs.Validity.{IsAtomOf}
-use Rattle.px_diff.proofs.RestLaws.{rest-all}
+use Rattle.px_entries.proofs.RestLaws.{rest-all}
 use Rattle.px_diff.proofs.rest.rest_answer.Goals as goal
 
 pub ask_gaps-requires-clause-formula : goal.ask_gaps-requires-clause-formula

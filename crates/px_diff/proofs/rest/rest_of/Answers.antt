@@ -1,6 +1,6 @@
 use Rattle.std.proofs.Common.{◌∙◌, ap}
-use Rattle.px_diff.proofs.Loops.{said_no, said_yes}
-use Rattle.px_diff.proofs.RestLaws.{rest-next_kept, rest-next_left}
+use Rattle.px_base.proofs.Loops.{said_no, said_yes}
+use Rattle.px_entries.proofs.RestLaws.{rest-next_kept, rest-next_left}
 use Rattle.px_diff.proofs.rest.rest_of.Goals.{then-not-is_only_added+in_ok-push, else-not-is_only_added}
 use Rattle.px_diff.proofs.rest.rest_of.Goals as goal
 

@@ -1,5 +1,5 @@
 use Rattle.std.proofs.Common.{take}
-use Rattle.px_diff.specs.Rest.{IsRest}
+use Rattle.px_entries.specs.Rest.{IsRest}
 use Rattle.px_diff.proofs.rest.rest_of.Given as goal
 
 abbrev pub invariant-loop-atom : goal.invariant-loop-atom

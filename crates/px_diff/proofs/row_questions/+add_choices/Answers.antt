@@ -4,8 +4,8 @@ use Rattle.std.proofs.lemmas.Option.{slice_get_within}
 use Rattle.px_question.specs.Settings.{setting_of}
 use Rattle.px_terms.specs.declared.term.Term.{Term}
 use Rattle.px_terms.specs.declared.term.Term.TheVariants.{Obj, Var}
-use Rattle.px_diff.specs.Bindings.{IsBinding, open_count}
-use Rattle.px_diff.proofs.Choosing.{bound-binding, count-falls}
+use Rattle.px_gaps.specs.Bindings.{IsBinding, open_count}
+use Rattle.px_gaps.proofs.Choosing.{bound-binding, count-falls}
 use Rattle.px_diff.proofs.RowSplitting.{asked-all, asked-next, asked-none, widens-next, widens-none}
 use Rattle.px_diff.proofs.row_questions.+add_choices.Goals as goal
 
@@ -21,36 +21,33 @@ add_choices-requires t c =
     let less : open_count c.deref.result.now < open_count terms = subst (λ (ts : List Term). open_count ts < open_count terms) (sym next_is) (count-falls terms v v object c.in-Some.ensures) in (
       omega (arith, less, c.decreases),
       (
-        c.requires.problem,
-        (
-          c.requires.table,
-          (
-            ap length next_is ∙ length-set terms v (Obj object) ∙ c.requires.terms,
-            (
-              subst (IsBinding c.args.problem.now.objects) (sym next_is) (bound-binding c.args.problem.now.objects terms v c.in-Some.ensures object c.requires.binding c.loop-object-test.true),
-              (c.requires.few_parameters, c.loop-object.invariant.choices.long c.requires.choices),
-            ),
-          ),
-        ),
+        record {
+          valid = c.requires.asked.valid;
+          is_table = c.requires.asked.is_table;
+          long = ap length next_is ∙ length-set terms v (Obj object) ∙ c.requires.asked.long;
+          binding = subst (IsBinding c.args.question.now.problem.now.objects) (sym next_is) (bound-binding c.args.question.now.problem.now.objects terms v c.in-Some.ensures object c.requires.asked.binding c.loop-object-test.true);
+          few = c.requires.asked.few;
+        },
+        c.loop-object.invariant.choices.long c.requires.choices,
       ),
     )
 
 pub loop-object-init : goal.loop-object-init
 loop-object-init t c = record {
   choices = c.in_ok-ask_choices.ensures.widens;
-  limited = widens-none c.args.table.now.params c.args.limited.now.items;
-  known = asked-none (setting_of c.args.problem.now c.args.model.now.atoms) c.args.table.now c.args.row c.args.problem.now.objects c.args.terms.now c.in-Some.parameter c.in-Some.ensures c.ask_choices.new.choices.items c.args.limited.now.items;
+  limited = widens-none c.args.question.now.table.now.params c.args.limited.now.items;
+  known = asked-none (setting_of c.args.question.now.problem.now c.args.question.now.model.now.atoms) c.args.question.now.table.now c.args.question.now.row c.args.question.now.problem.now.objects c.args.terms.now c.in-Some.parameter c.in-Some.ensures c.ask_choices.new.choices.items c.args.limited.now.items;
 }
 
 pub loop-object-preserved : goal.loop-object-preserved
 loop-object-preserved t c =
-    let table = c.args.table.now in
+    let table = c.args.question.now.table.now in
     let here = c.in_ok-add_choices.ensures in
     let before = c.loop-object.invariant in record {
       choices = widens-next table.params c.args.choices.now.items c.loop-object.choices.items c.add_choices.new.choices.items before.choices here.choices;
       limited = widens-next table.params c.args.limited.now.items c.loop-object.limited.items c.add_choices.new.limited.items before.limited here.limited;
       known =
-          asked-next (setting_of c.args.problem.now c.args.model.now.atoms) table c.args.row c.args.problem.now.objects c.args.terms.now c.in-Some.parameter c.in-Some.ensures c.loop-object.object c.deref.result.now c.loop-object.choices.items c.loop-object.limited.items c.add_choices.new.choices.items
+          asked-next (setting_of c.args.question.now.problem.now c.args.question.now.model.now.atoms) table c.args.question.now.row c.args.question.now.problem.now.objects c.args.terms.now c.in-Some.parameter c.in-Some.ensures c.loop-object.object c.deref.result.now c.loop-object.choices.items c.loop-object.limited.items c.add_choices.new.choices.items
           c.add_choices.new.limited.items (c.deref.ensures.value ∙ c.in_ok-next.ensures) here.choices here.limited before.known here.known;
     }
 
@@ -62,5 +59,5 @@ returns-clause-limited t c = c.loop-object.invariant.limited
 
 pub returns-clause-known : goal.returns-clause-known
 returns-clause-known t c =
-    asked-all (setting_of c.args.problem.now c.args.model.now.atoms) c.args.table.now c.args.row c.args.problem.now.objects c.args.terms.now c.in-Some.parameter c.in-Some.ensures c.loop-object.object c.loop-object.choices.items c.loop-object.limited.items c.loop-object-test.false
+    asked-all (setting_of c.args.question.now.problem.now c.args.question.now.model.now.atoms) c.args.question.now.table.now c.args.question.now.row c.args.question.now.problem.now.objects c.args.terms.now c.in-Some.parameter c.in-Some.ensures c.loop-object.object c.loop-object.choices.items c.loop-object.limited.items c.loop-object-test.false
     c.loop-object.invariant.known

@@ -2,9 +2,9 @@ use Rattle.std.proofs.Common.{◌≡◌, List, sym, subst}
 use Rattle.std.specs.Prelude.{◌↔◌, Contains}
 use Rattle.px_prover.specs.declared.pattern.GapPattern.{GapPattern}
 use Rattle.px_terms.specs.declared.atom.Atom.{Atom}
-use Rattle.px_diff.specs.Closings.{OneOf}
-use Rattle.px_diff.specs.Forms.{form_by}
-use Rattle.px_diff.proofs.Describing.{forms-are}
+use Rattle.px_gaps.specs.Closings.{OneOf}
+use Rattle.px_gaps.specs.Forms.{form_by}
+use Rattle.px_gaps.proofs.Describing.{forms-are}
 use Rattle.px_diff.proofs.RowAnswerLemmas.{row-answer}
 use Rattle.px_diff.proofs.row_questions.ask_row.Goals as goal
 

@@ -3,8 +3,8 @@ use Rattle.px_base.specs.ListLaws.{All-at}
 use Rattle.px_question.specs.Limits.{AreFewGapShapes}
 use Rattle.px_question.specs.Settings.{setting_of}
 use Rattle.px_terms.specs.declared.atom.Atom.{Atom}
-use Rattle.px_diff.specs.Forms.{IsForm}
-use Rattle.px_diff.proofs.Loops.{all_before_next, contains_here}
+use Rattle.px_gaps.specs.Forms.{IsForm}
+use Rattle.px_base.proofs.Loops.{all_before_next, contains_here}
 use Rattle.px_diff.proofs.row_questions.have_few.Goals as goal
 
 pub has_few-requires-clause-form : goal.has_few-requires-clause-form

@@ -1,8 +1,8 @@
 use Rattle.std.proofs.Common.{◌≡◌, ◌∙◌, List, length, ap, sym, subst}
 use Rattle.px_base.specs.ListLaws.{All-at}
 use Rattle.px_terms.specs.declared.term.Term.{Term}
-use Rattle.px_diff.specs.Parameters.{Fits}
-use Rattle.px_diff.proofs.Loops.{contains_here}
+use Rattle.px_entries.specs.Parameters.{Fits}
+use Rattle.px_base.proofs.Loops.{contains_here}
 use Rattle.px_diff.proofs.row_questions.is_covered.Goals as goal
 
 pub is_wider-requires : goal.is_wider-requires

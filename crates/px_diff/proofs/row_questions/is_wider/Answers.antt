@@ -1,8 +1,8 @@
 use Rattle.std.proofs.Common.{◌≡◌, ◌<◌, ◌∙◌, ℕ, length, get_or, ap, sym, inl, inr, arith}
 use Rattle.std.proofs.lemmas.List.{get_or_default}
 use Rattle.px_terms.specs.declared.term.Term.TheVariants.{Any, Obj}
-use Rattle.px_diff.proofs.Loops.{level_or_below}
-use Rattle.px_diff.proofs.ParameterLemmas.{wider-fits}
+use Rattle.px_base.proofs.Loops.{level_or_below}
+use Rattle.px_entries.proofs.ParameterLemmas.{wider-fits}
 use Rattle.px_diff.proofs.row_questions.is_wider.Goals as goal
 
 pub loop-place-preserved : goal.loop-place-preserved

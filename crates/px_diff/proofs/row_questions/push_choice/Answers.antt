@@ -2,10 +2,10 @@ use Rattle.std.proofs.Common.{◌≡◌, List, length, ap, subst, sym}
 use Rattle.std.specs.Prelude.{All, Contains}
 use Rattle.std.proofs.lemmas.List.Elements.{All-drop}
 use Rattle.px_terms.specs.declared.term.Term.{Term}
-use Rattle.px_diff.specs.Parameters.{Fits}
-use Rattle.px_diff.proofs.Loops.{on_ok}
-use Rattle.px_diff.proofs.ParameterLemmas.{among-dropped, pushed-all, pushed-kept, pushed-last}
-use Rattle.px_diff.proofs.Slices.{rest_of}
+use Rattle.px_entries.specs.Parameters.{Fits}
+use Rattle.px_base.proofs.Loops.{on_ok}
+use Rattle.px_entries.proofs.ParameterLemmas.{among-dropped, pushed-all, pushed-kept, pushed-last}
+use Rattle.px_entries.proofs.Slices.{rest_of}
 use Rattle.px_diff.proofs.row_questions.push_choice.Goals as goal
 
 pub is_covered-requires : goal.is_covered-requires

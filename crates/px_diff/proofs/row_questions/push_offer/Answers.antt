@@ -1,10 +1,10 @@
 use Rattle.std.proofs.Common.{List, sym, subst}
 use Rattle.px_terms.specs.declared.term.Term.{Term}
-use Rattle.px_diff.specs.Bindings.{Extends}
-use Rattle.px_diff.specs.Parameters.{Fits}
+use Rattle.px_gaps.specs.Bindings.{Extends}
+use Rattle.px_entries.specs.Parameters.{Fits}
 use Rattle.px_diff.proofs.FittingLemmas.{fits_found}
-use Rattle.px_diff.proofs.Loops.{on_ok}
-use Rattle.px_diff.proofs.ParameterLemmas.{extends-fits}
+use Rattle.px_base.proofs.Loops.{on_ok}
+use Rattle.px_entries.proofs.ParameterLemmas.{extends-fits}
 use Rattle.px_diff.proofs.row_questions.push_offer.Goals as goal
 
 pub returns-in-Some-clause-covers : goal.returns-in-Some-clause-covers

@@ -4,8 +4,8 @@ use Rattle.std.proofs.lemmas.List.{get_or_default}
 use Rattle.px_base.specs.ListLaws.{All-at}
 use Rattle.px_prover.specs.declared.pattern.GapPattern.{GapPattern}
 use Rattle.px_terms.specs.declared.term.Term.{Term}
-use Rattle.px_diff.specs.Parameters.{Fits}
-use Rattle.px_diff.proofs.Loops.{contains_here}
+use Rattle.px_entries.specs.Parameters.{Fits}
+use Rattle.px_base.proofs.Loops.{contains_here}
 use Rattle.px_diff.proofs.RowSplitting.{widens-next, widens-none}
 use Rattle.px_diff.proofs.row_questions.push_offers.Goals as goal
 

@@ -1,7 +1,7 @@
 use Rattle.std.proofs.Common.{◌-◌, ◌<◌, ◌≤◌, ℕ, List, length, get_or}
 use Rattle.px_prover.specs.declared.pattern.GapPattern.{GapPattern}
-use Rattle.px_diff.specs.Bindings.{Extends}
-use Rattle.px_diff.specs.Parameters.{Fits}
+use Rattle.px_gaps.specs.Bindings.{Extends}
+use Rattle.px_entries.specs.Parameters.{Fits}
 use Rattle.px_diff.specs.RowQuestions.{FitsOne, Widens}
 use Rattle.px_diff.proofs.row_questions.push_offers.Given as goal
 

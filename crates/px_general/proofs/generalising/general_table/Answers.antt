@@ -44,8 +44,8 @@ labels_along-requires-clause-inside c =
     subst (λ (n : ℕ). All (IsVariableBelow n) c.deref-4.result.now) (sym many)
     (subst (All (IsVariableBelow c.args.count)) (sym (c.deref-4.ensures.value ∙ walked)) (walked_below c.args.problem.now c.args.table.now c.requires.problem c.requires.table c.requires.no_params c.args.count c.requires.count))
 
-pub names_of-requires : goal.names_of-requires
-names_of-requires c =
+pub substitute_terms-requires : goal.substitute_terms-requires
+substitute_terms-requires c =
     let plan = c.in_ok-plan.plan in
     let resolved = c.in_ok-resolved.resolved.items in
     let pairs = rows_pairs c.args.problem.now plan.steps.items plan.goal.items (rows_of plan.rows.items) in

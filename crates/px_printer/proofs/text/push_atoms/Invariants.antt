@@ -4,4 +4,5 @@ use Rattle.px_printer.specs.Texts.{atom_text, lines_of}
 use Rattle.px_printer.proofs.text.push_atoms.Given as goal
 
 abbrev pub invariant-loop-atom : goal.invariant-loop-atom
-invariant-loop-atom l = string_bytes l.text ≡ string_bytes l.initial.text ++ lines_of (map (atom_text l.names 0) (take l.atom-index l.atoms))
+invariant-loop-atom l = string_bytes l.text ≡ string_bytes l.initial.text
+    ++ lines_of (map (atom_text l.names 0) (take l.atom-index l.atoms))

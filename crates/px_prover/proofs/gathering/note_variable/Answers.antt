@@ -12,4 +12,4 @@ returns-then-contains c =
     variable-there c.args.variable c.args.free.now.items (subst (λ (xs : List ℕ). Contains xs c.args.variable) c.deref.ensures.value has)
 
 pub returns : goal.returns
-returns c = variable-new c.args.variable c.args.free.now.items c.keep.new.items.items c.in_ok-keep.ensures
+returns c = variable-new c.args.variable c.args.free.now.items c.push.new.items.items c.in_ok-push.ensures.ok

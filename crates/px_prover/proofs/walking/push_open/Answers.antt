@@ -7,7 +7,7 @@ loop-at-preserved c =
     let next = open-next c.args.stack.now.goals c.loop-at.at c.goal_at-at.result c.requires.arena c.loop-at-test.true c.goal_at-at.ensures in
     record {
       within = omega (arith, next.1, c.loop-at.invariant.within);
-      made = open-moved c.loop-at.ticks.items _ c.keep.new.items.items _ _ c.in_ok-keep.ensures next.0 c.loop-at.invariant.made;
+      made = open-moved c.loop-at.ticks.items _ c.push.new.items.items _ _ c.in_ok-push.ensures.ok next.0 c.loop-at.invariant.made;
     }
 
 pub returns : goal.returns

@@ -1,6 +1,4 @@
-use Rattle.std.proofs.Common.{◌≡◌, map, take}
-use Rattle.std.specs.String.{string_bytes}
-use Rattle.px_reader.specs.StatementViews.{text_of}
+use Rattle.px_reader.proofs.Common.{◌≡◌, map, take, string_bytes, text_of}
 use Rattle.px_reader.proofs.blocks.owned.Given as goal
 
 abbrev pub invariant-loop-name : goal.invariant-loop-name

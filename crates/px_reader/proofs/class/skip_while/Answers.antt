@@ -1,6 +1,4 @@
-use Rattle.std.proofs.Common.{◌≡◌, ◌++◌, [], true, refl, arith, encode_utf8}
-use Rattle.std.proofs.lemmas.Str.{chars-nil}
-use Rattle.px_reader.specs.Classes.{is_of}
+use Rattle.px_reader.proofs.Common.{◌≡◌, ◌++◌, [], true, refl, arith, encode_utf8, chars-nil, is_of}
 use Rattle.px_reader.proofs.Texts.{front-grows}
 use Rattle.px_reader.proofs.class.skip_while.Goals as goal
 

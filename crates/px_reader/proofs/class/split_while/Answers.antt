@@ -1,6 +1,4 @@
-use Rattle.std.proofs.Common.{◌≡◌, arith}
-use Rattle.std.proofs.lemmas.Grind.{common_steps}
-use Rattle.px_reader.specs.Classes.{is_of}
+use Rattle.px_reader.proofs.Common.{◌≡◌, arith, common_steps, is_of}
 use Rattle.px_reader.proofs.Texts.{front-ends, cut-boundary, cut-front}
 use Rattle.px_reader.proofs.class.split_while.Goals as goal
 

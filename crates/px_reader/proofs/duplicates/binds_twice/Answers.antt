@@ -1,8 +1,4 @@
-use Rattle.std.proofs.Common.{[], refl, sym, ap, ◌∙◌, take}
-use Rattle.std.specs.Ordering.{nat_cmp}
-use Rattle.std.proofs.lemmas.List.{drop_all}
-use Rattle.px_script.specs.Causes.{repeats}
-use Rattle.px_reader.specs.declared.statement.WrittenBinding.{WrittenBinding}
+use Rattle.px_reader.proofs.Common.{[], refl, sym, ap, ◌∙◌, take, nat_cmp, drop_all, repeats, WrittenBinding}
 use Rattle.px_reader.proofs.Bound.{as_name, names_of, numbers-same, binds-repeats}
 use Rattle.px_reader.proofs.Seen.{found-seen, none-found, one-more, negated, affirmed}
 use Rattle.px_reader.proofs.duplicates.binds_twice.Goals as goal

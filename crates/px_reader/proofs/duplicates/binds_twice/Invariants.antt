@@ -1,7 +1,4 @@
-use Rattle.std.proofs.Common.{◌≡◌, ℕ, List, [], take, drop}
-use Rattle.std.specs.Ordering.{nat_cmp}
-use Rattle.px_names.specs.Lists.{has_name}
-use Rattle.px_script.specs.Causes.{repeats}
+use Rattle.px_reader.proofs.Common.{◌≡◌, ℕ, List, [], take, drop, nat_cmp, has_name, repeats}
 use Rattle.px_reader.proofs.Bound.{as_name, names_of, numbers-same}
 use Rattle.px_reader.proofs.Seen.{is_seen}
 use Rattle.px_reader.proofs.duplicates.binds_twice.Given as goal

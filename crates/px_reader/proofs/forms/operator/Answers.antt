@@ -1,11 +1,5 @@
-use Rattle.std.proofs.Common.{◌≡◌, ◌∷◌, ◌<◌, drop, length, sym, ap, ◌∙◌, arith}
-use Rattle.std.proofs.lemmas.Grind.{common_steps}
-use Rattle.std.proofs.lemmas.List.{length-drop, length-map}
-use Rattle.px_script.specs.Lexemes.{name}
-use Rattle.px_script.proofs.Parsing.{operator_form}
-use Rattle.px_reader.specs.Views.{lexeme_of}
-use Rattle.px_reader.specs.StatementViews.{lexemes_of}
-use Rattle.px_reader.proofs.TokenLemmas.{no-operator}
+use Rattle.px_reader.proofs.Common.{◌≡◌, ◌∷◌, ◌<◌, drop, length, sym, ap, ◌∙◌, arith, common_steps, length-drop, length-map, name, operator_form, lexeme_of, lexemes_of}
+use Rattle.px_reader.proofs.Walks.{no-operator}
 use Rattle.px_reader.proofs.forms.operator.Goals as goal
 
 pub returns-in-Some : goal.returns-in-Some

@@ -1,10 +1,4 @@
-use Rattle.std.proofs.Common.{◌≡◌, ◌++◌, ◌∷◌, [], map, arith}
-use Rattle.std.proofs.lemmas.Grind.{common_steps}
-use Rattle.std.proofs.lemmas.List.{map-append}
-use Rattle.std.specs.Str.{chars}
-use Rattle.px_reader.specs.Views.{lexeme_of}
-use Rattle.px_script.proofs.Firsts.{found-begins}
-use Rattle.px_script.proofs.Readings.{Begins-shorter}
+use Rattle.px_reader.proofs.Common.{◌≡◌, ◌++◌, ◌∷◌, [], map, arith, common_steps, map-append, chars, lexeme_of, found-begins, Begins-shorter}
 use Rattle.px_reader.proofs.LineFronts.{one-more-read, all-read, none-read}
 use Rattle.px_reader.proofs.lexing.tokens.Goals as goal
 

@@ -1,7 +1,4 @@
-use Rattle.std.proofs.Common.{map, length}
-use Rattle.std.specs.Str.{IsUtf8, chars}
-use Rattle.px_reader.specs.Progress.{ReadSoFar}
-use Rattle.px_reader.specs.Views.{lexeme_of}
+use Rattle.px_reader.proofs.Common.{map, length, IsUtf8, chars, ReadSoFar, lexeme_of}
 use Rattle.px_reader.proofs.lexing.tokens.Given as goal
 
 abbrev pub invariant-loop-token : goal.invariant-loop-token

@@ -1,5 +1,4 @@
-use Rattle.std.proofs.Common.{lit<}
-use Rattle.std.proofs.lemmas.Str.Pattern.{strip_suffix_char}
+use Rattle.px_reader.proofs.Common.{lit<, strip_suffix_char}
 use Rattle.px_reader.proofs.LineLemmas.{unreturned}
 use Rattle.px_reader.proofs.lines.without_return.Goals as goal
 

@@ -1,6 +1,4 @@
-use Rattle.std.proofs.Common.{◌≡◌, ◌-◌, take, drop, length, arith}
-use Rattle.std.proofs.lemmas.Grind.{common_steps}
-use Rattle.std.proofs.lemmas.List.{drop-drop}
+use Rattle.px_reader.proofs.Common.{◌≡◌, ◌-◌, take, drop, length, arith, common_steps, drop-drop}
 use Rattle.px_reader.proofs.lists.argument_at.Goals as goal
 
 pub returns-clause-item : goal.returns-clause-item

@@ -1,10 +1,5 @@
-use Rattle.std.proofs.Common.{◌≡◌, ◌++◌, ◌∷◌, [], ◌+◌, false, map, drop, arith}
-use Rattle.std.specs.Prelude.{◌==◌}
-use Rattle.std.proofs.lemmas.Grind.{common_steps}
-use Rattle.std.proofs.lemmas.List.{map-append}
-use Rattle.px_script.proofs.Parsing.{argument_of}
-use Rattle.px_reader.specs.StatementViews.{lexemes_of, argument_view}
-use Rattle.px_reader.proofs.Steps.{items-closed, items-wrong, items-more, items-none}
+use Rattle.px_reader.proofs.Common.{◌≡◌, ◌++◌, ◌∷◌, [], ◌+◌, false, map, drop, arith, ◌==◌, common_steps, map-append, argument_of, lexemes_of, argument_view}
+use Rattle.px_reader.proofs.Walks.{items-closed, items-wrong, items-more, items-none}
 use Rattle.px_reader.proofs.lists.arguments_after.Goals as goal
 
 pub returns-then-sign-eq41-clause-found : goal.returns-then-sign-eq41-clause-found

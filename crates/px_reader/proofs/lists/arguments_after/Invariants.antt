@@ -1,7 +1,5 @@
-use Rattle.std.proofs.Common.{◌≡◌, ◌≤◌, ◌-◌, drop, map, length}
-use Rattle.px_script.proofs.Parsing.{items_after, argument_of}
-use Rattle.px_reader.proofs.Steps.{in_front}
-use Rattle.px_reader.specs.StatementViews.{lexemes_of, argument_view}
+use Rattle.px_reader.proofs.Common.{◌≡◌, ◌≤◌, ◌-◌, drop, map, length, items_after, argument_of, lexemes_of, argument_view}
+use Rattle.px_reader.proofs.Walks.{in_front}
 use Rattle.px_reader.proofs.lists.arguments_after.Given as goal
 
 abbrev pub invariant-loop-argument : goal.invariant-loop-argument

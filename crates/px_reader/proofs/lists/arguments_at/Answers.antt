@@ -1,8 +1,5 @@
-use Rattle.std.proofs.Common.{◌≡◌, ◌∙◌, true, drop, ap, sym, arith}
-use Rattle.px_script.proofs.Parsing.{argument_of, items_after, opens}
-use Rattle.px_reader.proofs.Steps.{items-opened}
-use Rattle.px_reader.specs.StatementViews.{lexemes_of, front_view, items_view, argument_view}
-use Rattle.px_reader.proofs.TokenLemmas.{ok-same, lexemes-drop}
+use Rattle.px_reader.proofs.Common.{◌≡◌, ◌∙◌, true, drop, ap, sym, arith, argument_of, items_after, opens, lexemes_of, front_view, items_view, argument_view}
+use Rattle.px_reader.proofs.Walks.{items-opened, ok-same, lexemes-drop}
 use Rattle.px_reader.proofs.lists.arguments_at.Goals as goal
 
 pub returns-then-opens-clause-found : goal.returns-then-opens-clause-found

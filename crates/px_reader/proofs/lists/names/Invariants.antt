@@ -1,7 +1,4 @@
-use Rattle.std.proofs.Common.{◌≡◌, ◌++◌, drop, map}
-use Rattle.std.specs.Option.{option_map}
-use Rattle.px_script.proofs.Parsing.{names_of}
-use Rattle.px_reader.specs.StatementViews.{lexemes_of, text_of}
+use Rattle.px_reader.proofs.Common.{◌≡◌, ◌++◌, drop, map, option_map, names_of, lexemes_of, text_of}
 use Rattle.px_reader.proofs.lists.names.Given as goal
 
 abbrev pub invariant-loop-token : goal.invariant-loop-token

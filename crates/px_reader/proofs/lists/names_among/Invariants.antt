@@ -1,7 +1,4 @@
-use Rattle.std.proofs.Common.{◌≡◌, ◌++◌, drop, map}
-use Rattle.std.specs.Option.{option_map}
-use Rattle.px_script.proofs.Parsing.{names_among}
-use Rattle.px_reader.specs.StatementViews.{argument_view, text_of}
+use Rattle.px_reader.proofs.Common.{◌≡◌, ◌++◌, drop, map, option_map, names_among, argument_view, text_of}
 use Rattle.px_reader.proofs.lists.names_among.Given as goal
 
 abbrev pub invariant-loop-argument : goal.invariant-loop-argument

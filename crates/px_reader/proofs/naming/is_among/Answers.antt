@@ -1,12 +1,8 @@
-use Rattle.std.proofs.Common.{sym, ap, ◌∙◌}
-use Rattle.std.specs.Prelude.{is_some}
-use Rattle.std.specs.Str.{bytes_eq}
-use Rattle.std.specs.String.{string_bytes}
-use Rattle.px_script.proofs.ListLemmas.{list_any_map, some-position}
+use Rattle.px_reader.proofs.Common.{sym, ap, ◌∙◌, is_some, bytes_eq, string_bytes, list_any-map, some-position}
 use Rattle.px_reader.proofs.naming.is_among.Goals as goal
 
 pub returns : goal.returns
 returns c =
     c.is_some.ensures ∙ ap is_some c.place_of.ensures.number
     ∙ some-position (λ other. bytes_eq c.args.name.now (string_bytes other)) c.args.names.now
-    ∙ sym (list_any_map (bytes_eq c.args.name.now) string_bytes c.args.names.now)
+    ∙ sym (list_any-map (bytes_eq c.args.name.now) string_bytes c.args.names.now)

@@ -1,9 +1,5 @@
-use Rattle.std.proofs.Common.{sym, ap, subst}
-use Rattle.std.specs.Str.{chars}
-use Rattle.px_script.specs.Lines.{without_return}
+use Rattle.px_reader.proofs.Common.{sym, ap, subst, chars, without_return, LinesFail, characters_of, stage_view, declared_of}
 use Rattle.px_reader.specs.FaultViews.{refusal_of}
-use Rattle.px_reader.specs.LineReads.{LinesFail, characters_of, stage_view}
-use Rattle.px_reader.specs.Readers.{declared_of}
 use Rattle.px_reader.proofs.LineSteps.{none-read, more-read, one-fails}
 use Rattle.px_reader.proofs.reading.read_each.Goals as goal
 
@@ -13,8 +9,10 @@ loop-index-init c = none-read (stage_view c.args.stage.now) (λ line. chars (wit
 pub returns-in-Err-Fault-clause-fails : goal.returns-in-Err-Fault-clause-fails
 returns-in-Err-Fault-clause-fails c =
     let fails = rw c.in-Err-Fault.field-0-is at c.in-Err-Fault.ensures.err in
-    subst (LinesFail (stage_view c.args.stage.now) (characters_of c.args.lines.now)) (sym (rw c.in-Err-Fault.field-0-is at c.refused.ensures))
-    (one-fails (stage_view c.args.stage.now) (λ line. chars (without_return line.now)) c.args.lines.now (declared_of c.loop-index.reader) c.loop-index.index _ _
+    subst (LinesFail (stage_view c.args.stage.now) (characters_of c.args.lines.now))
+    (sym (rw c.in-Err-Fault.field-0-is at c.refused.ensures))
+    (one-fails (stage_view c.args.stage.now) (λ line. chars (without_return line.now)) c.args.lines.now (declared_of c.loop-index.reader)
+    c.loop-index.index _ _
     (refusal_of c.in-Err-Fault.fault)
     c.loop-index-test.true (ap chars c.without_return.ensures) c.loop-index.invariant fails)
 

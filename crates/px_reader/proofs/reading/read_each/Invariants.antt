@@ -1,7 +1,4 @@
-use Rattle.std.specs.Str.{chars}
-use Rattle.px_script.specs.Lines.{without_return}
-use Rattle.px_reader.specs.LineReads.{stage_view}
-use Rattle.px_reader.specs.Readers.{declared_of}
+use Rattle.px_reader.proofs.Common.{chars, without_return, stage_view, declared_of}
 use Rattle.px_reader.proofs.LineSteps.{HasRead}
 use Rattle.px_reader.proofs.reading.read_each.Given as goal
 

@@ -1,4 +1,4 @@
-use Rattle.px_script.specs.Stages.{stage_now}
+use Rattle.px_reader.proofs.Common.{stage_now}
 use Rattle.px_reader.proofs.Outcomes.{of-stage-read, all-scripts, all-faults}
 use Rattle.px_reader.proofs.reading.read_script.Goals as goal
 

@@ -1,10 +1,4 @@
-use Rattle.std.proofs.Common.{◌≡◌, sym, ap, ◌∙◌, subst, inr, length, arith}
-use Rattle.px_script.specs.Declarations.{nothing_declared}
-use Rattle.px_script.specs.Lines.{lines_of}
-use Rattle.px_script.specs.Scripts.{PassAll}
-use Rattle.px_script.proofs.Kept.{lines-kept, start-in-range, declared-in-range}
-use Rattle.px_reader.specs.LineReads.{characters_of, HasFirstFault, LinesFail, stage_view}
-use Rattle.px_reader.specs.Readers.{declared_of}
+use Rattle.px_reader.proofs.Common.{◌≡◌, sym, ap, ◌∙◌, subst, inr, length, arith, nothing_declared, lines_of, PassAll, lines-kept, start-in-range, declared-in-range, characters_of, HasFirstFault, LinesFail, stage_view, declared_of}
 use Rattle.px_reader.proofs.Outcomes.{parts-lines, few-parts, left-open, text-fails, err-carried}
 use Rattle.px_reader.proofs.reading.read_text.Goals as goal
 
@@ -22,7 +16,8 @@ pub returns-in_err-read_each-clause-refused : goal.returns-in_err-read_each-clau
 returns-in_err-read_each-clause-refused c =
     let lines : characters_of c.deref.result.now ≡ lines_of c.args.text.now = ap characters_of c.deref.ensures.value
     ∙ parts-lines c.in-Ok.lines.items c.args.text.now (rw c.without_mark.ensures at c.in-Ok.ensures) in
-    err-carried c.from_residual.result (HasFirstFault (stage_view c.args.stage.now) c.args.text.now) c.in_err-read_each.field-0.0 c.from_residual.ensures.1
+    err-carried c.from_residual.result (HasFirstFault (stage_view c.args.stage.now) c.args.text.now) c.in_err-read_each.field-0.0
+    c.from_residual.ensures.1
     (text-fails (stage_view c.args.stage.now) c.args.text.now c.in_err-read_each.field-0.0 c.utf8.text
     (subst (λ ls. LinesFail (stage_view c.args.stage.now) ls c.in_err-read_each.field-0.0) lines c.in_err-read_each.ensures.fails))
 
@@ -34,7 +29,8 @@ returns-in-Ok-finish-clause-script c =
       last = declared_of c.read_each.new.reader;
       spells = record {
         text = c.utf8.text;
-        lines = subst (λ ls. PassAll (stage_view c.args.stage.now) 1 nothing_declared ls (declared_of c.read_each.new.reader)) lines c.in_ok-read_each.ensures.passes;
+        lines = subst (λ ls. PassAll (stage_view c.args.stage.now) 1 nothing_declared ls (declared_of c.read_each.new.reader)) lines
+            c.in_ok-read_each.ensures.passes;
         closed = c.in-None.ensures;
       };
       is = c.in-Ok-finish.ensures;
@@ -44,8 +40,11 @@ pub returns-in-Some-clause-refused : goal.returns-in-Some-clause-refused
 returns-in-Some-clause-refused c =
     let lines : characters_of c.deref.result.now ≡ lines_of c.args.text.now = ap characters_of c.deref.ensures.value
     ∙ parts-lines c.in-Ok.lines.items c.args.text.now (rw c.without_mark.ensures at c.in-Ok.ensures) in
-    let passes = subst (λ ls. PassAll (stage_view c.args.stage.now) 1 nothing_declared ls (declared_of c.read_each.new.reader)) lines c.in_ok-read_each.ensures.passes in
+    let passes = subst (λ ls. PassAll (stage_view c.args.stage.now) 1 nothing_declared ls (declared_of c.read_each.new.reader)) lines
+    c.in_ok-read_each.ensures.passes in
     let block = c.in-Some.ensures.0 in
-    let fails = left-open (stage_view c.args.stage.now) 1 nothing_declared (lines_of c.args.text.now) (declared_of c.read_each.new.reader) block passes
+    let fails = left-open (stage_view c.args.stage.now) 1 nothing_declared (lines_of c.args.text.now) (declared_of c.read_each.new.reader)
+    block passes
     c.in-Some.ensures.1 in
-    subst (HasFirstFault (stage_view c.args.stage.now) c.args.text.now) (sym c.refused.ensures) (inr (c.utf8.text, rw c.in-Some.ensures.2 fails))
+    subst (HasFirstFault (stage_view c.args.stage.now) c.args.text.now) (sym c.refused.ensures)
+    (inr (c.utf8.text, rw c.in-Some.ensures.2 fails))

@@ -1,7 +1,5 @@
-use Rattle.std.proofs.Common.{◌≡◌, ◌≤◌, ◌-◌, drop, map, length}
-use Rattle.px_script.proofs.Parsing.{all_of, atom_at}
+use Rattle.px_reader.proofs.Common.{◌≡◌, ◌≤◌, ◌-◌, drop, map, length, all_of, atom_at, lexemes_of, signed_view}
 use Rattle.px_reader.proofs.Walks.{before}
-use Rattle.px_reader.specs.StatementViews.{lexemes_of, signed_view}
 use Rattle.px_reader.proofs.series.atoms.Given as goal
 
 abbrev pub invariant-things : goal.invariant-things

@@ -1,7 +1,5 @@
-use Rattle.std.proofs.Common.{◌≡◌, ◌≤◌, ◌-◌, drop, map, length}
-use Rattle.px_script.proofs.Parsing.{all_of, binding_at}
+use Rattle.px_reader.proofs.Common.{◌≡◌, ◌≤◌, ◌-◌, drop, map, length, all_of, binding_at, lexemes_of, binding_view}
 use Rattle.px_reader.proofs.Walks.{before}
-use Rattle.px_reader.specs.StatementViews.{lexemes_of, binding_view}
 use Rattle.px_reader.proofs.series.bindings.Given as goal
 
 abbrev pub invariant-things : goal.invariant-things

@@ -1,6 +1,5 @@
-use Rattle.std.proofs.Common.{◌∙◌, arith, lit<}
-use Rattle.std.proofs.lemmas.Str.Pattern.{strip_prefix_char, starts_char}
-use Rattle.px_script.proofs.Fronts.{true_not_false}
+use Rattle.px_reader.proofs.Common.{◌∙◌, arith, lit<, strip_prefix_char, starts_char}
+use Rattle.px_base.specs.Answers.{both_answers}
 use Rattle.px_reader.proofs.Parameters.{no-letter, no-digit, no-number, a-number}
 use Rattle.px_reader.proofs.series.parameter_of.Goals as goal
 use Rattle.px_reader.proofs.series.parameter_of.Goals.{then-starts_with-via-then-starts_with, then-starts_with-via-else-starts_with+then-starts_with-2}
@@ -35,8 +34,8 @@ returns-in-Ok c =
     let sign = starts_char 43 digits c.starts_with-else-starts_with.result c.starts_with-else-starts_with.ensures.cases (lit< tt)
     (lit< tt) in
     a-number c.args.name.now digits c.parse.result c.in-Ok.number letter c.parse.ensures.value.0 c.in-Ok.is c.if-number-le9999.true
-    (λ e. true_not_false c.starts_with.result (zero.1 e) c.if-starts_with.false)
-    (λ e. true_not_false c.starts_with-else-starts_with.result (sign.1 e) c.if-starts_with-2.false)
+    (λ e. both_answers c.starts_with.result c.if-starts_with.false (zero.1 e))
+    (λ e. both_answers c.starts_with-else-starts_with.result c.if-starts_with-2.false (sign.1 e))
 
 pub returns-in_default-2 : goal.returns-in_default-2
 returns-in_default-2 c =

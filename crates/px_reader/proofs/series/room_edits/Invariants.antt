@@ -1,7 +1,5 @@
-use Rattle.std.proofs.Common.{◌≡◌, ◌≤◌, ◌-◌, drop, map, length}
-use Rattle.px_script.proofs.Parsing.{all_of, room_edit_at}
+use Rattle.px_reader.proofs.Common.{◌≡◌, ◌≤◌, ◌-◌, drop, map, length, all_of, room_edit_at, lexemes_of, room_edit_view}
 use Rattle.px_reader.proofs.Walks.{before}
-use Rattle.px_reader.specs.StatementViews.{lexemes_of, room_edit_view}
 use Rattle.px_reader.proofs.series.room_edits.Given as goal
 
 abbrev pub invariant-things : goal.invariant-things

@@ -1,7 +1,4 @@
-use Rattle.std.proofs.Common.{◌≡◌, map, length, arith}
-use Rattle.std.proofs.lemmas.Grind.{common_steps}
-use Rattle.std.proofs.lemmas.List.{length-map}
-use Rattle.px_reader.specs.StatementViews.{text_of}
+use Rattle.px_reader.proofs.Common.{◌≡◌, map, length, arith, common_steps, length-map, text_of}
 use Rattle.px_reader.proofs.Variables.{early-full}
 use Rattle.px_reader.proofs.terms.add_variable.Goals as goal
 

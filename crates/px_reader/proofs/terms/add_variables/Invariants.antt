@@ -1,6 +1,4 @@
-use Rattle.std.proofs.Common.{◌≡◌, map, take}
-use Rattle.px_reader.specs.Checks.{early_variables}
-use Rattle.px_reader.specs.StatementViews.{argument_view, text_of}
+use Rattle.px_reader.proofs.Common.{◌≡◌, map, take, early_variables, argument_view, text_of}
 use Rattle.px_reader.proofs.terms.add_variables.Given as goal
 
 abbrev pub invariant-loop-argument : goal.invariant-loop-argument

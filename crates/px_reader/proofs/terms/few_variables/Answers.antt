@@ -1,8 +1,5 @@
-use Rattle.std.proofs.Common.{◌≡◌, map, take, length, sym, ap, ◌∙◌, arith}
-use Rattle.std.proofs.lemmas.List.{length-map, take_all}
-use Rattle.px_script.specs.Declarations.{variables_of}
-use Rattle.px_reader.specs.StatementViews.{signed_view, text_of}
-use Rattle.px_reader.proofs.TokenLemmas.{ok-same, ok-then}
+use Rattle.px_reader.proofs.Common.{◌≡◌, map, take, length, sym, ap, ◌∙◌, arith, length-map, take_all, variables_of, signed_view, text_of}
+use Rattle.px_reader.proofs.Walks.{ok-same, ok-then}
 use Rattle.px_reader.proofs.terms.few_variables.Goals as goal
 
 pub returns-clause-names : goal.returns-clause-names

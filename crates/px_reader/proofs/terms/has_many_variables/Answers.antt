@@ -1,8 +1,4 @@
-use Rattle.std.proofs.Common.{◌≡◌, map, length, sym, ap, ◌∙◌, arith}
-use Rattle.std.proofs.lemmas.Grind.{common_steps}
-use Rattle.std.proofs.lemmas.List.{length-map}
-use Rattle.px_script.specs.Declarations.{variables_of}
-use Rattle.px_reader.specs.StatementViews.{signed_view, text_of}
+use Rattle.px_reader.proofs.Common.{◌≡◌, map, length, sym, ap, ◌∙◌, arith, common_steps, length-map, variables_of, signed_view, text_of}
 use Rattle.px_reader.proofs.Variables.{many-taken}
 use Rattle.px_reader.proofs.terms.has_many_variables.Goals as goal
 

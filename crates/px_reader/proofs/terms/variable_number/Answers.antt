@@ -1,8 +1,4 @@
-use Rattle.std.proofs.Common.{sym, ap, ◌∙◌}
-use Rattle.std.specs.Prelude.{unwrap_or}
-use Rattle.std.specs.Str.{bytes_eq}
-use Rattle.px_names.proofs.ListLemmas.{position-map}
-use Rattle.px_reader.specs.StatementViews.{text_of}
+use Rattle.px_reader.proofs.Common.{sym, ap, ◌∙◌, unwrap_or, bytes_eq, position-map, text_of}
 use Rattle.px_reader.proofs.terms.variable_number.Goals as goal
 
 pub returns-in-Some : goal.returns-in-Some

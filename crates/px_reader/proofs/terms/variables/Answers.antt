@@ -1,7 +1,4 @@
-use Rattle.std.proofs.Common.{[], map, ap, ◌∙◌}
-use Rattle.std.proofs.lemmas.List.{take_all}
-use Rattle.px_reader.specs.Checks.{early_variables}
-use Rattle.px_reader.specs.StatementViews.{signed_view}
+use Rattle.px_reader.proofs.Common.{[], map, ap, ◌∙◌, take_all, early_variables, signed_view}
 use Rattle.px_reader.proofs.AtomTests.{arguments}
 use Rattle.px_reader.proofs.Variables.{early-all}
 use Rattle.px_reader.proofs.terms.variables.Goals as goal

@@ -1,6 +1,4 @@
-use Rattle.std.proofs.Common.{◌≡◌, [], map, take}
-use Rattle.px_reader.specs.Checks.{early_variables}
-use Rattle.px_reader.specs.StatementViews.{signed_view, text_of}
+use Rattle.px_reader.proofs.Common.{◌≡◌, [], map, take, early_variables, signed_view, text_of}
 use Rattle.px_reader.proofs.AtomTests.{arguments}
 use Rattle.px_reader.proofs.terms.variables.Given as goal
 

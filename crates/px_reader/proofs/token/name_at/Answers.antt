@@ -1,11 +1,5 @@
-use Rattle.std.proofs.Common.{◌≡◌, ◌∙◌, ◌∷◌, sym, ap, true, arith, refl}
-use Rattle.std.specs.Prelude.{encode_utf8_all}
-use Rattle.std.specs.Str.{chars}
-use Rattle.std.proofs.lemmas.Str.{encodes-chars}
+use Rattle.px_reader.proofs.Common.{◌≡◌, ◌∙◌, ◌∷◌, sym, ap, true, arith, refl, encode_utf8_all, chars, encodes-chars, starts_name, front_while, after_while, starts-continues}
 use Rattle.unicode_ident.specs.Ident.{is_xid_continue}
-use Rattle.px_names.specs.Name.{starts_name}
-use Rattle.px_script.proofs.Scanning.{front_while, after_while}
-use Rattle.px_script.proofs.Firsts.{starts-continues}
 use Rattle.px_reader.proofs.token.name_at.Goals as goal
 
 pub returns-then-starts_name : goal.returns-then-starts_name

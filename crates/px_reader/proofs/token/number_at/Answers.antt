@@ -1,9 +1,4 @@
-use Rattle.std.proofs.Common.{◌∙◌}
-use Rattle.std.specs.Char.{is_ascii_digit}
-use Rattle.std.specs.Str.{chars}
-use Rattle.px_script.proofs.Scanning.{front_while}
-use Rattle.px_script.proofs.Fronts.{front-all}
-use Rattle.px_script.proofs.Firsts.{digits-all}
+use Rattle.px_reader.proofs.Common.{◌∙◌, is_ascii_digit, chars, front_while, front-all, digits-all}
 use Rattle.px_reader.proofs.token.number_at.Goals as goal
 
 pub number_value-requires-clause-digits : goal.number_value-requires-clause-digits

@@ -1,4 +1,4 @@
-use Rattle.std.proofs.Common.{◌∙◌}
+use Rattle.px_reader.proofs.Common.{◌∙◌}
 use Rattle.px_reader.proofs.Numbers.{parsed-digits}
 use Rattle.px_reader.proofs.token.number_value.Goals as goal
 

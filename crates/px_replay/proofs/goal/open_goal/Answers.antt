@@ -1,8 +1,8 @@
 use Rattle.std.proofs.Common.{◌≡◌, ◌∙◌, ap, length, arith}
 use Rattle.px_base.proofs.Loops.{ok_map}
+use Rattle.px_table.proofs.Choosing.{length-variables}
 use Rattle.px_replay.specs.Opened.{named_goal, opened_goal}
 use Rattle.px_replay.proofs.GoalSteps.{goal-opened}
-use Rattle.px_replay.proofs.OpenSteps.{length-variables}
 use Rattle.px_replay.proofs.goal.open_goal.Goals as goal
 
 pub named_goal-requires-clause-objects : goal.named_goal-requires-clause-objects

@@ -1,5 +1,5 @@
 use Rattle.std.proofs.Common.{◌≤◌, ap, length, arith}
-use Rattle.px_replay.proofs.OpenSteps.{length-variables}
+use Rattle.px_table.proofs.Choosing.{length-variables}
 use Rattle.px_replay.proofs.opening.open_step.Goals as goal
 
 pub unreachable-requires : goal.unreachable-requires

@@ -9,7 +9,8 @@ loop-place-init c = ([], so-far-start c.args.session.now c.requires.start, count
 
 pub count_answer-requires-clause-place : goal.count_answer-requires-clause-place
 count_answer-requires-clause-place c =
-    let within : c.loop-place.place < length c.args.session.now.commands = omega (arith, c.loop-place-test.true, c.count-place-end.ensures) in
+    let within : c.loop-place.place < length c.args.session.now.commands =
+    omega (arith, c.loop-place-test.true, c.count-place-end.ensures) in
     subst (λ (commands : List Command). c.loop-place.place < length commands) (sym c.loop-place.invariant.1.commands) within
 
 pub count_answer-requires-clause-next : goal.count_answer-requires-clause-next
@@ -25,7 +26,8 @@ pub loop-place-preserved : goal.loop-place-preserved
 loop-place-preserved c =
     let so_far = c.loop-place.invariant in
     let more = c.in_ok-counts.ensures in
-    let within : c.loop-place.place < length c.args.session.now.commands = omega (arith, c.loop-place-test.true, c.count-place-end.ensures) in (
+    let within : c.loop-place.place < length c.args.session.now.commands =
+    omega (arith, c.loop-place-test.true, c.count-place-end.ensures) in (
       so_far.0 ++ more.0 ∷ [],
       one-more c.args.session.now _ _ c.loop-place.place so_far.0 more.0 so_far.1 within more.1,
       count-more so_far.0 more.0 _ _ so_far.2 more.2,

@@ -9,7 +9,8 @@ use Rattle.px_run.proofs.demo.demo.Goals as goal
 pub returns-in-Ok-read_script-clause-right : goal.returns-in-Ok-read_script-clause-right
 returns-in-Ok-read_script-clause-right g c =
     let bytes_are = c.deref.ensures.value ∙ c.in-Ok.ensures.script in
-    let is = subst (λ (bytes : List ℕ). IsScript stage_now bytes (content c.in-Ok-read_script.script)) bytes_are c.in-Ok-read_script.ensures.script in
+    let is = subst (λ (bytes : List ℕ). IsScript stage_now bytes
+    (content c.in-Ok-read_script.script)) bytes_are c.in-Ok-read_script.ensures.script in
     demo-summed c.args.rooms c.args.seed _ (content c.in-Ok-read_script.script) c.sum_up.result is c.sum_up.ensures.right
 
 pub returns-in-Err-Refused-clause-right : goal.returns-in-Err-Refused-clause-right

@@ -9,5 +9,6 @@ session_summary-requires c = record { start = ap (λ (s : SessionValue). s.done)
 
 pub returns-in-Ok : goal.returns-in-Ok
 returns-in-Ok c =
-    subst (λ (s : SessionValue). IfOk c.session_summary.result (λ text. IsSumOf c.args.rooms c.args.seed s text.items)) c.in-Ok.ensures.opened
+    subst (λ (s : SessionValue). IfOk c.session_summary.result
+    (λ text. IsSumOf c.args.rooms c.args.seed s text.items)) c.in-Ok.ensures.opened
     c.session_summary.ensures

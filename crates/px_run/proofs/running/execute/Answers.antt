@@ -9,7 +9,8 @@ loop-place-init g c = ([], so-far-start c.args.session.now c.requires.start, wro
 
 pub put_answer-requires-clause-place : goal.put_answer-requires-clause-place
 put_answer-requires-clause-place g c =
-    let within : c.loop-place.place < length c.args.session.now.commands = omega (arith, c.loop-place-test.true, c.count-place-end.ensures) in
+    let within : c.loop-place.place < length c.args.session.now.commands =
+    omega (arith, c.loop-place-test.true, c.count-place-end.ensures) in
     subst (λ (commands : List Command). c.loop-place.place < length commands) (sym c.loop-place.invariant.1.commands) within
 
 pub put_answer-requires-clause-next : goal.put_answer-requires-clause-next
@@ -19,7 +20,8 @@ pub returns-in-Err-Fault-clause-right : goal.returns-in-Err-Fault-clause-right
 returns-in-Err-Fault-clause-right g c =
     let so_far = c.loop-place.invariant in
     let right = rw c.in-Err-Fault.field-0-is at c.in-Err-Fault.ensures.right in
-    let within : c.loop-place.place < length c.args.session.now.commands = omega (arith, c.loop-place-test.true, c.count-place-end.ensures) in (
+    let within : c.loop-place.place < length c.args.session.now.commands =
+    omega (arith, c.loop-place-test.true, c.count-place-end.ensures) in (
       texts c.args.session.now.names so_far.0,
       _,
       next-of c.args.session.now _ _ c.loop-place.place so_far.0 right.0 so_far.1 within right.1,
@@ -45,9 +47,11 @@ pub loop-place-preserved : goal.loop-place-preserved
 loop-place-preserved g c =
     let so_far = c.loop-place.invariant in
     let right = c.in-Ok.ensures.right in
-    let within : c.loop-place.place < length c.args.session.now.commands = omega (arith, c.loop-place-test.true, c.count-place-end.ensures) in (
+    let within : c.loop-place.place < length c.args.session.now.commands =
+    omega (arith, c.loop-place-test.true, c.count-place-end.ensures) in (
       so_far.0 ++ right.0 ∷ [],
       one-more c.args.session.now _ _ c.loop-place.place so_far.0 right.0 so_far.1 within right.1,
-      rw (text-more c.args.session.now _ _ c.loop-place.place so_far.0 right.0 so_far.1 right.1) (wrote-both _ _ _ _ _ _ _ _ _ _ so_far.2 right.2),
+      rw (text-more c.args.session.now _ _ c.loop-place.place so_far.0 right.0 so_far.1 right.1)
+          (wrote-both _ _ _ _ _ _ _ _ _ _ so_far.2 right.2),
       c.in-Ok.ensures.nature ∙ so_far.3,
     )

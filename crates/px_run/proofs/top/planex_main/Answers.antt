@@ -4,28 +4,36 @@ use Rattle.px_run.proofs.OutcomeLemmas.{run-completes, run-completes_surely, run
 use Rattle.px_run.proofs.top.planex_main.Goals as goal
 
 pub returns-clause-completes : goal.returns-clause-completes
-returns-clause-completes g c = λ taken. run-completes _ _ c.obey.result c.obey.ensures.gone.0 (run-right _ _ _ c.obey.result taken c.obey.ensures.right)
+returns-clause-completes g c =
+    λ taken. run-completes _ _ c.obey.result c.obey.ensures.gone.0 (run-right _ _ _ c.obey.result taken c.obey.ensures.right)
     c.obey.ensures.gone.1 c.obey.ensures.gone.2
 
 pub returns-clause-completes_surely : goal.returns-clause-completes_surely
-returns-clause-completes_surely g c = λ taken. run-completes_surely _ _ c.obey.result c.obey.ensures.gone.0 (run-right _ _ _ c.obey.result taken c.obey.ensures.right)
+returns-clause-completes_surely g c =
+    λ taken. run-completes_surely _ _ c.obey.result c.obey.ensures.gone.0 (run-right _ _ _ c.obey.result taken c.obey.ensures.right)
     c.obey.ensures.gone.1 c.obey.ensures.gone.2
 
 pub returns-clause-refuses : goal.returns-clause-refuses
-returns-clause-refuses g c = λ taken. run-refuses _ _ c.obey.result c.obey.ensures.gone.0 (run-right _ _ _ c.obey.result taken c.obey.ensures.right)
+returns-clause-refuses g c = λ taken. run-refuses _ _ c.obey.result c.obey.ensures.gone.0
+    (run-right _ _ _ c.obey.result taken c.obey.ensures.right)
     c.obey.ensures.gone.1 c.obey.ensures.gone.2
 
 pub returns-clause-front : goal.returns-clause-front
 returns-clause-front g c = λ taken. run-front _ _ c.obey.result (run-right _ _ _ c.obey.result taken c.obey.ensures.right)
 
 pub returns-clause-demo_completes : goal.returns-clause-demo_completes
-returns-clause-demo_completes g c = λ rooms seed taken. demo-completes rooms seed _ c.obey.result (demo-right rooms seed _ _ _ c.obey.result taken c.obey.ensures.right)
+returns-clause-demo_completes g c =
+    λ rooms seed taken. demo-completes rooms seed _ c.obey.result (demo-right rooms seed _ _ _ c.obey.result taken c.obey.ensures.right)
 
 pub returns-clause-demo_completes_surely : goal.returns-clause-demo_completes_surely
-returns-clause-demo_completes_surely g c = λ rooms seed taken. demo-completes_surely rooms seed _ c.obey.result (demo-right rooms seed _ _ _ c.obey.result taken c.obey.ensures.right)
+returns-clause-demo_completes_surely g c =
+    λ rooms seed taken. demo-completes_surely rooms seed _ c.obey.result
+    (demo-right rooms seed _ _ _ c.obey.result taken c.obey.ensures.right)
 
 pub returns-clause-demo_refuses : goal.returns-clause-demo_refuses
-returns-clause-demo_refuses g c = λ rooms seed taken. demo-refuses rooms seed _ c.obey.result (demo-right rooms seed _ _ _ c.obey.result taken c.obey.ensures.right)
+returns-clause-demo_refuses g c =
+    λ rooms seed taken. demo-refuses rooms seed _ c.obey.result (demo-right rooms seed _ _ _ c.obey.result taken c.obey.ensures.right)
 
 pub returns-clause-demo_front : goal.returns-clause-demo_front
-returns-clause-demo_front g c = λ rooms seed taken. demo-front rooms seed _ c.obey.result (demo-right rooms seed _ _ _ c.obey.result taken c.obey.ensures.right)
+returns-clause-demo_front g c =
+    λ rooms seed taken. demo-front rooms seed _ c.obey.result (demo-right rooms seed _ _ _ c.obey.result taken c.obey.ensures.right)

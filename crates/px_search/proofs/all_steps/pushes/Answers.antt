@@ -1,5 +1,5 @@
-use Rattle.px_diff.specs.Questions.{LimitsRelevant}
-use Rattle.px_search.specs.Asking.{task_for}
+use Rattle.px_diff.specs.Pushes.{LimitsRelevant}
+use Rattle.px_support.specs.Asking.{task_for}
 use Rattle.px_search.specs.Going.{LimitsNode}
 use Rattle.px_table.specs.declared.node.Node.{Node}
 use Rattle.px_search.proofs.FromLaws.{at_limit, gone-open}

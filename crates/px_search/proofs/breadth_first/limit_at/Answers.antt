@@ -1,7 +1,7 @@
 use Rattle.std.proofs.Common.{subst, sym}
 use Rattle.px_table.specs.declared.node.Node.{Node}
 use Rattle.px_ends.specs.Ends.{IsShapeLimit}
-use Rattle.px_search.specs.Asking.{task_for}
+use Rattle.px_support.specs.Asking.{task_for}
 use Rattle.px_search.proofs.breadth_first.limit_at.Goals as goal
 
 pub returns-in-Ok : goal.returns-in-Ok

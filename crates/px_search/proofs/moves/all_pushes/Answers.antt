@@ -1,5 +1,5 @@
 use Rattle.std.proofs.Common.{true}
-use Rattle.px_search.specs.Asking.{task_for}
+use Rattle.px_support.specs.Asking.{task_for}
 use Rattle.px_search.proofs.BeginningLaws.{all-begun}
 use Rattle.px_search.proofs.moves.all_pushes.Goals as goal
 

@@ -1,5 +1,5 @@
 use Rattle.std.proofs.Common.{true}
-use Rattle.px_search.specs.Asking.{task_for}
+use Rattle.px_support.specs.Asking.{task_for}
 use Rattle.px_search.proofs.OfferLaws.{whole-first}
 use Rattle.px_search.proofs.offering.all_entries_for.Goals as goal
 

@@ -9,7 +9,7 @@ use Rattle.px_ends.specs.Made.{MovesRows}
 use Rattle.px_ends.specs.Tasks.{initial_node, steps_of, task_of}
 use Rattle.px_search.specs.declared.ends.Found.{Found}
 use Rattle.px_search.proofs.Answering.{answers_found, answers_exhausted, answers_limit, answers_shape_limit, each_plan, end-exhausted, end-limit, end-shape_limit, found-in}
-use Rattle.px_search.proofs.FewMoves.{few-moves}
+use Rattle.px_support.proofs.FewMoves.{few-moves}
 use Rattle.px_search.proofs.planning.search.Goals as goal
 
 pub returns-in-Ok-clause-found : goal.returns-in-Ok-clause-found

@@ -1,5 +1,5 @@
 use Rattle.std.proofs.Common.{subst}
-use Rattle.px_diff.specs.Entries.{IsEntry}
+use Rattle.px_entries.specs.Entries.{IsEntry}
 use Rattle.px_numbers.specs.Numbers.{IsModelAt}
 use Rattle.px_numbers.specs.NumberLaws.{model_at-grows, one_at}
 use Rattle.px_ops.specs.KeepLaws.{place_in}

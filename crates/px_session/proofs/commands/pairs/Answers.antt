@@ -1,12 +1,13 @@
-use Rattle.std.proofs.Common.{◌≡◌, ◌∙◌, map, ap}
+use Rattle.std.proofs.Common.{◌∙◌, map, refl, ap}
 use Rattle.std.proofs.lemmas.List.{take_all}
 use Rattle.px_reader.specs.CommandViews.{binding_pair}
-use Rattle.px_session.proofs.RunReplies.{pairs-next}
+use Rattle.px_session.proofs.Noting.{map-next}
 use Rattle.px_session.proofs.commands.pairs.Goals as goal
 
 pub loop-binding-preserved : goal.loop-binding-preserved
 loop-binding-preserved c =
-    pairs-next c.args.bindings.now c.loop-binding.bound.items c.push.new.items.items c.loop-binding.binding-index _ c.loop-binding-test.true
+    map-next binding_pair c.args.bindings.now c.loop-binding.bound.items c.push.new.items.items c.loop-binding.binding-index _ _
+    c.loop-binding-test.true refl
     c.loop-binding.invariant c.in_ok-push.ensures.ok
 
 pub returns : goal.returns

@@ -12,5 +12,16 @@ loop-one-preserved c =
     let edits = ap (λ (r : Recorded Edit). length r.edits) c.one.view_is in
     let next = edits_in-next recorded i c.one-item.result c.loop-one-test.true c.one-item.is in
     let so_far : c.loop-one.count ≡ edits_in (take i recorded) = c.loop-one.invariant in
-    let counted : c.in_ok-count.count ≡ edits_in (take (i + 1) recorded) = grind (arith, next, edits, so_far, c.len.ensures, c.in_ok-count.ensures, c.in_ok-count.was, c.branch-count.ensures, c.checked_add.ensures) in
+    let counted : c.in_ok-count.count ≡ edits_in (take (i + 1) recorded) =
+    grind (
+      arith,
+      next,
+      edits,
+      so_far,
+      c.len.ensures,
+      c.in_ok-count.ensures,
+      c.in_ok-count.was,
+      c.branch-count.ensures,
+      c.checked_add.ensures,
+    ) in
     counted

@@ -7,5 +7,6 @@ use Rattle.px_session.proofs.running.count_places.Goals as goal
 pub returns : goal.returns
 returns c =
     let all = edits-all 1 c.args.recorded.now in
-    let product : c.args.turns * adds_most c.args.problem.now.schemas ≤ c.args.turns * c.most_adds.result = mul-le-mul_left c.args.turns c.most_adds.ensures in
+    let product : c.args.turns * adds_most c.args.problem.now.schemas ≤ c.args.turns * c.most_adds.result =
+    mul-le-mul_left c.args.turns c.most_adds.ensures in
     omega (arith, all, product, c.in_ok-by_acting.ensures, c.in_ok-edits.ensures, c.in_ok-places.ensures)

@@ -10,10 +10,13 @@ loop-schema-preserved c =
     let items = c.as_slice-schema-items.result.now in
     elim c.if-len-most.branch [
       | then-len-most w ↦
-          most-next items c.loop-schema.schema-index c.schema-item.result c.loop-schema.most c.if-len-most.most c.loop-schema-test.true c.schema-item.is c.loop-schema.invariant
-          (omega (arith, w.most-is, w.if-len-most.true, w.len-most.ensures, c.len.ensures)) (omega (arith, w.most-is, w.if-len-most.true, w.len-most.ensures, c.len.ensures))
+          most-next items c.loop-schema.schema-index c.schema-item.result c.loop-schema.most c.if-len-most.most c.loop-schema-test.true
+          c.schema-item.is c.loop-schema.invariant
+          (omega (arith, w.most-is, w.if-len-most.true, w.len-most.ensures, c.len.ensures))
+          (omega (arith, w.most-is, w.if-len-most.true, w.len-most.ensures, c.len.ensures))
       | else-len-most w ↦
-          most-next items c.loop-schema.schema-index c.schema-item.result c.loop-schema.most c.if-len-most.most c.loop-schema-test.true c.schema-item.is c.loop-schema.invariant
+          most-next items c.loop-schema.schema-index c.schema-item.result c.loop-schema.most c.if-len-most.most c.loop-schema-test.true
+          c.schema-item.is c.loop-schema.invariant
           (omega (arith, w.most-is)) (omega (arith, w.most-is, w.if-len-most.false, c.len.ensures))
     ]
 
@@ -21,4 +24,5 @@ pub returns : goal.returns
 returns c =
     let items : c.as_slice-schema-items.result.now ≡ c.args.problem.now.schemas = c.as_slice-schema-items.ensures in
     subst (λ (schemas : List Schema). adds_most schemas ≤ c.loop-schema.most) items
-    (most-end c.as_slice-schema-items.result.now c.loop-schema.schema-index c.loop-schema.most c.loop-schema-test.false c.loop-schema.invariant)
+    (most-end c.as_slice-schema-items.result.now c.loop-schema.schema-index c.loop-schema.most c.loop-schema-test.false
+    c.loop-schema.invariant)

@@ -16,11 +16,15 @@ pub returns-clause-ends : goal.returns-clause-ends
 returns-clause-ends c =
     elim c.match-step.branch [
       | in-Acted w ↦
-          act-ends c.args.planex.now c.args.recorded.now c.args.number c.args.kernel (place_atoms c.args.world.now) (place_atoms c.disturb_at.new.world) (place_atoms c.step.new.world) c.step.new.self.memory
-          c.action-op.result c.match-step.end c.step.result c.disturb_at.ensures.atoms c.action-op.ensures.step c.step.ensures.happens (inl (w.in-Acted.is, w.end-is))
+          act-ends c.args.planex.now c.args.recorded.now c.args.number c.args.kernel (place_atoms c.args.world.now)
+          (place_atoms c.disturb_at.new.world) (place_atoms c.step.new.world) c.step.new.self.memory
+          c.action-op.result c.match-step.end c.step.result c.disturb_at.ensures.atoms c.action-op.ensures.step c.step.ensures.happens
+          (inl (w.in-Acted.is, w.end-is))
       | in-Slipped w ↦
-          act-ends c.args.planex.now c.args.recorded.now c.args.number c.args.kernel (place_atoms c.args.world.now) (place_atoms c.disturb_at.new.world) (place_atoms c.step.new.world) c.step.new.self.memory
-          c.action-op.result c.match-step.end c.step.result c.disturb_at.ensures.atoms c.action-op.ensures.step c.step.ensures.happens (inr (w.in-Slipped.is, w.end-is))
+          act-ends c.args.planex.now c.args.recorded.now c.args.number c.args.kernel (place_atoms c.args.world.now)
+          (place_atoms c.disturb_at.new.world) (place_atoms c.step.new.world) c.step.new.self.memory
+          c.action-op.result c.match-step.end c.step.result c.disturb_at.ensures.atoms c.action-op.ensures.step c.step.ensures.happens
+          (inr (w.in-Slipped.is, w.end-is))
     ]
 
 pub returns-clause-taken : goal.returns-clause-taken
@@ -30,6 +34,7 @@ returns-clause-taken c =
       number = omega (arith, few, c.disturb_at.ensures.number, c.step.ensures.number);
       spare = omega (arith, few, c.disturb_at.ensures.spare, c.step.ensures.spare);
       rules = c.step.ensures.rules ∙ c.disturb_at.ensures.rules;
-      takes = same-both (building_of c.args.world.now) (building_of c.disturb_at.new.world) (building_of c.step.new.world) c.disturb_at.ensures.takes
+      takes = same-both (building_of c.args.world.now) (building_of c.disturb_at.new.world)
+          (building_of c.step.new.world) c.disturb_at.ensures.takes
           (record { same = c.step.ensures.edits });
     }

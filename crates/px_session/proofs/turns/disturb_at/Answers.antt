@@ -14,7 +14,8 @@ disturb_by-requires-clause-spare c =
     let edits : c.as_slice.result.now ≡ c.one-item.result.edits = c.as_slice.ensures ∙ ap (λ (r : Recorded Edit). r.edits) c.one.view_is in
     subst (λ (l : List Edit). length l ≤ place_spare c.loop-one.world) (sym edits)
     (spare-next c.args.number c.args.between c.args.recorded.now c.loop-one.one-index c.one-item.result c.loop-one-test.true c.one-item.is
-    (sym c.is_for.ensures ∙ c.if-is_for.true) (place_spare c.args.world.now) (place_spare c.loop-one.world) c.requires.spare c.loop-one.invariant.spare)
+    (sym c.is_for.ensures ∙ c.if-is_for.true) (place_spare c.args.world.now)
+    (place_spare c.loop-one.world) c.requires.spare c.loop-one.invariant.spare)
 
 pub disturb_by-requires-clause-taken : goal.disturb_by-requires-clause-taken
 disturb_by-requires-clause-taken c =
@@ -32,12 +33,17 @@ loop-one-preserved c =
     let one = c.one-item.result in
     elim c.if-is_for.branch [
       | then-is_for w ↦
-          subst (λ (world : Place). IsDisturbed (edits_at (take (i + 1) recorded) c.args.number c.args.between) c.args.world.now world) (sym w.world-is)
-          (disturbed-next c.args.number c.args.between recorded i one c.loop-one-test.true c.one-item.is true (sym c.is_for.ensures ∙ w.if-is_for.true)
+          subst (λ (world : Place). IsDisturbed (edits_at (take (i + 1) recorded) c.args.number c.args.between) c.args.world.now world)
+          (sym w.world-is)
+          (disturbed-next c.args.number c.args.between recorded i one c.loop-one-test.true c.one-item.is true
+          (sym c.is_for.ensures ∙ w.if-is_for.true)
           c.args.world.now c.loop-one.world w.disturb_by.new.world c.loop-one.invariant
-          (subst (λ (l : List Edit). IsDisturbed l c.loop-one.world w.disturb_by.new.world) (w.as_slice.ensures ∙ ap (λ (r : Recorded Edit). r.edits) c.one.view_is) w.disturb_by.ensures))
+          (subst (λ (l : List Edit). IsDisturbed l c.loop-one.world w.disturb_by.new.world)
+          (w.as_slice.ensures ∙ ap (λ (r : Recorded Edit). r.edits) c.one.view_is) w.disturb_by.ensures))
       | else-is_for w ↦
-          subst (λ (world : Place). IsDisturbed (edits_at (take (i + 1) recorded) c.args.number c.args.between) c.args.world.now world) (sym w.world-is)
-          (disturbed-next c.args.number c.args.between recorded i one c.loop-one-test.true c.one-item.is false (sym c.is_for.ensures ∙ w.if-is_for.false)
+          subst (λ (world : Place). IsDisturbed (edits_at (take (i + 1) recorded) c.args.number c.args.between) c.args.world.now world)
+          (sym w.world-is)
+          (disturbed-next c.args.number c.args.between recorded i one c.loop-one-test.true c.one-item.is false
+          (sym c.is_for.ensures ∙ w.if-is_for.false)
           c.args.world.now c.loop-one.world c.loop-one.world c.loop-one.invariant (disturbed-none c.loop-one.world))
     ]

@@ -8,14 +8,14 @@ pub returns-in-Ok-true : goal.returns-in-Ok-true
 returns-in-Ok-true c =
     let some : 0 < c.loop-at.at = c.loop-at-test.true in
     let older = c.requires.arena (c.loop-at.at - 1) c.goal_at-above.result (rw c.loop-at.invariant.same at c.goal_at-above.ensures) in
-    way-found c.args.stack.now c.args.goal.now c.args.from c.loop-at.stack c.try_ancestor.new.stack c.loop-at.at c.loop-at.number c.loop-at.invariant c.goal_at-above.result some c.goal_at-above.ensures older.0 c.in-Ok-true.field-0 c.in-Ok-true.ensures
+    way-found c.args.stack.now c.args.goal.now c.args.from c.loop-at.stack c.loop-at.at c.loop-at.number c.loop-at.invariant c.goal_at-above.result some c.goal_at-above.ensures older.0 c.try_ancestor.new.stack c.in-Ok-true.field-0 c.in-Ok-true.ensures
     c.in-Ok-true.field-0-test
 
 pub loop-at-preserved : goal.loop-at-preserved
 loop-at-preserved c =
     let some : 0 < c.loop-at.at = c.loop-at-test.true in
     let older = c.requires.arena (c.loop-at.at - 1) c.goal_at-above.result (rw c.loop-at.invariant.same at c.goal_at-above.ensures) in
-    way-next c.args.stack.now c.args.goal.now c.args.from c.loop-at.stack c.try_ancestor.new.stack c.loop-at.at c.loop-at.number c.loop-at.invariant c.goal_at-above.result some c.goal_at-above.ensures older.0 c.in-Ok-false.field-0 c.in-Ok-false.ensures
+    way-next c.args.stack.now c.args.goal.now c.args.from c.loop-at.stack c.loop-at.at c.loop-at.number c.loop-at.invariant c.goal_at-above.result some c.goal_at-above.ensures older.0 c.try_ancestor.new.stack c.in-Ok-false.field-0 c.in-Ok-false.ensures
     c.in-Ok-false.field-0-test (c.loop-at.number + 1) (omega arith)
 
 pub returns : goal.returns

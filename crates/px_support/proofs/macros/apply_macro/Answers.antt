@@ -11,7 +11,7 @@ bounds-asked-number c = slice_get_within c.args.asked.now.tables.now c.args.numb
 pub take_steps-requires-clause-learned : goal.take_steps-requires-clause-learned
 take_steps-requires-clause-learned c =
     learned-is c.args.asked.now.problem.now c.args.asked.now.tables.now c.requires.asked.tables c.args.number c.args.prefix c.args.sigma.now c.requires.entry c.index-asked-number.result c.index-asked-number.is
-    _ (sym c.index-asked-number.is) refl refl (c.deref.ensures.value ∙ c.in_ok-terms.ensures) (omega (arith, c.requires.short, c.len.ensures))
+    _ (sym c.index-asked-number.is) refl refl (c.deref.ensures.value ∙ c.in_ok-terms.ensures) (omega (arith, c.requires.room.short, c.len.ensures))
 
 pub take_steps-requires-clause-findable : goal.take_steps-requires-clause-findable
 take_steps-requires-clause-findable c =

@@ -3,7 +3,7 @@ use Rattle.std.specs.Prelude.{All}
 use Rattle.px_terms.specs.declared.atom.Atom.{Atom}
 use Rattle.px_terms.specs.declared.instance.OpInst.{OpInst}
 use Rattle.px_terms.specs.Validity.{IsAtomOf, IsGroundInstanceOf}
-use Rattle.px_diff.proofs.RowSteps.{initial-are_of, marks-variables, steps-ground, steps-variables}
+use Rattle.px_entries.proofs.RowSteps.{initial-are_of, marks-variables, steps-ground, steps-variables}
 use Rattle.px_support.specs.Asking.{IsFindable}
 use Rattle.px_support.proofs.MacroGoing.{graftable-all, row-within, step-taken}
 use Rattle.px_support.proofs.macros.take_step.Goals as goal

@@ -2,7 +2,7 @@ use Rattle.std.proofs.Common.{ℕ, List, sym, subst}
 use Rattle.std.specs.Prelude.{All, IfOk}
 use Rattle.px_table.specs.declared.entry.Entry.{Entry}
 use Rattle.px_table.specs.declared.entry.Entry.TheVariants.{Macro}
-use Rattle.px_diff.specs.Entries.{IsEntry, obligations_of}
+use Rattle.px_entries.specs.Entries.{IsEntry, obligations_of}
 use Rattle.px_support.specs.Asking.{IsFindable}
 use Rattle.px_support.specs.Going.{IsEntryApplied}
 use Rattle.px_support.proofs.RowSteps.{instance-findable}

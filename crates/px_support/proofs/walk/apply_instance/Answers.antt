@@ -11,7 +11,7 @@ use Rattle.px_support.proofs.RowSteps.{first_row-here, rows-push}
 use Rattle.px_support.proofs.walk.apply_instance.Goals as goal
 
 pub first_row-requires-clause-steps : goal.first_row-requires-clause-steps
-first_row-requires-clause-steps c = subst (All (IsGroundInstanceOf c.args.asked.now.problem.now)) (sym c.deref.ensures.value) c.requires.steps
+first_row-requires-clause-steps c = subst (All (IsGroundInstanceOf c.args.asked.now.problem.now)) (sym c.deref.ensures.value) c.requires.room.all_ground
 
 pub first_row-requires-clause-formula : goal.first_row-requires-clause-formula
 first_row-requires-clause-formula c =

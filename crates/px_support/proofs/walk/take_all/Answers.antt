@@ -15,13 +15,10 @@ take-requires-clause-takeable c =
 pub take-requires-clause-stack : goal.take-requires-clause-stack
 take-requires-clause-stack c = c.loop-m.invariant.entries
 
-pub take-requires-clause-steps : goal.take-requires-clause-steps
-take-requires-clause-steps c = c.loop-m.invariant.all_ground
-
-pub take-requires-clause-short : goal.take-requires-clause-short
-take-requires-clause-short c =
+pub take-requires-clause-room : goal.take-requires-clause-room
+take-requires-clause-room c =
     let less = next-short (task_for c.args.asked.now) c.requires.asked.tables c.args.moves.now c.loop-m.m-index c.loop-m.walk c.loop-m-test.true c.loop-m.invariant in
-    omega (arith, less, c.requires.short)
+    record { all_ground = c.loop-m.invariant.all_ground; short = omega (arith, less, c.requires.short) }
 
 pub loop-m-preserved : goal.loop-m-preserved
 loop-m-preserved c =

@@ -17,7 +17,7 @@ pub returns-then-count-limit-clause-limited : goal.returns-then-count-limit-clau
 returns-then-count-limit-clause-limited g c =
     let visits = c.loop-count.invariant.visits in (
       visits.0 ++ g.W.Walk.ticks c.loop-count.walk ∷ [],
-      rw (c.in_ok-keep.ensures, c.in_ok-shape.ensures) (shapes-push (g.W.Walk.shape_of c.args.question.now) _ visits.0 _ visits.1),
+      rw (c.in_ok-push.ensures.ok, c.in_ok-shape.ensures) (shapes-push (g.W.Walk.shape_of c.args.question.now) _ visits.0 _ visits.1),
       limit-comes (g.W.Walk.possible c.args.question.now) (λ ticks. ⊥) visits.0 _ visits.3 c.loop-count.invariant.here (λ h. h) c.args.limit (rw visits.2 c.if-count-limit.true),
     )
 
@@ -44,7 +44,7 @@ loop-count-preserved g c =
       here = next.holds;
       visits = (
         visits.0 ++ g.W.Walk.ticks c.loop-count.walk ∷ [],
-        rw (c.in_ok-keep.ensures, c.in_ok-shape.ensures) (shapes-push (g.W.Walk.shape_of c.args.question.now) _ visits.0 _ visits.1),
+        rw (c.in_ok-push.ensures.ok, c.in_ok-shape.ensures) (shapes-push (g.W.Walk.shape_of c.args.question.now) _ visits.0 _ visits.1),
         rw (length-seen (g.W.Walk.possible c.args.question.now) (λ ticks. ⊥) visits.0 _ visits.3 c.loop-count.invariant.here (λ h. h), visits.2) refl,
         seen-next (g.W.Walk.possible c.args.question.now) (λ ticks. ⊥) visits.0 _ visits.3 c.loop-count.invariant.here (λ h. h) _ next,
         c.in_ok-gather.ensures.more visits.0 visits.4,

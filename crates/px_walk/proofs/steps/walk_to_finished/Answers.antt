@@ -15,7 +15,7 @@ pub returns-then-count-limit-clause-end : goal.returns-then-count-limit-clause-e
 returns-then-count-limit-clause-end g c =
     let visits = c.loop-count.invariant.visits in (
       visits.0 ++ g.W.Walk.ticks c.loop-count.walk ∷ [],
-      rw (c.in_ok-keep.ensures, c.in_ok-shape.ensures) (shapes-push (g.W.Walk.shape_of c.args.question.now) _ visits.0 _ visits.1),
+      rw (c.in_ok-push.ensures.ok, c.in_ok-shape.ensures) (shapes-push (g.W.Walk.shape_of c.args.question.now) _ visits.0 _ visits.1),
       limit-comes (g.W.Walk.possible c.args.question.now) (g.W.Walk.finished c.args.question.now) visits.0 _ visits.3 c.loop-count.invariant.here
           (λ finished. let is_finished = c.is_finished.ensures.1 finished in let is_not = c.if-is_finished.false in cc)
           c.args.limit (rw visits.2 c.if-count-limit.true),
@@ -40,7 +40,7 @@ loop-count-preserved g c =
       here = next.holds;
       visits = (
         visits.0 ++ g.W.Walk.ticks c.loop-count.walk ∷ [],
-        rw (c.in_ok-keep.ensures, c.in_ok-shape.ensures) (shapes-push (g.W.Walk.shape_of c.args.question.now) _ visits.0 _ visits.1),
+        rw (c.in_ok-push.ensures.ok, c.in_ok-shape.ensures) (shapes-push (g.W.Walk.shape_of c.args.question.now) _ visits.0 _ visits.1),
         rw (length-seen (g.W.Walk.possible c.args.question.now) (g.W.Walk.finished c.args.question.now) visits.0 _ visits.3 c.loop-count.invariant.here (λ finished. let is_finished = c.is_finished.ensures.1 finished in let is_not = c.if-is_finished.false in cc), visits.2) refl,
         seen-next (g.W.Walk.possible c.args.question.now) (g.W.Walk.finished c.args.question.now) visits.0 _ visits.3 c.loop-count.invariant.here
             (λ finished. let is_finished = c.is_finished.ensures.1 finished in let is_not = c.if-is_finished.false in cc) _ next,

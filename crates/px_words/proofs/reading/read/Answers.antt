@@ -14,6 +14,8 @@ returns c =
     let parse = c.try_get_matches_from in
     record {
       read = IfOk-weaker parse.result _ _
-          (λ m h. reads (found_of m) words c.requires.taken ((h (ap is_simple app_is)).0 ∙ ap (λ (a : App). matches_of a words) app_is)) parse.ensures.matches;
-      memory = IfErr-weaker parse.result _ _ (λ e h. h (ap (λ (a : App). takes a words) app_is ∙ takes-them words c.requires.taken)) parse.ensures.passes;
+          (λ m h. reads (found_of m) words c.requires.taken
+          ((h (ap is_simple app_is)).0 ∙ ap (λ (a : App). matches_of a words) app_is)) parse.ensures.matches;
+      memory = IfErr-weaker parse.result _ _
+          (λ e h. h (ap (λ (a : App). takes a words) app_is ∙ takes-them words c.requires.taken)) parse.ensures.passes;
     }

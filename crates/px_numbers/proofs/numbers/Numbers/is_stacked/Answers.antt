@@ -1,6 +1,7 @@
 use Rattle.std.proofs.Common.{◌≡◌, ◌-◌, ◌<◌, Some, length, slice_get, subst, sym, arith}
+use Rattle.px_base.proofs.Loops.{is_false, is_true}
 use Rattle.px_numbers.specs.Numbers.{Kept, AreEachOnce}
-use Rattle.px_numbers.proofs.NumberSteps.{stack_split, look_on, look_found, look_none, some_below, said_true, said_false}
+use Rattle.px_numbers.proofs.NumberSteps.{stack_split, look_on, look_found, look_none, some_below}
 use Rattle.px_numbers.proofs.numbers.Numbers.is_stacked.Goals as goal
 
 pub frame-frame-requires : goal.frame-frame-requires
@@ -11,7 +12,7 @@ frame-frame-requires c =
 pub returns-then-frame-entry : goal.returns-then-frame-entry
 returns-then-frame-entry c = λ entries one is at.
     let frame_at = subst (λ (k : Kept). slice_get k.frames (c.loop-rest.rest - 1) ≡ Some c.frame-frame.result) c.self.view_is c.frame-frame.ensures in
-    said_true (look_found c.args.self.now c.args.stack c.args.entry c.loop-rest.rest c.frame-frame.result c.loop-rest.invariant.looked (λ e. omega (arith, e, c.loop-rest-test.true)) frame_at c.if-frame-entry.true
+    is_true (look_found c.args.self.now c.args.stack c.args.entry c.loop-rest.rest c.frame-frame.result c.loop-rest.invariant.looked (λ e. omega (arith, e, c.loop-rest-test.true)) frame_at c.if-frame-entry.true
     entries one is at)
 
 pub loop-rest-preserved : goal.loop-rest-preserved
@@ -26,4 +27,4 @@ loop-rest-preserved c =
 
 pub returns : goal.returns
 returns c = λ entries one is at.
-    said_false (look_none c.args.self.now c.args.stack c.args.entry c.loop-rest.rest c.loop-rest.invariant.looked (omega (arith, c.loop-rest-test.false)) entries one is at)
+    is_false (look_none c.args.self.now c.args.stack c.args.entry c.loop-rest.rest c.loop-rest.invariant.looked (omega (arith, c.loop-rest-test.false)) entries one is at)

@@ -1,8 +1,8 @@
 use Rattle.std.proofs.Common.{◌≡◌, ℕ, List, subst, sym}
 use Rattle.std.specs.Prelude.{IfOk}
+use Rattle.px_base.proofs.Loops.{ok_map}
 use Rattle.px_numbers.specs.Numbers.{Kept, IsModelOf, IsModelAt}
 use Rattle.px_numbers.specs.NumberLaws.{one_at}
-use Rattle.px_numbers.proofs.NumberSteps.{if_ok}
 use Rattle.px_numbers.proofs.numbers.Numbers.model.Goals as goal
 
 pub model_of-requires : goal.model_of-requires
@@ -15,6 +15,6 @@ model_of-requires c =
 pub returns : goal.returns
 returns c =
     subst (λ (k : Kept). IfOk c.model_of.result (λ built. IsModelAt k c.args.number built.atoms)) c.self.view_is
-    (if_ok (λ built. IsModelOf c.self.inside.atoms c.list.result.now built.atoms)
-    (λ built. IsModelAt (record { atoms = c.self.inside.atoms; lists = c.self.inside.lists; entries = c.self.inside.entries; frames = c.self.inside.stacks }) c.args.number built.atoms) c.model_of.result c.model_of.ensures
-    (λ built is. (c.list.result.now, c.list.ensures, is)))
+    (ok_map (λ built. IsModelOf c.self.inside.atoms c.list.result.now built.atoms)
+    (λ built. IsModelAt (record { atoms = c.self.inside.atoms; lists = c.self.inside.lists; entries = c.self.inside.entries; frames = c.self.inside.stacks }) c.args.number built.atoms)
+    (λ built is. (c.list.result.now, c.list.ensures, is)) c.model_of.result c.model_of.ensures)

@@ -1,8 +1,9 @@
 use Rattle.std.proofs.Common.{ℕ, List, subst}
+use Rattle.px_base.proofs.Loops.{ok_map}
 use Rattle.px_ops.specs.Keeping.{Keeps}
 use Rattle.px_terms.specs.declared.atom.Atom.{Atom}
 use Rattle.px_numbers.specs.Numbers.{Kept, KeepsAll, IsModelAt, AreNumbersOf}
-use Rattle.px_numbers.proofs.NumberSteps.{keeps_same, result_places, result_once, if_ok}
+use Rattle.px_numbers.proofs.NumberSteps.{keeps_same, result_places, result_once}
 use Rattle.px_numbers.proofs.numbers.Numbers.model_number.Goals as goal
 
 pub invariant_of-self-2 : goal.invariant_of-self-2
@@ -29,7 +30,7 @@ returns-clause-keeps c =
 pub returns-clause-model : goal.returns-clause-model
 returns-clause-model c =
     let new : Kept = record { atoms = c.numbers_of.new.index; lists = c.intern.new.self; entries = c.self.inside.entries; frames = c.self.inside.stacks } in
-    if_ok (Keeps c.self.inside.lists c.intern.new.self c.from_vec.result) (λ number. IsModelAt new number c.args.model.now.atoms) c.intern.result c.intern.ensures.kept
+    ok_map (Keeps c.self.inside.lists c.intern.new.self c.from_vec.result) (λ number. IsModelAt new number c.args.model.now.atoms)
     (λ number kept. (
       c.in_ok-numbers.numbers.items,
       (subst (λ (l : List ℕ). Keeps c.self.inside.lists c.intern.new.self l number) c.from_vec.ensures kept).here,
@@ -37,4 +38,4 @@ returns-clause-model c =
         is_set = c.atoms.ensures.model.ascending;
         numbers_are = subst (λ (l : List Atom). AreNumbersOf new.atoms c.in_ok-numbers.numbers.items l) c.atoms.ensures.value c.in_ok-numbers.ensures.numbers;
       },
-    ))
+    )) c.intern.result c.intern.ensures.kept

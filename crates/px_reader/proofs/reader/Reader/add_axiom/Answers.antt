@@ -1,10 +1,5 @@
-use Rattle.std.proofs.Common.{◌≡◌, ℕ, List, [], ◌∷◌, ◌++◌, map, length, sym, ap, ◌∙◌, subst, arith}
-use Rattle.std.proofs.lemmas.Grind.{common_steps}
-use Rattle.px_terms.specs.Clauses.{ArePlainBelow}
+use Rattle.px_reader.proofs.Common.{◌≡◌, ℕ, List, [], ◌∷◌, ◌++◌, map, length, sym, ap, ◌∙◌, subst, arith, common_steps, ArePlainBelow, literal_of, clause_of, variables_of, declared_of, signed_view, text_of}
 use Rattle.px_terms.specs.declared.clause.Clause.{Clause}
-use Rattle.px_script.specs.Declarations.{literal_of, clause_of, variables_of}
-use Rattle.px_reader.specs.Readers.{declared_of}
-use Rattle.px_reader.specs.StatementViews.{signed_view, text_of}
 use Rattle.px_reader.proofs.Facts.{map_map}
 use Rattle.px_reader.proofs.reader.Reader.add_axiom.Goals as goal
 

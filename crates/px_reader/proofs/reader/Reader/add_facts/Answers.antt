@@ -1,15 +1,5 @@
-use Rattle.std.proofs.Common.{◌++◌, [], map, refl, sym, ap, ◌∙◌, subst}
-use Rattle.std.proofs.lemmas.List.{take_all}
-use Rattle.px_base.specs.SetLaws.{set_of-sorted}
-use Rattle.px_terms.specs.AtomSets.{atom_set}
-use Rattle.px_terms.specs.Instances.{IsGround}
-use Rattle.px_terms.specs.Order.{atom_cmp}
-use Rattle.px_terms.specs.declared.atom.Atom.{Atom}
-use Rattle.px_script.specs.Declarations.{atom_of}
-use Rattle.px_reader.specs.Readers.{declared_of}
-use Rattle.px_reader.specs.StatementViews.{signed_view}
+use Rattle.px_reader.proofs.Common.{◌++◌, [], map, refl, sym, ap, ◌∙◌, subst, take_all, set_of-sorted, atom_set, IsGround, atom_cmp, Atom, atom_of, declared_of, signed_view, Reader}
 use Rattle.px_reader.specs.declared.statement.SignedAtom.{SignedAtom}
-use Rattle.px_reader.specs.declared.reader.Reader.{Reader}
 use Rattle.px_reader.proofs.Facts.{numbered, facts-more}
 use Rattle.px_reader.proofs.reader.Reader.add_facts.Goals as goal
 

@@ -1,8 +1,4 @@
-use Rattle.std.proofs.Common.{◌≡◌, ◌++◌, [], map, take}
-use Rattle.px_terms.specs.AtomSets.{atom_set}
-use Rattle.px_script.specs.Declarations.{atom_of}
-use Rattle.px_reader.specs.Readers.{declared_of}
-use Rattle.px_reader.specs.StatementViews.{signed_view}
+use Rattle.px_reader.proofs.Common.{◌≡◌, ◌++◌, [], map, take, atom_set, atom_of, declared_of, signed_view}
 use Rattle.px_reader.proofs.reader.Reader.add_facts.Given as goal
 
 abbrev pub invariant-loop-atom : goal.invariant-loop-atom

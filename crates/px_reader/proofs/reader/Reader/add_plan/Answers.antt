@@ -1,12 +1,7 @@
-use Rattle.std.proofs.Common.{◌≡◌, [], ◌∷◌, map, length, sym, ap, ◌∙◌, arith}
-use Rattle.std.proofs.lemmas.Grind.{common_steps}
+use Rattle.px_reader.proofs.Common.{◌≡◌, [], ◌∷◌, map, length, sym, ap, ◌∙◌, arith, common_steps, atom_of, variables_of, with_command, with_names, a_plan, declared_of, signed_view, text_of}
 use Rattle.px_script.specs.Commands.{Command, Plan}
-use Rattle.px_script.specs.Declarations.{atom_of, variables_of, with_command, with_names}
-use Rattle.px_script.specs.Items.{a_plan}
-use Rattle.px_reader.specs.Readers.{declared_of}
-use Rattle.px_reader.specs.StatementViews.{signed_view, text_of}
 use Rattle.px_reader.proofs.Facts.{map_map}
-use Rattle.px_reader.proofs.TokenLemmas.{on-ok}
+use Rattle.std.proofs.lemmas.Result.{on_ok_weaker}
 use Rattle.px_reader.proofs.reader.Reader.add_plan.Goals as goal
 
 pub returns : goal.returns
@@ -24,6 +19,6 @@ returns c =
     let command : Plan c.in_ok-name.name c.from_vec.result c.len.result
     ≡ Plan (length d.names.results) (map (atom_of d (variables_of xs)) xs) (length (variables_of xs)) =
     λ i. Plan (c.in_ok-name.ensures.number i) (atoms i) (vars i) in
-    on-ok c.add_command.result (λ last.
+    on_ok_weaker c.add_command.result (λ last.
     last ∙ ap (with_command (Plan c.in_ok-name.name c.from_vec.result c.len.result)) c.in_ok-name.ensures.declared
     ∙ ap (λ (made : Command). with_command made (with_names a_plan (c.args.name.now ∷ []) d)) command) c.add_command.ensures

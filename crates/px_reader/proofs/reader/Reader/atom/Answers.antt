@@ -1,11 +1,4 @@
-use Rattle.std.proofs.Common.{◌≡◌, ◌≤◌, map, take, length, sym, ap, ◌∙◌, arith}
-use Rattle.std.proofs.lemmas.List.{take_all}
-use Rattle.std.proofs.lemmas.Simd.{map-map}
-use Rattle.px_terms.specs.declared.term.Term.{Term}
-use Rattle.px_terms.specs.declared.atom.Atom.{Atom}
-use Rattle.px_script.specs.Declarations.{parameters_here, term_of, atom_of}
-use Rattle.px_reader.specs.Readers.{declared_of}
-use Rattle.px_reader.specs.StatementViews.{argument_view, signed_view, text_of}
+use Rattle.px_reader.proofs.Common.{◌≡◌, ◌≤◌, map, take, length, sym, ap, ◌∙◌, arith, take_all, map-map, Term, Atom, parameters_here, term_of, atom_of, declared_of, argument_view, signed_view, text_of}
 use Rattle.px_reader.specs.declared.statement.Argument.{Argument}
 use Rattle.px_reader.proofs.reader.Reader.atom.Goals as goal
 

@@ -1,7 +1,4 @@
-use Rattle.std.proofs.Common.{◌≡◌, map, take, length}
-use Rattle.px_script.specs.Declarations.{parameters_here, term_of}
-use Rattle.px_reader.specs.Readers.{declared_of}
-use Rattle.px_reader.specs.StatementViews.{argument_view, text_of}
+use Rattle.px_reader.proofs.Common.{◌≡◌, map, take, length, parameters_here, term_of, declared_of, argument_view, text_of}
 use Rattle.px_reader.proofs.reader.Reader.atom.Given as goal
 
 abbrev pub invariant-loop-index : goal.invariant-loop-index

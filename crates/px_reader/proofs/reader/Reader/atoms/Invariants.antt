@@ -1,7 +1,4 @@
-use Rattle.std.proofs.Common.{◌≡◌, map, take}
-use Rattle.px_script.specs.Declarations.{atom_of}
-use Rattle.px_reader.specs.Readers.{declared_of}
-use Rattle.px_reader.specs.StatementViews.{signed_view, text_of}
+use Rattle.px_reader.proofs.Common.{◌≡◌, map, take, atom_of, declared_of, signed_view, text_of}
 use Rattle.px_reader.proofs.reader.Reader.atoms.Given as goal
 
 abbrev pub invariant-loop-atom : goal.invariant-loop-atom

@@ -1,12 +1,4 @@
-use Rattle.std.proofs.Common.{◌≡◌, ◌<◌, List, true, map, length, ap, ◌∙◌, Bor, ℕ, arith}
-use Rattle.std.proofs.lemmas.Grind.{common_steps}
-use Rattle.std.proofs.lemmas.List.{take_all}
-use Rattle.std.proofs.lemmas.List.Elements.{All-from_recursion}
-use Rattle.px_names.specs.Lists.{NameLists}
-use Rattle.px_names.specs.Name.{is_name_text}
-use Rattle.px_reader.specs.Readers.{with_more}
-use Rattle.px_reader.specs.StatementViews.{text_of}
-use Rattle.px_reader.specs.declared.reader.Reader.{Reader}
+use Rattle.px_reader.proofs.Common.{◌≡◌, ◌<◌, List, true, map, length, ap, ◌∙◌, Bor, ℕ, arith, common_steps, take_all, All-from_recursion, NameLists, is_name_text, with_more, text_of, Reader}
 use Rattle.px_reader.proofs.Fresh.{more-none, name-next, one-more-name}
 use Rattle.px_reader.proofs.reader.Reader.declare_names.Goals as goal
 

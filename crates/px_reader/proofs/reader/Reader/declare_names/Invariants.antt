@@ -1,6 +1,4 @@
-use Rattle.std.proofs.Common.{◌≡◌, map, take}
-use Rattle.px_reader.specs.Readers.{with_more}
-use Rattle.px_reader.specs.StatementViews.{text_of}
+use Rattle.px_reader.proofs.Common.{◌≡◌, map, take, with_more, text_of}
 use Rattle.px_reader.proofs.reader.Reader.declare_names.Given as goal
 
 abbrev pub invariant-loop-name : goal.invariant-loop-name

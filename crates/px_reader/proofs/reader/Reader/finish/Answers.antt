@@ -1,4 +1,4 @@
-use Rattle.px_reader.specs.Readers.{declared_of}
+use Rattle.px_reader.proofs.Common.{declared_of}
 use Rattle.px_reader.proofs.Finishing.{is-building, is-short, has-objects, has-height, has-nodes, has-shapes}
 use Rattle.px_reader.proofs.reader.Reader.finish.Goals as goal
 
@@ -10,7 +10,8 @@ subject-requires-clause-short c = is-short (declared_of c.args.self) c.requires 
 
 pub subject-requires-clause-objects : goal.subject-requires-clause-objects
 subject-requires-clause-objects c =
-    has-objects (declared_of c.args.self) c.requires c.building-building.result c.building-building.ensures c.own_problem-own.result c.own_problem-own.ensures
+    has-objects (declared_of c.args.self) c.requires c.building-building.result c.building-building.ensures c.own_problem-own.result
+    c.own_problem-own.ensures
 
 pub subject-requires-clause-height : goal.subject-requires-clause-height
 subject-requires-clause-height c = has-height (declared_of c.args.self) c.requires c.own_problem-own.result c.own_problem-own.ensures

@@ -1,7 +1,4 @@
-use Rattle.std.proofs.Common.{refl, sym, ◌∙◌}
-use Rattle.px_script.specs.Statements.{line_of}
-use Rattle.px_reader.specs.Readers.{declared_of}
-use Rattle.px_reader.specs.StatementViews.{statement_view}
+use Rattle.px_reader.proofs.Common.{refl, sym, ◌∙◌, line_of, declared_of, statement_view}
 use Rattle.px_reader.proofs.AtomTests.{names-lack}
 use Rattle.px_reader.proofs.reader.Reader.has_unknown_name.Goals as goal
 

@@ -1,7 +1,4 @@
-use Rattle.std.proofs.Common.{◌∙◌}
-use Rattle.px_script.specs.Statements.{line_of}
-use Rattle.px_reader.specs.Readers.{declared_of}
-use Rattle.px_reader.specs.StatementViews.{statement_view}
+use Rattle.px_reader.proofs.Common.{◌∙◌, line_of, declared_of, statement_view}
 use Rattle.px_reader.proofs.AtomTests.{arities-differ}
 use Rattle.px_reader.proofs.reader.Reader.has_wrong_arity.Goals as goal
 

@@ -1,12 +1,4 @@
-use Rattle.std.proofs.Common.{ap, ◌∙◌}
-use Rattle.std.specs.Prelude.{not}
-use Rattle.std.specs.List.{list_any}
-use Rattle.px_script.specs.Causes.{takes}
-use Rattle.px_script.specs.Forms.{arguments_of}
-use Rattle.px_script.specs.Statements.{Manner, line_of}
-use Rattle.px_reader.specs.LineViews.{manner_view}
-use Rattle.px_reader.specs.Readers.{declared_of}
-use Rattle.px_reader.specs.StatementViews.{statement_view}
+use Rattle.px_reader.proofs.Common.{ap, ◌∙◌, not, list_any, takes, arguments_of, Manner, line_of, manner_view, declared_of, statement_view}
 use Rattle.px_reader.proofs.AtomTests.{arguments-any}
 use Rattle.px_reader.proofs.reader.Reader.is_unbound.Goals as goal
 

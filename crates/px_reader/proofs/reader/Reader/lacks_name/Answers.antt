@@ -1,6 +1,4 @@
-use Rattle.std.proofs.Common.{◌≡◌, true, sym, ◌∙◌}
-use Rattle.px_names.specs.Lists.{has_name}
-use Rattle.px_reader.specs.Readers.{declared_of}
+use Rattle.px_reader.proofs.Common.{◌≡◌, true, sym, ◌∙◌, has_name, declared_of}
 use Rattle.px_reader.proofs.AtomTests.{places-lack, objects-lack}
 use Rattle.px_reader.proofs.reader.Reader.lacks_name.Goals as goal
 

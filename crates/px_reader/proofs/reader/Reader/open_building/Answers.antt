@@ -1,5 +1,4 @@
-use Rattle.std.proofs.Common.{refl}
-use Rattle.std.specs.Str.{chars}
+use Rattle.px_reader.proofs.Common.{refl, chars}
 use Rattle.unicode_ident.proofs.Computing.{unicode_ident}
 use Rattle.px_reader.proofs.reader.Reader.open_building.Goals as goal
 

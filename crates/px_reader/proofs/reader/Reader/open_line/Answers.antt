@@ -1,5 +1,4 @@
-use Rattle.std.proofs.Common.{refl, length}
-use Rattle.px_reader.specs.Readers.{block_view}
+use Rattle.px_reader.proofs.Common.{refl, length, block_view}
 use Rattle.px_reader.proofs.reader.Reader.open_line.Goals as goal
 
 pub returns-in-Some : goal.returns-in-Some

@@ -1,9 +1,4 @@
-use Rattle.std.proofs.Common.{◌≡◌, ℕ, List, map, sym, ap, ◌∙◌}
-use Rattle.std.specs.Prelude.{position, is_some}
-use Rattle.std.specs.Str.{bytes_eq}
-use Rattle.std.specs.String.{string_bytes}
-use Rattle.px_names.proofs.ListLemmas.{position-map}
-use Rattle.px_script.proofs.ListLemmas.{some-position}
+use Rattle.px_reader.proofs.Common.{◌≡◌, ℕ, List, map, sym, ap, ◌∙◌, position, is_some, bytes_eq, string_bytes, position-map, some-position}
 use Rattle.px_reader.proofs.reader.Reader.parameter.Goals as goal
 
 pub returns-in-Some-clause-number : goal.returns-in-Some-clause-number

@@ -1,5 +1,4 @@
-use Rattle.std.proofs.Common.{sym, ◌∙◌}
-use Rattle.px_reader.specs.StatementViews.{text_of}
+use Rattle.px_reader.proofs.Common.{sym, ◌∙◌, text_of}
 use Rattle.px_reader.proofs.Seen.{text_cmp, texts-same, found-other, found-seen, none-found, one-more, negated, affirmed}
 use Rattle.px_reader.proofs.reader.Reader.repeats.Goals as goal
 use Rattle.px_reader.proofs.reader.Reader.repeats.Goals.{then-has-via-then-has, then-has-via-else-has+in_ok-insert+then-not-branch}

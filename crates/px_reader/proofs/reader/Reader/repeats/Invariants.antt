@@ -1,7 +1,4 @@
-use Rattle.std.proofs.Common.{◌≡◌, ◌++◌, ℕ, List, take, drop, map}
-use Rattle.px_names.specs.Lists.{has_name}
-use Rattle.px_script.specs.Causes.{repeats}
-use Rattle.px_reader.specs.StatementViews.{text_of}
+use Rattle.px_reader.proofs.Common.{◌≡◌, ◌++◌, ℕ, List, take, drop, map, has_name, repeats, text_of}
 use Rattle.px_reader.proofs.Seen.{is_seen, text_cmp, texts-same}
 use Rattle.px_reader.proofs.reader.Reader.repeats.Given as goal
 

@@ -1,4 +1,4 @@
-use Rattle.px_reader.specs.Readers.{declared_of}
+use Rattle.px_reader.proofs.Common.{declared_of}
 use Rattle.px_reader.proofs.reader.Reader.takes.Goals as goal
 
 pub returns : goal.returns

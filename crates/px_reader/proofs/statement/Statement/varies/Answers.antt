@@ -1,9 +1,4 @@
-use Rattle.std.proofs.Common.{◌≡◌, true, false, refl, sym, ◌∙◌}
-use Rattle.std.specs.List.{list_any}
-use Rattle.px_script.specs.Forms.{arguments_of}
-use Rattle.px_script.specs.Items.{is_variable}
-use Rattle.px_script.specs.Statements.{line_of}
-use Rattle.px_reader.specs.StatementViews.{statement_view}
+use Rattle.px_reader.proofs.Common.{◌≡◌, true, false, refl, sym, ◌∙◌, list_any, arguments_of, is_variable, line_of, statement_view}
 use Rattle.px_reader.proofs.AtomTests.{arguments-any}
 use Rattle.px_reader.proofs.statement.Statement.varies.Goals as goal
 

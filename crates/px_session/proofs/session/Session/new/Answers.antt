@@ -16,7 +16,8 @@ pub world_of-requires-clause-buildings : goal.world_of-requires-clause-buildings
 world_of-requires-clause-buildings c =
     let script = content c.args.script in
     read-building IsBuilding c.args.script.building
-    (each-building (IsBuildingOf script.names script.problem script.facts) IsBuilding script.building (λ things is. is.is_building) c.args.script.in_range.building)
+    (each-building (IsBuildingOf script.names script.problem script.facts) IsBuilding script.building
+    (λ things is. is.is_building) c.args.script.in_range.building)
 
 pub world_of-requires-clause-short : goal.world_of-requires-clause-short
 world_of-requires-clause-short c =
@@ -25,13 +26,21 @@ world_of-requires-clause-short c =
     let IsShort : List Thing → Type 0 = λ things. length things < 4294967295 in
     read-building IsShort c.args.script.building
     (each-building (IsBuildingOf script.names script.problem script.facts) IsShort script.building
-    (λ things is. few-things script.version script.names script.problem script.facts things range.version range.names.few_objects is) range.building)
+    (λ things is. few-things script.version script.names script.problem script.facts things range.version range.names.few_objects is)
+    range.building)
 
 pub invariant_of-result : goal.invariant_of-result
 invariant_of-result c =
     let script = c.args.script in
     let Session : SessionState → SessionValue =
-    λ state. record { problem = script.problem; names = script.names; commands = map command_view script.commands; done = 0; state = state } in
+    λ state. record {
+      problem = script.problem;
+      names = script.names;
+      commands = map command_view script.commands;
+      done = 0;
+      state = state;
+    } in
     let opened = kept-opened (content script) script.in_range in
-    let built = subst (λ (building : Option RoomState). IsKeptSession building (Session (opening (content script).facts))) (sym (c.in_ok-building.ensures ∙ first-read script.building)) opened in
+    let built = subst (λ (building : Option RoomState). IsKeptSession building (Session (opening (content script).facts)))
+    (sym (c.in_ok-building.ensures ∙ first-read script.building)) opened in
     subst (λ (state : SessionState). IsKeptSession c.in_ok-building.building (Session state)) (sym c.opening.ensures) built

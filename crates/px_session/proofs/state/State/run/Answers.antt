@@ -12,7 +12,8 @@ use Rattle.px_session.proofs.state.State.run.Goals as goal
 
 pub run_table-requires-clause-table : goal.run_table-requires-clause-table
 run_table-requires-clause-table c =
-    any-right c.args.problem.now c.args.self.now c.requires.session.plans c.requires.session.learned c.args.name c.in-Some.table.now (sym c.in-Some.ensures)
+    any-right c.args.problem.now c.args.self.now c.requires.session.plans c.requires.session.learned c.args.name c.in-Some.table.now
+    (sym c.in-Some.ensures)
 
 pub run_table-requires-clause-place : goal.run_table-requires-clause-place
 run_table-requires-clause-place c =
@@ -20,21 +21,27 @@ run_table-requires-clause-place c =
 
 pub run_table-requires-clause-taken : goal.run_table-requires-clause-taken
 run_table-requires-clause-taken c =
-    subst (TakesAll c.args.building.now) (sym (c.deref.ensures.value ∙ ap (λ (s : SessionState). s.recorded) c.self.view_is)) c.requires.placed.edits
+    subst (TakesAll c.args.building.now)
+    (sym (c.deref.ensures.value ∙ ap (λ (s : SessionState). s.recorded) c.self.view_is)) c.requires.placed.edits
 
 pub returns-in-Ok-clause-told : goal.returns-in-Ok-clause-told
 returns-in-Ok-clause-told c =
     let told = map turn_told c.in-Ok.field-0.turns in
     let after = c.in-Ok.field-0.facts.atoms in
     let recorded_is = c.deref.ensures.value ∙ ap (λ (s : SessionState). s.recorded) c.self.view_is in
-    let from_facts = subst (λ (recorded : List (Recorded Edit)). RunsTable leaves_edit c.args.problem.now c.in-Some.table.now c.args.bound.now recorded c.self.inside.facts.atoms told after)
+    let from_facts = subst (λ (recorded : List
+    (Recorded Edit)). RunsTable leaves_edit c.args.problem.now c.in-Some.table.now c.args.bound.now recorded c.self.inside.facts.atoms told
+    after)
     recorded_is c.in-Ok.ensures.runs in
-    let runs = subst (λ (atoms : List Atom). RunsTable leaves_edit c.args.problem.now c.in-Some.table.now c.args.bound.now c.args.self.now.recorded atoms told after)
+    let runs = subst (λ (atoms : List Atom). RunsTable leaves_edit c.args.problem.now c.in-Some.table.now c.args.bound.now
+    c.args.self.now.recorded atoms told after)
     (ap (λ (s : SessionState). s.atoms) c.self.view_is) from_facts in
-    let cleared = ap (λ (r : List (Recorded Edit)). record (held.the_view c.self.inside) { atoms = after; recorded = r }) c.clear.ensures.items in
+    let cleared = ap (λ (r : List (Recorded Edit)). record
+    (held.the_view c.self.inside) { atoms = after; recorded = r }) c.clear.ensures.items in
     let whole = ap (λ (s : SessionState). record s { atoms = after; recorded = [] }) c.self.view_is in (
       refl,
-      run-told c.args.problem.now c.args.name c.args.bound.now c.args.self.now _ c.in-Some.table.now c.in-Ok.field-0.turns after c.requires.binding.from_one
+      run-told c.args.problem.now c.args.name c.args.bound.now c.args.self.now _ c.in-Some.table.now c.in-Ok.field-0.turns after
+          c.requires.binding.from_one
           (sym c.in-Some.ensures) c.in-Ok.ensures.known runs (cleared ∙ whole),
     )
 

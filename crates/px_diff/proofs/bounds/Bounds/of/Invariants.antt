@@ -1,5 +1,0 @@
-use Rattle.px_diff.specs.Bounds.{AreBounds}
-use Rattle.px_diff.proofs.bounds.Bounds.of.Given as goal
-
-abbrev pub invariant-loop-height : goal.invariant-loop-height
-invariant-loop-height l = AreBounds l.problem l._height l.table.items

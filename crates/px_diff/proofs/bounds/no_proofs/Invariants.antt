@@ -1,5 +1,0 @@
-use Rattle.px_diff.specs.Bounds.{AreBounds}
-use Rattle.px_diff.proofs.bounds.no_proofs.Given as goal
-
-abbrev pub invariant-loop-pred : goal.invariant-loop-pred
-invariant-loop-pred l = AreBounds l.problem 0 l.table.items

@@ -1,7 +1,0 @@
-use Rattle.px_terms.specs.declared.clause.Clause.{Clause}
-use Rattle.px_diff.specs.Concluding.{Asserts}
-use Rattle.px_diff.proofs.Loops.{AllBefore}
-use Rattle.px_diff.proofs.facts.is_concluded.Given as goal
-
-abbrev pub invariant-loop-number : goal.invariant-loop-number
-invariant-loop-number l = AllBefore (λ (clause : Clause). Asserts l.pred clause.lits → ⊥) l.problem.axioms l.number

@@ -1,0 +1,111 @@
+//! The first steps of tables as entries, beside the plain, slow program.
+
+use crate::reference::Case;
+use crate::relevance_tests::{agreed, are_entries, has_count, is_limited, pushes_of};
+use crate::sample_problems::{atom, entry_of, model_of, o, opening, rooms, sequence_of, things};
+use crate::sample_tables::{go_and_push, take_and_use};
+use px_ops::Model;
+use px_table::{Entry, Table};
+use px_terms::{Atom, Problem};
+use std::alloc::Global;
+use std::process::Abort;
+use std::rt::HostRuntime;
+use std::test::Fail;
+
+/// The entry of the first table's first two steps.
+fn two_of(alloc: Global, rt: &impl Abort, sigma: &[u32]) -> Entry {
+    Entry::Macro {
+        number: 0,
+        prefix: 2,
+        sigma: sequence_of(alloc, rt, sigma),
+    }
+}
+
+/// The box may be pushed into room 1, or the robot goes to it first, from room 1 or from room 3. The plain program agrees.
+#[test]
+fn the_robot_goes_to_the_box(rt: HostRuntime) -> Result<(), Fail> {
+    let alloc = rt.alloc();
+    let problem = rooms(alloc, &rt);
+    let model = opening(alloc, &rt);
+    let tables = [go_and_push(alloc, &rt)];
+    let case = Case {
+        problem: &problem,
+        wanted: &[atom(&rt, 0, &[o(6), o(1)])],
+        stack: &[],
+        model: &model,
+        tables: &tables,
+    };
+    let found = agreed(alloc, &rt, &case);
+    let expected = [
+        entry_of(&rt, 1, &[o(6), o(4), o(2), o(1)]),
+        two_of(alloc, &rt, &[1, 4, 2, 6, 4, 1]),
+        two_of(alloc, &rt, &[3, 5, 2, 6, 4, 1]),
+    ];
+    assert!(&rt; are_entries(&found, &expected));
+    Ok(())
+}
+
+/// The plain program agrees on what may be pushed for the atom. Using a thing has two shapes; at that limit it is met by what
+/// adds the atom, unless this is taking alone, and else there are `count` entries.
+fn agree_on_count(
+    alloc: Global,
+    rt: &impl Abort,
+    problem: &Problem,
+    model: &Model,
+    tables: &[Table],
+    wanted: Atom,
+    count: usize,
+) {
+    let case = Case {
+        problem,
+        wanted: &[wanted],
+        stack: &[],
+        model,
+        tables,
+    };
+    let found = agreed(alloc, rt, &case);
+    let is_met = problem.shapes == 2 && wanted.pred() != 2;
+    assert!(rt; is_limited(&found) == is_met && has_count(&found, count) != is_met);
+}
+
+/// A table of three steps, taken two or three: so that thing 1 is here it is used, after another thing is taken; of the entries
+/// with three steps the last doesn't take it. So that thing 1 is taken, it is taken before another is used, or last; and so that
+/// it is used, it is used after another is taken, whatever is taken last. A thing that is taken first isn't here for the use,
+/// though it could be brought. With two steps the third thing is object 0.
+#[test]
+fn a_plain_program_agrees_on_taking_and_using(rt: HostRuntime) -> Result<(), Fail> {
+    let alloc = rt.alloc();
+    let mut problem = things(alloc, &rt);
+    let tables = [take_and_use(alloc, &rt, 3)];
+    let one_here = model_of(alloc, &rt, &[atom(&rt, 0, &[o(1)])]);
+    let nothing = Model::new(alloc);
+    for shapes in [2, 3, 10000] {
+        problem.shapes = shapes;
+        for (pred, count) in [(0, 1 + 2 + 4), (2, 1 + 2 + 10), (3, 1 + 2 + 6)] {
+            let wanted = atom(&rt, pred, &[o(1)]);
+            agree_on_count(alloc, &rt, &problem, &one_here, &tables, wanted, count);
+            agree_on_count(alloc, &rt, &problem, &nothing, &tables, wanted, count);
+        }
+    }
+    Ok(())
+}
+
+/// A table of more parameters than a question has variables has the same entries, each tried by itself, with object 0 for the
+/// parameters that no step uses.
+#[test]
+fn a_table_of_4097_parameters(rt: HostRuntime) -> Result<(), Fail> {
+    let alloc = rt.alloc();
+    let problem = things(alloc, &rt);
+    let tables = [take_and_use(alloc, &rt, 4097)];
+    let model = model_of(alloc, &rt, &[atom(&rt, 0, &[o(1)])]);
+    let case = Case {
+        problem: &problem,
+        model: &model,
+        tables: &tables,
+        stack: &[],
+        wanted: &[atom(&rt, 0, &[o(1)])],
+    };
+    let found = pushes_of(alloc, &rt, &case);
+    assert!(&rt; has_count(&found, 1 + 2 + 4));
+    Ok(())
+}

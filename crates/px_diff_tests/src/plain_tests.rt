@@ -1,0 +1,68 @@
+//! What is told of operators by facts is what the prover tells of them.
+
+use crate::known_tests::is_open_with;
+use crate::sample_problems::{atom, blocks, entry_of, o, opening, rooms, stacked};
+use px_entries::{are_learned, deciding_part, is_entry, known_below, known_entry, never_limited};
+use px_gaps::Known;
+use px_ops::Model;
+use px_terms::{NoMemory, Problem, Term, is_valid};
+use std::alloc::Global;
+use std::process::Abort;
+use std::rt::HostRuntime;
+use std::test::Fail;
+
+/// Are both the same, and neither that a question is limited?
+fn are_alike(known: &Known, other: &Known) -> bool {
+    match known {
+        Known::Applicable => matches!(other, Known::Applicable),
+        Known::Open(gaps) => is_open_with(other, gaps.as_slice()),
+        Known::Closed => matches!(other, Known::Closed),
+        Known::Limited {
+            formula: _,
+            shapes: _,
+        } => false,
+    }
+}
+
+/// What the prover tells of the operator with these terms. Where no question is ever limited, facts have to tell the same.
+fn told_alike(
+    alloc: Global,
+    rt: &impl Abort,
+    problem: &Problem,
+    op: u32,
+    terms: &[Term],
+    model: &Model,
+) -> Result<Known, NoMemory> {
+    let entry = entry_of(rt, op, terms);
+    assert!(rt; is_valid(problem));
+    assert!(rt; are_learned(problem, &[]));
+    assert!(rt; is_entry(problem, &[], &entry));
+    let known = known_entry(alloc, problem, &[], &entry, model)?;
+    if never_limited(alloc, problem, &[])? {
+        let told = known_below(alloc, problem, &[], &entry, model)?;
+        assert!(rt; are_alike(&told, &known));
+    }
+    Ok(known)
+}
+
+/// Going through a door: from where the robot is, back through it from where the robot isn't, and where no door is.
+#[test]
+fn facts_tell_of_operators(rt: HostRuntime) -> Result<(), Fail> {
+    let alloc = rt.alloc();
+    let problem = rooms(alloc, &rt);
+    let model = opening(alloc, &rt);
+    let known = told_alike(alloc, &rt, &problem, 0, &[o(4), o(1), o(2)], &model)?;
+    assert!(&rt; matches!(&known, Known::Applicable));
+    let known = told_alike(alloc, &rt, &problem, 0, &[o(5), o(3), o(2)], &model)?;
+    assert!(&rt; is_open_with(&known, &[atom(&rt, 0, &[o(0), o(3)])]));
+    let known = told_alike(alloc, &rt, &problem, 0, &[o(5), o(1), o(2)], &model)?;
+    assert!(&rt; matches!(&known, Known::Closed));
+    assert!(&rt; is_valid(&problem));
+    let deciding = deciding_part(alloc, &problem, &model)?;
+    assert!(&rt; deciding.atoms().len() < model.atoms().len());
+    let problem = blocks(alloc, &rt);
+    let model = stacked(alloc, &rt);
+    let known = told_alike(alloc, &rt, &problem, 1, &[o(0), o(1)], &model)?;
+    assert!(&rt; is_open_with(&known, &[atom(&rt, 1, &[o(0)])]));
+    Ok(())
+}

@@ -1,0 +1,118 @@
+//! Objects for a table's parameters, chosen one after the other.
+ghost use Rattle.std.specs.Prelude.{◌≡◌, ℕ, List, Some, length, slice_get, All, IfSome, IfNone, IfOk, IsSomeAnd, IsTrue};
+ghost use Rattle.px_terms.specs.Language.{IsObject};
+ghost use Rattle.px_terms.specs.declared.term.Term.TheVariants.{Var};
+ghost use Rattle.px_gaps.specs.Bindings.{Extends, IsBinding, first_values};
+ghost use Rattle.px_entries.specs.Parameters.{AreFirstTerms, Fits, IsFirstTerm, merged_term as merged_by};
+
+use px_gaps::{first_variable, object_of};
+use px_table::{Table, is_used};
+use px_terms::{NoMemory, Term};
+use std::alloc::Global;
+
+/// The parameter itself where the first steps use it, else object 0.
+fn first_term(table: &Table, prefix: u32, parameter: u32) -> Term
+    ensures { IsFirstTerm table.now prefix parameter result }
+{
+    if is_used(table, prefix, parameter) {
+        return Term::Var(parameter);
+    }
+    Term::Obj(0)
+}
+
+/// Returns a term for each parameter of the table: the parameter itself where the first `prefix` steps use it, else object 0.
+///
+/// # Errors
+/// `NoMemory` if there isn't enough memory.
+pub fn first_terms(alloc: Global, table: &Table, prefix: u32) -> Result<Vec<Term>, NoMemory>
+    ensures { IfOk result (λ terms. AreFirstTerms table.now prefix terms.items) }
+{
+    let mut terms = Vec::new(alloc);
+    for parameter in 0..table.params {
+        terms.push(first_term(table, prefix, parameter))?;
+    }
+    Ok(terms)
+}
+
+/// Returns the first parameter that has no object, or `None` if each has one.
+pub fn first_unbound(terms: &[Term]) -> Option<u32>
+    requires binding { (limit : ℕ) × IsBinding limit terms.now }
+    ensures some { IfSome result (λ parameter. slice_get terms.now parameter ≡ Some (Var parameter)) }
+    ensures none { IfNone result (All IsObject terms.now) }
+{
+    first_variable(terms)
+}
+
+/// Returns the objects that the parameters have.
+///
+/// # Errors
+/// `NoMemory` if there isn't enough memory.
+pub fn objects_of(alloc: Global, terms: &[Term]) -> Result<Vec<u32>, NoMemory>
+    ensures { IfOk result (λ objects. objects.items ≡ first_values terms.now) }
+{
+    let mut objects = Vec::new(alloc);
+    for term in terms {
+        objects.push(object_of(*term))?;
+    }
+    Ok(objects)
+}
+
+/// The object of both terms, or of the one that has one. None where they have two, or one that is no object of the problem.
+pub fn merged_term(limit: u32, term: Term, other: Term) -> Option<Term>
+    ensures { result ≡ merged_by limit term other }
+{
+    match term {
+        Term::Any => Some(term),
+        Term::Obj(object) => match other {
+            Term::Obj(second) => { if object == second { Some(term) } else { None } }
+            Term::Var(_) | Term::Any => Some(term),
+        },
+        Term::Var(_) => match other {
+            Term::Obj(second) => { if second < limit { Some(other) } else { None } }
+            Term::Var(_) | Term::Any => Some(term),
+        },
+    }
+}
+
+/// Can objects of the problem fit both the terms and the others? `true` alone doesn't say that some do. Does not allocate.
+pub fn can_fit(limit: u32, terms: &[Term], others: &[Term]) -> bool
+    requires { length others.now ≡ length terms.now }
+    ensures { (sigma : List ℕ) → Extends limit terms.now sigma → Fits others.now sigma → IsTrue result }
+{
+    for place in 0..terms.len() {
+        if merged_term(limit, terms[place], others[place]).is_none() {
+            return false;
+        }
+    }
+    true
+}
+
+/// Returns the terms with the objects of the others beside their own, or `None` if no objects of the problem fit both.
+///
+/// # Errors
+/// `NoMemory` if there isn't enough memory.
+pub fn merged(
+    alloc: Global,
+    limit: u32,
+    terms: &[Term],
+    others: &[Term],
+) -> Result<Option<Vec<Term>>, NoMemory>
+    requires { length others.now ≡ length terms.now }
+    ensures binding { IfOk result (λ merged. IfSome merged (λ next. IsBinding limit terms.now → IsBinding limit next.items)) }
+    ensures long { IfOk result (λ merged. IfSome merged (λ next. length next.items ≡ length terms.now)) }
+    ensures fits { IfOk result (λ merged. (sigma : List ℕ) → Extends limit terms.now sigma → Fits others.now sigma → IsSomeAnd merged (λ next. Extends limit next.items sigma)) }
+{
+    if !can_fit(limit, terms, others) {
+        return Ok(None);
+    }
+    let mut next = Vec::new(alloc);
+    next.reserve(terms.len())?;
+    for place in 0..terms.len() {
+        let term = match merged_term(limit, terms[place], others[place]) {
+            Some(term) => term,
+            None => return Ok(None),
+        };
+        next.push(term)?;
+    }
+    Ok(Some(next))
+}

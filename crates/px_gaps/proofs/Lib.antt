@@ -1,0 +1,25 @@
+pub mod Grows
+mod Regaps
+pub mod GapLists
+pub mod GapAtoms
+pub mod AddableLaws
+pub mod KnownSteps
+pub mod Limits
+pub mod GapLemmas
+pub mod Choosing
+mod FormLemmas
+pub mod Describing
+mod Parting
+mod PartLemmas
+mod ChoiceLemmas
+pub mod Proving
+pub mod FactLemmas
+pub mod Ordered
+pub mod Below
+mod ShapeCounts
+mod ListBounds
+mod AtomBounds
+mod UseBounds
+mod BoundLoops
+pub mod Singles
+pub mod Substituting

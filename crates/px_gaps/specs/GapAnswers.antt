@@ -1,0 +1,25 @@
+-- What one question of gaps tells of a formula.
+use Rattle.std.specs.Prelude.{◌↔◌, ℕ, List, [], ◌∷◌, All, Contains}
+use Rattle.px_terms.specs.Validity.{IsAtomOf}
+use Rattle.px_terms.specs.declared.atom.Atom.{Atom}
+use Rattle.px_terms.specs.declared.problem.Problem.{Problem}
+use Rattle.px_proof.specs.declared.shape.Tick.{Tick}
+use Rattle.px_prover.specs.PatternLists.{lists_of}
+use Rattle.px_prover.specs.Patterns.{AreGapPatterns}
+use Rattle.px_prover.specs.declared.pattern.GapPattern.{GapPattern}
+use Rattle.px_question.specs.Answers.{IsProvable}
+use Rattle.px_question.specs.Limits.{AreFewGapShapes, IsLimited}
+use Rattle.px_question.specs.Settings.{Setting, setting_of}
+use Rattle.px_gaps.specs.Closings.{IsClosedIn}
+
+-- All patterns of the formula, which has fewer unfinished gap proofs than the limit, by their shapes; and those atoms closed by them
+-- which are provable. Proving none of the atoms that they close meets the limit.
+pub record IsGapAnswer (s : Setting) (formula : List Atom) (vars : ℕ) (patterns : List GapPattern) (provable : List Atom) : Type 0 where
+  pub all : AreGapPatterns s formula vars patterns
+  pub few : AreFewGapShapes s formula vars
+  pub provable_are : (atom : Atom) → Contains provable atom ↔ (IsClosedIn (lists_of s.objects patterns) atom × IsProvable s atom)
+  pub unlimited : (atom : Atom) (shapes : List (List Tick)) → IsClosedIn (lists_of s.objects patterns) atom → ¬ IsLimited s (atom ∷ []) 0 shapes
+
+-- they are that of some formula of the problem
+abbrev pub AnswersSome : Problem → List Atom → ℕ → List GapPattern → List Atom → Type 0
+AnswersSome problem facts vars patterns provable = (formula : List Atom) × All (IsAtomOf problem vars) formula × IsGapAnswer (setting_of problem facts) formula vars patterns provable

@@ -1,0 +1,17 @@
+pub mod Addable
+pub mod Apart
+pub mod Bindings
+pub mod Bounds
+pub mod Choices
+pub mod Closings
+pub mod Concluding
+pub mod Counting
+pub mod Described
+pub mod Forms
+pub mod GapAnswers
+pub mod Known
+pub mod Listed
+pub mod Needs
+pub mod Outcomes
+pub mod Provable
+pub mod Questions

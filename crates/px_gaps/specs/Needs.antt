@@ -1,0 +1,33 @@
+-- What is needed: formulas that are to be proved from facts. When one has an answer or a gap, and when all are open.
+use Rattle.std.specs.Prelude.{◌⊎◌, ℕ, List, All, Any}
+use Rattle.px_terms.specs.declared.atom.Atom.{Atom}
+use Rattle.px_terms.specs.declared.problem.Problem.{Problem}
+use Rattle.px_question.specs.Answers.{IsAnswer}
+use Rattle.px_question.specs.Gaps.{IsGapOf}
+use Rattle.px_question.specs.Settings.{setting_of}
+
+-- a formula with its number of variables, and the facts from which it is to be proved
+pub record Obligation : Type 0 where
+  pub formula : List Atom
+  pub vars : ℕ
+  pub facts : List Atom
+
+-- some objects for its variables make each of its atoms provable
+abbrev pub HasAnswer : Problem → Obligation → Type 0
+HasAnswer problem needed = IsAnswer (setting_of problem needed.facts) needed.formula needed.vars
+
+-- it has no answer, and the atom is what is missing in some list of gap proofs of it
+abbrev pub HasGap : Problem → Obligation → Atom → Type 0
+HasGap problem needed gap = IsGapOf (setting_of problem needed.facts) needed.formula needed.vars gap
+
+-- all that is needed has an answer
+abbrev pub IsApplicable : Problem → List Obligation → Type 0
+IsApplicable problem needs = All (HasAnswer problem) needs
+
+-- all that is needed has an answer or a gap; so what is applicable is open
+abbrev pub IsOpen : Problem → List Obligation → Type 0
+IsOpen problem needs = All (λ needed. HasAnswer problem needed ⊎ ((gap : Atom) × HasGap problem needed gap)) needs
+
+-- a gap of something that is needed, where all of it is open
+abbrev pub IsGapOfNeeds : Problem → List Obligation → Atom → Type 0
+IsGapOfNeeds problem needs gap = IsOpen problem needs × Any (λ needed. HasGap problem needed gap) needs

@@ -1,0 +1,174 @@
+//! Objects for the variables of a formula under which a pattern of it closes nothing that is provable.
+ghost use Rattle.std.specs.Prelude.{◌≡◌, ◌↔◌, ◌⊎◌, ◌++◌, ◌∷◌, [], ℕ, Some, List, length, map as map_list, slice_get, All, Contains, IfSome, IfNone, IfOk, OnOk};
+ghost use Rattle.px_prover.specs.PatternLists.{lists_of};
+ghost use Rattle.px_question.specs.Answers.{object_of as object_by};
+ghost use Rattle.px_terms.specs.Instances.{IsGround};
+ghost use Rattle.px_terms.specs.Language.{IsVariableBelow, substitute};
+ghost use Rattle.px_terms.specs.declared.term.Term.{Term as TermValue};
+ghost use Rattle.px_terms.specs.declared.term.Term.TheVariants.{Var};
+ghost use Rattle.px_gaps.specs.Bindings.{AreBound, IsBinding, IsOpenChoice};
+ghost use Rattle.px_gaps.specs.Choices.{IsClosed};
+ghost use Rattle.px_gaps.specs.Closings.{IsChosenIn};
+ghost use Rattle.px_gaps.specs.Described.{IsChosenBy, IsPlainPattern};
+
+use crate::bindings::{Avoidance, bound, can_avoid, meets_under, object_of, unbound};
+use px_base::push;
+use px_ops::Model;
+use px_prover::GapPattern;
+use px_terms::{NoMemory, Sequence, Term};
+use std::alloc::Global;
+
+/// What stands for the term.
+fn filled_term(terms: &[Term], term: Term) -> Term
+    requires { IsVariableBelow (length terms.now) term }
+    ensures { result ≡ substitute terms.now term }
+{
+    match term {
+        Term::Var(variable) => terms[variable as usize],
+        Term::Obj(number) => Term::Obj(number),
+        Term::Any => Term::Any,
+    }
+}
+
+/// The variable that the term is, if it is one.
+fn variable_of(term: Term) -> Option<u32>
+    ensures some { IfSome result (λ variable. term ≡ Var variable) }
+    ensures none { IfNone result ((v : ℕ) → ¬ (term ≡ Var v)) }
+{
+    match term {
+        Term::Var(variable) => Some(variable),
+        Term::Obj(_) => None,
+        Term::Any => None,
+    }
+}
+
+/// The first variable that stands for one of the terms.
+fn first_of(terms: &[Term], targets: &[Term]) -> Option<u32>
+    requires below { All (IsVariableBelow (length terms.now)) targets.now }
+    requires binding { (limit : ℕ) × IsBinding limit terms.now }
+    ensures some { IfSome result (λ variable. slice_get terms.now variable ≡ Some (Var variable)) }
+    ensures none { IfNone result (All (IsClosed terms.now) targets.now) }
+{
+    for target in targets {
+        match variable_of(filled_term(terms, *target)) {
+            Some(variable) => return Some(variable),
+            None => {}
+        }
+    }
+    None
+}
+
+/// The objects that stand for the terms.
+fn objects_by(alloc: Global, terms: &[Term], targets: &[Term]) -> Result<Vec<u32>, NoMemory>
+    requires { All (IsVariableBelow (length terms.now)) targets.now }
+    ensures { IfOk result (λ objects. objects.items ≡ map_list (λ (t : TermValue). object_by (substitute terms.now t)) targets.now) }
+{
+    let mut objects = Vec::new(alloc);
+    for target in targets {
+        objects.push(object_of(filled_term(terms, *target)))?;
+    }
+    Ok(objects)
+}
+
+/// Puts the objects that stand for the terms last.
+fn push_objects(
+    alloc: Global,
+    found: &mut Vec<Sequence<u32>>,
+    terms: &[Term],
+    targets: &[Term],
+) -> Result<(), NoMemory>
+    requires { All (IsVariableBelow (length terms.now)) targets.now }
+    ensures { OnOk result (found.new.items ≡ found.old.items ++ map_list (λ (t : TermValue). object_by (substitute terms.now t)) targets.now ∷ []) }
+{
+    let objects = objects_by(alloc, terms, targets)?;
+    push(found, Sequence::from_vec(objects))
+}
+
+/// Adds the objects that stand for the terms, where the other variables can have objects under which none of the atoms is
+/// in the set.
+fn push_one(
+    found: &mut Vec<Sequence<u32>>,
+    avoidance: &Avoidance,
+    terms: &[Term],
+    targets: &[Term],
+) -> Result<(), NoMemory>
+    requires closed { All (IsClosed terms.now) targets.now }
+    requires below { All (IsVariableBelow (length terms.now)) targets.now }
+    requires bound { AreBound avoidance.now.limit terms.now avoidance.now.atoms.now avoidance.now.set.now.atoms }
+    ensures { OnOk result ((objects : List ℕ) → Contains found.new.items objects ↔ (Contains found.old.items objects ⊎ IsOpenChoice avoidance.now.limit terms.now avoidance.now.atoms.now avoidance.now.set.now.atoms targets.now objects)) }
+{
+    if !can_avoid(avoidance, terms)? {
+        return Ok(());
+    }
+    push_objects(avoidance.alloc, found, terms, targets)
+}
+
+/// The same for all objects of the variables that stand for the terms. Each call of itself has a variable less.
+fn push_open(
+    found: &mut Vec<Sequence<u32>>,
+    avoidance: &Avoidance,
+    terms: &[Term],
+    targets: &[Term],
+) -> Result<(), NoMemory>
+    requires below { All (IsVariableBelow (length terms.now)) targets.now }
+    requires bound { AreBound avoidance.now.limit terms.now avoidance.now.atoms.now avoidance.now.set.now.atoms }
+    ensures { OnOk result ((objects : List ℕ) → Contains found.new.items objects ↔ (Contains found.old.items objects ⊎ IsOpenChoice avoidance.now.limit terms.now avoidance.now.atoms.now avoidance.now.set.now.atoms targets.now objects)) }
+{
+    let variable = match first_of(terms, targets) {
+        Some(variable) => variable,
+        None => return push_one(found, avoidance, terms, targets),
+    };
+    if meets_under(terms, avoidance.atoms, avoidance.set) {
+        return Ok(());
+    }
+    for object in 0..avoidance.limit {
+        let next = bound(avoidance.alloc, terms, variable, object)?;
+        push_open(found, avoidance, &next, targets)?;
+    }
+    Ok(())
+}
+
+/// Adds the objects for the formula's variables under which the pattern closes no atom that is provable.
+fn push_choices(
+    alloc: Global,
+    found: &mut Vec<Sequence<u32>>,
+    limit: u32,
+    pattern: &GapPattern,
+    provable: &Model,
+) -> Result<(), NoMemory>
+    requires pattern { IsPlainPattern limit pattern.now }
+    requires provable { All IsGround provable.now.atoms }
+    ensures { OnOk result ((objects : List ℕ) → Contains found.new.items objects ↔ (Contains found.old.items objects ⊎ IsChosenBy limit provable.now.atoms pattern.now objects)) }
+{
+    let terms = unbound(alloc, pattern.vars)?;
+    let targets = pattern.terms.as_slice();
+    let atoms = pattern.atoms.as_slice();
+    let avoidance = Avoidance {
+        alloc,
+        limit,
+        atoms,
+        set: provable,
+    };
+    push_open(found, &avoidance, &terms, targets)
+}
+
+/// Returns the objects for a formula's variables under which one of its patterns closes no atom that is provable.
+///
+/// # Errors
+/// `NoMemory` if there isn't enough memory.
+pub fn choices_of(
+    alloc: Global,
+    limit: u32,
+    patterns: &[GapPattern],
+    provable: &Model,
+) -> Result<Vec<Sequence<u32>>, NoMemory>
+    requires patterns { All (IsPlainPattern limit) patterns.now }
+    requires provable { All IsGround provable.now.atoms }
+    ensures { IfOk result (λ choices. (objects : List ℕ) → Contains choices.items objects ↔ IsChosenIn (lists_of limit patterns.now) provable.now.atoms objects) }
+{
+    let mut choices = Vec::new(alloc);
+    for pattern in patterns {
+        push_choices(alloc, &mut choices, limit, pattern, provable)?;
+    }
+    Ok(choices)
+}

@@ -1,0 +1,49 @@
+//! The gaps of a formula.
+ghost use Rattle.std.specs.Prelude.{◌<◌, ◌≤◌, ◌↔◌, List, All, Contains, IfOk};
+ghost use Rattle.px_proof.specs.declared.shape.Tick.{Tick};
+ghost use Rattle.px_question.specs.Answers.{IsAnswer};
+ghost use Rattle.px_question.specs.Gaps.{IsGapOf, MeetsGapLimit, StaysBelowGapLimit};
+ghost use Rattle.px_question.specs.Settings.{setting_of};
+ghost use Rattle.px_terms.specs.AtomSets.{IsAtomSet};
+ghost use Rattle.px_terms.specs.Validity.{IsValid, IsAtomOf};
+ghost use Rattle.px_terms.specs.declared.atom.Atom.{Atom};
+ghost use Rattle.px_gaps.specs.Outcomes.{IfLimit};
+
+use crate::ask_err::AskErr;
+use crate::asker::Asker;
+use crate::gap_answer::ask_gaps;
+use crate::missing::missing_by;
+use px_ops::Model;
+use px_terms::{Atom, Problem, Sequence};
+use std::alloc::Global;
+
+/// Returns all gaps of a formula without an answer, ascending, each once: the atoms that are closed as gaps in some list of gap
+/// proofs of it.
+///
+/// # Errors
+/// `ShapeLimit` where as many unfinished gap proofs of the formula exist as the limit, by their shapes, with the formula
+/// itself, or where proving one atom that a loose gap proof of it closes meets the limit, with this atom alone.
+/// `NoMemory` if there isn't enough memory.
+pub fn gaps(
+    alloc: Global,
+    problem: &Problem,
+    formula: &[Atom],
+    vars: u32,
+    model: &Model,
+) -> Result<Vec<Atom>, AskErr>
+    requires problem { IsValid problem.now }
+    requires formula { All (IsAtomOf problem.now vars) formula.now }
+    requires some_object { 0 < vars → 0 < problem.now.objects }
+    requires few_variables { vars ≤ 12 }
+    requires no_answer { ¬ IsAnswer (setting_of problem.now model.now.atoms) formula.now vars }
+    ensures order { IfOk result (λ gaps. IsAtomSet gaps.items) }
+    ensures exact { IfOk result (λ gaps. (atom : Atom) → Contains gaps.items atom ↔ IsGapOf (setting_of problem.now model.now.atoms) formula.now vars atom) }
+    ensures unlimited { IfOk result (λ gaps. (kept : List Atom) (shapes : List (List Tick)) → ¬ MeetsGapLimit (setting_of problem.now model.now.atoms) formula.now vars kept shapes) }
+    ensures below { IfOk result (λ gaps. StaysBelowGapLimit (setting_of problem.now model.now.atoms) formula.now vars) }
+    ensures limited { IfLimit result (MeetsGapLimit (setting_of problem.now model.now.atoms) formula.now vars) }
+{
+    let mut asker = Asker::new(alloc);
+    let answer = ask_gaps(&mut asker, problem, formula, vars, model)?;
+    let missing = missing_by(alloc, problem.objects, &answer.patterns, &answer.provable)?;
+    Ok(Sequence::from_slice(alloc, missing.atoms())?.into_vec())
+}

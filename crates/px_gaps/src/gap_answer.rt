@@ -1,0 +1,80 @@
+//! One question of gaps, and what it tells of a formula.
+ghost use Rattle.std.specs.Prelude.{◌<◌, ◌≤◌, All, IfOk};
+ghost use Rattle.px_question.specs.Gaps.{MeetsGapLimit};
+ghost use Rattle.px_question.specs.Limits.{AreFewGapShapes};
+ghost use Rattle.px_question.specs.Settings.{setting_of};
+ghost use Rattle.px_prover.specs.Patterns.{AreGapPatterns};
+ghost use Rattle.px_terms.specs.Validity.{IsValid, IsAtomOf};
+ghost use Rattle.px_gaps.specs.GapAnswers.{IsGapAnswer};
+ghost use Rattle.px_gaps.specs.Outcomes.{IfLimit};
+
+use crate::ask_err::AskErr;
+use crate::asker::Asker;
+use crate::asking::provable_of;
+use crate::forms::forms_of;
+use px_ops::Model;
+use px_prover::{GapErr, GapPattern};
+use px_terms::{Atom, Problem, Sequence};
+
+/// What a question of gaps tells of a formula.
+#[derive(Drop)]
+pub struct GapAnswer {
+    /// The gap patterns of the formula.
+    pub patterns: Vec<GapPattern>,
+    /// Those of the atoms that they close which have a proof.
+    pub provable: Model,
+}
+
+// Alike: `gap_patterns` of px_prover, whose clauses it repeats, since it passes on what is answered; the error is another.
+/// The gap patterns of the formula.
+fn patterns_of(
+    asker: &mut Asker,
+    problem: &Problem,
+    formula: &[Atom],
+    vars: u32,
+    model: &Model,
+) -> Result<Vec<GapPattern>, AskErr>
+    requires problem { IsValid problem.now }
+    requires formula { All (IsAtomOf problem.now vars) formula.now }
+    requires few_variables { vars ≤ 4096 }
+    requires some_object { 0 < vars → 0 < problem.now.objects }
+    ensures patterns { IfOk result (λ patterns. AreGapPatterns (setting_of problem.now model.now.atoms) formula.now vars patterns.items) }
+    ensures few { IfOk result (λ patterns. AreFewGapShapes (setting_of problem.now model.now.atoms) formula.now vars) }
+    ensures limited { IfLimit result (MeetsGapLimit (setting_of problem.now model.now.atoms) formula.now vars) }
+{
+    match asker.gap_patterns(problem, formula, vars, model) {
+        Ok(patterns) => Ok(patterns),
+        Err(GapErr::ShapeLimit(shapes)) => {
+            let formula = Sequence::from_slice(asker.alloc, formula)?;
+            let shapes = Sequence::from_vec(shapes);
+            Err(AskErr::ShapeLimit { formula, shapes })
+        }
+        Err(GapErr::NoMemory) => Err(AskErr::NoMemory),
+    }
+}
+
+/// Asks for the gaps of a formula: its patterns, and which of the atoms that they close have a proof.
+///
+/// # Errors
+/// `ShapeLimit` where as many unfinished gap proofs of the formula exist as the limit, by their shapes, with the formula
+/// itself, or where proving one atom that a loose gap proof of it closes meets the limit, with this atom alone.
+/// `NoMemory` if there isn't enough memory.
+pub fn ask_gaps(
+    asker: &mut Asker,
+    problem: &Problem,
+    formula: &[Atom],
+    vars: u32,
+    model: &Model,
+) -> Result<GapAnswer, AskErr>
+    requires problem { IsValid problem.now }
+    requires formula { All (IsAtomOf problem.now vars) formula.now }
+    requires few_variables { vars ≤ 4096 }
+    requires some_object { 0 < vars → 0 < problem.now.objects }
+    ensures answer { IfOk result (λ answer. IsGapAnswer (setting_of problem.now model.now.atoms) formula.now vars answer.patterns.items answer.provable.atoms) }
+    ensures limited { IfLimit result (MeetsGapLimit (setting_of problem.now model.now.atoms) formula.now vars) }
+{
+    let patterns = patterns_of(asker, problem, formula, vars, model)?;
+    let forms = forms_of(asker.alloc, &patterns)?;
+    let provable = provable_of(asker, problem, model, &forms)?;
+    Ok(GapAnswer { patterns, provable })
+}

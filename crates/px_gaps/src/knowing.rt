@@ -1,0 +1,74 @@
+//! Whether a formula has an answer, and what is known of one that has none.
+ghost use Rattle.std.specs.Prelude.{◌<◌, ◌≤◌, ◌∷◌, [], All, IfOk};
+ghost use Rattle.px_terms.specs.Validity.{IsValid, IsAtomOf};
+ghost use Rattle.px_gaps.specs.Needs.{HasAnswer};
+ghost use Rattle.px_gaps.specs.Known.{IsKnownOf, IsTriedOf};
+
+use crate::ask_err::AskErr;
+use crate::differences::gaps;
+use crate::known::{Known, Tried};
+use px_ops::Model;
+use px_prover::{ProveErr, prove};
+use px_terms::{Atom, NoMemory, Problem, Sequence};
+use std::alloc::Global;
+
+/// Tries whether the formula has an answer from the facts of the model: some objects for its variables that make each of its
+/// atoms provable. Each answer says so exactly; the first two also that proving it stays below the shape limit.
+///
+/// # Errors
+/// `NoMemory` if there isn't enough memory.
+pub fn try_formula(
+    alloc: Global,
+    problem: &Problem,
+    formula: &[Atom],
+    vars: u32,
+    model: &Model,
+) -> Result<Tried, NoMemory>
+    requires problem { IsValid problem.now }
+    requires formula { All (IsAtomOf problem.now vars) formula.now }
+    requires few_variables { vars ≤ 12 }
+    requires some_object { 0 < vars → 0 < problem.now.objects }
+    ensures { IfOk result (IsTriedOf problem.now (record { formula = formula.now; vars = vars; facts = model.now.atoms })) }
+{
+    match prove(alloc, problem, formula, vars, model) {
+        Ok(_) => Ok(Tried::Answered),
+        Err(ProveErr::Unprovable) => Ok(Tried::Unanswered),
+        Err(ProveErr::ShapeLimit(shapes)) => {
+            let formula = Sequence::from_slice(alloc, formula)?;
+            let shapes = Sequence::from_vec(shapes);
+            Ok(Tried::Limited { formula, shapes })
+        }
+        Err(ProveErr::NoMemory) => Err(NoMemory),
+    }
+}
+
+/// Returns what is known of a formula that has no answer from the facts of the model: its gaps, that it has none, or that finding
+/// them meets the shape limit.
+///
+/// # Errors
+/// `NoMemory` if there isn't enough memory.
+pub fn known_formula(
+    alloc: Global,
+    problem: &Problem,
+    formula: &[Atom],
+    vars: u32,
+    model: &Model,
+) -> Result<Known, NoMemory>
+    requires problem { IsValid problem.now }
+    requires formula { All (IsAtomOf problem.now vars) formula.now }
+    requires few_variables { vars ≤ 12 }
+    requires some_object { 0 < vars → 0 < problem.now.objects }
+    requires no_answer { ¬ HasAnswer problem.now (record { formula = formula.now; vars = vars; facts = model.now.atoms }) }
+    ensures { IfOk result (IsKnownOf problem.now (record { formula = formula.now; vars = vars; facts = model.now.atoms } ∷ [])) }
+{
+    match gaps(alloc, problem, formula, vars, model) {
+        Ok(found) => {
+            if found.is_empty() {
+                return Ok(Known::Closed);
+            }
+            Ok(Known::Open(Sequence::from_vec(found)))
+        }
+        Err(AskErr::ShapeLimit { formula, shapes }) => Ok(Known::Limited { formula, shapes }),
+        Err(AskErr::NoMemory) => Err(NoMemory),
+    }
+}

@@ -1,0 +1,109 @@
+//! The atoms that the patterns of a formula close together with none that is provable.
+ghost use Rattle.std.specs.Prelude.{◌≡◌, ◌↔◌, ◌⊎◌, length, All, Contains, IfOk, OnOk};
+ghost use Rattle.px_prover.specs.PatternLists.{lists_of};
+ghost use Rattle.px_terms.specs.Instances.{IsGround};
+ghost use Rattle.px_terms.specs.Substitution.{substitute_atom};
+ghost use Rattle.px_terms.specs.declared.atom.Atom.{Atom as AtomValue};
+ghost use Rattle.px_gaps.specs.Bindings.{AreBound, IsOpenInstance, IsPlain};
+ghost use Rattle.px_gaps.specs.Closings.{IsMissingIn};
+ghost use Rattle.px_gaps.specs.Described.{IsMissingBy, IsPlainPattern};
+
+use crate::bindings::{Avoidance, bound, can_avoid, meets_under, open_variable, unbound};
+use px_ops::Model;
+use px_prover::GapPattern;
+use px_terms::{Atom, NoMemory, Term, apply};
+use std::alloc::Global;
+
+/// Puts the atom with the chosen objects into the set of those found, where the others can be chosen so that none of the
+/// atoms is in the set to be avoided.
+fn insert_one(
+    found: &mut Model,
+    avoidance: &Avoidance,
+    terms: &[Term],
+    target: &Atom,
+) -> Result<(), NoMemory>
+    requires is_ground { IsGround (substitute_atom terms.now target.now) }
+    requires target { IsPlain (length terms.now) target.now }
+    requires bound { AreBound avoidance.now.limit terms.now avoidance.now.atoms.now avoidance.now.set.now.atoms }
+    ensures { OnOk result ((q : AtomValue) → Contains found.new.atoms q ↔ (Contains found.old.atoms q ⊎ IsOpenInstance avoidance.now.limit terms.now avoidance.now.atoms.now avoidance.now.set.now.atoms target.now q)) }
+{
+    let here = apply(terms, target);
+    if found.holds(&here) {
+        return Ok(());
+    }
+    if !can_avoid(avoidance, terms)? {
+        return Ok(());
+    }
+    found.insert(here)?;
+    Ok(())
+}
+
+// Alike: `push_open` of `choices` goes through the same objects, and keeps these instead of an atom.
+/// The same for all objects of the atom's variables. Each call of itself has a variable less.
+fn insert_open(
+    found: &mut Model,
+    avoidance: &Avoidance,
+    terms: &[Term],
+    target: &Atom,
+) -> Result<(), NoMemory>
+    requires target { IsPlain (length terms.now) target.now }
+    requires bound { AreBound avoidance.now.limit terms.now avoidance.now.atoms.now avoidance.now.set.now.atoms }
+    ensures { OnOk result ((q : AtomValue) → Contains found.new.atoms q ↔ (Contains found.old.atoms q ⊎ IsOpenInstance avoidance.now.limit terms.now avoidance.now.atoms.now avoidance.now.set.now.atoms target.now q)) }
+{
+    let variable = match open_variable(terms, target) {
+        Some(variable) => variable,
+        None => return insert_one(found, avoidance, terms, target),
+    };
+    if meets_under(terms, avoidance.atoms, avoidance.set) {
+        return Ok(());
+    }
+    for object in 0..avoidance.limit {
+        let next = bound(avoidance.alloc, terms, variable, object)?;
+        insert_open(found, avoidance, &next, target)?;
+    }
+    Ok(())
+}
+
+/// Puts the instances of the pattern's atoms into the set, as far as they come about with no atom that is provable.
+fn insert_missing(
+    alloc: Global,
+    found: &mut Model,
+    limit: u32,
+    pattern: &GapPattern,
+    provable: &Model,
+) -> Result<(), NoMemory>
+    requires pattern { IsPlainPattern limit pattern.now }
+    requires provable { All IsGround provable.now.atoms }
+    ensures { OnOk result ((q : AtomValue) → Contains found.new.atoms q ↔ (Contains found.old.atoms q ⊎ IsMissingBy limit provable.now.atoms pattern.now q)) }
+{
+    let terms = unbound(alloc, pattern.vars)?;
+    let atoms = pattern.atoms.as_slice();
+    let avoidance = Avoidance {
+        alloc,
+        limit,
+        atoms,
+        set: provable,
+    };
+    for target in atoms {
+        insert_open(found, &avoidance, &terms, target)?;
+    }
+    Ok(())
+}
+
+/// The atoms that the patterns close together with none of the provable ones.
+pub fn missing_by(
+    alloc: Global,
+    limit: u32,
+    patterns: &[GapPattern],
+    provable: &Model,
+) -> Result<Model, NoMemory>
+    requires patterns { All (IsPlainPattern limit) patterns.now }
+    requires provable { All IsGround provable.now.atoms }
+    ensures { IfOk result (λ missing. (atom : AtomValue) → Contains missing.atoms atom ↔ IsMissingIn (lists_of limit patterns.now) provable.now.atoms atom) }
+{
+    let mut missing = Model::new(alloc);
+    for pattern in patterns {
+        insert_missing(alloc, &mut missing, limit, pattern, provable)?;
+    }
+    Ok(missing)
+}

@@ -1,4 +1,0 @@
-use Rattle.px_planex.proofs.slow_executor.+agree.Given as goal
-
-abbrev pub decreases-agree : goal.decreases-agree
-decreases-agree l = l.count

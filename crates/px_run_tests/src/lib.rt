@@ -1,0 +1,16 @@
+//! Tests of `px_printer`, `px_reader`, `px_session` and `px_run`: they stand apart from the crates that they try, since a crate with
+//! tests is proved twice. All go through [`px_run::planex_main`], with a source and a sink in memory.
+#![tactic(auto)]
+
+#[cfg(test)]
+mod answer_tests;
+#[cfg(test)]
+mod executor_tests;
+#[cfg(test)]
+mod failing_tests;
+#[cfg(test)]
+mod reading_tests;
+#[cfg(test)]
+mod runs;
+#[cfg(test)]
+mod samples;

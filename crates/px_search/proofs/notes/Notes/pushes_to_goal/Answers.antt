@@ -1,0 +1,22 @@
+use Rattle.std.proofs.Common.{[], refl, subst}
+use Rattle.px_gaps.specs.Outcomes.{AtLimit}
+use Rattle.px_gaps.specs.declared.ask_err.AskErr.{AskErr}
+use Rattle.px_support.specs.Asking.{task_for}
+use Rattle.px_search.specs.Notes.{HaveGrown}
+use Rattle.px_search.proofs.NoteLaws.{any_answer, grown-both, grown-numbers}
+use Rattle.px_search.proofs.notes.Notes.pushes_to_goal.Goals as goal
+
+pub pushes_offered-requires-clause-stack : goal.pushes_offered-requires-clause-stack
+pushes_offered-requires-clause-stack c = ([], refl)
+
+pub returns-in-Ok-clause-steps : goal.returns-in-Ok-clause-steps
+returns-in-Ok-clause-steps c = c.in-Ok.ensures.begun [] refl c.requires.gaps
+
+pub returns-in-Err-ShapeLimit-clause-notes : goal.returns-in-Err-ShapeLimit-clause-notes
+returns-in-Err-ShapeLimit-clause-notes c =
+    let task = task_for c.args.asked.now in
+    let old = c.args.self.now in
+    let mid = c.pushes_offered.new.self in
+    let kept = c.all_pushes.new.numbers in
+    let before : HaveGrown task old mid = subst (λ (e : AskErr). AtLimit e (λ formula shapes. HaveGrown task old mid)) c.in-Err-ShapeLimit.field-0-is c.in-Err-ShapeLimit.ensures.notes in
+    any_answer c.all_pushes.result (grown-both task old mid (record mid { numbers = kept }) before (grown-numbers task mid kept c.all_pushes.ensures.keeps before.right))

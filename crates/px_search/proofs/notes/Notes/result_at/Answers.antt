@@ -1,0 +1,26 @@
+use Rattle.px_support.specs.Asking.{task_for}
+use Rattle.px_search.specs.Notes.{IsResultAt}
+use Rattle.px_search.proofs.NoteLaws.{place_eq, place_eq-decides, right-grows}
+use Rattle.px_search.proofs.Pairs.{each-found, each-more}
+use Rattle.px_search.proofs.notes.Notes.result_at.Goals as goal
+
+pub returns-in-Some-clause-number : goal.returns-in-Some-clause-number
+returns-in-Some-clause-number c =
+    let notes = c.args.self.now in
+    each-found place_eq place_eq-decides (IsResultAt (task_for c.args.asked.now) notes.numbers) notes.results.entries c.args.place c.in-Some.number.now c.requires.notes.results c.in-Some.ensures.value
+
+pub returns-in_ok-insert-in-None-clause-notes : goal.returns-in_ok-insert-in-None-clause-notes
+returns-in_ok-insert-in-None-clause-notes c =
+    let task = task_for c.args.asked.now in
+    let old = c.args.self.now in
+    let kept = c.result_anew.new.numbers in
+    let right = right-grows task old kept c.in_ok-number-in-None.ensures.keeps c.requires.notes in
+    record {
+      keeps = c.in_ok-number-in-None.ensures.keeps;
+      right = record {
+        tops = right.tops;
+        wants = right.wants;
+        results = each-more place_eq place_eq-decides (IsResultAt task kept) old.results.entries c.insert.new.self.entries c.args.place c.in_ok-number-in-None.number right.results c.in_ok-number-in-None.ensures.number c.in_ok-insert-in-None.ensures.entries;
+        never_limited = right.never_limited;
+      };
+    }

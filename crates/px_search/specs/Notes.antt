@@ -1,0 +1,63 @@
+-- What a search keeps of what it has learned.
+use Rattle.std.specs.Prelude.{◌≡◌, ℕ, List, [], ◌∷◌, Some, slice_get, Contains, IsTrue, Result, Ok, Err}
+use Rattle.px_terms.specs.declared.atom.Atom.{Atom}
+use Rattle.px_terms.specs.Operators.{results_of}
+use Rattle.px_table.specs.declared.entry.Entry.{Entry}
+use Rattle.px_entries.specs.Entries.{IsEntry, effect_of}
+use Rattle.px_entries.specs.Unlimited.{IsNeverLimited}
+use Rattle.px_gaps.specs.Outcomes.{AtLimit}
+use Rattle.px_gaps.specs.declared.ask_err.AskErr.{AskErr}
+use Rattle.px_numbers.specs.Numbers.{Kept, IsModelAt, IsStackAt, KeepsAll}
+use Rattle.px_ends.specs.Tasks.{Task}
+use Rattle.px_search.specs.Going.{IsBegunOn}
+use Rattle.px_search.specs.Offers.{IsOfferAt}
+use Rattle.px_search.specs.declared.notes.Notes.{Notes}
+use Rattle.px_search.specs.declared.notes.Offer.{Offer}
+use Rattle.px_search.specs.declared.notes.Place.{Place}
+
+-- the steps are the first moves where that entry stands on the stack, alone, in that model
+abbrev pub IsStepsAt : Task → Kept → Place → Offer → Type 0
+IsStepsAt task kept place offer =
+    (model : List Atom) × (entry : Entry) × IsModelAt kept place.model model × (slice_get kept.entries place.entry ≡ Some entry)
+    × IsBegunOn task kept (record { model = model; stack = entry ∷ [] }) offer.steps offer.is_all
+
+-- the stack has the entry of the place on top, over the stack of that number, and the model is that of the place
+pub record IsTopAt (kept : Kept) (place : Place) (below : ℕ) (model : List Atom) (stack : List Entry) : Type 0 where
+  pub entry : Entry
+  pub rest : List Entry
+  pub stack_is : stack ≡ entry ∷ rest
+  pub model_at : IsModelAt kept place.model model
+  pub entry_at : slice_get kept.entries place.entry ≡ Some entry
+  pub below_at : IsStackAt kept below rest
+
+-- the entry of the place is one of the problem's, in the model of the place
+abbrev pub IsEntryAt : Task → Kept → Place → Type 0
+IsEntryAt task kept place =
+    (model : List Atom) × (entry : Entry) × IsModelAt kept place.model model × (slice_get kept.entries place.entry ≡ Some entry) × IsEntry task.problem task.tables entry
+
+-- applying the entry of the place in its model leaves the model of the number
+abbrev pub IsResultAt : Task → Kept → Place → ℕ → Type 0
+IsResultAt task kept place number =
+    (model : List Atom) × (entry : Entry) × IsModelAt kept place.model model × (slice_get kept.entries place.entry ≡ Some entry) × IsModelAt kept number (results_of task.problem model (effect_of task.tables entry))
+
+-- each key has a value of which the fact is true
+module _ {K V : Type 0} (P : K → V → Type 0) where
+  abbrev pub AreEach : List (K × V) → Type 0
+  AreEach entries = (key : K) (value : V) → Contains entries (key, value) → P key value
+
+-- all that is kept is so
+pub record AreRight (task : Task) (notes : Notes) : Type 0 where
+  pub tops : AreEach (IsStepsAt task notes.numbers) notes.tops.entries
+  pub wants : AreEach (IsOfferAt task notes.numbers) notes.wants.entries
+  pub results : AreEach (IsResultAt task notes.numbers) notes.results.entries
+  pub never_limited : IsTrue notes.is_never_limited → IsNeverLimited task.problem task.tables
+
+-- what had a number has it still, and all that is kept is so
+pub record HaveGrown (task : Task) (old new : Notes) : Type 0 where
+  pub keeps : KeepsAll old.numbers new.numbers
+  pub right : AreRight task new
+
+-- the fact is true, unless memory ran out
+abbrev pub OnAnswer : {A : Type 0} → Result A AskErr → Type 0 → Type 0
+OnAnswer (Ok answer) P = P
+OnAnswer (Err error) P = AtLimit error (λ formula shapes. P)

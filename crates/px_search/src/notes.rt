@@ -1,0 +1,66 @@
+//! What a search keeps of what it has learned.
+ghost use Rattle.std.specs.Prelude.{IsTrue};
+ghost use Rattle.px_entries.specs.Unlimited.{IsNeverLimited};
+ghost use Rattle.px_ends.specs.Tasks.{Task};
+ghost use Rattle.px_search.specs.Notes.{AreRight};
+
+use crate::step::Step;
+use indexmap::IndexMap;
+use px_numbers::Numbers;
+use px_terms::{Atom, Sequence};
+use std::alloc::Global;
+
+/// An entry in a model, by the numbers of both.
+#[derive(Clone, Copy, PartialEq, Eq, Hash)]
+pub struct Place {
+    pub model: u32,
+    pub entry: u32,
+}
+
+/// A wanted atom, in the models of which that of this number is the part that decides (`IsAlike`).
+#[derive(Clone, Copy, PartialEq, Eq, Hash)]
+pub struct Want {
+    pub part: u32,
+    pub atom: Atom,
+}
+
+/// The first steps of those that are allowed, in order.
+#[derive(Drop)]
+pub struct Offer {
+    pub steps: Sequence<Step>,
+    /// Are they all that are allowed? `false` says nothing.
+    pub is_all: bool,
+}
+
+/// The models, entries and stacks of a search by number, and what it has learned of them.
+#[derive(Drop)]
+pub struct Notes {
+    pub numbers: Numbers,
+    /// For entries in models, the first moves that are allowed where the entry stands on the stack alone.
+    pub tops: IndexMap<Place, Offer>,
+    /// For wanted atoms, the first pushes that are allowed over the empty stack.
+    pub wants: IndexMap<Want, Offer>,
+    /// For entries in models, the number of the model that applying the entry leaves.
+    pub results: IndexMap<Place, u32>,
+    /// Is it known that no question about an entry meets the limit of shapes, whatever the facts are?
+    pub is_never_limited: bool,
+}
+
+impl Notes {
+    /// Nothing is known but whether questions about entries may meet the limit of shapes.
+    pub fn new(alloc: Global, is_never_limited: bool) -> Notes
+        ensures { (task : Task) → (IsTrue is_never_limited → IsNeverLimited task.problem task.tables) → AreRight task result }
+    {
+        let numbers = Numbers::new(alloc);
+        let tops = IndexMap::new(alloc);
+        let wants = IndexMap::new(alloc);
+        let results = IndexMap::new(alloc);
+        Notes {
+            numbers,
+            tops,
+            wants,
+            results,
+            is_never_limited,
+        }
+    }
+}

@@ -1,0 +1,10 @@
+//! Tests of `px_search` and of `px_support`, which it calls: they stand apart from the crates that they try, since a crate with
+//! tests is proved twice.
+#![tactic(auto)]
+
+#[cfg(test)]
+mod example;
+#[cfg(test)]
+mod samples;
+#[cfg(test)]
+mod tests;

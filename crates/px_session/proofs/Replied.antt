@@ -1,0 +1,79 @@
+-- What a lawful reply changes of a session's state.
+use Rattle.std.specs.Prelude.{◌≡◌, ◌++◌, ℕ, Bool, List, [], ◌∷◌, map}
+use Rattle.std.proofs.Common.{refl, sym, ap, subst}
+use Rattle.px_terms.specs.declared.problem.Problem.{Problem}
+use Rattle.px_table.specs.declared.table.Table.{Table}
+use Rattle.px_library.specs.Libraries.{with_table}
+use Rattle.px_ends.specs.Tasks.{Task, task_of}
+use Rattle.px_printer.specs.declared.reply.Reply.{Reply}
+use Rattle.px_printer.specs.declared.reply.Reply.TheVariants as reply
+use Rattle.px_printer.specs.declared.turn.Turn.{Turn}
+use Rattle.px_script.specs.Commands as command
+use Rattle.px_session.specs.Lawful.{IsLearned, IsRunOf, Lawful, Notes, TellsFacts, TellsLearning, TellsRun, TellsSearch, TellsShow, recorded_for}
+use Rattle.px_session.specs.OwnStates.{edits_given}
+use Rattle.px_session.specs.Sessions.{Edit, IsPlanTable, SessionState, of_atoms, of_rooms}
+
+-- What holds of the state, and of each state that one more plan, one more learned table, one more disturbance or a run leaves of it, holds
+-- of the state after each lawful reply.
+module _ (problem : Problem) (old : SessionState) (given : command.Command) (P : SessionState → Type 0) (same : P old)
+    (stored : (name : ℕ) (made : Table) → IsPlanTable problem made → P (record old { plans = with_table old.plans name made }))
+    (learned : (name source params steps : ℕ) (new : SessionState) → given ≡ command.Learn name source
+    → IsLearned problem name source old params steps new → P new)
+    (noted : (turn : ℕ) (between : Bool) → P (record old { recorded = old.recorded ++ recorded_for turn between (edits_given given) ∷ [] }))
+    (ran : (name : ℕ) (bound : List (ℕ × ℕ)) (told : List Turn) (new : SessionState) → given ≡ command.Run name bound
+    → IsRunOf problem name bound old told new → P new) where
+  unchanged : (new : SessionState) → new ≡ old → P new
+  unchanged new is = subst P (sym is) same
+
+  after-search : (goal : Task) → goal.problem ≡ problem → (name : ℕ) (answer : Reply) (new : SessionState)
+      → TellsSearch goal name old answer new → P new
+  after-search task of name (reply.Plan told count steps) new is =
+      subst P (sym is.1.stored) (stored name is.1.made (subst (λ (p : Problem). IsPlanTable p is.1.made) of is.1.plan))
+  after-search task of name (reply.Exhausted told) new is = unchanged new is.2
+  after-search task of name (reply.NodeLimit told nodes moves) new is = unchanged new is.2
+  after-search task of name (reply.ShapeLimit told node formula shapes) new is = unchanged new is.2
+  after-search task of name answer new is = absurd is
+
+  after-learning : (name source : ℕ) → given ≡ command.Learn name source → (answer : Reply) (new : SessionState)
+      → TellsLearning problem old name source answer new → P new
+  after-learning name source by (reply.Unknown told) new is = unchanged new is.2
+  after-learning name source by (reply.LearnRefused told why) new is = unchanged new is.1.same
+  after-learning name source by (reply.Learned told params steps) new is = learned name source params steps new by is.1
+  after-learning name source by answer new is = absurd is
+
+  after-show : (name : ℕ) (answer : Reply) (new : SessionState) → TellsShow old name answer new → P new
+  after-show name (reply.Unknown told) new is = unchanged new is.2
+  after-show name (reply.Shown told table) new is = unchanged new is.2
+  after-show name answer new is = absurd is
+
+  after-notes : (turn : ℕ) (between : Bool) (edits : List Edit) → edits_given given ≡ edits → (answer : Reply) (new : SessionState)
+      → Notes old (recorded_for turn between edits) answer new → P new
+  after-notes turn between edits are (reply.Noted count) new is = subst P (sym is.1)
+      (subst (λ (l : List Edit). P (record old { recorded = old.recorded ++ recorded_for turn between l ∷ [] })) are (noted turn between))
+  after-notes turn between edits are answer new is = absurd is
+
+  after-run : (name : ℕ) (bound : List (ℕ × ℕ)) → given ≡ command.Run name bound → (answer : Reply) (new : SessionState)
+      → TellsRun problem old name bound answer new → P new
+  after-run name bound by (reply.Unknown told) new is = unchanged new is.2
+  after-run name bound by (reply.UnknownParam param) new is = unchanged new is.same
+  after-run name bound by (reply.Ran told turns) new is = ran name bound turns new by is.1
+  after-run name bound by answer new is = absurd is
+
+  after-facts : (answer : Reply) (new : SessionState) → TellsFacts old answer new → P new
+  after-facts (reply.FactsAre atoms) new is = unchanged new is.2
+  after-facts answer new is = absurd is
+
+  after-reply : (one : command.Command) → given ≡ one → (answer : Reply) (new : SessionState) → Lawful problem old one answer new → P new
+  after-reply (command.Plan name goal vars) by answer new is =
+      after-search (task_of problem old.learned.tables old.atoms goal vars) refl name answer new is
+  after-reply (command.Learn name source) by answer new is = after-learning name source by answer new is
+  after-reply (command.Show name) by answer new is = after-show name answer new is
+  after-reply (command.DisturbAtoms turn between edits) by answer new is =
+      after-notes turn between (map of_atoms edits) (ap edits_given by) answer new is
+  after-reply (command.DisturbRooms turn between edits) by answer new is =
+      after-notes turn between (map of_rooms edits) (ap edits_given by) answer new is
+  after-reply (command.Run name bound) by answer new is = after-run name bound by answer new is
+  after-reply command.Facts by answer new is = after-facts answer new is
+
+  pub replied : (answer : Reply) (new : SessionState) → Lawful problem old given answer new → P new
+  replied answer new is = after-reply given refl answer new is

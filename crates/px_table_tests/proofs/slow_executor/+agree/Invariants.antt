@@ -1,0 +1,4 @@
+use Rattle.px_table_tests.proofs.slow_executor.+agree.Given as goal
+
+abbrev pub decreases-agree : goal.decreases-agree
+decreases-agree l = l.count
