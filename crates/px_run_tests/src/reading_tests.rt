@@ -224,8 +224,10 @@ const LONG_TEXTS: &[(Pieces, Outcome)] = &[
 /// Returns the outcome of the bytes, where the refusal is also written.
 fn outcome(alloc: Global, bytes: Vec<u8>) -> Result<Outcome, NoMemory> {
     let (status, written) = ran(alloc, bytes)?;
-    let Status::Refused(Refused { line, code, limit }) = status else {
-        return Ok(READ);
+    let Refused { line, code, limit } = match status {
+        Status::Done => return Ok(READ),
+        Status::Refused(refused) => refused,
+        _ => return Ok((0, 255, 0)),
     };
     let text = format!(in alloc; "refused line {line} code {code} limit {limit}\n")?;
     if written.as_slice() == text.as_bytes() {
