@@ -23,7 +23,8 @@ Contains-cases x xs q h = elim (Contains-append_cases (x ∷ []) xs q h) [ inl o
 
 pub AllByRecursion-at : {X : Type 0} (P : X → Type 0) (xs : List X) (q : X) → AllByRecursion P xs → Contains xs q → P q
 AllByRecursion-at P [] q all h = absurd (Contains-none q h)
-AllByRecursion-at P (x ∷ xs) q all h = elim (Contains-cases x xs q h) [ inl same ↦ subst P same all.0 | inr later ↦ AllByRecursion-at P xs q all.1 later ]
+AllByRecursion-at P (x ∷ xs) q all h = elim (Contains-cases x xs q h)
+    [ inl same ↦ subst P same all.0 | inr later ↦ AllByRecursion-at P xs q all.1 later ]
 
 pub AllByRecursion-map : {X : Type 0} (P Q : X → Type 0) → ((x : X) → P x → Q x) → (xs : List X) → AllByRecursion P xs → AllByRecursion Q xs
 AllByRecursion-map P Q f [] all = tt

@@ -62,7 +62,10 @@ module _ {K : Type 0} (R : K → K → Ordering) where
         elim (R item x) as (λ r. R item x ≡ r → IsStrictlySortedBy R (place_item r item x xs (with_item R item xs))) [
           | Less ↦ λ less. ((less, AllByRecursion-map _ _ (λ y below. o.trans item x y less below) xs sorted.0), sorted)
           | Equal ↦ λ _. sorted
-          | Greater ↦ λ more. (all_with (λ y. R x y ≡ Less) item xs (o.antisymm x item ∙ ap ordering_reverse more) sorted.0, with_item-sorted item xs sorted.1)
+          | Greater ↦ λ more. (
+            all_with (λ y. R x y ≡ Less) item xs (o.antisymm x item ∙ ap ordering_reverse more) sorted.0,
+            with_item-sorted item xs sorted.1,
+          )
         ] refl
 
     pub set_of-is_sorted : (items : List K) → IsStrictlySortedBy R (set_of R items)
@@ -78,7 +81,11 @@ module _ {K : Type 0} (R : K → K → Ordering) where
           | Less ↦ λ _. (λ h. h, λ h. h)
           | Equal ↦ λ equal. (
             λ h. Contains-later item (x ∷ xs) q h,
-            λ h. elim (Contains-cases item (x ∷ xs) q h) [ inl is ↦ subst (Contains (x ∷ xs)) (sym (same item x equal) ∙ is) (Contains-first x xs) | inr later ↦ later ],
+            λ h. elim (Contains-cases item (x ∷ xs) q h) [
+              | inl is ↦ subst (Contains (x ∷ xs)) (sym (same item x equal) ∙ is)
+                  (Contains-first x xs)
+              | inr later ↦ later
+            ],
           )
           | Greater ↦ λ _.
               let members = with_item-members item xs q in (
@@ -105,8 +112,13 @@ module _ {K : Type 0} (R : K → K → Ordering) where
     set_of-members (x ∷ xs) q =
         let put = with_item-members x (set_of R xs) q in
         let rest = set_of-members xs q in (
-          λ h. elim (Contains-cases x (set_of R xs) q (put.0 h)) [ inl is ↦ subst (Contains (x ∷ xs)) is (Contains-first x xs) | inr later ↦ Contains-later x xs q (rest.0 later) ],
-          λ h. put.1 (elim (Contains-cases x xs q h) [ inl is ↦ subst (Contains (x ∷ set_of R xs)) is (Contains-first x (set_of R xs)) | inr later ↦ Contains-later x (set_of R xs) q (rest.1 later) ]),
+          λ h. elim (Contains-cases x (set_of R xs) q (put.0 h))
+              [ inl is ↦ subst (Contains (x ∷ xs)) is (Contains-first x xs) | inr later ↦ Contains-later x xs q (rest.0 later) ],
+          λ h. put.1 (elim (Contains-cases x xs q h) [
+            | inl is ↦ subst (Contains (x ∷ set_of R xs)) is (Contains-first x (set_of R xs))
+            | inr
+                later ↦ Contains-later x (set_of R xs) q (rest.1 later)
+          ]),
         )
 
     never_both : {G : Type 0} (x y : K) → R x y ≡ Less → R y x ≡ Less → G
@@ -116,7 +128,8 @@ module _ {K : Type 0} (R : K → K → Ordering) where
     never_itself x q is less = different (sym less ∙ ap (R x) (sym is) ∙ tied_itself o x)
 
     -- two sets with the same members are the same list
-    pub same_set : (xs ys : List K) → IsStrictlySortedBy R xs → IsStrictlySortedBy R ys → ((q : K) → Contains xs q ↔ Contains ys q) → xs ≡ ys
+    pub same_set : (xs ys : List K) → IsStrictlySortedBy R xs → IsStrictlySortedBy R ys → ((q : K) → Contains xs q ↔ Contains ys q)
+        → xs ≡ ys
     unfolding IsStrictlySortedBy
     same_set [] [] s t m = refl
     same_set [] (y ∷ ys) s t m = absurd (Contains-none y ((m y).1 (Contains-first y ys)))
@@ -130,15 +143,18 @@ module _ {K : Type 0} (R : K → K → Ordering) where
           ]
         ] in
         let tails = same_set xs ys s.1 t.1 (λ q. (
-          λ h. elim (Contains-cases y ys q ((m q).0 (Contains-later x xs q h))) [ inl is ↦ never_itself x q (first ∙ is) (AllByRecursion-at _ xs q s.0 h) | inr later ↦ later ],
-          λ h. elim (Contains-cases x xs q ((m q).1 (Contains-later y ys q h))) [ inl is ↦ never_itself y q (sym first ∙ is) (AllByRecursion-at _ ys q t.0 h) | inr later ↦ later ],
+          λ h. elim (Contains-cases y ys q ((m q).0 (Contains-later x xs q h)))
+              [ inl is ↦ never_itself x q (first ∙ is) (AllByRecursion-at _ xs q s.0 h) | inr later ↦ later ],
+          λ h. elim (Contains-cases x xs q ((m q).1 (Contains-later y ys q h)))
+              [ inl is ↦ never_itself y q (sym first ∙ is) (AllByRecursion-at _ ys q t.0 h) | inr later ↦ later ],
         )) in
         λ i. first i ∷ tails i
 
     -- one more item of the list is one more of its set
     pub set_of-push : (items : List K) (item : K) → with_item R item (set_of R items) ≡ set_of R (items ++ item ∷ [])
     set_of-push items item =
-        same_set (with_item R item (set_of R items)) (set_of R (items ++ item ∷ [])) (with_item-sorted item (set_of R items) (set_of-is_sorted items)) (set_of-is_sorted (items ++ item ∷ []))
+        same_set (with_item R item (set_of R items)) (set_of R (items ++ item ∷ []))
+        (with_item-sorted item (set_of R items) (set_of-is_sorted items)) (set_of-is_sorted (items ++ item ∷ []))
         (λ q.
         let put = with_item-members item (set_of R items) q in
         let pushed = set_of-members (items ++ item ∷ []) q in

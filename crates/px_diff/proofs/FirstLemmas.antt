@@ -21,7 +21,7 @@ use Rattle.px_terms.specs.declared.atom.Atom.{Atom}
 use Rattle.px_terms.specs.declared.instance.OpInst.{OpInst}
 use Rattle.px_terms.specs.declared.problem.Problem.{Problem}
 use Rattle.px_gaps.specs.Closings.{OneOf}
-use Rattle.px_diff.specs.Firsts.{AreEnough, AreFirst, BringsFirst, ComeBefore, IsBeforeFront, IsOfTableFrom}
+use Rattle.px_diff.specs.Firsts.{AreEnough, AreFirstEntries, BringsFirst, ComeBefore, IsBeforeFront, IsOfTableFrom}
 use Rattle.px_diff.specs.Gathering.{Gathers}
 use Rattle.px_entries.specs.Instances.{Covers, IsCovered, IsPartialInstance, StandsFor}
 use Rattle.px_diff.specs.Macros.{GathersEntries, IsMacroEntry, IsOperatorEntry}
@@ -131,7 +131,7 @@ module _ (problem : Problem) (tables : List Table) (wanted : List Atom) (stack :
   after-front number count n prefix sigma entry found same before from = All-each (λ (earlier : Entry). order_of earlier entry ≡ Less) found (λ earlier has.
       subst (λ (e : Entry). order_of earlier e ≡ Less) same (before_front-order number count n prefix sigma earlier (All-at (IsBeforeFront number count) found earlier before has) from))
 
-  -- fewer first steps are gathered, and all that is there comes before so many
+  -- fewer first steps are gathered, and all that is there comes before those of that many first steps
   pub fronts-left : (number count : ℕ) (old new : List Entry) → GathersEntries problem tables wanted stack model (IsShorter problem tables wanted stack model number count) old new → All (IsBeforeFront number count) new
       → AreEnough order_of enough new → Brings (IsOfTableFrom number) old new
   fronts-left number count old new g before are_enough = record {
@@ -189,7 +189,7 @@ module _ (request : Request) (enough : ℕ) where
   abbrev BringsFor : (Entry → Type 0) → List Entry → List Entry → Type 0
   BringsFor = BringsFirst order_of IsFor enough
 
-  first-brought : (entries : List Entry) → BringsFor (λ entry. Unit {0}) [] entries → AreFirst request enough false entries
+  first-brought : (entries : List Entry) → BringsFor (λ entry. Unit {0}) [] entries → AreFirstEntries request enough false entries
   first-brought entries b = record {
     sound = λ entry there. elim (b.only entry there) [ inl never ↦ absurd (Contains-none entry never) | inr p ↦ p ];
     all = λ is entry p. absurd (cc);
@@ -198,12 +198,12 @@ module _ (request : Request) (enough : ℕ) where
   }
 
   -- some operators
-  pub first-operators : (b : Bool) (entries : List Entry) → not b ≡ true → MatchBool b (GathersFor IsOperatorEntry [] entries) (BringsFor (λ entry. Unit {0}) [] entries) → AreFirst request enough b entries
+  pub first-operators : (b : Bool) (entries : List Entry) → not b ≡ true → MatchBool b (GathersFor IsOperatorEntry [] entries) (BringsFor (λ entry. Unit {0}) [] entries) → AreFirstEntries request enough b entries
   first-operators true entries is h = absurd (cc)
   first-operators false entries is h = first-brought entries h
 
   -- all operators, and MACROPs
-  pub first-macros : (every b : Bool) (made new : List Entry) → not every ≡ false → MatchBool every (GathersFor IsOperatorEntry [] made) (BringsFor (λ entry. Unit {0}) [] made) → MatchBool b (GathersFor IsMacroEntry made new) (BringsFor IsMacroEntry made new) → AreFirst request enough b new
+  pub first-macros : (every b : Bool) (made new : List Entry) → not every ≡ false → MatchBool every (GathersFor IsOperatorEntry [] made) (BringsFor (λ entry. Unit {0}) [] made) → MatchBool b (GathersFor IsMacroEntry made new) (BringsFor IsMacroEntry made new) → AreFirstEntries request enough b new
   first-macros false b made new is h k = absurd (cc)
   first-macros true true made new is h k =
       let exact = whole-exact request.problem.now request.tables.now request.wanted.now request.stack.now request.model.now.atoms made new h k in record {
@@ -215,7 +215,7 @@ module _ (request : Request) (enough : ℕ) where
   first-macros true false made new is h k = first-brought new (macros-brought request.problem.now request.tables.now request.wanted.now request.stack.now request.model.now.atoms enough made new h k)
 
   -- all of them in another order
-  pub first-ordered : (b : Bool) (made new : List Entry) → b ≡ true → ((entry : Entry) → Contains new entry ↔ Contains made entry) → AreFirst request enough b made → AreFirst request enough b new
+  pub first-ordered : (b : Bool) (made new : List Entry) → b ≡ true → ((entry : Entry) → Contains new entry ↔ Contains made entry) → AreFirstEntries request enough b made → AreFirstEntries request enough b new
   first-ordered b made new are_all members f = record {
     sound = λ entry there. f.sound entry ((members entry).0 there);
     all = λ is entry p. (members entry).1 (f.all is entry p);

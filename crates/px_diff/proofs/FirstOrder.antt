@@ -158,7 +158,7 @@ then-equal r s is = ap (λ (o : Ordering). ordering_then o s) is
 nat-equal : (m n : ℕ) → m ≡ n → nat_cmp m n ≡ Equal
 nat-equal m n is = sym (nat_cmp_is m n Equal is)
 
--- what comes before so many first steps of a table comes before as many or more of it, and before those of later tables
+-- what comes before a number of first steps of a table comes before as many or more of it, and before those of later tables
 pub before_front-order : (number count n prefix : ℕ) (sigma : List ℕ) (kept : Entry) → IsBeforeFront number count kept → (number < n) ⊎ ((number ≡ n) × (count ≤ prefix)) → order_of kept (Macro n prefix sigma) ≡ Less
 before_front-order number count n prefix sigma (Op inst) before from = refl
 before_front-order number count n prefix sigma (Macro m p tau) before from = elim from [

@@ -26,7 +26,7 @@ use Rattle.px_gaps.specs.Closings.{OneOf}
 use Rattle.px_entries.specs.Entries.{IsEntry, obligations_of}
 use Rattle.px_gaps.specs.Needs.{IsOpen}
 use Rattle.px_entries.specs.Learned.{AreLearned}
-use Rattle.px_diff.specs.Macros.{GathersEntries, IsFront, IsMacroBefore, IsMacroBy, IsMacroEntry, IsMacroTold, IsOfFront, IsOfTable}
+use Rattle.px_diff.specs.Macros.{GathersEntries, IsMacroFront, IsMacroBefore, IsMacroBy, IsMacroEntry, IsMacroTold, IsOfFront, IsOfTable}
 use Rattle.px_entries.specs.Parameters.{AreFirstTerms, Matches}
 use Rattle.px_diff.specs.Pushes.{IsPushable, IsRelevant}
 use Rattle.px_gaps.specs.Questions.{AreUnlimited}
@@ -49,7 +49,7 @@ learned-table problem tables number table learned at = All-at (IsTable problem) 
 pub learned-at : (problem : Problem) (tables : List Table) (number : ℕ) (d : Table) → AreLearned problem tables → number < length tables → IsTable problem (get_or tables number d)
 learned-at problem tables number d learned within = learned-table problem tables number (get_or tables number d) learned (slice_get-read tables number d within)
 
-pub front-table : (front : Front) → IsFront front → IsTable front.request.problem.now front.table.now
+pub front-table : (front : Front) → IsMacroFront front → IsTable front.request.problem.now front.table.now
 front-table front is = learned-table front.request.problem.now front.request.tables.now front.number front.table.now is.tables is.table
 
 -- ---- parts

@@ -61,7 +61,7 @@ limits_finding problem tables wanted stack model inst kept shapes relevant none 
 abbrev pub IsAnsweredIn : PartialInstance → List GapList → OpInst → Type 0
 IsAnsweredIn partial lists inst = OneOf lists (λ list. (list.gaps ≡ []) × (instance_by partial list.objects ≡ inst))
 
--- it has one or it hasn't
+-- it has one or it has none
 pub answered-or : (partial : PartialInstance) (lists : List GapList) (inst : OpInst) → IsAnsweredIn partial lists inst ⊎ (¬ IsAnsweredIn partial lists inst)
 answered-or partial [] inst = inr (λ one. Contains-none one.0 one.1)
 answered-or partial (list ∷ lists) inst = elim (answered-or partial lists inst) [

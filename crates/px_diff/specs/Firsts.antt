@@ -20,7 +20,8 @@ pub record AreEnough {X : Type 0} (order : X → X → Ordering) (enough : ℕ) 
 
 -- The new list has what the old one had, and beside that only what is wanted: enough, in order. What is wanted of the part and isn't in
 -- it comes after all that it has.
-pub record BringsFirst {X : Type 0} (order : X → X → Ordering) (IsWanted : X → Type 0) (enough : ℕ) (IsPart : X → Type 0) (old new : List X) : Type 0 where
+pub record BringsFirst {X : Type 0} (order : X → X → Ordering) (IsWanted : X → Type 0) (enough : ℕ) (IsPart : X → Type 0) (old new : List X)
+    : Type 0 where
   pub kept : (x : X) → Contains old x → Contains new x
   pub only : (x : X) → Contains new x → Contains old x ⊎ IsWanted x
   pub others : (x : X) → IsPart x → IsWanted x → Contains new x ⊎ All (λ earlier. order earlier x ≡ Less) new
@@ -53,7 +54,7 @@ IsOfTableFrom number entry = (n : ℕ) × (number ≤ n) × IsOfTable n entry
 
 -- They may be pushed, and each other entry that may be comes after them. Where it is said that they are all, there is no other. Else there
 -- are enough of them, in order.
-pub record AreFirst (request : Request) (enough : ℕ) (is_all : Bool) (entries : List Entry) : Type 0 where
+pub record AreFirstEntries (request : Request) (enough : ℕ) (is_all : Bool) (entries : List Entry) : Type 0 where
   pub sound : (entry : Entry) → Contains entries entry → IsPushableFor request entry
   pub all : IsTrue is_all → (entry : Entry) → IsPushableFor request entry → Contains entries entry
   pub others : (entry : Entry) → IsPushableFor request entry → Contains entries entry ⊎ All (λ kept. order_of kept entry ≡ Less) entries

@@ -17,11 +17,13 @@ use Rattle.px_entries.specs.declared.partial.PartialInstance.{PartialInstance}
 
 -- The new list has what the old one had, and beside that only what may be pushed, among it all of the part. No question about a
 -- relevant instance of the part meets the limit.
-pub record Gathers (problem : Problem) (tables : List Table) (wanted : List Atom) (stack : List Entry) (model : List Atom) (IsPart : OpInst → Type 0) (old new : List OpInst) : Type 0 where
+pub record Gathers (problem : Problem) (tables : List Table) (wanted : List Atom) (stack : List Entry) (model : List Atom)
+    (IsPart : OpInst → Type 0) (old new : List OpInst) : Type 0 where
   pub kept : (inst : OpInst) → Contains old inst → Contains new inst
   pub only : (inst : OpInst) → Contains new inst → Contains old inst ⊎ IsPushable problem tables wanted stack model (Op inst)
   pub all : (inst : OpInst) → IsPart inst → IsPushable problem tables wanted stack model (Op inst) → Contains new inst
-  pub unlimited : (inst : OpInst) → IsPart inst → IsRelevant problem tables wanted stack (Op inst) → AreUnlimited problem (obligations_of problem tables model (Op inst))
+  pub unlimited : (inst : OpInst) → IsPart inst → IsRelevant problem tables wanted stack (Op inst)
+      → AreUnlimited problem (obligations_of problem tables model (Op inst))
 
 -- the objects are the problem's, one for each variable
 pub record AreObjectsFor (problem : Problem) (partial : PartialInstance) (objects : List ℕ) : Type 0 where

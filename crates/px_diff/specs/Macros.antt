@@ -23,14 +23,17 @@ use Rattle.px_diff.specs.declared.request.Request.{Request}
 
 -- The new list has what the old one had, and beside that only what may be pushed, among it all of the part. No question about a
 -- relevant entry of the part meets the limit.
-pub record GathersEntries (problem : Problem) (tables : List Table) (wanted : List Atom) (stack : List Entry) (model : List Atom) (IsPart : Entry → Type 0) (old new : List Entry) : Type 0 where
+pub record GathersEntries (problem : Problem) (tables : List Table) (wanted : List Atom) (stack : List Entry) (model : List Atom)
+    (IsPart : Entry → Type 0) (old new : List Entry) : Type 0 where
   pub kept : (entry : Entry) → Contains old entry → Contains new entry
   pub only : (entry : Entry) → Contains new entry → Contains old entry ⊎ IsPushable problem tables wanted stack model entry
   pub all : (entry : Entry) → IsPart entry → IsPushable problem tables wanted stack model entry → Contains new entry
-  pub unlimited : (entry : Entry) → IsPart entry → IsRelevant problem tables wanted stack entry → AreUnlimited problem (obligations_of problem tables model entry)
+  pub unlimited : (entry : Entry) → IsPart entry → IsRelevant problem tables wanted stack entry
+      → AreUnlimited problem (obligations_of problem tables model entry)
 
 abbrev pub GathersEntriesFor : Request → (Entry → Type 0) → List Entry → List Entry → Type 0
-GathersEntriesFor request = GathersEntries request.problem.now request.tables.now request.wanted.now request.stack.now request.model.now.atoms
+GathersEntriesFor request = GathersEntries request.problem.now request.tables.now request.wanted.now request.stack.now
+    request.model.now.atoms
 
 -- `prefix` steps of the table of that number, with objects that extend the terms
 abbrev pub IsMacroBy : ℕ → ℕ → ℕ → List Term → Entry → Type 0
@@ -38,33 +41,39 @@ IsMacroBy limit number prefix terms entry = (sigma : List ℕ) × Extends limit 
 
 -- the same, where the object of the parameter is before this one
 abbrev pub IsMacroBefore : ℕ → ℕ → ℕ → List Term → ℕ → ℕ → Entry → Type 0
-IsMacroBefore limit number prefix terms v object entry = (sigma : List ℕ) × Extends limit terms sigma × (slice_index sigma v < object) × (Macro number prefix sigma ≡ entry)
+IsMacroBefore limit number prefix terms v object entry = (sigma : List ℕ) × Extends limit terms sigma × (slice_index sigma v < object)
+    × (Macro number prefix sigma ≡ entry)
 
 -- `prefix` steps of the table of that number, with objects that extend the terms and fit one of the choices of each row
 abbrev pub IsMacroFitting : ℕ → ℕ → ℕ → List Term → List (List (List Term)) → Entry → Type 0
-IsMacroFitting limit number prefix terms rows entry = (sigma : List ℕ) × Extends limit terms sigma × FitsEach rows sigma × (Macro number prefix sigma ≡ entry)
+IsMacroFitting limit number prefix terms rows entry = (sigma : List ℕ) × Extends limit terms sigma × FitsEach rows sigma
+    × (Macro number prefix sigma ≡ entry)
 
 -- the same, where the objects fit one of the terms at which some row meets the limit
 abbrev pub IsMacroLimited : ℕ → ℕ → ℕ → List Term → List (List (List Term)) → Entry → Type 0
-IsMacroLimited limit number prefix terms limited entry = OneOf limited (λ (row : List (List Term)). IsMacroFitting limit number prefix terms (row ∷ []) entry)
+IsMacroLimited limit number prefix terms limited entry = OneOf limited
+    (λ (row : List (List Term)). IsMacroFitting limit number prefix terms (row ∷ []) entry)
 
 -- the same, where the objects fit one of the choices of each row, or one of the terms at which some row meets the limit
 abbrev pub IsMacroTold : ℕ → ℕ → ℕ → List (List (List Term)) → List (List (List Term)) → List Term → Entry → Type 0
-IsMacroTold limit number prefix rows limited terms entry = IsMacroLimited limit number prefix terms limited entry ⊎ IsMacroFitting limit number prefix terms rows entry
+IsMacroTold limit number prefix rows limited terms entry = IsMacroLimited limit number prefix terms limited entry
+    ⊎ IsMacroFitting limit number prefix terms rows entry
 
 -- `prefix` steps with objects that extend the terms, and fit one of these choices and one of the choices of each row
 abbrev pub IsMacroAmong : ℕ → ℕ → ℕ → List Term → List (List Term) → List (List (List Term)) → Entry → Type 0
 IsMacroAmong limit number prefix terms choices rows entry =
-    (sigma : List ℕ) × Extends limit terms sigma × OneOf choices (λ (choice : List Term). Fits choice sigma) × FitsEach rows sigma × (Macro number prefix sigma ≡ entry)
+    (sigma : List ℕ) × Extends limit terms sigma × OneOf choices (λ (choice : List Term). Fits choice sigma) × FitsEach rows sigma
+    × (Macro number prefix sigma ≡ entry)
 
 -- two or more of the first steps of the table of that number, which is learned; where it is said that the facts suffice, they do
-pub record IsFront (front : Front) : Type 0 where
+pub record IsMacroFront (front : Front) : Type 0 where
   pub problem : IsValid front.request.problem.now
   pub tables : AreLearned front.request.problem.now front.request.tables.now
   pub table : slice_get front.request.tables.now front.number ≡ Some front.table.now
   pub several : 2 ≤ front.count
   pub within : front.count ≤ length front.table.now.steps
-  pub suffice : front.facts_suffice ≡ true → IsNeverLimited front.request.problem.now front.request.tables.now × FactsSuffice front.request.problem.now front.table.now
+  pub suffice : front.facts_suffice ≡ true → IsNeverLimited front.request.problem.now front.request.tables.now
+      × FactsSuffice front.request.problem.now front.table.now
 
 -- the entry takes `prefix` first steps of the table of that number, with whatever objects
 abbrev pub IsOfFront : ℕ → ℕ → Entry → Type 0

@@ -19,7 +19,9 @@ pub record AreComparable (problem : Problem) (tables : List Table) (facts others
 
 -- Where two models have the same deciding facts, the same entries are open in both, and the same may be pushed.
 pub record RelevanceOverModels : Type 0 where
-  pub opens : (problem : Problem) (tables : List Table) (facts others : List Atom) (entry : Entry) → AreComparable problem tables facts others → IsEntry problem tables entry
+  pub opens : (problem : Problem) (tables : List Table) (facts others : List Atom) (entry : Entry)
+      → AreComparable problem tables facts others → IsEntry problem tables entry
       → IsOpen problem (obligations_of problem tables facts entry) ↔ IsOpen problem (obligations_of problem tables others entry)
-  pub pushable : (problem : Problem) (tables : List Table) (wanted : List Atom) (stack : List Entry) (facts others : List Atom) (entry : Entry) → AreComparable problem tables facts others
+  pub pushable : (problem : Problem) (tables : List Table) (wanted : List Atom) (stack : List Entry) (facts others : List Atom)
+      (entry : Entry) → AreComparable problem tables facts others
       → IsPushable problem tables wanted stack facts entry ↔ IsPushable problem tables wanted stack others entry

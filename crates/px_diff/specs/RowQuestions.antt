@@ -51,7 +51,8 @@ AreInstancesKnown s table row IsPart choices = (sigma : List ℕ) → IsPart sig
 
 -- this is so for all objects of the part but those that fit one of the terms at which the row meets the limit
 abbrev pub AreAskedOf : Setting → Table → ℕ → (List ℕ → Type 0) → List (List Term) → List (List Term) → Type 0
-AreAskedOf s table row IsPart choices limited = (sigma : List ℕ) → IsPart sigma → FitsOne limited sigma ⊎ IsInstanceKnown s table row choices sigma
+AreAskedOf s table row IsPart choices limited = (sigma : List ℕ) → IsPart sigma → FitsOne limited sigma
+    ⊎ IsInstanceKnown s table row choices sigma
 
 -- The new choices have a term for each parameter, if the old ones had. Objects that fit one of the old ones fit one of the new ones.
 pub record Widens (params : ℕ) (old new : List (List Term)) : Type 0 where
@@ -65,10 +66,11 @@ pub record IsRowKnown (s : Setting) (table : Table) (terms : List Term) (row : �
   pub asked : AreAskedOf s table row (Extends s.objects terms) choices limited
 
 -- the same of each of the first rows
-pub record AreRowsKnown (s : Setting) (table : Table) (terms : List Term) (prefix : ℕ) (rows limited : List (List (List Term))) : Type 0 where
-  pub count : length rows ≡ prefix
-  pub limited_count : length limited ≡ prefix
-  pub each : (k : ℕ) → k < prefix → IsRowKnown s table terms (k + 1) (get_or rows k []) (get_or limited k [])
+pub record AreRowsKnown (s : Setting) (table : Table) (terms : List Term) (prefix : ℕ) (rows limited : List (List (List Term))) : Type 0
+  where
+    pub count : length rows ≡ prefix
+    pub limited_count : length limited ≡ prefix
+    pub each : (k : ℕ) → k < prefix → IsRowKnown s table terms (k + 1) (get_or rows k []) (get_or limited k [])
 
 -- the same of all rows of the table, where the terms are variables, the problem has an object, and the facts are a set
 pub record AreTableChoices (problem : Problem) (facts : List Atom) (table : Table) (found : TableChoices) : Type 0 where

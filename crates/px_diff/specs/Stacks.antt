@@ -12,11 +12,13 @@ use Rattle.px_gaps.specs.Questions.{AreBelow, AreUnlimited}
 
 -- no question about an entry that is relevant over the stack meets the limit
 abbrev pub AreUnlimitedOver : Problem → List Table → List Atom → List Atom → List Entry → Type 0
-AreUnlimitedOver problem tables wanted model stack = (entry : Entry) → IsRelevant problem tables wanted stack entry → AreUnlimited problem (obligations_of problem tables model entry)
+AreUnlimitedOver problem tables wanted model stack = (entry : Entry) → IsRelevant problem tables wanted stack entry
+    → AreUnlimited problem (obligations_of problem tables model entry)
 
 -- each such question stays below it
 abbrev pub AreBelowOver : Problem → List Table → List Atom → List Atom → List Entry → Type 0
-AreBelowOver problem tables wanted model stack = (entry : Entry) → IsRelevant problem tables wanted stack entry → AreBelow problem (obligations_of problem tables model entry)
+AreBelowOver problem tables wanted model stack = (entry : Entry) → IsRelevant problem tables wanted stack entry
+    → AreBelow problem (obligations_of problem tables model entry)
 
 -- What is relevant over a stack, and what may be pushed over it, is what is so over the empty stack and isn't on it. So a list of what
 -- may be pushed over the empty stack, without the stack's entries, is that of what may be pushed over the stack. Where no question
@@ -27,12 +29,16 @@ pub record RelevanceOverStacks : Type 0 where
       → IsRelevant problem tables wanted stack entry ↔ (IsRelevant problem tables wanted [] entry × ¬ Contains stack entry)
   pub pushable : (problem : Problem) (tables : List Table) (wanted model : List Atom) (stack : List Entry) (entry : Entry)
       → IsPushable problem tables wanted stack model entry ↔ (IsPushable problem tables wanted [] model entry × ¬ Contains stack entry)
-  pub listed : (problem : Problem) (tables : List Table) (wanted model : List Atom) (entries : List Entry) → ((entry : Entry) → Contains entries entry ↔ IsPushable problem tables wanted [] model entry)
-      → (stack : List Entry) (entry : Entry) → (Contains entries entry × ¬ Contains stack entry) ↔ IsPushable problem tables wanted stack model entry
+  pub listed : (problem : Problem) (tables : List Table) (wanted model : List Atom) (entries : List Entry)
+      → ((entry : Entry) → Contains entries entry ↔ IsPushable problem tables wanted [] model entry)
+      → (stack : List Entry) (entry : Entry) → (Contains entries entry × ¬ Contains stack entry)
+      ↔ IsPushable problem tables wanted stack model entry
   pub unlimited : (problem : Problem) (tables : List Table) (wanted model : List Atom) (stack : List Entry)
       → AreUnlimitedOver problem tables wanted model [] → AreUnlimitedOver problem tables wanted model stack
   pub below : (problem : Problem) (tables : List Table) (wanted model : List Atom) (stack : List Entry)
       → AreBelowOver problem tables wanted model [] → AreBelowOver problem tables wanted model stack
-  pub limited : (problem : Problem) (tables : List Table) (wanted model : List Atom) (stack : List Entry) (formula : List Atom) (shapes : List (List Tick))
+  pub limited : (problem : Problem) (tables : List Table) (wanted model : List Atom) (stack : List Entry) (formula : List Atom)
+      (shapes : List (List Tick))
       → LimitsRelevant problem tables wanted stack model formula shapes
-      ↔ ((entry : Entry) × IsRelevant problem tables wanted [] entry × (¬ Contains stack entry) × LimitsNeeds problem (obligations_of problem tables model entry) formula shapes)
+      ↔ ((entry : Entry) × IsRelevant problem tables wanted [] entry × (¬ Contains stack entry)
+      × LimitsNeeds problem (obligations_of problem tables model entry) formula shapes)

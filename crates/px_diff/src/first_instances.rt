@@ -108,7 +108,9 @@ pub fn gather_first(
     requires problem { IsValid request.now.problem.now }
     requires bounds { AreBounds request.now.problem.now request.now.problem.now.height bounds.now.table }
     requires matches { All (IsPartialInstance request.now.problem.now) matches.now }
-    ensures gathers { IfOk result (λ is_all. MatchBool is_all (GathersFor request.now (IsCovered request.now.problem.now matches.now) found.old.items found.new.items) (BringsFirstInstances request.now enough (IsCovered request.now.problem.now matches.now) found.old.items found.new.items)) }
+    ensures gathers { IfOk result (λ is_all. MatchBool is_all
+        (GathersFor request.now (IsCovered request.now.problem.now matches.now) found.old.items found.new.items)
+        (BringsFirstInstances request.now enough (IsCovered request.now.problem.now matches.now) found.old.items found.new.items)) }
     ensures limited { IfLimit result (LimitsFor request.now) }
 {
     for place in 0..matches.len() {

@@ -69,7 +69,9 @@ fn gather_first_table(
     requires tables { AreLearned request.now.problem.now request.now.tables.now }
     requires number { number < length request.now.tables.now }
     requires never { IsNeverLimited request.now.problem.now request.now.tables.now }
-    ensures gathers { IfOk result (λ is_all. MatchBool is_all (GathersEntriesFor request.now (IsOfTable number) found.old.items found.new.items) (BringsFirstEntries request.now enough (IsOfTableFrom number) found.old.items found.new.items)) }
+    ensures gathers { IfOk result (λ is_all. MatchBool is_all
+        (GathersEntriesFor request.now (IsOfTable number) found.old.items found.new.items)
+        (BringsFirstEntries request.now enough (IsOfTableFrom number) found.old.items found.new.items)) }
     ensures limited { IfLimit result (LimitsFor request.now) }
 {
     if can_leave_off(found, number, 0, enough) {
@@ -108,7 +110,8 @@ pub fn gather_first_tables(
     requires problem { IsValid request.now.problem.now }
     requires tables { AreLearned request.now.problem.now request.now.tables.now }
     requires never { IsNeverLimited request.now.problem.now request.now.tables.now }
-    ensures gathers { IfOk result (λ is_all. MatchBool is_all (GathersEntriesFor request.now IsMacroEntry found.old.items found.new.items) (BringsFirstEntries request.now enough IsMacroEntry found.old.items found.new.items)) }
+    ensures gathers { IfOk result (λ is_all. MatchBool is_all (GathersEntriesFor request.now IsMacroEntry found.old.items found.new.items)
+        (BringsFirstEntries request.now enough IsMacroEntry found.old.items found.new.items)) }
     ensures limited { IfLimit result (LimitsFor request.now) }
 {
     for number in 0..request.tables.len() as u32 {

@@ -10,7 +10,7 @@ ghost use Rattle.px_gaps.specs.Closings.{OneOf};
 ghost use Rattle.px_entries.specs.Learned.{AreLearned};
 ghost use Rattle.px_entries.specs.Unlimited.{IsNeverLimited};
 ghost use Rattle.px_diff.specs.Pushes.{IsPushable};
-ghost use Rattle.px_diff.specs.Firsts.{AreFirst, BringsFirstEntries};
+ghost use Rattle.px_diff.specs.Firsts.{AreFirstEntries, BringsFirstEntries};
 ghost use Rattle.px_entries.specs.Instances.{Covers};
 ghost use Rattle.px_diff.specs.Macros.{GathersEntriesFor, IsOperatorEntry};
 ghost use Rattle.px_gaps.specs.Outcomes.{IfLimit};
@@ -47,7 +47,8 @@ fn ordered_matches(
 /// others that may be pushed come after them.
 fn first_operators(asker: &mut Asker, request: &Request, enough: usize) -> Result<First, AskErr>
     requires problem { IsValid request.now.problem.now }
-    ensures gathers { IfOk result (λ first. MatchBool first.is_all (GathersEntriesFor request.now IsOperatorEntry [] first.entries.items) (BringsFirstEntries request.now enough (λ entry. Unit {0}) [] first.entries.items)) }
+    ensures gathers { IfOk result (λ first. MatchBool first.is_all (GathersEntriesFor request.now IsOperatorEntry [] first.entries.items)
+        (BringsFirstEntries request.now enough (λ entry. Unit {0}) [] first.entries.items)) }
     ensures limited { IfLimit result (LimitsFor request.now) }
 {
     let matches = ordered_matches(asker.alloc, request.problem, request.wanted)?;
@@ -63,7 +64,7 @@ fn first_for(asker: &mut Asker, request: &Request, enough: usize) -> Result<Firs
     requires problem { IsValid request.now.problem.now }
     requires tables { AreLearned request.now.problem.now request.now.tables.now }
     requires never { IsNeverLimited request.now.problem.now request.now.tables.now }
-    ensures first { IfOk result (λ first. AreFirst request.now enough first.is_all first.entries.items) }
+    ensures first { IfOk result (λ first. AreFirstEntries request.now enough first.is_all first.entries.items) }
     ensures order { IfOk result (λ first. IsStrictlySortedBy order_of first.entries.items) }
     ensures limited { IfLimit result (LimitsFor request.now) }
 {
@@ -96,11 +97,14 @@ pub fn relevant_first(
     requires problem { IsValid problem.now }
     requires tables { AreLearned problem.now tables.now }
     requires never { IsNeverLimited problem.now tables.now }
-    ensures sound { IfOk result (λ first. (entry : EntryValue) → Contains first.entries.items entry → IsPushable problem.now tables.now wanted.now [] model.now.atoms entry) }
+    ensures sound { IfOk result (λ first. (entry : EntryValue) → Contains first.entries.items entry
+        → IsPushable problem.now tables.now wanted.now [] model.now.atoms entry) }
     ensures order { IfOk result (λ first. IsStrictlySortedBy order_of first.entries.items) }
-    ensures all { IfOk result (λ first. IsTrue first.is_all → (entry : EntryValue) → IsPushable problem.now tables.now wanted.now [] model.now.atoms entry → Contains first.entries.items entry) }
+    ensures all { IfOk result (λ first. IsTrue first.is_all → (entry : EntryValue)
+        → IsPushable problem.now tables.now wanted.now [] model.now.atoms entry → Contains first.entries.items entry) }
     ensures enough { IfOk result (λ first. first.is_all ≡ false → enough ≤ length first.entries.items) }
-    ensures others { IfOk result (λ first. (entry : EntryValue) → IsPushable problem.now tables.now wanted.now [] model.now.atoms entry → Contains first.entries.items entry ⊎ All (λ kept. order_of kept entry ≡ Less) first.entries.items) }
+    ensures others { IfOk result (λ first. (entry : EntryValue) → IsPushable problem.now tables.now wanted.now [] model.now.atoms entry
+        → Contains first.entries.items entry ⊎ All (λ kept. order_of kept entry ≡ Less) first.entries.items) }
 {
     let _facts = model.atoms();
     let mut asker = Asker::new(alloc);

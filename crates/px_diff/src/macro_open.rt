@@ -8,7 +8,7 @@ ghost use Rattle.px_terms.specs.Language.{IsVariableBelow};
 ghost use Rattle.px_terms.specs.Operators.{IsAddable};
 ghost use Rattle.px_terms.specs.Validity.{IsAtomOf, IsValid};
 ghost use Rattle.px_diff.specs.MacroOpen.{DeletesAddable, FactsSuffice, IsNeeded, IsSettledMark};
-ghost use Rattle.px_diff.specs.Macros.{IsFront};
+ghost use Rattle.px_diff.specs.Macros.{IsMacroFront};
 
 use crate::front::Front;
 use px_entries::{axioms_mention_addable, is_settled};
@@ -72,10 +72,12 @@ fn is_needed(mark: &Mark, prefix: u32) -> bool
 
 /// Is the mark none of those, or its atom one that operators add or that is provable? `None` where asking meets the limit of shapes.
 fn is_settled_mark(front: &Front, sigma: &[u32], mark: &Mark) -> Result<Option<bool>, NoMemory>
-    requires front { IsFront front.now }
+    requires front { IsMacroFront front.now }
     requires variables { All (IsVariableBelow (length sigma.now)) mark.now.atom.args }
     requires atom { mark.now.row ≤ front.now.count → IsAtomOf front.now.request.problem.now 0 (atom_under sigma.now mark.now.atom) }
-    ensures { IfOk result (λ found. IfSome found (λ settled. MatchBool settled (IsSettledMark front.now.request.problem.now front.now.request.model.now.atoms front.now.count sigma.now mark.now) (¬ IsSettledMark front.now.request.problem.now front.now.request.model.now.atoms front.now.count sigma.now mark.now))) }
+    ensures { IfOk result (λ found. IfSome found (λ settled. MatchBool settled
+        (IsSettledMark front.now.request.problem.now front.now.request.model.now.atoms front.now.count sigma.now mark.now)
+        (¬ IsSettledMark front.now.request.problem.now front.now.request.model.now.atoms front.now.count sigma.now mark.now))) }
 {
     if !is_needed(mark, front.count) {
         return Ok(Some(true));
@@ -93,9 +95,12 @@ fn is_settled_mark(front: &Front, sigma: &[u32], mark: &Mark) -> Result<Option<b
 /// with these objects is open. The prover is asked only of atoms that axioms conclude and that are no facts, and takes the whole
 /// model for all rows.
 pub fn are_settled_marks(front: &Front, sigma: &[u32]) -> Result<Option<bool>, NoMemory>
-    requires front { IsFront front.now }
+    requires front { IsMacroFront front.now }
     requires sigma { IsMacro front.now.request.problem.now front.now.table.now front.now.count sigma.now }
-    ensures { IfOk result (λ found. IfSome found (λ settled. MatchBool settled (All (IsSettledMark front.now.request.problem.now front.now.request.model.now.atoms front.now.count sigma.now) front.now.table.now.marks) (¬ All (IsSettledMark front.now.request.problem.now front.now.request.model.now.atoms front.now.count sigma.now) front.now.table.now.marks))) }
+    ensures { IfOk result (λ found. IfSome found (λ settled. MatchBool settled
+        (All (IsSettledMark front.now.request.problem.now front.now.request.model.now.atoms front.now.count sigma.now)
+        front.now.table.now.marks) (¬ All (IsSettledMark front.now.request.problem.now front.now.request.model.now.atoms front.now.count
+        sigma.now) front.now.table.now.marks))) }
 {
     let marks = front.table.marks.as_slice();
     for mark in marks {

@@ -8,7 +8,7 @@ ghost use Rattle.px_terms.specs.declared.term.Term.{Term as TermValue};
 ghost use Rattle.px_gaps.specs.Bindings.{IsBinding};
 ghost use Rattle.px_gaps.specs.Closings.{OneOf};
 ghost use Rattle.px_entries.specs.Learned.{AreLearned};
-ghost use Rattle.px_diff.specs.Macros.{GathersEntriesFor, IsFront, IsMacroBy, IsMacroEntry, IsMacroFitting, IsMacroTold, IsOfFront, IsOfTable};
+ghost use Rattle.px_diff.specs.Macros.{GathersEntriesFor, IsMacroFront, IsMacroBy, IsMacroEntry, IsMacroFitting, IsMacroTold, IsOfFront, IsOfTable};
 ghost use Rattle.px_entries.specs.Parameters.{IsMatch};
 ghost use Rattle.px_gaps.specs.Outcomes.{IfLimit};
 ghost use Rattle.px_diff.specs.Requests.{IsRelevantEntryFor, LimitsFor};
@@ -45,7 +45,7 @@ fn entry_of(front: &Front, sigma: &[u32]) -> Result<Entry, NoMemory>
 
 /// Is the entry of the first steps relevant: not on the stack, and adding one of the wanted atoms?
 fn is_relevant_macro(front: &Front, sigma: &[u32], entry: &Entry) -> Result<bool, NoMemory>
-    requires front { IsFront front.now }
+    requires front { IsMacroFront front.now }
     requires sigma { IsMacro front.now.request.problem.now front.now.table.now front.now.count sigma.now }
     requires entry { entry.now ≡ Macro front.now.number front.now.count sigma.now }
     ensures { IfOk result (λ yes'. IsTrue yes' ↔ IsRelevantEntryFor front.now.request entry.now) }
@@ -59,7 +59,7 @@ fn is_relevant_macro(front: &Front, sigma: &[u32], entry: &Entry) -> Result<bool
 
 /// Adds the relevant entry where it may be pushed, as questions about it tell.
 fn keep_known(found: &mut Vec<Entry>, front: &Front, entry: Entry) -> Result<(), AskErr>
-    requires front { IsFront front.now }
+    requires front { IsMacroFront front.now }
     requires relevant { IsRelevantEntryFor front.now.request entry }
     ensures gathers { OnOk result (GathersEntriesFor front.now.request (λ other. entry ≡ other) found.old.items found.new.items) }
     ensures limited { IfLimit result (LimitsFor front.now.request) }
@@ -92,7 +92,7 @@ fn keep_relevant(
     sigma: &[u32],
     entry: Entry,
 ) -> Result<(), AskErr>
-    requires front { IsFront front.now }
+    requires front { IsMacroFront front.now }
     requires sigma { IsMacro front.now.request.problem.now front.now.table.now front.now.count sigma.now }
     requires entry { entry ≡ Macro front.now.number front.now.count sigma.now }
     requires relevant { IsRelevantEntryFor front.now.request entry }
@@ -115,8 +115,9 @@ fn keep_relevant(
 
 /// Adds the entry of the first steps with these objects where it is one that may be pushed.
 fn keep_open(found: &mut Vec<Entry>, front: &Front, sigma: &[u32]) -> Result<(), AskErr>
-    requires front { IsFront front.now }
-    ensures gathers { OnOk result (GathersEntriesFor front.now.request (λ other. Macro front.now.number front.now.count sigma.now ≡ other) found.old.items found.new.items) }
+    requires front { IsMacroFront front.now }
+    ensures gathers { OnOk result (GathersEntriesFor front.now.request (λ other. Macro front.now.number front.now.count sigma.now ≡ other)
+        found.old.items found.new.items) }
     ensures limited { IfLimit result (LimitsFor front.now.request) }
 {
     let is_one = is_macro(front.request.problem, front.table, front.count, sigma);
@@ -133,9 +134,10 @@ fn keep_open(found: &mut Vec<Entry>, front: &Front, sigma: &[u32]) -> Result<(),
 /// Adds those of the entries of the first steps, with the objects that are chosen, that may be pushed. Each call of itself has a
 /// parameter without object less.
 fn keep_all(found: &mut Vec<Entry>, front: &Front, terms: &[Term]) -> Result<(), AskErr>
-    requires front { IsFront front.now }
+    requires front { IsMacroFront front.now }
     requires binding { IsBinding front.now.request.problem.now.objects terms.now }
-    ensures gathers { OnOk result (GathersEntriesFor front.now.request (IsMacroBy front.now.request.problem.now.objects front.now.number front.now.count terms.now) found.old.items found.new.items) }
+    ensures gathers { OnOk result (GathersEntriesFor front.now.request
+        (IsMacroBy front.now.request.problem.now.objects front.now.number front.now.count terms.now) found.old.items found.new.items) }
     ensures limited { IfLimit result (LimitsFor front.now.request) }
 {
     let parameter = match first_unbound(terms) {
@@ -161,11 +163,13 @@ fn keep_by_rows(
     rows: &[Sequence<Sequence<Term>>],
     numbers: &[usize],
 ) -> Result<(), AskErr>
-    requires front { IsFront front.now }
+    requires front { IsMacroFront front.now }
     requires binding { IsBinding front.now.request.problem.now.objects terms.now }
     requires rows { All (All (λ (choice : List TermValue). length choice ≡ length terms.now)) rows.now }
     requires numbers { All (λ number. number < length rows.now) numbers.now }
-    ensures gathers { OnOk result (GathersEntriesFor front.now.request (IsMacroFitting front.now.request.problem.now.objects front.now.number front.now.count terms.now rows.now) found.old.items found.new.items) }
+    ensures gathers { OnOk result (GathersEntriesFor front.now.request
+        (IsMacroFitting front.now.request.problem.now.objects front.now.number front.now.count terms.now rows.now) found.old.items
+        found.new.items) }
     ensures limited { IfLimit result (LimitsFor front.now.request) }
 {
     let limit = front.request.problem.objects;
@@ -191,10 +195,12 @@ fn keep_fitting(
     terms: &[Term],
     rows: &[Sequence<Sequence<Term>>],
 ) -> Result<(), AskErr>
-    requires front { IsFront front.now }
+    requires front { IsMacroFront front.now }
     requires binding { IsBinding front.now.request.problem.now.objects terms.now }
     requires rows { All (All (λ (choice : List TermValue). length choice ≡ length terms.now)) rows.now }
-    ensures gathers { OnOk result (GathersEntriesFor front.now.request (IsMacroFitting front.now.request.problem.now.objects front.now.number front.now.count terms.now rows.now) found.old.items found.new.items) }
+    ensures gathers { OnOk result (GathersEntriesFor front.now.request
+        (IsMacroFitting front.now.request.problem.now.objects front.now.number front.now.count terms.now rows.now) found.old.items
+        found.new.items) }
     ensures limited { IfLimit result (LimitsFor front.now.request) }
 {
     let numbers = numbers_below(front.alloc, rows.len())?;
@@ -207,9 +213,11 @@ fn keep_listed(
     front: &Front,
     matches: &[Sequence<Term>],
 ) -> Result<(), AskErr>
-    requires front { IsFront front.now }
+    requires front { IsMacroFront front.now }
     requires matches { All (IsMatch front.now.request.problem.now.objects front.now.table.now.params) matches.now }
-    ensures gathers { OnOk result (GathersEntriesFor front.now.request (λ entry. OneOf matches.now (λ (terms : List TermValue). IsMacroBy front.now.request.problem.now.objects front.now.number front.now.count terms entry)) found.old.items found.new.items) }
+    ensures gathers { OnOk result (GathersEntriesFor front.now.request
+        (λ entry. OneOf matches.now (λ (terms : List TermValue). IsMacroBy front.now.request.problem.now.objects front.now.number
+        front.now.count terms entry)) found.old.items found.new.items) }
     ensures limited { IfLimit result (LimitsFor front.now.request) }
 {
     for terms in matches {
@@ -227,11 +235,13 @@ fn keep_told(
     rows: &[Sequence<Sequence<Term>>],
     limited: &[Sequence<Sequence<Term>>],
 ) -> Result<(), AskErr>
-    requires front { IsFront front.now }
+    requires front { IsMacroFront front.now }
     requires binding { IsBinding front.now.request.problem.now.objects terms.now }
     requires rows { All (All (λ (choice : List TermValue). length choice ≡ length terms.now)) rows.now }
     requires limited { All (All (λ (choice : List TermValue). length choice ≡ length terms.now)) limited.now }
-    ensures gathers { OnOk result (GathersEntriesFor front.now.request (IsMacroTold front.now.request.problem.now.objects front.now.number front.now.count rows.now limited.now terms.now) found.old.items found.new.items) }
+    ensures gathers { OnOk result (GathersEntriesFor front.now.request
+        (IsMacroTold front.now.request.problem.now.objects front.now.number front.now.count rows.now limited.now terms.now) found.old.items
+        found.new.items) }
     ensures limited { IfLimit result (LimitsFor front.now.request) }
 {
     for place in 0..limited.len() {
@@ -249,11 +259,13 @@ fn keep_matches(
     rows: &[Sequence<Sequence<Term>>],
     limited: &[Sequence<Sequence<Term>>],
 ) -> Result<(), AskErr>
-    requires front { IsFront front.now }
+    requires front { IsMacroFront front.now }
     requires matches { All (IsMatch front.now.request.problem.now.objects front.now.table.now.params) matches.now }
     requires rows { All (All (λ (choice : List TermValue). length choice ≡ front.now.table.now.params)) rows.now }
     requires limited { All (All (λ (choice : List TermValue). length choice ≡ front.now.table.now.params)) limited.now }
-    ensures gathers { OnOk result (GathersEntriesFor front.now.request (λ entry. OneOf matches.now (λ (terms : List TermValue). IsMacroTold front.now.request.problem.now.objects front.now.number front.now.count rows.now limited.now terms entry)) found.old.items found.new.items) }
+    ensures gathers { OnOk result (GathersEntriesFor front.now.request
+        (λ entry. OneOf matches.now (λ (terms : List TermValue). IsMacroTold front.now.request.problem.now.objects front.now.number
+        front.now.count rows.now limited.now terms entry)) found.old.items found.new.items) }
     ensures limited { IfLimit result (LimitsFor front.now.request) }
 {
     for terms in matches {
@@ -269,9 +281,10 @@ pub fn gather_front(
     front: &Front,
     rows: &Option<TableChoices>,
 ) -> Result<(), AskErr>
-    requires front { IsFront front.now }
+    requires front { IsMacroFront front.now }
     requires rows { IfSome rows.now (AreTableChoices front.now.request.problem.now front.now.request.model.now.atoms front.now.table.now) }
-    ensures gathers { OnOk result (GathersEntriesFor front.now.request (IsOfFront front.now.number front.now.count) found.old.items found.new.items) }
+    ensures gathers { OnOk result (GathersEntriesFor front.now.request (IsOfFront front.now.number front.now.count) found.old.items
+        found.new.items) }
     ensures limited { IfLimit result (LimitsFor front.now.request) }
 {
     let problem = front.request.problem;

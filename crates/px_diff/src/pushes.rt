@@ -29,7 +29,7 @@ use crate::relevance::is_relevant;
 use crate::request::Request;
 use crate::rest::rest_answer;
 use px_base::push;
-use px_entries::{PartialInstance, bound, filled, matches_of};
+use px_entries::{PartialInstance, bound_instance, filled, matches_of};
 use px_gaps::{AskErr, Asker, Bounds, GapAnswer, ask_gaps, choices_of};
 use px_ops::{Model, precondition_of};
 use px_prover::ProveErr;
@@ -81,7 +81,8 @@ fn keep_relevant(
     requires problem { IsValid request.now.problem.now }
     requires partial { IsPartialInstance request.now.problem.now partial.now }
     requires objects { AreObjectsFor request.now.problem.now partial.now objects.now }
-    ensures { OnOk result ((inst : OpInst) → Contains found.new.items inst ↔ (Contains found.old.items inst ⊎ ((instance_by partial.now objects.now ≡ inst) × IsRelevantFor request.now inst))) }
+    ensures { OnOk result ((inst : OpInst) → Contains found.new.items inst
+        ↔ (Contains found.old.items inst ⊎ ((instance_by partial.now objects.now ≡ inst) × IsRelevantFor request.now inst))) }
 {
     let inst = filled(partial, objects);
     if !is_relevant(request, &inst) {
@@ -100,7 +101,9 @@ fn keep_choices(
     requires problem { IsValid request.now.problem.now }
     requires partial { IsPartialInstance request.now.problem.now partial.now }
     requires choices { All (AreObjectsFor request.now.problem.now partial.now) choices.now }
-    ensures { OnOk result ((inst : OpInst) → Contains found.new.items inst ↔ (Contains found.old.items inst ⊎ OneOf choices.now (λ (objects : List ℕ). (instance_by partial.now objects ≡ inst) × IsRelevantFor request.now inst))) }
+    ensures { OnOk result ((inst : OpInst) → Contains found.new.items inst
+        ↔ (Contains found.old.items inst ⊎ OneOf choices.now (λ (objects : List ℕ). (instance_by partial.now objects ≡ inst)
+        × IsRelevantFor request.now inst))) }
 {
     for objects in choices {
         keep_relevant(found, request, partial, objects.as_slice())?;
@@ -118,8 +121,11 @@ fn keep_open(
 ) -> Result<(), NoMemory>
     requires problem { IsValid request.now.problem.now }
     requires partial { IsPartialInstance request.now.problem.now partial.now }
-    requires answer { AnswersSome request.now.problem.now request.now.model.now.atoms partial.now.vars answer.now.patterns.items answer.now.provable.atoms }
-    ensures { OnOk result ((inst : OpInst) → Contains found.new.items inst ↔ (Contains found.old.items inst ⊎ (IsOpenIn partial.now (lists_of request.now.problem.now.objects answer.now.patterns.items) answer.now.provable.atoms inst × IsRelevantFor request.now inst))) }
+    requires answer { AnswersSome request.now.problem.now request.now.model.now.atoms partial.now.vars answer.now.patterns.items
+        answer.now.provable.atoms }
+    ensures { OnOk result ((inst : OpInst) → Contains found.new.items inst
+        ↔ (Contains found.old.items inst ⊎ (IsOpenIn partial.now (lists_of request.now.problem.now.objects answer.now.patterns.items)
+        answer.now.provable.atoms inst × IsRelevantFor request.now inst))) }
 {
     let limit = request.problem.objects;
     let choices = choices_of(alloc, limit, &answer.patterns, &answer.provable)?;
@@ -168,7 +174,7 @@ pub fn gather(
                 return gather_one(asker, found, request, &partial.inst, &formula, limit);
             }
             for object in 0..request.problem.objects {
-                let next = bound(partial, 0, object);
+                let next = bound_instance(partial, 0, object);
                 gather(asker, found, request, bounds, &next)?;
             }
             Ok(())
@@ -254,10 +260,13 @@ pub fn relevant_measured(
 ) -> Result<Measured, AskErr>
     requires problem { IsValid problem.now }
     requires tables { AreLearned problem.now tables.now }
-    ensures exact { IfOk result (λ measured. (entry : Entry) → Contains measured.entries.items entry ↔ IsPushable problem.now tables.now wanted.now stack.now model.now.atoms entry) }
+    ensures exact { IfOk result (λ measured. (entry : Entry) → Contains measured.entries.items entry
+        ↔ IsPushable problem.now tables.now wanted.now stack.now model.now.atoms entry) }
     ensures order { IfOk result (λ measured. IsStrictlySortedBy order_of measured.entries.items) }
-    ensures unlimited { IfOk result (λ measured. (entry : Entry) → IsRelevant problem.now tables.now wanted.now stack.now entry → AreUnlimited problem.now (obligations_of problem.now tables.now model.now.atoms entry)) }
-    ensures below { IfOk result (λ measured. (entry : Entry) → IsRelevant problem.now tables.now wanted.now stack.now entry → AreBelow problem.now (obligations_of problem.now tables.now model.now.atoms entry)) }
+    ensures unlimited { IfOk result (λ measured. (entry : Entry) → IsRelevant problem.now tables.now wanted.now stack.now entry
+        → AreUnlimited problem.now (obligations_of problem.now tables.now model.now.atoms entry)) }
+    ensures below { IfOk result (λ measured. (entry : Entry) → IsRelevant problem.now tables.now wanted.now stack.now entry
+        → AreBelow problem.now (obligations_of problem.now tables.now model.now.atoms entry)) }
     ensures limited { IfLimit result (LimitsRelevant problem.now tables.now wanted.now stack.now model.now.atoms) }
 {
     let mut asker = Asker::new(alloc);
@@ -295,10 +304,13 @@ pub fn relevant(
 ) -> Result<Vec<Entry>, AskErr>
     requires problem { IsValid problem.now }
     requires tables { AreLearned problem.now tables.now }
-    ensures exact { IfOk result (λ entries. (entry : Entry) → Contains entries.items entry ↔ IsPushable problem.now tables.now wanted.now stack.now model.now.atoms entry) }
+    ensures exact { IfOk result (λ entries. (entry : Entry) → Contains entries.items entry
+        ↔ IsPushable problem.now tables.now wanted.now stack.now model.now.atoms entry) }
     ensures order { IfOk result (λ entries. IsStrictlySortedBy order_of entries.items) }
-    ensures unlimited { IfOk result (λ entries. (entry : Entry) → IsRelevant problem.now tables.now wanted.now stack.now entry → AreUnlimited problem.now (obligations_of problem.now tables.now model.now.atoms entry)) }
-    ensures below { IfOk result (λ entries. (entry : Entry) → IsRelevant problem.now tables.now wanted.now stack.now entry → AreBelow problem.now (obligations_of problem.now tables.now model.now.atoms entry)) }
+    ensures unlimited { IfOk result (λ entries. (entry : Entry) → IsRelevant problem.now tables.now wanted.now stack.now entry
+        → AreUnlimited problem.now (obligations_of problem.now tables.now model.now.atoms entry)) }
+    ensures below { IfOk result (λ entries. (entry : Entry) → IsRelevant problem.now tables.now wanted.now stack.now entry
+        → AreBelow problem.now (obligations_of problem.now tables.now model.now.atoms entry)) }
     ensures limited { IfLimit result (LimitsRelevant problem.now tables.now wanted.now stack.now model.now.atoms) }
 {
     match relevant_measured(alloc, problem, wanted, stack, model, tables) {

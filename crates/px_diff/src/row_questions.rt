@@ -50,7 +50,8 @@ fn has_few(
 ) -> Result<bool, NoMemory>
     requires problem { IsValid problem.now }
     requires form { IsForm problem.now form.now }
-    ensures { IfOk result (λ few. IsTrue few → AreFewGapShapes (setting_of problem.now model.now.atoms) (form.now ∷ []) (length form.now.args)) }
+    ensures { IfOk result (λ few. IsTrue few → AreFewGapShapes (setting_of problem.now model.now.atoms) (form.now ∷ [])
+        (length form.now.args)) }
 {
     let vars = form.args().len() as u32;
     match asker.gap_patterns(problem, &[*form], vars, model) {
@@ -69,7 +70,8 @@ fn have_few(
 ) -> Result<bool, NoMemory>
     requires problem { IsValid problem.now }
     requires forms { All (IsForm problem.now) forms.now }
-    ensures { IfOk result (λ few. IsTrue few → All (λ form. AreFewGapShapes (setting_of problem.now model.now.atoms) (form ∷ []) (length form.args)) forms.now) }
+    ensures { IfOk result (λ few. IsTrue few → All (λ form. AreFewGapShapes (setting_of problem.now model.now.atoms) (form ∷ [])
+        (length form.args)) forms.now) }
 {
     for form in forms {
         if !has_few(asker, problem, model, form)? {
@@ -91,7 +93,8 @@ fn ask_row(
     requires formula { All (IsAtomOf problem.now vars) formula.now }
     requires few_variables { vars ≤ 4096 }
     requires some_object { 0 < vars → 0 < problem.now.objects }
-    ensures { IfOk result (λ answer. IfSome answer (λ patterns. IsRowAnswer (setting_of problem.now model.now.atoms) formula.now vars patterns.items)) }
+    ensures { IfOk result (λ answer. IfSome answer (λ patterns. IsRowAnswer (setting_of problem.now model.now.atoms) formula.now vars
+        patterns.items)) }
 {
     match asker.gap_patterns(problem, formula, vars, model) {
         Ok(patterns) => {
@@ -172,7 +175,8 @@ fn push_offer(
     requires long { length offer.now ≡ length terms.now }
     requires choices { All (λ (choice : List TermValue). length choice ≡ length terms.now) choices.old.items }
     ensures widens { OnOk result (Widens (length terms.now) choices.old.items choices.new.items) }
-    ensures covers { OnOk result ((sigma : List ℕ) → Extends limit terms.now sigma → Fits offer.now sigma → FitsOne choices.new.items sigma) }
+    ensures covers { OnOk result ((sigma : List ℕ) → Extends limit terms.now sigma → Fits offer.now sigma
+        → FitsOne choices.new.items sigma) }
 {
     let found = merged(alloc, limit, terms, offer)?;
     match found {
@@ -193,7 +197,8 @@ fn push_offers(
     requires long { All (λ (pattern : PatternValue). length pattern.terms ≡ length terms.now) patterns.now }
     requires choices { All (λ (choice : List TermValue). length choice ≡ length terms.now) choices.old.items }
     ensures widens { OnOk result (Widens (length terms.now) choices.old.items choices.new.items) }
-    ensures covers { OnOk result ((sigma : List ℕ) → Extends limit terms.now sigma → OneOf patterns.now (λ (pattern : PatternValue). Fits pattern.terms sigma) → FitsOne choices.new.items sigma) }
+    ensures covers { OnOk result ((sigma : List ℕ) → Extends limit terms.now sigma
+        → OneOf patterns.now (λ (pattern : PatternValue). Fits pattern.terms sigma) → FitsOne choices.new.items sigma) }
 {
     for passed in 0..patterns.len() {
         let place = patterns.len() - passed - 1;
@@ -235,7 +240,9 @@ fn ask_choices(
     requires asked { CanAskRows question.now.problem.now question.now.table.now terms.now }
     requires choices { All (λ (choice : List TermValue). length choice ≡ question.now.table.now.params) choices.old.items }
     ensures widens { OnOk result (Widens question.now.table.now.params choices.old.items choices.new.items) }
-    ensures known { IfOk result (λ is_known. IsTrue is_known → AreInstancesKnown (setting_of question.now.problem.now question.now.model.now.atoms) question.now.table.now question.now.row (Extends question.now.problem.now.objects terms.now) choices.new.items) }
+    ensures known { IfOk result (λ is_known. IsTrue is_known → AreInstancesKnown
+        (setting_of question.now.problem.now question.now.model.now.atoms) question.now.table.now question.now.row
+        (Extends question.now.problem.now.objects terms.now) choices.new.items) }
 {
     let table = question.table;
     let formula = row_formula(asker.alloc, table, terms, question.row)?;
@@ -274,7 +281,8 @@ fn add_choices(
     requires choices { All (λ (choice : List TermValue). length choice ≡ question.now.table.now.params) choices.old.items }
     ensures choices { OnOk result (Widens question.now.table.now.params choices.old.items choices.new.items) }
     ensures limited { OnOk result (Widens question.now.table.now.params limited.old.items limited.new.items) }
-    ensures known { OnOk result (AreAskedOf (setting_of question.now.problem.now question.now.model.now.atoms) question.now.table.now question.now.row (Extends question.now.problem.now.objects terms.now) choices.new.items limited.new.items) }
+    ensures known { OnOk result (AreAskedOf (setting_of question.now.problem.now question.now.model.now.atoms) question.now.table.now
+        question.now.row (Extends question.now.problem.now.objects terms.now) choices.new.items limited.new.items) }
 {
     if ask_choices(asker, choices, question, terms)? {
         return Ok(());
@@ -300,7 +308,8 @@ fn choices_of_row(
     terms: &[Term],
 ) -> Result<RowChoices, NoMemory>
     requires { CanAskRows question.now.problem.now question.now.table.now terms.now }
-    ensures { IfOk result (λ found. IsRowKnown (setting_of question.now.problem.now question.now.model.now.atoms) question.now.table.now terms.now question.now.row found.choices found.limited) }
+    ensures { IfOk result (λ found. IsRowKnown (setting_of question.now.problem.now question.now.model.now.atoms) question.now.table.now
+        terms.now question.now.row found.choices found.limited) }
 {
     let mut choices = Vec::new(asker.alloc);
     let mut limited = Vec::new(asker.alloc);
@@ -320,7 +329,8 @@ pub fn choices_of_rows(
     terms: &[Term],
 ) -> Result<TableChoices, NoMemory>
     requires { CanAskRows problem.now table.now terms.now }
-    ensures rows { IfOk result (λ found. AreRowsKnown (setting_of problem.now model.now.atoms) table.now terms.now (length table.now.steps) found.choices found.limited) }
+    ensures rows { IfOk result (λ found. AreRowsKnown (setting_of problem.now model.now.atoms) table.now terms.now (length table.now.steps)
+        found.choices found.limited) }
     ensures facts { IsModel model.now.atoms }
 {
     let _known = model.atoms();

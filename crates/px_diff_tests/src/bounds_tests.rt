@@ -1,6 +1,7 @@
 //! The bounds of formulas whose shapes can be counted by hand.
-use crate::sample_problems::{atom, o, rooms, transitive};
+use crate::sample_problems::transitive;
 use px_gaps::Bounds;
+use px_samples::{atom, o, rooms};
 use px_terms::{Atom, NoMemory, Problem, is_valid};
 use std::alloc::Global;
 use std::process::Abort;
@@ -24,11 +25,11 @@ fn has_few(
 #[test]
 fn pushing_a_box_has_nineteen_shapes(rt: HostRuntime) -> Result<(), Fail> {
     let alloc = rt.alloc();
-    let mut problem = rooms(alloc, &rt);
+    let mut problem = rooms(alloc).expect(&rt, "memory");
     let push = [
-        atom(&rt, 0, &[o(6), o(2)]),
-        atom(&rt, 0, &[o(0), o(2)]),
-        atom(&rt, 1, &[o(4), o(2), o(3)]),
+        atom(0, &[o(6), o(2)]),
+        atom(0, &[o(0), o(2)]),
+        atom(1, &[o(4), o(2), o(3)]),
     ];
     problem.shapes = 20;
     assert!(&rt; has_few(alloc, &rt, &problem, &push)?);
@@ -42,7 +43,7 @@ fn pushing_a_box_has_nineteen_shapes(rt: HostRuntime) -> Result<(), Fail> {
 fn a_transitive_axiom_has_no_bound(rt: HostRuntime) -> Result<(), Fail> {
     let alloc = rt.alloc();
     let problem = transitive(alloc, &rt, 3);
-    let on = [atom(&rt, 0, &[o(0), o(1)])];
+    let on = [atom(0, &[o(0), o(1)])];
     assert!(&rt; !has_few(alloc, &rt, &problem, &on)?);
     assert!(&rt; has_few(alloc, &rt, &problem, &[])?);
     Ok(())

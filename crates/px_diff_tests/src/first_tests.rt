@@ -1,9 +1,10 @@
 //! The first of the entries that may be pushed: a part of them, and all.
 
-use crate::sample_problems::{atom, blocks, entry_of, o, stacked};
+use crate::sample_problems::{blocks, entry_of, stacked};
 use px_diff::{First, relevant_first};
 use px_entries::{are_learned, never_limited};
 use px_ops::Model;
+use px_samples::{atom, o};
 use px_terms::{Atom, NoMemory, Problem, is_valid};
 use std::alloc::Global;
 use std::process::Abort;
@@ -35,19 +36,16 @@ fn one_is_enough(rt: HostRuntime) -> Result<(), Fail> {
     let problem = blocks(alloc, &rt);
     let model = stacked(alloc, &rt);
     let stacks = [
-        atom(&rt, 0, &[o(2), o(0)]),
-        atom(&rt, 0, &[o(0), o(1)]),
-        atom(&rt, 0, &[o(1), o(2)]),
+        atom(0, &[o(2), o(0)]),
+        atom(0, &[o(0), o(1)]),
+        atom(0, &[o(1), o(2)]),
     ];
     let first = firsts_of(alloc, &rt, &problem, &stacks, &model)?.expect(&rt, "few shapes");
-    let onto_one = [entry_of(&rt, 1, &[o(0), o(1)])];
+    let onto_one = [entry_of(1, &[o(0), o(1)])];
     assert!(&rt; !first.is_all && first.entries.as_slice() == onto_one.as_slice());
-    let clear = [atom(&rt, 1, &[o(0)]), atom(&rt, 1, &[o(1)])];
+    let clear = [atom(1, &[o(0)]), atom(1, &[o(1)])];
     let first = firsts_of(alloc, &rt, &problem, &clear, &model)?.expect(&rt, "few shapes");
-    let to_table = [
-        entry_of(&rt, 0, &[o(0), o(1)]),
-        entry_of(&rt, 0, &[o(2), o(0)]),
-    ];
+    let to_table = [entry_of(0, &[o(0), o(1)]), entry_of(0, &[o(2), o(0)])];
     assert!(&rt; first.is_all && first.entries.as_slice() == to_table.as_slice());
     Ok(())
 }

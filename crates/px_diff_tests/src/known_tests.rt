@@ -1,13 +1,14 @@
 //! What is known of formulas.
 
-use crate::sample_problems::{atom, blocks, chain, model_of, o};
+use crate::reference::assert_asked;
+use crate::sample_problems::{blocks, chain};
 use px_gaps::{Known, Tried, addable_alike, known_formula, try_formula};
 use px_ops::Model;
-use px_terms::{Atom, Problem, are_atoms_of, is_valid};
+use px_samples::{atom, model_of, o};
+use px_terms::{Atom, Problem};
 use std::alloc::Global;
 use std::process::Abort;
 use std::rt::HostRuntime;
-use std::test::Fail;
 
 /// What is tried of a formula without variables, of which it is seen that it is one of the problem.
 fn tried_of(
@@ -17,8 +18,7 @@ fn tried_of(
     formula: &[Atom],
     model: &Model,
 ) -> Tried {
-    assert!(rt; is_valid(problem));
-    assert!(rt; are_atoms_of(problem, 0, formula));
+    assert_asked(rt, problem, formula, 0);
     try_formula(alloc, problem, formula, 0, model).expect(rt, "memory")
 }
 
@@ -30,8 +30,7 @@ fn known_of(
     formula: &[Atom],
     model: &Model,
 ) -> Option<Known> {
-    assert!(rt; is_valid(problem));
-    assert!(rt; are_atoms_of(problem, 0, formula));
+    assert_asked(rt, problem, formula, 0);
     match try_formula(alloc, problem, formula, 0, model).expect(rt, "memory") {
         Tried::Answered => None,
         Tried::Unanswered => {
@@ -62,14 +61,14 @@ pub fn is_limited_at(known: &Known, wanted: &[Atom], count: usize) -> bool {
 }
 
 #[test]
-fn formulas_are_answered_open_and_limited(rt: HostRuntime) -> Result<(), Fail> {
+fn formulas_are_answered_open_and_limited(rt: HostRuntime) {
     addable_alike();
     let alloc = rt.alloc();
     let mut problem = chain(alloc, &rt);
-    let formula = [atom(&rt, 0, &[])];
-    let between = atom(&rt, 1, &[]);
+    let formula = [atom(0, &[])];
+    let between = atom(1, &[]);
     let nothing = Model::new(alloc);
-    let one = model_of(alloc, &rt, &[between]);
+    let one = model_of(alloc, &[between]).expect(&rt, "memory");
     let tried = tried_of(alloc, &rt, &problem, &formula, &one);
     assert!(&rt; matches!(&tried, Tried::Answered));
     let tried = tried_of(alloc, &rt, &problem, &formula, &nothing);
@@ -79,26 +78,24 @@ fn formulas_are_answered_open_and_limited(rt: HostRuntime) -> Result<(), Fail> {
     problem.shapes = 2;
     let tried = tried_of(alloc, &rt, &problem, &formula, &nothing);
     assert!(&rt; matches!(&tried, Tried::Limited { formula: _, shapes } if shapes.len() == 2));
-    Ok(())
 }
 
 /// Nothing adds atom 3 of the chain. Proving the one atom that a gap closes has four unfinished shapes, and a formula that nothing
 /// proves has a second unfinished gap proof, in which its first atom is a gap.
 #[test]
-fn formulas_without_answer_are_closed_and_limited(rt: HostRuntime) -> Result<(), Fail> {
+fn formulas_without_answer_are_closed_and_limited(rt: HostRuntime) {
     let alloc = rt.alloc();
     let mut problem = chain(alloc, &rt);
     let nothing = Model::new(alloc);
-    let known = known_of(alloc, &rt, &problem, &[atom(&rt, 3, &[])], &nothing);
+    let known = known_of(alloc, &rt, &problem, &[atom(3, &[])], &nothing);
     assert!(&rt; matches!(&known, Some(Known::Closed)));
     problem.shapes = 4;
-    let between = [atom(&rt, 1, &[])];
-    let known = known_of(alloc, &rt, &problem, &[atom(&rt, 0, &[])], &nothing);
+    let between = [atom(1, &[])];
+    let known = known_of(alloc, &rt, &problem, &[atom(0, &[])], &nothing);
     assert!(&rt; matches!(&known, Some(found) if is_limited_at(found, &between, 4)));
     let mut problem = blocks(alloc, &rt);
     problem.shapes = 2;
-    let formula = [atom(&rt, 0, &[o(0), o(0)]), atom(&rt, 2, &[o(0), o(0)])];
+    let formula = [atom(0, &[o(0), o(0)]), atom(2, &[o(0), o(0)])];
     let known = known_of(alloc, &rt, &problem, &formula, &nothing);
     assert!(&rt; matches!(&known, Some(found) if is_limited_at(found, &formula, 2)));
-    Ok(())
 }

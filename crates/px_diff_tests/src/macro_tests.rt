@@ -2,47 +2,46 @@
 
 use crate::reference::Case;
 use crate::relevance_tests::{agreed, are_entries, has_count, is_limited, pushes_of};
-use crate::sample_problems::{atom, entry_of, model_of, o, opening, rooms, sequence_of, things};
-use crate::sample_tables::{go_and_push, take_and_use};
+use crate::sample_problems::{entry_of, things, two_steps};
+use crate::sample_tables::{both_steps, take_and_use};
 use px_ops::Model;
+use px_samples::{atom, model_of, moving, o, opening, parameters, rooms};
 use px_table::{Entry, Table};
-use px_terms::{Atom, Problem};
+use px_terms::{Atom, Problem, Sequence};
 use std::alloc::Global;
 use std::process::Abort;
 use std::rt::HostRuntime;
-use std::test::Fail;
 
 /// The entry of the first table's first two steps.
 fn two_of(alloc: Global, rt: &impl Abort, sigma: &[u32]) -> Entry {
     Entry::Macro {
         number: 0,
         prefix: 2,
-        sigma: sequence_of(alloc, rt, sigma),
+        sigma: Sequence::from_slice(alloc, sigma).expect(rt, "memory"),
     }
 }
 
 /// The box may be pushed into room 1, or the robot goes to it first, from room 1 or from room 3. The plain program agrees.
 #[test]
-fn the_robot_goes_to_the_box(rt: HostRuntime) -> Result<(), Fail> {
+fn the_robot_goes_to_the_box(rt: HostRuntime) {
     let alloc = rt.alloc();
-    let problem = rooms(alloc, &rt);
-    let model = opening(alloc, &rt);
-    let tables = [go_and_push(alloc, &rt)];
+    let problem = rooms(alloc).expect(&rt, "memory");
+    let model = opening(alloc).expect(&rt, "memory");
+    let tables = [moving(alloc, 6, parameters()).expect(&rt, "memory")];
     let case = Case {
         problem: &problem,
-        wanted: &[atom(&rt, 0, &[o(6), o(1)])],
+        wanted: &[atom(0, &[o(6), o(1)])],
         stack: &[],
         model: &model,
         tables: &tables,
     };
     let found = agreed(alloc, &rt, &case);
     let expected = [
-        entry_of(&rt, 1, &[o(6), o(4), o(2), o(1)]),
+        entry_of(1, &[o(6), o(4), o(2), o(1)]),
         two_of(alloc, &rt, &[1, 4, 2, 6, 4, 1]),
         two_of(alloc, &rt, &[3, 5, 2, 6, 4, 1]),
     ];
     assert!(&rt; are_entries(&found, &expected));
-    Ok(())
 }
 
 /// The plain program agrees on what may be pushed for the atom. Using a thing has two shapes; at that limit it is met by what
@@ -73,39 +72,78 @@ fn agree_on_count(
 /// it is used, it is used after another is taken, whatever is taken last. A thing that is taken first isn't here for the use,
 /// though it could be brought. With two steps the third thing is object 0.
 #[test]
-fn a_plain_program_agrees_on_taking_and_using(rt: HostRuntime) -> Result<(), Fail> {
+fn a_plain_program_agrees_on_taking_and_using(rt: HostRuntime) {
     let alloc = rt.alloc();
     let mut problem = things(alloc, &rt);
     let tables = [take_and_use(alloc, &rt, 3)];
-    let one_here = model_of(alloc, &rt, &[atom(&rt, 0, &[o(1)])]);
+    let one_here = model_of(alloc, &[atom(0, &[o(1)])]).expect(&rt, "memory");
     let nothing = Model::new(alloc);
     for shapes in [2, 3, 10000] {
         problem.shapes = shapes;
         for (pred, count) in [(0, 1 + 2 + 4), (2, 1 + 2 + 10), (3, 1 + 2 + 6)] {
-            let wanted = atom(&rt, pred, &[o(1)]);
+            let wanted = atom(pred, &[o(1)]);
             agree_on_count(alloc, &rt, &problem, &one_here, &tables, wanted, count);
             agree_on_count(alloc, &rt, &problem, &nothing, &tables, wanted, count);
         }
     }
-    Ok(())
 }
 
 /// A table of more parameters than a question has variables has the same entries, each tried by itself, with object 0 for the
 /// parameters that no step uses.
 #[test]
-fn a_table_of_4097_parameters(rt: HostRuntime) -> Result<(), Fail> {
+fn a_table_of_4097_parameters(rt: HostRuntime) {
     let alloc = rt.alloc();
     let problem = things(alloc, &rt);
     let tables = [take_and_use(alloc, &rt, 4097)];
-    let model = model_of(alloc, &rt, &[atom(&rt, 0, &[o(1)])]);
+    let model = model_of(alloc, &[atom(0, &[o(1)])]).expect(&rt, "memory");
     let case = Case {
         problem: &problem,
         model: &model,
         tables: &tables,
         stack: &[],
-        wanted: &[atom(&rt, 0, &[o(1)])],
+        wanted: &[atom(0, &[o(1)])],
     };
     let found = pushes_of(alloc, &rt, &case);
     assert!(&rt; has_count(&found, 1 + 2 + 4));
-    Ok(())
+}
+
+/// What stands on the stack isn't pushed again: thing 1 is taken, and it is taken before thing 0 is used. The plain program agrees.
+#[test]
+fn what_is_stacked_is_not_pushed(rt: HostRuntime) {
+    let alloc = rt.alloc();
+    let problem = things(alloc, &rt);
+    let tables = [take_and_use(alloc, &rt, 3)];
+    let model = model_of(alloc, &[atom(0, &[o(1)])]).expect(&rt, "memory");
+    let stack = [entry_of(0, &[o(1)]), two_of(alloc, &rt, &[1, 0, 0])];
+    let case = Case {
+        problem: &problem,
+        wanted: &[atom(2, &[o(1)])],
+        stack: &stack,
+        model: &model,
+        tables: &tables,
+    };
+    let found = agreed(alloc, &rt, &case);
+    assert!(&rt; has_count(&found, 1 + 2 + 10 - 2));
+}
+
+/// What adds atom 2 is the first operator, which needs nothing, and both steps of the table, of which the second needs atom 1. That
+/// has two shapes, since it may follow from atom 0: at that limit it is met by the row alone. The plain program agrees.
+#[test]
+fn a_row_alone_meets_the_limit(rt: HostRuntime) {
+    let alloc = rt.alloc();
+    let mut problem = two_steps(alloc, &rt);
+    let tables = [both_steps(alloc, &rt)];
+    let nothing = Model::new(alloc);
+    for shapes in [2, 3] {
+        problem.shapes = shapes;
+        let case = Case {
+            problem: &problem,
+            wanted: &[atom(2, &[])],
+            stack: &[],
+            model: &nothing,
+            tables: &tables,
+        };
+        let found = agreed(alloc, &rt, &case);
+        assert!(&rt; is_limited(&found) == (shapes == 2) && has_count(&found, 2) == (shapes == 3));
+    }
 }

@@ -1,10 +1,12 @@
 //! What is told of operators by facts is what the prover tells of them.
+ghost use Rattle.std.specs.Prelude.{◌≤◌, length};
 
 use crate::known_tests::is_open_with;
-use crate::sample_problems::{atom, blocks, entry_of, o, opening, rooms, stacked};
+use crate::sample_problems::{blocks, entry_of, stacked};
 use px_entries::{are_learned, deciding_part, is_entry, known_below, known_entry, never_limited};
 use px_gaps::Known;
 use px_ops::Model;
+use px_samples::{atom, o, opening, rooms};
 use px_terms::{NoMemory, Problem, Term, is_valid};
 use std::alloc::Global;
 use std::process::Abort;
@@ -32,8 +34,10 @@ fn told_alike(
     op: u32,
     terms: &[Term],
     model: &Model,
-) -> Result<Known, NoMemory> {
-    let entry = entry_of(rt, op, terms);
+) -> Result<Known, NoMemory>
+    requires { length terms.now ≤ 8 }
+{
+    let entry = entry_of(op, terms);
     assert!(rt; is_valid(problem));
     assert!(rt; are_learned(problem, &[]));
     assert!(rt; is_entry(problem, &[], &entry));
@@ -49,12 +53,12 @@ fn told_alike(
 #[test]
 fn facts_tell_of_operators(rt: HostRuntime) -> Result<(), Fail> {
     let alloc = rt.alloc();
-    let problem = rooms(alloc, &rt);
-    let model = opening(alloc, &rt);
+    let problem = rooms(alloc).expect(&rt, "memory");
+    let model = opening(alloc).expect(&rt, "memory");
     let known = told_alike(alloc, &rt, &problem, 0, &[o(4), o(1), o(2)], &model)?;
     assert!(&rt; matches!(&known, Known::Applicable));
     let known = told_alike(alloc, &rt, &problem, 0, &[o(5), o(3), o(2)], &model)?;
-    assert!(&rt; is_open_with(&known, &[atom(&rt, 0, &[o(0), o(3)])]));
+    assert!(&rt; is_open_with(&known, &[atom(0, &[o(0), o(3)])]));
     let known = told_alike(alloc, &rt, &problem, 0, &[o(5), o(1), o(2)], &model)?;
     assert!(&rt; matches!(&known, Known::Closed));
     assert!(&rt; is_valid(&problem));
@@ -63,6 +67,6 @@ fn facts_tell_of_operators(rt: HostRuntime) -> Result<(), Fail> {
     let problem = blocks(alloc, &rt);
     let model = stacked(alloc, &rt);
     let known = told_alike(alloc, &rt, &problem, 1, &[o(0), o(1)], &model)?;
-    assert!(&rt; is_open_with(&known, &[atom(&rt, 1, &[o(0)])]));
+    assert!(&rt; is_open_with(&known, &[atom(1, &[o(0)])]));
     Ok(())
 }

@@ -1,6 +1,7 @@
 //! A plain slow program for what is missing and what may be pushed: it tries all lists of objects, asks about each instance
 //! by itself, and keeps each limit that a question meets. It never asks about a formula with variables.
-ghost use Rattle.std.specs.Prelude.{◌≡◌};
+ghost use Rattle.std.specs.Prelude.{◌≡◌, ◌<◌, ◌≤◌, All};
+ghost use Rattle.px_terms.specs.Validity.{IsAtomOf, IsValid};
 ghost use Rattle.px_question.specs.Answers.{IsAnswer};
 ghost use Rattle.px_question.specs.Settings.{setting_of};
 
@@ -78,6 +79,18 @@ enum Plain {
     Limited,
 }
 
+// Alike: px_prover_tests stops so, too; no crate but one of tests may stop.
+/// Stops unless the problem and the formula may be asked about.
+pub fn assert_asked(rt: &impl Abort, problem: &Problem, formula: &[Atom], vars: u32)
+    ensures problem { IsValid problem.now }
+    ensures formula { All (IsAtomOf problem.now vars) formula.now }
+    ensures few { vars ≤ 12 }
+    ensures some_object { 0 < problem.now.objects }
+{
+    assert!(rt; is_valid(problem) && problem.objects > 0);
+    assert!(rt; are_atoms_of(problem, u64::from(vars), formula) && vars <= 12);
+}
+
 /// Asks the prover, once it is seen that the problem and the formula are valid.
 pub fn ask(
     alloc: Global,
@@ -89,9 +102,7 @@ pub fn ask(
 ) -> Result<Answer, ProveErr>
     ensures { result ≡ Err ProveErr.Unprovable → ¬ IsAnswer (setting_of problem.now model.now.atoms) formula.now vars }
 {
-    assert!(rt; is_valid(problem));
-    assert!(rt; are_atoms_of(problem, u64::from(vars), formula) && vars <= 12);
-    assert!(rt; problem.objects > 0);
+    assert_asked(rt, problem, formula, vars);
     prove(alloc, problem, formula, vars, model)
 }
 
@@ -124,7 +135,7 @@ fn lists_of(
     formula: &[Atom],
     model: &Model,
 ) -> Result<Vec<GapList>, Vec<Shape>> {
-    assert!(rt; is_valid(problem) && are_atoms_of(problem, 0, formula));
+    assert_asked(rt, problem, formula, 0);
     match gap_lists(alloc, problem, formula, 0, model) {
         Ok(lists) => Ok(lists),
         Err(GapErr::ShapeLimit(shapes)) => Err(shapes),

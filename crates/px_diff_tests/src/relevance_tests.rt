@@ -1,8 +1,6 @@
 //! Gaps and entries beside a plain, slow program, and the benchmark's counts.
-use crate::reference::{Case, Limit, ask, limit_of, plain_gaps, plain_relevant};
-use crate::sample_problems::{
-    atom, blocks, chain, entry_of, model_of, o, opening, rooms, stacked, transitive, v,
-};
+use crate::reference::{Case, Limit, ask, assert_asked, limit_of, plain_gaps, plain_relevant};
+use crate::sample_problems::{blocks, chain, entry_of, stacked, transitive};
 use px_diff::{
     Measured, relevance_over_models, relevance_over_stacks, relevant, relevant_measured,
 };
@@ -10,12 +8,12 @@ use px_entries::are_learned;
 use px_gaps::{AskErr, gaps};
 use px_ops::Model;
 use px_prover::ProveErr;
+use px_samples::{atom, model_of, o, opening, rooms, v};
 use px_table::Entry;
-use px_terms::{Atom, Problem, are_atoms_of, is_valid};
+use px_terms::{Atom, Problem, is_valid};
 use std::alloc::Global;
 use std::process::Abort;
 use std::rt::HostRuntime;
-use std::test::Fail;
 
 /// The gaps of a formula, of which it is seen that it is valid. None where it isn't seen that it has no answer.
 fn gaps_of(
@@ -26,9 +24,7 @@ fn gaps_of(
     vars: u32,
     model: &Model,
 ) -> Result<Option<Vec<Atom>>, AskErr> {
-    assert!(rt; is_valid(problem));
-    assert!(rt; are_atoms_of(problem, u64::from(vars), formula) && vars <= 12);
-    assert!(rt; problem.objects > 0);
+    assert_asked(rt, problem, formula, vars);
     match ask(alloc, rt, problem, formula, vars, model) {
         Ok(_) => Ok(None),
         Err(ProveErr::Unprovable) => match gaps(alloc, problem, formula, vars, model) {
@@ -160,19 +156,18 @@ fn measured_of(
 
 /// Where nothing is wanted nothing is asked.
 #[test]
-fn questions_are_counted(rt: HostRuntime) -> Result<(), Fail> {
+fn questions_are_counted(rt: HostRuntime) {
     relevance_over_stacks();
     relevance_over_models();
     let alloc = rt.alloc();
-    let problem = rooms(alloc, &rt);
-    let model = opening(alloc, &rt);
-    let wanted = [atom(&rt, 0, &[o(6), o(1)])];
+    let problem = rooms(alloc).expect(&rt, "memory");
+    let model = opening(alloc).expect(&rt, "memory");
+    let wanted = [atom(0, &[o(6), o(1)])];
     let measured = measured_of(alloc, &rt, &problem, &[], &model);
     assert!(&rt; measured.questions == 0 && measured.entries.is_empty());
     let measured = measured_of(alloc, &rt, &problem, &wanted, &model);
-    let push = [entry_of(&rt, 1, &[o(6), o(4), o(2), o(1)])];
+    let push = [entry_of(1, &[o(6), o(4), o(2), o(1)])];
     assert!(&rt; measured.questions > 0 && measured.entries.as_slice() == push.as_slice());
-    Ok(())
 }
 
 /// Is it seen that nothing is on that object while it is on something? The plain program has to agree on what is missing then,
@@ -184,12 +179,9 @@ fn agree_on_block(
     model: &Model,
     below: u32,
 ) -> bool {
-    let wanted = [atom(rt, 0, &[o(0), o(below)]), atom(rt, 1, &[o(below)])];
+    let wanted = [atom(0, &[o(0), o(below)]), atom(1, &[o(below)])];
     let _found = agreed_alone(alloc, rt, problem, model, &wanted);
-    let goal = [
-        atom(rt, 0, &[v(0), o(below)]),
-        atom(rt, 0, &[o(below), v(1)]),
-    ];
+    let goal = [atom(0, &[v(0), o(below)]), atom(0, &[o(below), v(1)])];
     !matches!(agreed_gaps(alloc, rt, problem, &goal, 2, model), Ok(None))
 }
 
@@ -197,7 +189,7 @@ fn agree_on_block(
 /// block 0, which is on something; of the blocks 1 and 2 it is seen at each limit that it isn't so, of the table from a limit
 /// of 4 on.
 #[test]
-fn a_plain_program_agrees_on_blocks(rt: HostRuntime) -> Result<(), Fail> {
+fn a_plain_program_agrees_on_blocks(rt: HostRuntime) {
     let alloc = rt.alloc();
     let mut problem = blocks(alloc, &rt);
     let model = stacked(alloc, &rt);
@@ -211,7 +203,6 @@ fn a_plain_program_agrees_on_blocks(rt: HostRuntime) -> Result<(), Fail> {
         }
     }
     assert!(&rt; asked == 25);
-    Ok(())
 }
 
 /// Is the limit met where one atom is to be proved?
@@ -224,24 +215,23 @@ fn is_limited_at(found: &Result<Vec<Entry>, AskErr>, atom: &Atom) -> bool {
 
 /// A gap list is found below the limit, and proving the one atom that it closes meets it, up to a limit of four.
 #[test]
-fn one_atom_meets_the_limit(rt: HostRuntime) -> Result<(), Fail> {
+fn one_atom_meets_the_limit(rt: HostRuntime) {
     let alloc = rt.alloc();
     let mut problem = chain(alloc, &rt);
     let model = Model::new(alloc);
-    let between = atom(&rt, 1, &[]);
-    let wanted = [atom(&rt, 2, &[])];
+    let between = atom(1, &[]);
+    let wanted = [atom(2, &[])];
     for shapes in 2..7 {
         problem.shapes = shapes;
         let found = agreed_alone(alloc, &rt, &problem, &model, &wanted);
         assert!(&rt; is_limited_at(&found, &between) == (shapes == 3 || shapes == 4));
         assert!(&rt; has_count(&found, 1) == (shapes > 4));
     }
-    Ok(())
 }
 
 /// The plain program agrees on what may be pushed and on what is missing so that the first object is on the second.
 fn agree_on_standing(alloc: Global, rt: &impl Abort, problem: &mut Problem, model: &Model) {
-    let wanted = [atom(rt, 0, &[o(0), o(1)])];
+    let wanted = [atom(0, &[o(0), o(1)])];
     let _found = agreed_alone(alloc, rt, problem, model, &wanted);
     let gaps = agreed_gaps(alloc, rt, problem, &wanted, 0, model);
     assert!(rt; !matches!(&gaps, Ok(None)));
@@ -250,23 +240,22 @@ fn agree_on_standing(alloc: Global, rt: &impl Abort, problem: &mut Problem, mode
 /// With a transitive axiom over what operators add the plain program agrees, over two and three objects, where nothing
 /// stands on anything and where the second object stands on the first.
 #[test]
-fn a_plain_program_agrees_on_a_transitive_axiom(rt: HostRuntime) -> Result<(), Fail> {
+fn a_plain_program_agrees_on_a_transitive_axiom(rt: HostRuntime) {
     let alloc = rt.alloc();
     let nothing = Model::new(alloc);
-    let one = model_of(alloc, &rt, &[atom(&rt, 0, &[o(1), o(0)])]);
+    let one = model_of(alloc, &[atom(0, &[o(1), o(0)])]).expect(&rt, "memory");
     for objects in [2, 3] {
         let mut problem = transitive(alloc, &rt, objects);
         agree_on_standing(alloc, &rt, &mut problem, &nothing);
         agree_on_standing(alloc, &rt, &mut problem, &one);
     }
-    Ok(())
 }
 
 /// Over thirty objects each atom is a gap, and each instance that adds the wanted one may be pushed.
 #[test]
-fn gaps_and_pushes_of_a_transitive_axiom(rt: HostRuntime) -> Result<(), Fail> {
+fn gaps_and_pushes_of_a_transitive_axiom(rt: HostRuntime) {
     let alloc = rt.alloc();
-    let wanted = [atom(&rt, 0, &[o(0), o(1)])];
+    let wanted = [atom(0, &[o(0), o(1)])];
     let problem = transitive(alloc, &rt, 30);
     let model = Model::new(alloc);
     let found = gaps_of(alloc, &rt, &problem, &wanted, 0, &model);
@@ -280,5 +269,4 @@ fn gaps_and_pushes_of_a_transitive_axiom(rt: HostRuntime) -> Result<(), Fail> {
     };
     let found = pushes_of(alloc, &rt, &case);
     assert!(&rt; has_count(&found, 31));
-    Ok(())
 }

@@ -72,7 +72,8 @@ module _ {N M : Type 0} (may : N → M → Type 0) (after : N → M → N) (befo
   abbrev pub IsTried : ℕ → List M → ℕ → M → Type 0
   IsTried next tried i m = (i < next) ⊎ ((i ≡ next) × Contains tried m)
 
-  -- What the search knows: the least lists of the nodes found so far, the place of the node whose moves are being tried, and the moves of it that were tried.
+  -- What the search knows: the least lists of the nodes found so far, the place of the node whose moves are being tried, and the
+  -- moves of it that were tried.
   pub record Frontier (found : List (List M)) (next : ℕ) (tried : List M) : Type 0 where
     pub root : slice_get found 0 ≡ Some []
     pub can : (moves : List M) → Contains found moves → made moves

@@ -14,29 +14,39 @@ use Rattle.px_ends.specs.Tasks.{Task}
 -- number of shapes is.
 pub record EndsAreOne : Type 0 where
   pub found : (task : Task) (moves others : List Move) → IsFound task moves → IsFound task others → moves ≡ others
-  pub node_limit : (task : Task) (nodes more : List Node) (moves others : ℕ) → IsNodeLimit task nodes moves → IsNodeLimit task more others → (nodes ≡ more) × (moves ≡ others)
+  pub node_limit : (task : Task) (nodes more : List Node) (moves others : ℕ) → IsNodeLimit task nodes moves → IsNodeLimit task more others
+      → (nodes ≡ more) × (moves ≡ others)
   pub found_or_exhausted : (task : Task) (moves : List Move) → IsFound task moves → ¬ IsExhausted task
-  pub found_or_node_limit : (task : Task) (moves : List Move) (nodes : List Node) (count : ℕ) → IsFound task moves → ¬ IsNodeLimit task nodes count
+  pub found_or_node_limit : (task : Task) (moves : List Move) (nodes : List Node) (count : ℕ) → IsFound task moves
+      → ¬ IsNodeLimit task nodes count
   pub node_limit_or_exhausted : (task : Task) (nodes : List Node) (count : ℕ) → IsNodeLimit task nodes count → ¬ IsExhausted task
-  pub shape_limit_or_found : (task : Task) (node : Node) (formula : List Atom) (shapes : List (List Tick)) (moves : List Move) → IsShapeLimit task node formula shapes → ¬ IsFound task moves
-  pub shape_limit_or_exhausted : (task : Task) (node : Node) (formula : List Atom) (shapes : List (List Tick)) → IsShapeLimit task node formula shapes → ¬ IsExhausted task
-  pub shape_limit_or_node_limit : (task : Task) (node : Node) (formula : List Atom) (shapes : List (List Tick)) (nodes : List Node) (count : ℕ)
+  pub shape_limit_or_found : (task : Task) (node : Node) (formula : List Atom) (shapes : List (List Tick)) (moves : List Move)
+      → IsShapeLimit task node formula shapes → ¬ IsFound task moves
+  pub shape_limit_or_exhausted : (task : Task) (node : Node) (formula : List Atom) (shapes : List (List Tick))
+      → IsShapeLimit task node formula shapes → ¬ IsExhausted task
+  pub shape_limit_or_node_limit : (task : Task) (node : Node) (formula : List Atom) (shapes : List (List Tick)) (nodes : List Node)
+      (count : ℕ)
       → IsShapeLimit task node formula shapes → ¬ IsNodeLimit task nodes count
-  pub shapes : (task : Task) (node : Node) (formula : List Atom) (shapes : List (List Tick)) → IsShapeLimit task node formula shapes → length shapes ≡ task.problem.shapes
+  pub shapes : (task : Task) (node : Node) (formula : List Atom) (shapes : List (List Tick)) → IsShapeLimit task node formula shapes
+      → length shapes ≡ task.problem.shapes
 
 -- Which questions are asked, by the first node that is solved or that there is no room for. There is at most one such node. All questions
 -- of the nodes up to the one from which it is reached are asked, that one included, which is one of the nodes in order; and the goal is
 -- tried before it, and at it if there is room for it. Where there is no such node, all questions are asked.
 pub record AskedByStop : Type 0 where
-  pub one : (task : Task) (earlier others : List (List Move)) (last next : List Move) → IsStop task earlier last → IsStop task others next → (earlier ≡ others) × (last ≡ next)
+  pub one : (task : Task) (earlier others : List (List Move)) (last next : List Move) → IsStop task earlier last → IsStop task others next
+      → (earlier ≡ others) × (last ≡ next)
   pub gone_through : (task : Task) (earlier : List (List Move)) (last moves : List Move) → IsStop task earlier last
       → IsGoneThrough task moves ↔ (IsLeastList task moves × IsMadeFrom moves last)
   pub parent : (task : Task) (moves : List Move) (m : Move) → IsLeastList task (moves ++ m ∷ []) → IsLeastList task moves
   pub tested : (task : Task) (earlier : List (List Move)) (last moves : List Move) → IsStop task earlier last
-      → IsTested task moves ↔ (IsLeastList task moves × ((node_of task moves).stack ≡ []) × (IsBefore moves last ⊎ ((moves ≡ last) × (length earlier < task.problem.nodes))))
+      → IsTested task moves ↔ (IsLeastList task moves × ((node_of task moves).stack ≡ [])
+      × (IsBefore moves last ⊎ ((moves ≡ last) × (length earlier < task.problem.nodes))))
   pub no_stop : (task : Task) (moves : List Move) → ((earlier : List (List Move)) (last : List Move) → ¬ IsStop task earlier last)
-      → (IsGoneThrough task moves ↔ IsLeastList task moves) × (IsTested task moves ↔ (IsLeastList task moves × ((node_of task moves).stack ≡ [])))
+      → (IsGoneThrough task moves ↔ IsLeastList task moves) ×
+      (IsTested task moves ↔ (IsLeastList task moves × ((node_of task moves).stack ≡ [])))
 
 -- a list of moves has at most one table, proofs included
 abbrev pub TablesAreOne : Type 0
-TablesAreOne = (task : Task) (moves : List Move) (one other : Table) → IsTableOfMoves task moves one → IsTableOfMoves task moves other → one ≡ other
+TablesAreOne = (task : Task) (moves : List Move) (one other : Table) → IsTableOfMoves task moves one → IsTableOfMoves task moves other
+    → one ≡ other

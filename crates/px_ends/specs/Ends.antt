@@ -55,17 +55,20 @@ pub record IsGoneThrough (task : Task) (moves : List Move) : Type 0 where
 pub record IsTested (task : Task) (moves : List Move) : Type 0 where
   pub least : IsLeastList task moves
   pub empty : (node_of task moves).stack ≡ []
-  pub early : (earlier : List (List Move)) (last : List Move) → IsStop task earlier last → IsBefore moves last ⊎ ((moves ≡ last) × (length earlier < task.problem.nodes))
+  pub early : (earlier : List (List Move)) (last : List Move) → IsStop task earlier last → IsBefore moves last
+      ⊎ ((moves ≡ last) × (length earlier < task.problem.nodes))
 
 -- the question is asked at the node that the moves reach
 abbrev pub IsAsked : Task → List Move → Question → Type 0
 IsAsked task moves question =
-    (IsGoneThrough task moves × AsksAt task (node_of task moves) question) ⊎ (IsTested task moves × (question ≡ goal_question task (node_of task moves)))
+    (IsGoneThrough task moves × AsksAt task (node_of task moves) question)
+    ⊎ (IsTested task moves × (question ≡ goal_question task (node_of task moves)))
 
 -- no question that is asked meets the shape limit
 abbrev pub IsUnlimited : Task → Type 0
 IsUnlimited task =
-    (moves : List Move) (question : Question) (formula : List Atom) (shapes : List (List Tick)) → IsAsked task moves question → ¬ MeetsLimit task.problem question formula shapes
+    (moves : List Move) (question : Question) (formula : List Atom) (shapes : List (List Tick)) → IsAsked task moves question
+    → ¬ MeetsLimit task.problem question formula shapes
 
 -- ---- the four ends
 

@@ -31,25 +31,29 @@ use Rattle.px_ends.specs.Tasks.{Task, after, initial_node, steps_of}
 -- initial model if none does
 pub record IsSource (problem : Problem) (made : List OpInst) (leaf : Leaf) : Type 0 where
   pub initial : leaf.column ≡ 0 → leaf.index ≡ 0
-  pub adder : 0 < leaf.column → (inst : OpInst) × (step_at made leaf.column ≡ Some inst) × (slice_get (adds problem inst) leaf.index ≡ Some leaf.atom)
+  pub adder : 0 < leaf.column → (inst : OpInst) × (step_at made leaf.column ≡ Some inst)
+      × (slice_get (adds problem inst) leaf.index ≡ Some leaf.atom)
       × ((i : ℕ) → i < leaf.index → slice_get (adds problem inst) i ≢ Some leaf.atom)
   pub last : (k : ℕ) (inst : OpInst) → leaf.column < k → step_at made k ≡ Some inst → ¬ Contains (adds problem inst) leaf.atom
 
 -- the second proof is the first with leaves that name where their atoms come from
 abbrev pub IsSourced : Problem → List OpInst → Derivation → Derivation → Type 0
 IsSourced problem made d new =
-    (leaves : List Leaf) × (leaf_atoms leaves ≡ leaf_atoms (leaves_of d)) × All (IsSource problem made) leaves × (new ≡ grafted 0 (map (λ leaf. fact leaf) leaves) d)
+    (leaves : List Leaf) × (leaf_atoms leaves ≡ leaf_atoms (leaves_of d)) × All (IsSource problem made) leaves
+    × (new ≡ grafted 0 (map (λ leaf. fact leaf) leaves) d)
 
 -- ---- the rows of entries
 
 -- the row has the first proofs of the formula from these facts
 abbrev pub IsFirstRow : Problem → List OpInst → List Atom → List Atom → ℕ → List Derivation → Type 0
 IsFirstRow problem made facts formula vars row =
-    (objects : List ℕ) × (ds : List Derivation) × IsFirst (setting_of problem facts) formula vars objects (derivations ds) × AllZip (IsSourced problem made) ds row
+    (objects : List ℕ) × (ds : List Derivation) × IsFirst (setting_of problem facts) formula vars objects (derivations ds)
+    × AllZip (IsSourced problem made) ds row
 
 -- the part is the first proof of the leaf's atom from these facts
 abbrev pub IsPart : Problem → List OpInst → List Atom → Leaf → Derivation → Type 0
-IsPart problem made facts leaf part = (first : Derivation) × IsFirstProof (setting_of problem facts) leaf.atom first × IsSourced problem made first part
+IsPart problem made facts leaf part = (first : Derivation) × IsFirstProof (setting_of problem facts) leaf.atom first
+    × IsSourced problem made first part
 
 -- The second proof is the first with such parts in the places of its leaves in column 0, and with its other leaves higher by the number of
 -- columns.
@@ -58,7 +62,8 @@ IsGraft problem shift made facts d new =
     (parts : List Derivation) × AllZip (IsPart problem made facts) (first_leaves (leaves_of d)) parts × (new ≡ grafted shift parts d)
 
 -- for each of a table's first steps in turn, the table's row put onto the facts that no step before deletes
-abbrev pub MacroRows : Problem → List ℕ → ℕ → List OpInst → List Atom → List (List Derivation) → List OpInst → List (List Derivation) → Type 0
+abbrev pub MacroRows : Problem → List ℕ → ℕ → List OpInst → List Atom → List (List Derivation) → List OpInst → List (List Derivation)
+    → Type 0
 MacroRows problem sigma shift made facts rows [] new = new ≡ []
 MacroRows problem sigma shift made facts [] (step ∷ steps) new = ⊥
 MacroRows problem sigma shift made facts (row ∷ rows) (step ∷ steps) [] = ⊥
@@ -68,9 +73,11 @@ MacroRows problem sigma shift made facts (row ∷ rows) (step ∷ steps) (first 
 
 -- the rows of the steps that applying the entry makes, after the steps made before
 abbrev pub EntryRows : Problem → List Table → List Atom → List OpInst → Entry → List (List Derivation) → Type 0
-EntryRows problem tables model made (Op inst) rows = (row : List Derivation) × IsFirstRow problem made model (precondition problem inst) 0 row × (rows ≡ row ∷ [])
+EntryRows problem tables model made (Op inst) rows = (row : List Derivation)
+    × IsFirstRow problem made model (precondition problem inst) 0 row × (rows ≡ row ∷ [])
 EntryRows problem tables model made (Macro number prefix sigma) rows =
-    MacroRows problem sigma (length made) made model (rows_of (table_at tables number).proofs) (effect_of tables (Macro number prefix sigma)) rows
+    MacroRows problem sigma (length made) made model (rows_of (table_at tables number).proofs)
+    (effect_of tables (Macro number prefix sigma)) rows
 
 -- ---- the rows of moves
 
@@ -85,7 +92,8 @@ TopRows problem tables model made (entry ∷ below) rows = EntryRows problem tab
 
 -- from a node that is reached after the steps made, the rows of the steps that the moves make, and the goal's row at the end
 abbrev pub MovesRows : Task → Node → List OpInst → List Move → List (List Derivation) → Type 0
-MovesRows task node made [] rows = (row : List Derivation) × IsFirstRow task.problem made node.model task.goal task.vars row × (rows ≡ row ∷ [])
+MovesRows task node made [] rows = (row : List Derivation) × IsFirstRow task.problem made node.model task.goal task.vars row
+    × (rows ≡ row ∷ [])
 MovesRows task node made (Push entry ∷ moves) rows = MovesRows task (after task node (Push entry)) made moves rows
 MovesRows task node made (Apply ∷ moves) rows =
     (first rest : List (List Derivation)) × TopRows task.problem task.tables node.model made node.stack first

@@ -29,7 +29,8 @@ p_at_once = record {
 -- A goal without atoms is reached by no moves, from whatever model. So is P where it is a fact, and its table is that of no moves. Where
 -- P isn't a fact the search is exhausted.
 pub record EndFacts : Type 0 where
-  pub nothing_to_reach : (problem : Problem) (tables : List Table) (initial : List Atom) → 1 ≤ problem.nodes → 2 ≤ problem.shapes → IsFound (task_of problem tables initial [] 0) []
+  pub nothing_to_reach : (problem : Problem) (tables : List Table) (initial : List Atom) → 1 ≤ problem.nodes → 2 ≤ problem.shapes
+      → IsFound (task_of problem tables initial [] 0) []
   pub there : IsFound (task_of idle [] (p ∷ []) (p ∷ []) 0) []
   pub table_there : IsTableOfMoves (task_of idle [] (p ∷ []) (p ∷ []) 0) [] p_at_once
   pub not_there : IsExhausted (task_of idle [] [] (p ∷ []) 0)

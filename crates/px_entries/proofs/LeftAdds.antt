@@ -58,7 +58,7 @@ deleted-under problem step atom pattern has fills sigma =
 -- ---- the step that adds the atom
 
 module _ (problem : Problem) (wanted : Atom) (sigma : List ℕ) where
-  -- one of so many first steps adds it, and no later one deletes it
+  -- one of the first steps adds it, and no later one deletes it
   abbrev pub AddedBefore : List OpInst → ℕ → Type 0
   AddedBefore steps i = (k : ℕ) × (step : OpInst) × (k < i) × (slice_get steps k ≡ Some step) × OneOf (adds problem step) (IsLeftAdd problem (drop (k + 1) steps) wanted sigma)
 

@@ -43,7 +43,7 @@ removed_again (y ∷ xs) (suc i) x within = ap (λ l. y ∷ l) (removed_again xs
 pub object_at : (objects : List ℕ) (k : ℕ) → k < length objects → slice_index_or (object_terms objects) k Any ≡ Obj (get_or objects k 0)
 object_at objects k below = get_or-map (λ n. Obj n) objects k 0 Any below
 
--- a term over objects and so many variables is an object under objects for these
+-- a term over objects and `vars` variables is an object where objects stand for the variables
 pub term_under : (problem : Problem) (vars : ℕ) (objects : List ℕ) → length objects ≡ vars → All (λ n. n < problem.objects) objects → (t : Term) → IsTermOf problem vars t → IsTermOf problem 0 (substitute (object_terms objects) t)
 term_under problem vars objects count below (Obj n) of = of
 term_under problem vars objects count below (Var v) of = subst (IsTermOf problem 0) (sym (object_at objects v (omega (arith, of, count)))) (below v 0 (omega (arith, of, count)))

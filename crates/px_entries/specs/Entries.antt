@@ -20,7 +20,8 @@ use Rattle.px_gaps.specs.Needs.{Obligation}
 
 -- the learned table of that number, counted from 0; past the last one a table without steps
 abbrev pub table_at : List Table → ℕ → Table
-table_at tables number = unwrap_or (slice_get tables number) (record { params = 0; steps = []; goal = []; goal_vars = 0; marks = []; proofs = [] })
+table_at tables number = unwrap_or (slice_get tables number) (record
+    { params = 0; steps = []; goal = []; goal_vars = 0; marks = []; proofs = [] })
 
 -- the steps that applying the entry takes: the instance alone, or the table's first steps with the objects for its parameters
 abbrev pub effect_of : List Table → Entry → List OpInst
@@ -31,7 +32,8 @@ effect_of tables (Macro number prefix sigma) = take prefix (steps_under (table_a
 
 -- the atoms of the marks of a row that come from the initial model, with the objects for the parameters
 abbrev pub initial_atoms : Table → List ℕ → ℕ → List Atom
-initial_atoms table sigma row = map (λ (mark : Mark). atom_under sigma mark.atom) (filter (λ (mark : Mark). (mark.row == row) && (mark.column == 0)) table.marks)
+initial_atoms table sigma row = map (λ (mark : Mark). atom_under sigma mark.atom)
+    (filter (λ (mark : Mark). (mark.row == row) && (mark.column == 0)) table.marks)
 
 -- what some steps leave of a model, without what they add: the atoms that none of them deletes
 abbrev pub left_after : Problem → List OpInst → List Atom → List Atom
@@ -40,7 +42,8 @@ left_after problem steps model = filter (λ atom. not (list_any (λ step. delete
 -- for each of the steps, counted from 1: the atoms of its row, from what the steps before it leave of the model
 abbrev pub row_needs : Problem → Table → List ℕ → List Atom → List OpInst → List Obligation
 row_needs problem table sigma model steps =
-    map (λ row. record { formula = initial_atoms table sigma row; vars = 0; facts = left_after problem (take (row - 1) steps) model }) (range_with_len 1 (length steps))
+    map (λ row. record { formula = initial_atoms table sigma row; vars = 0; facts = left_after problem (take (row - 1) steps) model })
+    (range_with_len 1 (length steps))
 
 -- what the entry needs: an operator its precondition, proved from the model; a MACROP for each of its steps the row's atoms, proved
 -- from what is left of the model
@@ -54,4 +57,5 @@ obligations_of problem tables model (Macro number prefix sigma) =
 -- an instance of one of the problem's operators over its objects, or a MACROP of one of the tables
 abbrev pub IsEntry : Problem → List Table → Entry → Type 0
 IsEntry problem tables (Op inst) = IsInstanceOf problem inst
-IsEntry problem tables (Macro number prefix sigma) = (table : Table) × (slice_get tables number ≡ Some table) × IsMacro problem table prefix sigma
+IsEntry problem tables (Macro number prefix sigma) = (table : Table) × (slice_get tables number ≡ Some table)
+    × IsMacro problem table prefix sigma

@@ -16,7 +16,8 @@ EachHasFew problem atoms = All (λ (atom : Atom). HasFew problem (atom ∷ [])) 
 
 -- what a row needs of the initial model, without objects for the parameters
 abbrev pub initial_patterns : Table → ℕ → List Atom
-initial_patterns table row = map (λ (mark : Mark). mark.atom) (filter (λ (mark : Mark). (mark.row == row) && (mark.column == 0)) table.marks)
+initial_patterns table row = map (λ (mark : Mark). mark.atom)
+    (filter (λ (mark : Mark). (mark.row == row) && (mark.column == 0)) table.marks)
 
 -- what each row needs of the initial model has few
 abbrev pub RowsHaveFew : Problem → Table → Type 0

@@ -15,4 +15,5 @@ IsAtLimit (Limited formula shapes) = Unit {0}
 
 -- where the first is known of a list of needs and the second of another, this is known of the one followed by the other
 pub record Joins (first second both : Known) : Type 0 where
-  pub known : (problem : Problem) (xs ys : List Obligation) → IsKnownOf problem xs first → IsKnownOf problem ys second → IsKnownOf problem (xs ++ ys) both
+  pub known : (problem : Problem) (xs ys : List Obligation) → IsKnownOf problem xs first → IsKnownOf problem ys second
+      → IsKnownOf problem (xs ++ ys) both

@@ -40,7 +40,8 @@ merged_term limit Any other = Some Any
 
 -- with these objects the add is the atom, and none of the later steps deletes that
 abbrev pub IsLeftAdd : Problem → List OpInst → Atom → List ℕ → Atom → Type 0
-IsLeftAdd problem later wanted sigma add = (substitute_atom (object_terms sigma) add ≡ wanted) × All (λ (step : OpInst). deletes problem (instance_under sigma step) wanted ≡ false) later
+IsLeftAdd problem later wanted sigma add = (substitute_atom (object_terms sigma) add ≡ wanted)
+    × All (λ (step : OpInst). deletes problem (instance_under sigma step) wanted ≡ false) later
 
 -- terms for this many parameters, each an object or the parameter itself
 pub record IsMatch (limit count : ℕ) (terms : List Term) : Type 0 where
@@ -56,4 +57,5 @@ pub record Matches (limit count : ℕ) (start : List Term) (IsWanted : List ℕ 
 
 -- the atoms of the row's marks that come from the initial model, with these terms for the parameters
 abbrev pub row_formula : Table → List Term → ℕ → List Atom
-row_formula table terms row = map (λ (mark : Mark). substitute_atom terms mark.atom) (filter (λ (mark : Mark). (mark.row == row) && (mark.column == 0)) table.marks)
+row_formula table terms row = map (λ (mark : Mark). substitute_atom terms mark.atom)
+    (filter (λ (mark : Mark). (mark.row == row) && (mark.column == 0)) table.marks)

@@ -23,7 +23,8 @@ IsRest problem (atom ∷ atoms) rest =
 
 -- These are the patterns of the formula's rest, and those of the atoms that they close which are provable. Whatever the facts are, the
 -- formula without variables has fewer unfinished gap proofs than the limit.
-pub record IsRestAnswer (problem : Problem) (facts formula : List Atom) (vars : ℕ) (patterns : List GapPattern) (provable : List Atom) : Type 0 where
+pub record IsRestAnswer (problem : Problem) (facts formula : List Atom) (vars : ℕ) (patterns : List GapPattern) (provable : List Atom) :
+    Type 0 where
   pub rest : List Atom
   pub is_rest : IsRest problem formula rest
   pub few : HasFewShapes problem (map (λ (atom : Atom). atom.pred) formula)

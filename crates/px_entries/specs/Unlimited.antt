@@ -10,4 +10,5 @@ use Rattle.px_gaps.specs.Questions.{AreUnlimited}
 
 -- whatever the facts are, no question about an entry meets the limit
 abbrev pub IsNeverLimited : Problem → List Table → Type 0
-IsNeverLimited problem tables = (facts : List Atom) → IsAtomSet facts → (entry : Entry) → IsEntry problem tables entry → AreUnlimited problem (obligations_of problem tables facts entry)
+IsNeverLimited problem tables = (facts : List Atom) → IsAtomSet facts → (entry : Entry) → IsEntry problem tables entry
+    → AreUnlimited problem (obligations_of problem tables facts entry)

@@ -61,7 +61,8 @@ pub fn push_wanted(atoms: &mut Vec<Atom>, atom: Atom, is_wanted: bool) -> Result
 /// initial model.
 fn push_initial(atoms: &mut Vec<Atom>, sigma: &[u32], mark: &Mark, row: u32) -> Result<(), NoMemory>
     requires mark { All (IsVariableBelow (length sigma.now)) mark.now.atom.args }
-    ensures { OnOk result (MatchBool ((mark.now.row == row) && (mark.now.column == 0)) (atoms.new.items ≡ atoms.old.items ++ atom_under sigma.now mark.now.atom ∷ []) (atoms.new.items ≡ atoms.old.items)) }
+    ensures { OnOk result (MatchBool ((mark.now.row == row) && (mark.now.column == 0))
+        (atoms.new.items ≡ atoms.old.items ++ atom_under sigma.now mark.now.atom ∷ []) (atoms.new.items ≡ atoms.old.items)) }
 {
     if is_initial(mark, row) {
         push(atoms, atom_with(sigma, &mark.atom))?;
@@ -180,7 +181,8 @@ fn known_prefix(
     requires problem { IsValid problem.now }
     requires table { IsTable problem.now table.now }
     requires prefix { IsMacro problem.now table.now prefix sigma.now }
-    ensures { IfOk result (IsKnownOf problem.now (row_needs problem.now table.now sigma.now model.now.atoms (take prefix (steps_under table.now sigma.now)))) }
+    ensures { IfOk result (IsKnownOf problem.now (row_needs problem.now table.now sigma.now model.now.atoms
+        (take prefix (steps_under table.now sigma.now)))) }
 {
     let mut known = Known::Applicable;
     let mut facts = model.try_copy()?;

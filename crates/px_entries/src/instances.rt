@@ -12,7 +12,7 @@ ghost use Rattle.px_entries.specs.Instances.{IsPartialInstance, Fills, StandsFor
 use crate::partial::PartialInstance;
 use px_terms::{OpInst, Problem, Schema, Term, apply_inst};
 
-// Alike: a test of px_general (`limit_tests`) writes out six of them, as the arguments of an atom.
+// Alike: px_table_tests (`limits`) writes out six of them, as the arguments of an atom.
 const VARIABLES: [Term; 8] = [
     Term::Var(0),
     Term::Var(1),
@@ -58,15 +58,18 @@ fn renamed_term(variable: u32, object: u32, k: u32) -> Term
 
 /// Returns the instance with the object for the variable. The variables after it are numbered one less, so that no number is left
 /// out.
-pub fn bound(partial: &PartialInstance, variable: u32, object: u32) -> PartialInstance
+pub fn bound_instance(partial: &PartialInstance, variable: u32, object: u32) -> PartialInstance
     requires few { partial.now.vars ≤ 8 }
     requires terms { All (IsVariableBelow partial.now.vars) partial.now.inst.args }
     requires variable { variable < partial.now.vars }
     ensures vars { result.vars + 1 ≡ partial.now.vars }
     ensures count { length result.inst.args ≡ length partial.now.inst.args }
-    ensures form { (problem : Problem) → IsPartialInstance problem partial.now → object < problem.objects → IsPartialInstance problem result }
-    ensures fills { (problem : Problem) (full : OpInst) (objects : List ℕ) → Fills problem partial.now full objects → slice_index objects variable ≡ object → StandsFor problem result full }
-    ensures only { (problem : Problem) (full : OpInst) → object < problem.objects → StandsFor problem result full → (objects : List ℕ) × Fills problem partial.now full objects × (slice_index objects variable ≡ object) }
+    ensures form { (problem : Problem) → IsPartialInstance problem partial.now → object < problem.objects
+        → IsPartialInstance problem result }
+    ensures fills { (problem : Problem) (full : OpInst) (objects : List ℕ) → Fills problem partial.now full objects
+        → slice_index objects variable ≡ object → StandsFor problem result full }
+    ensures only { (problem : Problem) (full : OpInst) → object < problem.objects → StandsFor problem result full → (objects : List ℕ)
+        × Fills problem partial.now full objects × (slice_index objects variable ≡ object) }
 {
     let mut terms = [Term::Any; 8];
     for k in 0..partial.vars {

@@ -14,7 +14,9 @@
 //! - What a search needs to know across world models: an atom whose predicate some operator adds, and no axiom mentions, is a fact or a
 //!   gap closes it, so it never decides whether an entry is open. [`deciding_part`] gives the other facts of a model.
 //!   [`never_limited`] tells by the numbers of shapes that no question about any entry can meet the limit, whatever the facts
-//!   are; [`known_below`] is then `known_entry`, told by the facts where they suffice.
+//!   are; [`known_below`] is then `known_entry`, told by the facts where they suffice. [`axioms_mention_addable`] tests whether an
+//!   axiom mentions a predicate that some operator adds, and [`is_settled`] whether some operator
+//!   adds an atom's predicate, or the atom is provable.
 //! - [`answers_support`] says what the prover's answers give to `build` of `px_table`.
 //! - Matching, for `px_diff`: [`matches_of`] gives the instances of operators, with variables for what isn't known yet
 //!   ([`PartialInstance`]), that add a wanted atom, and [`macro_matches`] terms for a table's parameters under which some first
@@ -51,7 +53,7 @@ mod plain;
 
 pub use deciding::deciding_part;
 pub use entry_rows::{initial_of, is_initial, known_entry, left_of, row_formula, step_under};
-pub use instances::{bound, filled};
+pub use instances::{bound_instance, filled};
 pub use laws::answers_support;
 pub use learned::{are_learned, is_entry};
 pub use limiting::never_limited;

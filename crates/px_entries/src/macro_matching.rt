@@ -6,7 +6,6 @@ ghost use Rattle.std.specs.Cmp.Lexicographic.{pointwise};
 ghost use Rattle.px_question.specs.Answers.{object_terms};
 ghost use Rattle.px_table.specs.Kernels.{instance_under};
 ghost use Rattle.px_table.specs.Tables.{IsStepOf};
-ghost use Rattle.px_terms.specs.Instances.{is_filled_place, is_instance};
 ghost use Rattle.px_terms.specs.Language.{IsPlainBelow, substitute};
 ghost use Rattle.px_terms.specs.Operators.{IsAdded, adds as adds_of, deletes as deletes_of};
 ghost use Rattle.px_terms.specs.Substitution.{substitute_atom};
@@ -18,7 +17,7 @@ ghost use Rattle.px_entries.specs.Parameters.{IsLeftAdd, Matches};
 use crate::parameters::merged_term;
 use px_base::push;
 use px_ops::{adds, schema_of};
-use px_terms::{Atom, NoMemory, OpInst, Problem, Sequence, Term, apply};
+use px_terms::{Atom, NoMemory, OpInst, Problem, Sequence, Term, apply, fills};
 use std::alloc::Global;
 
 /// Gives the parameter that the term is the wanted object. No where that can't be.
@@ -27,7 +26,8 @@ fn fit_term(limit: u32, terms: &mut [Term], term: Term, wanted: Term) -> bool
     requires binding { IsBinding limit terms.old }
     ensures long { length terms.new ≡ length terms.old }
     ensures binding { IsBinding limit terms.new }
-    ensures fits { (sigma : List ℕ) → Extends limit terms.old sigma → substitute (object_terms sigma) term ≡ wanted → IsTrue result × Extends limit terms.new sigma }
+    ensures fits { (sigma : List ℕ) → Extends limit terms.old sigma → substitute (object_terms sigma) term ≡ wanted → IsTrue result
+        × Extends limit terms.new sigma }
 {
     match term {
         Term::Var(parameter) => fit_parameter(limit, terms, parameter, wanted),
@@ -41,7 +41,8 @@ fn fit_parameter(limit: u32, terms: &mut [Term], parameter: u32, wanted: Term) -
     requires binding { IsBinding limit terms.old }
     ensures long { length terms.new ≡ length terms.old }
     ensures binding { IsBinding limit terms.new }
-    ensures fits { (sigma : List ℕ) → Extends limit terms.old sigma → substitute (object_terms sigma) (Term.Var parameter) ≡ wanted → IsTrue result × Extends limit terms.new sigma }
+    ensures fits { (sigma : List ℕ) → Extends limit terms.old sigma → substitute (object_terms sigma) (Term.Var parameter) ≡ wanted
+        → IsTrue result × Extends limit terms.new sigma }
 {
     match merged_term(limit, terms[parameter as usize], wanted) {
         Some(term) => {
@@ -58,7 +59,8 @@ fn fit_atom(limit: u32, terms: &mut [Term], pattern: &Atom, wanted: &Atom) -> bo
     requires binding { IsBinding limit terms.old }
     ensures long { length terms.new ≡ length terms.old }
     ensures binding { IsBinding limit terms.new }
-    ensures fits { (sigma : List ℕ) → Extends limit terms.old sigma → substitute_atom (object_terms sigma) pattern.now ≡ wanted.now → IsTrue result × Extends limit terms.new sigma }
+    ensures fits { (sigma : List ℕ) → Extends limit terms.old sigma → substitute_atom (object_terms sigma) pattern.now ≡ wanted.now
+        → IsTrue result × Extends limit terms.new sigma }
 {
     let arguments = pattern.args();
     let objects = wanted.args();
@@ -84,7 +86,8 @@ fn match_pattern(
 ) -> Result<(), NoMemory>
     requires pattern { IsPlain (length start.now) pattern.now }
     requires binding { IsBinding limit start.now }
-    ensures { OnOk result (Matches limit (length start.now) start.now (λ sigma. substitute_atom (object_terms sigma) pattern.now ≡ wanted.now) found.old.items found.new.items) }
+    ensures { OnOk result (Matches limit (length start.now) start.now
+        (λ sigma. substitute_atom (object_terms sigma) pattern.now ≡ wanted.now) found.old.items found.new.items) }
 {
     let mut terms = Vec::new(alloc);
     terms.extend_from_slice(start)?;
@@ -94,45 +97,16 @@ fn match_pattern(
     push(found, Sequence::from_vec(terms))
 }
 
-// Alike: `instance_of` of px_terms tests the same, but asks for atoms without variables.
-/// Is the pattern's term the wild card or this one?
-fn is_filled_by(pattern: Term, term: Term) -> bool
-    ensures { result ≡ is_filled_place pattern term }
-{
-    pattern == Term::Any || pattern == term
-}
-
-/// Are there as many terms, and is each of the pattern's the wild card or the one in its place?
-fn is_filled(pattern: &[Term], terms: &[Term]) -> bool
-    ensures { result ≡ pointwise is_filled_place pattern.now terms.now }
-{
-    if pattern.len() != terms.len() {
-        return false;
-    }
-    for (place, term) in pattern.iter().enumerate() {
-        if !is_filled_by(*term, terms[place]) {
-            return false;
-        }
-    }
-    true
-}
-
-/// Does the pattern stand for the atom, whatever objects the variables of both have?
-fn always_fills(atom: &Atom, pattern: &Atom) -> bool
-    ensures { result ≡ is_instance atom.now pattern.now }
-{
-    atom.pred() == pattern.pred() && is_filled(pattern.args(), atom.args())
-}
-
 /// Is it sure that the step deletes the atom, whatever objects the parameters have?
 fn always_deletes(problem: &Problem, step: &OpInst, atom: &Atom) -> bool
     requires problem { IsValid problem.now }
     requires step { (params : ℕ) × IsStepOf problem.now params step.now }
-    ensures { IsTrue result → (sigma : List ℕ) → deletes_of problem.now (instance_under sigma step.now) (substitute_atom (object_terms sigma) atom.now) ≡ true }
+    ensures { IsTrue result → (sigma : List ℕ) → deletes_of problem.now (instance_under sigma step.now)
+        (substitute_atom (object_terms sigma) atom.now) ≡ true }
 {
     let patterns = schema_of(problem, step).del.as_slice();
     for pattern in patterns {
-        if always_fills(atom, &apply(step.args(), pattern)) {
+        if fills(atom, &apply(step.args(), pattern)) {
             return true;
         }
     }
@@ -143,7 +117,8 @@ fn always_deletes(problem: &Problem, step: &OpInst, atom: &Atom) -> bool
 fn one_always_deletes(problem: &Problem, steps: &[OpInst], atom: &Atom) -> bool
     requires problem { IsValid problem.now }
     requires steps { (params : ℕ) × All (IsStepOf problem.now params) steps.now }
-    ensures { IsTrue result → (sigma : List ℕ) → ¬ All (λ step. deletes_of problem.now (instance_under sigma step) (substitute_atom (object_terms sigma) atom.now) ≡ false) steps.now }
+    ensures { IsTrue result → (sigma : List ℕ) → ¬ All (λ step. deletes_of problem.now (instance_under sigma step)
+        (substitute_atom (object_terms sigma) atom.now) ≡ false) steps.now }
 {
     for step in steps {
         if always_deletes(problem, step, atom) {
@@ -167,7 +142,8 @@ fn match_add(
     requires add { IsPlain (length start.now) add.now }
     requires later { All (IsStepOf problem.now (length start.now)) later.now }
     requires binding { IsBinding problem.now.objects start.now }
-    ensures { OnOk result (Matches problem.now.objects (length start.now) start.now (λ sigma. IsLeftAdd problem.now later.now wanted.now sigma add.now) found.old.items found.new.items) }
+    ensures { OnOk result (Matches problem.now.objects (length start.now) start.now
+        (λ sigma. IsLeftAdd problem.now later.now wanted.now sigma add.now) found.old.items found.new.items) }
 {
     if one_always_deletes(problem, later, add) {
         return Ok(());
@@ -189,7 +165,9 @@ fn match_step(
     requires step { IsStepOf problem.now (length start.now) step.now }
     requires later { All (IsStepOf problem.now (length start.now)) later.now }
     requires binding { IsBinding problem.now.objects start.now }
-    ensures { OnOk result (Matches problem.now.objects (length start.now) start.now (λ sigma. OneOf (adds_of problem.now step.now) (IsLeftAdd problem.now later.now wanted.now sigma)) found.old.items found.new.items) }
+    ensures { OnOk result (Matches problem.now.objects (length start.now) start.now
+        (λ sigma. OneOf (adds_of problem.now step.now) (IsLeftAdd problem.now later.now wanted.now sigma)) found.old.items
+        found.new.items) }
 {
     let schema = schema_of(problem, step);
     for place in 0..schema.add.len() {
@@ -211,7 +189,8 @@ fn match_steps(
     requires problem { IsValid problem.now }
     requires steps { All (IsStepOf problem.now (length start.now)) steps.now }
     requires binding { IsBinding problem.now.objects start.now }
-    ensures { OnOk result (Matches problem.now.objects (length start.now) start.now (λ sigma. IsAdded problem.now (map (instance_under sigma) steps.now) wanted.now) found.old.items found.new.items) }
+    ensures { OnOk result (Matches problem.now.objects (length start.now) start.now
+        (λ sigma. IsAdded problem.now (map (instance_under sigma) steps.now) wanted.now) found.old.items found.new.items) }
 {
     for place in 0..steps.len() {
         let later = &steps[place + 1..];
@@ -235,7 +214,8 @@ pub fn macro_matches(
     requires problem { IsValid problem.now }
     requires steps { All (IsStepOf problem.now (length start.now)) steps.now }
     requires binding { IsBinding problem.now.objects start.now }
-    ensures { IfOk result (λ found. Matches problem.now.objects (length start.now) start.now (λ sigma. OneOf wanted.now (IsAdded problem.now (map (instance_under sigma) steps.now))) [] found.items) }
+    ensures { IfOk result (λ found. Matches problem.now.objects (length start.now) start.now
+        (λ sigma. OneOf wanted.now (IsAdded problem.now (map (instance_under sigma) steps.now))) [] found.items) }
 {
     let mut found = Vec::new(alloc);
     for atom in wanted {

@@ -12,7 +12,7 @@ ghost use Rattle.px_terms.specs.Validity.{IsValid};
 ghost use Rattle.px_gaps.specs.Closings.{OneOf};
 ghost use Rattle.px_entries.specs.Instances.{Covers, Fills, IsPartialInstance, StandsFor};
 
-use crate::instances::{bound, unbound_instance};
+use crate::instances::{bound_instance, unbound_instance};
 use crate::partial::PartialInstance;
 use px_terms::{Atom, NoMemory, Problem, Schema, Term};
 use std::alloc::Global;
@@ -28,13 +28,15 @@ fn with_object(
     requires variable { variable < partial.now.vars }
     ensures form { IfSome result (IsPartialInstance problem.now) }
     ensures count { IfSome result (λ next. length next.inst.args ≡ length partial.now.inst.args) }
-    ensures stands { (full : OpInst) (objects : List ℕ) → Fills problem.now partial.now full objects → substitute (object_terms objects) (Term.Var variable) ≡ wanted → IsSomeAnd result (λ next. StandsFor problem.now next full) }
-    ensures only { IfSome result (λ next. (full : OpInst) → StandsFor problem.now next full → (objects : List ℕ) × Fills problem.now partial.now full objects × (substitute (object_terms objects) (Term.Var variable) ≡ wanted)) }
+    ensures stands { (full : OpInst) (objects : List ℕ) → Fills problem.now partial.now full objects
+        → substitute (object_terms objects) (Term.Var variable) ≡ wanted → IsSomeAnd result (λ next. StandsFor problem.now next full) }
+    ensures only { IfSome result (λ next. (full : OpInst) → StandsFor problem.now next full → (objects : List ℕ)
+        × Fills problem.now partial.now full objects × (substitute (object_terms objects) (Term.Var variable) ≡ wanted)) }
 {
     match wanted {
         Term::Obj(object) => {
             if object < problem.objects {
-                Some(bound(partial, variable, object))
+                Some(bound_instance(partial, variable, object))
             } else {
                 None
             }
@@ -55,8 +57,10 @@ fn with_known(
     requires known { IsVariableBelow partial.now.vars known }
     ensures form { IfSome result (IsPartialInstance problem.now) }
     ensures count { IfSome result (λ next. length next.inst.args ≡ length partial.now.inst.args) }
-    ensures stands { (full : OpInst) (objects : List ℕ) → Fills problem.now partial.now full objects → substitute (object_terms objects) known ≡ wanted → IsSomeAnd result (λ next. StandsFor problem.now next full) }
-    ensures only { IfSome result (λ next. (full : OpInst) → StandsFor problem.now next full → (objects : List ℕ) × Fills problem.now partial.now full objects × (substitute (object_terms objects) known ≡ wanted)) }
+    ensures stands { (full : OpInst) (objects : List ℕ) → Fills problem.now partial.now full objects
+        → substitute (object_terms objects) known ≡ wanted → IsSomeAnd result (λ next. StandsFor problem.now next full) }
+    ensures only { IfSome result (λ next. (full : OpInst) → StandsFor problem.now next full → (objects : List ℕ)
+        × Fills problem.now partial.now full objects × (substitute (object_terms objects) known ≡ wanted)) }
 {
     match known {
         Term::Var(variable) => with_object(problem, partial, variable, wanted),
@@ -81,8 +85,10 @@ fn with_term(
     requires term { IsPlainBelow (length partial.now.inst.args) term }
     ensures form { IfSome result (IsPartialInstance problem.now) }
     ensures count { IfSome result (λ next. length next.inst.args ≡ length partial.now.inst.args) }
-    ensures stands { (full : OpInst) → StandsFor problem.now partial.now full → substitute full.args term ≡ wanted → IsSomeAnd result (λ next. StandsFor problem.now next full) }
-    ensures only { IfSome result (λ next. (full : OpInst) → StandsFor problem.now next full → StandsFor problem.now partial.now full × (substitute full.args term ≡ wanted)) }
+    ensures stands { (full : OpInst) → StandsFor problem.now partial.now full → substitute full.args term ≡ wanted
+        → IsSomeAnd result (λ next. StandsFor problem.now next full) }
+    ensures only { IfSome result (λ next. (full : OpInst) → StandsFor problem.now next full → StandsFor problem.now partial.now full
+        × (substitute full.args term ≡ wanted)) }
 {
     match term {
         Term::Var(parameter) => {
@@ -104,8 +110,10 @@ fn with_atom(
     requires partial { IsPartialInstance problem.now partial.now }
     requires pattern { All (IsPlainBelow (length partial.now.inst.args)) pattern.now.args }
     ensures form { IfSome result (IsPartialInstance problem.now) }
-    ensures stands { (full : OpInst) → StandsFor problem.now partial.now full → substitute_atom full.args pattern.now ≡ wanted.now → IsSomeAnd result (λ next. StandsFor problem.now next full) }
-    ensures only { IfSome result (λ next. (full : OpInst) → StandsFor problem.now next full → StandsFor problem.now partial.now full × (substitute_atom full.args pattern.now ≡ wanted.now)) }
+    ensures stands { (full : OpInst) → StandsFor problem.now partial.now full → substitute_atom full.args pattern.now ≡ wanted.now
+        → IsSomeAnd result (λ next. StandsFor problem.now next full) }
+    ensures only { IfSome result (λ next. (full : OpInst) → StandsFor problem.now next full → StandsFor problem.now partial.now full
+        × (substitute_atom full.args pattern.now ≡ wanted.now)) }
 {
     let terms = pattern.args();
     let objects = wanted.args();
@@ -129,7 +137,8 @@ fn match_pattern(
 ) -> Result<(), NoMemory>
     requires start { IsPartialInstance problem.now start.now }
     requires pattern { All (IsPlainBelow (length start.now.inst.args)) pattern.now.args }
-    ensures { OnOk result (Covers problem.now (λ full. StandsFor problem.now start.now full × (substitute_atom full.args pattern.now ≡ wanted.now)) found.old.items found.new.items) }
+    ensures { OnOk result (Covers problem.now (λ full. StandsFor problem.now start.now full
+        × (substitute_atom full.args pattern.now ≡ wanted.now)) found.old.items found.new.items) }
 {
     match with_atom(problem, start, pattern, wanted) {
         Some(matched) => {
@@ -149,7 +158,8 @@ fn match_schema(
 ) -> Result<(), NoMemory>
     requires problem { IsValid problem.now }
     requires schema { IsSchemaAt problem.now schema.now }
-    ensures { OnOk result (Covers problem.now (λ full. (full.op ≡ schema.now.op) × Contains (atoms_of schema.now.add full) wanted.now) found.old.items found.new.items) }
+    ensures { OnOk result (Covers problem.now (λ full. (full.op ≡ schema.now.op) × Contains (atoms_of schema.now.add full) wanted.now)
+        found.old.items found.new.items) }
 {
     let start = unbound_instance(problem, schema);
     let patterns = schema.add.as_slice();

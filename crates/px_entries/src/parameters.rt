@@ -100,7 +100,8 @@ pub fn merged(
     requires { length others.now ≡ length terms.now }
     ensures binding { IfOk result (λ merged. IfSome merged (λ next. IsBinding limit terms.now → IsBinding limit next.items)) }
     ensures long { IfOk result (λ merged. IfSome merged (λ next. length next.items ≡ length terms.now)) }
-    ensures fits { IfOk result (λ merged. (sigma : List ℕ) → Extends limit terms.now sigma → Fits others.now sigma → IsSomeAnd merged (λ next. Extends limit next.items sigma)) }
+    ensures fits { IfOk result (λ merged. (sigma : List ℕ) → Extends limit terms.now sigma → Fits others.now sigma
+        → IsSomeAnd merged (λ next. Extends limit next.items sigma)) }
 {
     if !can_fit(limit, terms, others) {
         return Ok(None);

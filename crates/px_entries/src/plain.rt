@@ -47,7 +47,8 @@ pub fn is_settled(
 ) -> Result<Option<bool>, NoMemory>
     requires problem { IsValid problem.now }
     requires atom { IsAtomOf problem.now 0 atom.now }
-    ensures { IfOk result (λ found. IfSome found (λ settled. MatchBool settled (IsSettled problem.now model.now.atoms atom.now) (¬ IsSettled problem.now model.now.atoms atom.now))) }
+    ensures { IfOk result (λ found. IfSome found (λ settled. MatchBool settled (IsSettled problem.now model.now.atoms atom.now)
+        (¬ IsSettled problem.now model.now.atoms atom.now))) }
 {
     if is_addable(problem, atom) {
         return Ok(Some(true));
@@ -75,7 +76,8 @@ fn are_settled(
 ) -> Result<Option<bool>, NoMemory>
     requires problem { IsValid problem.now }
     requires formula { All (IsAtomOf problem.now 0) formula.now }
-    ensures { IfOk result (λ found. IfSome found (λ settled. MatchBool settled (All (IsSettled problem.now model.now.atoms) formula.now) (¬ All (IsSettled problem.now model.now.atoms) formula.now))) }
+    ensures { IfOk result (λ found. IfSome found (λ settled. MatchBool settled (All (IsSettled problem.now model.now.atoms) formula.now)
+        (¬ All (IsSettled problem.now model.now.atoms) formula.now))) }
 {
     for atom in formula {
         match is_settled(alloc, problem, atom, model)? {
@@ -102,7 +104,8 @@ fn insert_absent(
     model: &Model,
 ) -> Result<(), NoMemory>
     requires is_ground { IsGround atom.now }
-    ensures { OnOk result ((q : AtomValue) → Contains found.new.atoms q ↔ (Contains found.old.atoms q ⊎ ((atom.now ≡ q) × IsAbsent problem.now model.now.atoms q))) }
+    ensures { OnOk result ((q : AtomValue) → Contains found.new.atoms q
+        ↔ (Contains found.old.atoms q ⊎ ((atom.now ≡ q) × IsAbsent problem.now model.now.atoms q))) }
 {
     if !is_absent(problem, atom, model) {
         return Ok(());
@@ -119,7 +122,8 @@ fn absent_of(
     model: &Model,
 ) -> Result<Model, NoMemory>
     requires is_ground { All IsGround formula.now }
-    ensures { IfOk result (λ absent. (q : AtomValue) → Contains absent.atoms q ↔ (Contains formula.now q × IsAbsent problem.now model.now.atoms q)) }
+    ensures { IfOk result (λ absent. (q : AtomValue) → Contains absent.atoms q
+        ↔ (Contains formula.now q × IsAbsent problem.now model.now.atoms q)) }
 {
     let mut absent = Model::new(alloc);
     for atom in formula {
@@ -161,7 +165,8 @@ fn known_plain(
     requires formula { All (IsAtomOf problem.now 0) formula.now }
     requires apart { ¬ AxiomsMentionAddable problem.now }
     requires unlimited { AreUnlimited problem.now (record { formula = formula.now; vars = 0; facts = model.now.atoms } ∷ []) }
-    ensures { IfOk result (λ found. IfSome found (IsKnownOf problem.now (record { formula = formula.now; vars = 0; facts = model.now.atoms } ∷ []))) }
+    ensures { IfOk result (λ found. IfSome found (IsKnownOf problem.now
+        (record { formula = formula.now; vars = 0; facts = model.now.atoms } ∷ []))) }
 {
     match are_settled(alloc, problem, formula, model)? {
         Some(true) => Ok(Some(known_settled(alloc, problem, formula, model)?)),
@@ -181,7 +186,8 @@ fn known_instance(
     requires problem { IsValid problem.now }
     requires inst { IsInstanceOf problem.now inst.now }
     requires never { IsNeverLimited problem.now tables.now }
-    ensures { IfOk result (λ found. IfSome found (IsKnownOf problem.now (obligations_of problem.now tables.now model.now.atoms (EntryValue.Op inst.now)))) }
+    ensures { IfOk result (λ found. IfSome found (IsKnownOf problem.now
+        (obligations_of problem.now tables.now model.now.atoms (EntryValue.Op inst.now)))) }
 {
     if axioms_mention_addable(problem) {
         return Ok(None);

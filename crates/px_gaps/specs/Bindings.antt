@@ -65,7 +65,8 @@ IsOpenAs limit terms atoms set made x = (values : List ℕ) × Avoids limit term
 
 -- the same, where the values have an object before this one for the variable
 abbrev pub IsOpenBefore : {X : Type 0} → ℕ → List Term → List Atom → List Atom → (List ℕ → X) → ℕ → ℕ → X → Type 0
-IsOpenBefore limit terms atoms set made v object x = (values : List ℕ) × Avoids limit terms atoms set values × (slice_index values v < object) × (made values ≡ x)
+IsOpenBefore limit terms atoms set made v object x = (values : List ℕ) × Avoids limit terms atoms set values
+    × (slice_index values v < object) × (made values ≡ x)
 
 -- the one atom is the other
 abbrev pub IsOpenInstance : ℕ → List Term → List Atom → List Atom → Atom → Atom → Type 0

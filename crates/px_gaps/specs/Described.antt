@@ -17,14 +17,17 @@ pub record IsPlainPattern (limit : ℕ) (pattern : GapPattern) : Type 0 where
 
 -- under some objects for the pattern's variables one of its atoms is this one
 abbrev pub IsClosedBy : ℕ → GapPattern → Atom → Type 0
-IsClosedBy limit pattern q = OneOf pattern.atoms (λ target. (values : List ℕ) × AreChosen limit pattern.vars values × (substitute_atom (object_terms values) target ≡ q))
+IsClosedBy limit pattern q = OneOf pattern.atoms (λ target. (values : List ℕ) × AreChosen limit pattern.vars values
+    × (substitute_atom (object_terms values) target ≡ q))
 
 -- and none of its atoms is in the set
 abbrev pub IsMissingBy : ℕ → List Atom → GapPattern → Atom → Type 0
 IsMissingBy limit set pattern q =
-    OneOf pattern.atoms (λ target. (values : List ℕ) × AreChosen limit pattern.vars values × (¬ Any (Contains set) (atoms_under values pattern)) × (substitute_atom (object_terms values) target ≡ q))
+    OneOf pattern.atoms (λ target. (values : List ℕ) × AreChosen limit pattern.vars values
+    × (¬ Any (Contains set) (atoms_under values pattern)) × (substitute_atom (object_terms values) target ≡ q))
 
 -- under some objects for the pattern's variables none of its atoms is in the set, and the formula's variables have these objects
 abbrev pub IsChosenBy : ℕ → List Atom → GapPattern → List ℕ → Type 0
 IsChosenBy limit set pattern objects =
-    (values : List ℕ) × AreChosen limit pattern.vars values × (¬ Any (Contains set) (atoms_under values pattern)) × (objects_under values pattern ≡ objects)
+    (values : List ℕ) × AreChosen limit pattern.vars values × (¬ Any (Contains set) (atoms_under values pattern))
+    × (objects_under values pattern ≡ objects)

@@ -18,8 +18,10 @@ pub record IsGapAnswer (s : Setting) (formula : List Atom) (vars : ℕ) (pattern
   pub all : AreGapPatterns s formula vars patterns
   pub few : AreFewGapShapes s formula vars
   pub provable_are : (atom : Atom) → Contains provable atom ↔ (IsClosedIn (lists_of s.objects patterns) atom × IsProvable s atom)
-  pub unlimited : (atom : Atom) (shapes : List (List Tick)) → IsClosedIn (lists_of s.objects patterns) atom → ¬ IsLimited s (atom ∷ []) 0 shapes
+  pub unlimited : (atom : Atom) (shapes : List (List Tick)) → IsClosedIn (lists_of s.objects patterns) atom
+      → ¬ IsLimited s (atom ∷ []) 0 shapes
 
 -- they are that of some formula of the problem
 abbrev pub AnswersSome : Problem → List Atom → ℕ → List GapPattern → List Atom → Type 0
-AnswersSome problem facts vars patterns provable = (formula : List Atom) × All (IsAtomOf problem vars) formula × IsGapAnswer (setting_of problem facts) formula vars patterns provable
+AnswersSome problem facts vars patterns provable = (formula : List Atom) × All (IsAtomOf problem vars) formula
+    × IsGapAnswer (setting_of problem facts) formula vars patterns provable

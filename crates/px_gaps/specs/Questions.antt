@@ -16,17 +16,21 @@ pub data Question : Type 0 where
 
 -- the questions about what is needed: proving each part, and finding the gaps of each part that has no answer
 abbrev pub AsksOf : Problem → List Obligation → Question → Type 0
-AsksOf problem needs question = Any (λ needed. (question ≡ Proving needed) ⊎ ((¬ HasAnswer problem needed) × (question ≡ FindingGaps needed))) needs
+AsksOf problem needs question = Any (λ needed. (question ≡ Proving needed)
+    ⊎ ((¬ HasAnswer problem needed) × (question ≡ FindingGaps needed))) needs
 
 -- the question meets the limit at the formula, by its first shapes
 abbrev pub MeetsLimit : Problem → Question → List Atom → List (List Tick) → Type 0
-MeetsLimit problem (Proving needed) formula shapes = (formula ≡ needed.formula) × IsLimited (setting_of problem needed.facts) needed.formula needed.vars shapes
-MeetsLimit problem (FindingGaps needed) formula shapes = MeetsGapLimit (setting_of problem needed.facts) needed.formula needed.vars formula shapes
+MeetsLimit problem (Proving needed) formula shapes = (formula ≡ needed.formula)
+    × IsLimited (setting_of problem needed.facts) needed.formula needed.vars shapes
+MeetsLimit problem (FindingGaps needed) formula shapes = MeetsGapLimit (setting_of problem needed.facts) needed.formula needed.vars formula
+    shapes
 
 -- no question about what is needed meets the limit
 abbrev pub AreUnlimited : Problem → List Obligation → Type 0
 AreUnlimited problem needs =
-    (question : Question) (formula : List Atom) (shapes : List (List Tick)) → AsksOf problem needs question → ¬ MeetsLimit problem question formula shapes
+    (question : Question) (formula : List Atom) (shapes : List (List Tick)) → AsksOf problem needs question
+    → ¬ MeetsLimit problem question formula shapes
 
 -- the question stays below the limit
 abbrev pub StaysBelow : Problem → Question → Type 0

@@ -74,7 +74,8 @@ fn link(
 pub fn apart(alloc: Global, terms: &[Term], atoms: &[Atom], place: usize) -> Result<Parts, NoMemory>
     requires plain { ArePlain (length terms.now) atoms.now }
     requires place { place < length atoms.now }
-    ensures members { IfOk result (λ parts. (atom : AtomValue) → Contains atoms.now atom ↔ (Contains parts.linked.items atom ⊎ Contains parts.others.items atom)) }
+    ensures members { IfOk result (λ parts. (atom : AtomValue) → Contains atoms.now atom
+        ↔ (Contains parts.linked.items atom ⊎ Contains parts.others.items atom)) }
     ensures apart { IfOk result (λ parts. AreApart terms.now parts.linked.items parts.others.items) }
     ensures fewer { IfOk result (λ parts. length parts.others.items < length atoms.now) }
 {

@@ -50,7 +50,8 @@ impl Asker {
         requires few_variables { vars ≤ 4096 }
         requires some_object { 0 < vars → 0 < problem.now.objects }
         ensures counted { self.new.questions ≡ next_count self.old.questions }
-        ensures patterns { IfOk result (λ patterns. AreGapPatterns (setting_of problem.now model.now.atoms) formula.now vars patterns.items) }
+        ensures patterns { IfOk result (λ patterns. AreGapPatterns (setting_of problem.now model.now.atoms) formula.now vars
+            patterns.items) }
         ensures few { IfOk result (λ patterns. AreFewGapShapes (setting_of problem.now model.now.atoms) formula.now vars) }
         ensures limited { IfPatternLimit result (IsGapLimited (setting_of problem.now model.now.atoms) formula.now vars) }
     {
@@ -71,11 +72,15 @@ impl Asker {
         requires few_variables { vars ≤ 12 }
         requires objects { 0 < vars → 0 < problem.now.objects }
         ensures counted { self.new.questions ≡ next_count self.old.questions }
-        ensures first { IfOk result (λ answer. IsFirst (setting_of problem.now model.now.atoms) formula.now vars answer.objects (derivations (map_list derivation_of answer.proofs))) }
-        ensures few { IfOk result (λ answer. (shapes : List (List Tick)) → ¬ IsLimited (setting_of problem.now model.now.atoms) formula.now vars shapes) }
-        ensures few_before { IfOk result (λ answer. AreFewBefore (setting_of problem.now model.now.atoms) formula.now vars (derivations (map_list derivation_of answer.proofs))) }
+        ensures first { IfOk result (λ answer. IsFirst (setting_of problem.now model.now.atoms) formula.now vars answer.objects
+            (derivations (map_list derivation_of answer.proofs))) }
+        ensures few { IfOk result (λ answer. (shapes : List (List Tick))
+            → ¬ IsLimited (setting_of problem.now model.now.atoms) formula.now vars shapes) }
+        ensures few_before { IfOk result (λ answer. AreFewBefore (setting_of problem.now model.now.atoms) formula.now vars
+            (derivations (map_list derivation_of answer.proofs))) }
         ensures none { result ≡ Err ProveErr.Unprovable → ¬ IsAnswer (setting_of problem.now model.now.atoms) formula.now vars }
-        ensures none_few { result ≡ Err ProveErr.Unprovable → (shapes : List (List Tick)) → ¬ IsLimited (setting_of problem.now model.now.atoms) formula.now vars shapes }
+        ensures none_few { result ≡ Err ProveErr.Unprovable → (shapes : List (List Tick))
+            → ¬ IsLimited (setting_of problem.now model.now.atoms) formula.now vars shapes }
         ensures few_shapes { result ≡ Err ProveErr.Unprovable → AreFewShapes (setting_of problem.now model.now.atoms) formula.now vars }
         ensures limited { IfShapeLimit result (IsLimited (setting_of problem.now model.now.atoms) formula.now vars) }
     {

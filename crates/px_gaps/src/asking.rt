@@ -34,9 +34,12 @@ pub fn is_provable(
 ) -> Result<bool, AskErr>
     requires problem { IsValid problem.now }
     requires atom { IsAtomOf problem.now 0 atom.now }
-    ensures answer { IfOk result (λ yes. MatchBool yes (IsProvable (setting_of problem.now model.now.atoms) atom.now) (¬ IsProvable (setting_of problem.now model.now.atoms) atom.now)) }
-    ensures few { IfOk result (λ yes. (shapes : List (List Tick)) → ¬ IsLimited (setting_of problem.now model.now.atoms) (atom.now ∷ []) 0 shapes) }
-    ensures limited { IfLimit result (λ formula shapes. (formula ≡ atom.now ∷ []) × IsLimited (setting_of problem.now model.now.atoms) (atom.now ∷ []) 0 shapes) }
+    ensures answer { IfOk result (λ yes. MatchBool yes (IsProvable (setting_of problem.now model.now.atoms) atom.now)
+        (¬ IsProvable (setting_of problem.now model.now.atoms) atom.now)) }
+    ensures few { IfOk result (λ yes. (shapes : List (List Tick))
+        → ¬ IsLimited (setting_of problem.now model.now.atoms) (atom.now ∷ []) 0 shapes) }
+    ensures limited { IfLimit result (λ formula shapes. (formula ≡ atom.now ∷ [])
+        × IsLimited (setting_of problem.now model.now.atoms) (atom.now ∷ []) 0 shapes) }
 {
     let formula = [*atom];
     match asker.prove(problem, &formula, 0, model) {
@@ -61,7 +64,8 @@ fn insert_provable(
 ) -> Result<(), AskErr>
     requires problem { IsValid problem.now }
     requires atom { IsAtomOf problem.now 0 atom.now }
-    ensures found { OnOk result (FindsProvable (setting_of problem.now model.now.atoms) (λ q. atom.now ≡ q) found.old.atoms found.new.atoms) }
+    ensures found { OnOk result (FindsProvable (setting_of problem.now model.now.atoms) (λ q. atom.now ≡ q) found.old.atoms
+        found.new.atoms) }
     ensures limited { IfLimit result (LimitsOne (setting_of problem.now model.now.atoms) (λ q. atom.now ≡ q)) }
 {
     if !is_provable(asker, problem, model, atom)? {
@@ -108,8 +112,10 @@ fn insert_instances(
     requires form { IsAtomOf problem.now (length terms.now) form.now }
     requires few { length terms.now ≤ 6 }
     requires binding { IsBinding problem.now.objects terms.now }
-    ensures found { OnOk result (FindsProvable (setting_of problem.now model.now.atoms) (IsInstanceUnder problem.now.objects terms.now form.now) found.old.atoms found.new.atoms) }
-    ensures limited { IfLimit result (LimitsOne (setting_of problem.now model.now.atoms) (IsInstanceUnder problem.now.objects terms.now form.now)) }
+    ensures found { OnOk result (FindsProvable (setting_of problem.now model.now.atoms)
+        (IsInstanceUnder problem.now.objects terms.now form.now) found.old.atoms found.new.atoms) }
+    ensures limited { IfLimit result (LimitsOne (setting_of problem.now model.now.atoms)
+        (IsInstanceUnder problem.now.objects terms.now form.now)) }
 {
     let here = apply(terms, form);
     let variable = match open_variable(terms, form) {
@@ -136,7 +142,8 @@ fn insert_form(
 ) -> Result<(), AskErr>
     requires problem { IsValid problem.now }
     requires form { IsForm problem.now form.now }
-    ensures found { OnOk result (FindsProvable (setting_of problem.now model.now.atoms) (IsInstanceIn problem.now.objects form.now) found.old.atoms found.new.atoms) }
+    ensures found { OnOk result (FindsProvable (setting_of problem.now model.now.atoms) (IsInstanceIn problem.now.objects form.now)
+        found.old.atoms found.new.atoms) }
     ensures limited { IfLimit result (LimitsOne (setting_of problem.now model.now.atoms) (IsInstanceIn problem.now.objects form.now)) }
 {
     let is_derived = is_concluded(problem, form.pred());
@@ -157,7 +164,8 @@ pub fn provable_of(
 ) -> Result<Model, AskErr>
     requires problem { IsValid problem.now }
     requires forms { All (IsForm problem.now) forms.now }
-    ensures found { IfOk result (λ provable. FindsProvable (setting_of problem.now model.now.atoms) (IsStoodFor problem.now.objects forms.now) [] provable.atoms) }
+    ensures found { IfOk result (λ provable. FindsProvable (setting_of problem.now model.now.atoms)
+        (IsStoodFor problem.now.objects forms.now) [] provable.atoms) }
     ensures limited { IfLimit result (LimitsOne (setting_of problem.now model.now.atoms) (IsStoodFor problem.now.objects forms.now)) }
 {
     let mut provable = Model::new(asker.alloc);

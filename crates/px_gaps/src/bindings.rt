@@ -125,7 +125,8 @@ fn first_open(terms: &[Term], atoms: &[Atom]) -> Option<(usize, u32)>
 /// variable less.
 fn can_choose(avoidance: &Avoidance, terms: &[Term]) -> Result<bool, NoMemory>
     requires { AreBound avoidance.now.limit terms.now avoidance.now.atoms.now avoidance.now.set.now.atoms }
-    ensures { IfOk result (λ can. MatchBool can (CanAvoid avoidance.now.limit terms.now avoidance.now.atoms.now avoidance.now.set.now.atoms) (¬ CanAvoid avoidance.now.limit terms.now avoidance.now.atoms.now avoidance.now.set.now.atoms)) }
+    ensures { IfOk result (λ can. MatchBool can (CanAvoid avoidance.now.limit terms.now avoidance.now.atoms.now avoidance.now.set.now.atoms)
+        (¬ CanAvoid avoidance.now.limit terms.now avoidance.now.atoms.now avoidance.now.set.now.atoms)) }
 {
     if meets_under(terms, avoidance.atoms, avoidance.set) {
         return Ok(false);
@@ -147,7 +148,8 @@ fn can_choose(avoidance: &Avoidance, terms: &[Term]) -> Result<bool, NoMemory>
 fn can_choose_apart(avoidance: &Avoidance, terms: &[Term]) -> Result<bool, NoMemory>
     requires bound { AreBound avoidance.now.limit terms.now avoidance.now.atoms.now avoidance.now.set.now.atoms }
     requires unmet { ¬ Any (λ atom. Contains avoidance.now.set.now.atoms (substitute_atom terms.now atom)) avoidance.now.atoms.now }
-    ensures { IfOk result (λ can. MatchBool can (CanAvoid avoidance.now.limit terms.now avoidance.now.atoms.now avoidance.now.set.now.atoms) (¬ CanAvoid avoidance.now.limit terms.now avoidance.now.atoms.now avoidance.now.set.now.atoms)) }
+    ensures { IfOk result (λ can. MatchBool can (CanAvoid avoidance.now.limit terms.now avoidance.now.atoms.now avoidance.now.set.now.atoms)
+        (¬ CanAvoid avoidance.now.limit terms.now avoidance.now.atoms.now avoidance.now.set.now.atoms)) }
 {
     let mut rest = Vec::new(avoidance.alloc);
     rest.extend_from_slice(avoidance.atoms)?;
@@ -183,7 +185,8 @@ fn first_objects(alloc: Global, terms: &[Term]) -> Result<Vec<Term>, NoMemory>
 /// will do.
 pub fn can_avoid(avoidance: &Avoidance, terms: &[Term]) -> Result<bool, NoMemory>
     requires { AreBound avoidance.now.limit terms.now avoidance.now.atoms.now avoidance.now.set.now.atoms }
-    ensures { IfOk result (λ can. MatchBool can (CanAvoid avoidance.now.limit terms.now avoidance.now.atoms.now avoidance.now.set.now.atoms) (¬ CanAvoid avoidance.now.limit terms.now avoidance.now.atoms.now avoidance.now.set.now.atoms)) }
+    ensures { IfOk result (λ can. MatchBool can (CanAvoid avoidance.now.limit terms.now avoidance.now.atoms.now avoidance.now.set.now.atoms)
+        (¬ CanAvoid avoidance.now.limit terms.now avoidance.now.atoms.now avoidance.now.set.now.atoms)) }
 {
     let first = first_objects(avoidance.alloc, terms)?;
     if !meets_under(&first, avoidance.atoms, avoidance.set) {

@@ -15,20 +15,8 @@ use crate::bindings::{Avoidance, bound, can_avoid, meets_under, object_of, unbou
 use px_base::push;
 use px_ops::Model;
 use px_prover::GapPattern;
-use px_terms::{NoMemory, Sequence, Term};
+use px_terms::{NoMemory, Sequence, Term, substituted};
 use std::alloc::Global;
-
-/// What stands for the term.
-fn filled_term(terms: &[Term], term: Term) -> Term
-    requires { IsVariableBelow (length terms.now) term }
-    ensures { result ≡ substitute terms.now term }
-{
-    match term {
-        Term::Var(variable) => terms[variable as usize],
-        Term::Obj(number) => Term::Obj(number),
-        Term::Any => Term::Any,
-    }
-}
 
 /// The variable that the term is, if it is one.
 fn variable_of(term: Term) -> Option<u32>
@@ -50,7 +38,7 @@ fn first_of(terms: &[Term], targets: &[Term]) -> Option<u32>
     ensures none { IfNone result (All (IsClosed terms.now) targets.now) }
 {
     for target in targets {
-        match variable_of(filled_term(terms, *target)) {
+        match variable_of(substituted(terms, *target)) {
             Some(variable) => return Some(variable),
             None => {}
         }
@@ -65,7 +53,7 @@ fn objects_by(alloc: Global, terms: &[Term], targets: &[Term]) -> Result<Vec<u32
 {
     let mut objects = Vec::new(alloc);
     for target in targets {
-        objects.push(object_of(filled_term(terms, *target)))?;
+        objects.push(object_of(substituted(terms, *target)))?;
     }
     Ok(objects)
 }
@@ -78,7 +66,8 @@ fn push_objects(
     targets: &[Term],
 ) -> Result<(), NoMemory>
     requires { All (IsVariableBelow (length terms.now)) targets.now }
-    ensures { OnOk result (found.new.items ≡ found.old.items ++ map_list (λ (t : TermValue). object_by (substitute terms.now t)) targets.now ∷ []) }
+    ensures { OnOk result (found.new.items ≡ found.old.items ++ map_list (λ (t : TermValue). object_by (substitute terms.now t)) targets.now
+        ∷ []) }
 {
     let objects = objects_by(alloc, terms, targets)?;
     push(found, Sequence::from_vec(objects))
@@ -95,7 +84,9 @@ fn push_one(
     requires closed { All (IsClosed terms.now) targets.now }
     requires below { All (IsVariableBelow (length terms.now)) targets.now }
     requires bound { AreBound avoidance.now.limit terms.now avoidance.now.atoms.now avoidance.now.set.now.atoms }
-    ensures { OnOk result ((objects : List ℕ) → Contains found.new.items objects ↔ (Contains found.old.items objects ⊎ IsOpenChoice avoidance.now.limit terms.now avoidance.now.atoms.now avoidance.now.set.now.atoms targets.now objects)) }
+    ensures { OnOk result ((objects : List ℕ) → Contains found.new.items objects
+        ↔ (Contains found.old.items objects ⊎ IsOpenChoice avoidance.now.limit terms.now avoidance.now.atoms.now avoidance.now.set.now.atoms
+        targets.now objects)) }
 {
     if !can_avoid(avoidance, terms)? {
         return Ok(());
@@ -112,7 +103,9 @@ fn push_open(
 ) -> Result<(), NoMemory>
     requires below { All (IsVariableBelow (length terms.now)) targets.now }
     requires bound { AreBound avoidance.now.limit terms.now avoidance.now.atoms.now avoidance.now.set.now.atoms }
-    ensures { OnOk result ((objects : List ℕ) → Contains found.new.items objects ↔ (Contains found.old.items objects ⊎ IsOpenChoice avoidance.now.limit terms.now avoidance.now.atoms.now avoidance.now.set.now.atoms targets.now objects)) }
+    ensures { OnOk result ((objects : List ℕ) → Contains found.new.items objects
+        ↔ (Contains found.old.items objects ⊎ IsOpenChoice avoidance.now.limit terms.now avoidance.now.atoms.now avoidance.now.set.now.atoms
+        targets.now objects)) }
 {
     let variable = match first_of(terms, targets) {
         Some(variable) => variable,
@@ -138,7 +131,8 @@ fn push_choices(
 ) -> Result<(), NoMemory>
     requires pattern { IsPlainPattern limit pattern.now }
     requires provable { All IsGround provable.now.atoms }
-    ensures { OnOk result ((objects : List ℕ) → Contains found.new.items objects ↔ (Contains found.old.items objects ⊎ IsChosenBy limit provable.now.atoms pattern.now objects)) }
+    ensures { OnOk result ((objects : List ℕ) → Contains found.new.items objects
+        ↔ (Contains found.old.items objects ⊎ IsChosenBy limit provable.now.atoms pattern.now objects)) }
 {
     let terms = unbound(alloc, pattern.vars)?;
     let targets = pattern.terms.as_slice();
@@ -164,7 +158,8 @@ pub fn choices_of(
 ) -> Result<Vec<Sequence<u32>>, NoMemory>
     requires patterns { All (IsPlainPattern limit) patterns.now }
     requires provable { All IsGround provable.now.atoms }
-    ensures { IfOk result (λ choices. (objects : List ℕ) → Contains choices.items objects ↔ IsChosenIn (lists_of limit patterns.now) provable.now.atoms objects) }
+    ensures { IfOk result (λ choices. (objects : List ℕ) → Contains choices.items objects
+        ↔ IsChosenIn (lists_of limit patterns.now) provable.now.atoms objects) }
 {
     let mut choices = Vec::new(alloc);
     for pattern in patterns {

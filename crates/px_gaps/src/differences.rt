@@ -37,8 +37,10 @@ pub fn gaps(
     requires few_variables { vars ≤ 12 }
     requires no_answer { ¬ IsAnswer (setting_of problem.now model.now.atoms) formula.now vars }
     ensures order { IfOk result (λ gaps. IsAtomSet gaps.items) }
-    ensures exact { IfOk result (λ gaps. (atom : Atom) → Contains gaps.items atom ↔ IsGapOf (setting_of problem.now model.now.atoms) formula.now vars atom) }
-    ensures unlimited { IfOk result (λ gaps. (kept : List Atom) (shapes : List (List Tick)) → ¬ MeetsGapLimit (setting_of problem.now model.now.atoms) formula.now vars kept shapes) }
+    ensures exact { IfOk result (λ gaps. (atom : Atom) → Contains gaps.items atom
+        ↔ IsGapOf (setting_of problem.now model.now.atoms) formula.now vars atom) }
+    ensures unlimited { IfOk result (λ gaps. (kept : List Atom) (shapes : List (List Tick))
+        → ¬ MeetsGapLimit (setting_of problem.now model.now.atoms) formula.now vars kept shapes) }
     ensures below { IfOk result (λ gaps. StaysBelowGapLimit (setting_of problem.now model.now.atoms) formula.now vars) }
     ensures limited { IfLimit result (MeetsGapLimit (setting_of problem.now model.now.atoms) formula.now vars) }
 {

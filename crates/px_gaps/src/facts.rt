@@ -67,7 +67,8 @@ fn insert_instance(
 ) -> Result<(), NoMemory>
     requires form { IsForm problem.now form.now }
     requires is_ground { IsGround fact.now }
-    ensures { OnOk result ((q : AtomValue) → Contains found.new.atoms q ↔ (Contains found.old.atoms q ⊎ ((fact.now ≡ q) × IsInstanceIn problem.now.objects form.now q))) }
+    ensures { OnOk result ((q : AtomValue) → Contains found.new.atoms q
+        ↔ (Contains found.old.atoms q ⊎ ((fact.now ≡ q) × IsInstanceIn problem.now.objects form.now q))) }
 {
     if !is_instance(problem, form, fact) {
         return Ok(());
@@ -84,7 +85,8 @@ pub fn insert_facts(
     form: &Atom,
 ) -> Result<(), NoMemory>
     requires { IsForm problem.now form.now }
-    ensures { OnOk result ((q : AtomValue) → Contains found.new.atoms q ↔ (Contains found.old.atoms q ⊎ (Contains model.now.atoms q × IsInstanceIn problem.now.objects form.now q))) }
+    ensures { OnOk result ((q : AtomValue) → Contains found.new.atoms q
+        ↔ (Contains found.old.atoms q ⊎ (Contains model.now.atoms q × IsInstanceIn problem.now.objects form.now q))) }
 {
     let facts = model.atoms();
     for fact in facts {

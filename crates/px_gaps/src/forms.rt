@@ -50,7 +50,8 @@ fn form_of(atom: &Atom) -> Atom
 
 /// Adds the forms of the atoms.
 fn push_forms(forms: &mut Vec<Atom>, atoms: &[Atom]) -> Result<(), NoMemory>
-    ensures { OnOk result ((form : AtomValue) → Contains forms.new.items form ↔ (Contains forms.old.items form ⊎ OneOf atoms.now (λ atom. form_by atom ≡ form))) }
+    ensures { OnOk result ((form : AtomValue) → Contains forms.new.items form
+        ↔ (Contains forms.old.items form ⊎ OneOf atoms.now (λ atom. form_by atom ≡ form))) }
 {
     for atom in atoms {
         forms.push(form_of(atom))?;
@@ -64,7 +65,8 @@ fn push_forms(forms: &mut Vec<Atom>, atoms: &[Atom]) -> Result<(), NoMemory>
 /// # Errors
 /// `NoMemory` if there isn't enough memory.
 pub fn forms_of(alloc: Global, patterns: &[GapPattern]) -> Result<Vec<Atom>, NoMemory>
-    ensures { IfOk result (λ forms. (form : AtomValue) → Contains forms.items form ↔ OneOf patterns.now (λ (pattern : PatternValue). OneOf pattern.atoms (λ atom. form_by atom ≡ form))) }
+    ensures { IfOk result (λ forms. (form : AtomValue) → Contains forms.items form
+        ↔ OneOf patterns.now (λ (pattern : PatternValue). OneOf pattern.atoms (λ atom. form_by atom ≡ form))) }
 {
     let mut forms = Vec::new(alloc);
     for pattern in patterns {

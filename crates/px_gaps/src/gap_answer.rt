@@ -70,7 +70,8 @@ pub fn ask_gaps(
     requires formula { All (IsAtomOf problem.now vars) formula.now }
     requires few_variables { vars ≤ 4096 }
     requires some_object { 0 < vars → 0 < problem.now.objects }
-    ensures answer { IfOk result (λ answer. IsGapAnswer (setting_of problem.now model.now.atoms) formula.now vars answer.patterns.items answer.provable.atoms) }
+    ensures answer { IfOk result (λ answer. IsGapAnswer (setting_of problem.now model.now.atoms) formula.now vars answer.patterns.items
+        answer.provable.atoms) }
     ensures limited { IfLimit result (MeetsGapLimit (setting_of problem.now model.now.atoms) formula.now vars) }
 {
     let patterns = patterns_of(asker, problem, formula, vars, model)?;

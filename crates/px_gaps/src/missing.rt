@@ -25,7 +25,9 @@ fn insert_one(
     requires is_ground { IsGround (substitute_atom terms.now target.now) }
     requires target { IsPlain (length terms.now) target.now }
     requires bound { AreBound avoidance.now.limit terms.now avoidance.now.atoms.now avoidance.now.set.now.atoms }
-    ensures { OnOk result ((q : AtomValue) → Contains found.new.atoms q ↔ (Contains found.old.atoms q ⊎ IsOpenInstance avoidance.now.limit terms.now avoidance.now.atoms.now avoidance.now.set.now.atoms target.now q)) }
+    ensures { OnOk result ((q : AtomValue) → Contains found.new.atoms q
+        ↔ (Contains found.old.atoms q ⊎ IsOpenInstance avoidance.now.limit terms.now avoidance.now.atoms.now avoidance.now.set.now.atoms
+        target.now q)) }
 {
     let here = apply(terms, target);
     if found.holds(&here) {
@@ -48,7 +50,9 @@ fn insert_open(
 ) -> Result<(), NoMemory>
     requires target { IsPlain (length terms.now) target.now }
     requires bound { AreBound avoidance.now.limit terms.now avoidance.now.atoms.now avoidance.now.set.now.atoms }
-    ensures { OnOk result ((q : AtomValue) → Contains found.new.atoms q ↔ (Contains found.old.atoms q ⊎ IsOpenInstance avoidance.now.limit terms.now avoidance.now.atoms.now avoidance.now.set.now.atoms target.now q)) }
+    ensures { OnOk result ((q : AtomValue) → Contains found.new.atoms q
+        ↔ (Contains found.old.atoms q ⊎ IsOpenInstance avoidance.now.limit terms.now avoidance.now.atoms.now avoidance.now.set.now.atoms
+        target.now q)) }
 {
     let variable = match open_variable(terms, target) {
         Some(variable) => variable,
@@ -74,7 +78,8 @@ fn insert_missing(
 ) -> Result<(), NoMemory>
     requires pattern { IsPlainPattern limit pattern.now }
     requires provable { All IsGround provable.now.atoms }
-    ensures { OnOk result ((q : AtomValue) → Contains found.new.atoms q ↔ (Contains found.old.atoms q ⊎ IsMissingBy limit provable.now.atoms pattern.now q)) }
+    ensures { OnOk result ((q : AtomValue) → Contains found.new.atoms q
+        ↔ (Contains found.old.atoms q ⊎ IsMissingBy limit provable.now.atoms pattern.now q)) }
 {
     let terms = unbound(alloc, pattern.vars)?;
     let atoms = pattern.atoms.as_slice();
@@ -99,7 +104,8 @@ pub fn missing_by(
 ) -> Result<Model, NoMemory>
     requires patterns { All (IsPlainPattern limit) patterns.now }
     requires provable { All IsGround provable.now.atoms }
-    ensures { IfOk result (λ missing. (atom : AtomValue) → Contains missing.atoms atom ↔ IsMissingIn (lists_of limit patterns.now) provable.now.atoms atom) }
+    ensures { IfOk result (λ missing. (atom : AtomValue) → Contains missing.atoms atom
+        ↔ IsMissingIn (lists_of limit patterns.now) provable.now.atoms atom) }
 {
     let mut missing = Model::new(alloc);
     for pattern in patterns {

@@ -1,4 +1,4 @@
--- From so many fresh variables as are counted the whole plan can be replayed.
+-- From as many fresh variables as are counted the whole plan can be replayed.
 use Rattle.std.specs.Prelude.{◌≡◌, ◌+◌, ◌<◌, ◌≤◌, ℕ, Option, Some, None, List, [], ◌∷◌, map, length, flat_map, sum_by, count_by, slice_get, slice_index_or, replicate, All}
 use Rattle.std.proofs.Common.{zero, suc, refl, sym, ap, ◌∙◌, subst, inl, inr, arith}
 use Rattle.std.specs.List.{AllZip}

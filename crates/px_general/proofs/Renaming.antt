@@ -25,7 +25,7 @@ use Rattle.px_general.proofs.Under.{rows_terms-allowed}
 
 -- ---- which terms a table has
 
--- so many numbers, from the first one on
+-- `count` numbers, from the first one on
 abbrev pub numbers_from : ℕ → ℕ → List ℕ
 numbers_from first zero = []
 numbers_from first (suc count) = first ∷ numbers_from (suc first) count
@@ -74,7 +74,7 @@ module _ (problem : Problem) (table : Table) (is_table : IsTable problem table) 
 abbrev pub put_in : List ℕ → ℕ → Term → Term
 put_in objects goal_vars = substitute (map Obj objects ++ variables goal_vars)
 
--- an object from the limit on is read as a parameter; the goal's own variables follow so many parameters
+-- an object from the limit on is read as a parameter; the goal's own variables follow the parameters
 abbrev pub read_back : ℕ → ℕ → Term → Term
 read_back limit params (Obj n) = if nat_lt n limit then Obj n else Var (n - limit)
 read_back limit params (Var v) = Var (params + v)

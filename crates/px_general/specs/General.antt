@@ -22,7 +22,8 @@ shape_of table = shape_of_support table.steps table.goal (rows_of table.proofs)
 
 -- the steps, the goal and the proofs are the table's with these objects for its parameters, which are proper from the first step on,
 -- and the atoms have its first kernel
-pub record IsTableInstance (problem : Problem) (table : Table) (objects : List ℕ) (atoms : List Atom) (steps : List OpInst) (goal : List Atom) (rows : List (List Derivation)) : Type 0 where
+pub record IsTableInstance (problem : Problem) (table : Table) (objects : List ℕ) (atoms : List Atom) (steps : List OpInst)
+    (goal : List Atom) (rows : List (List Derivation)) : Type 0 where
   pub count : length objects ≡ table.params
   pub proper : IsProper problem table objects 1
   pub steps_are : steps ≡ steps_under table objects
@@ -49,7 +50,8 @@ row_terms rows = flat_map (flat_map terms_of) rows
 -- the terms in the marks, then those in the steps, the goal and the proofs
 abbrev pub terms_in : Table → List Term
 terms_in table =
-    flat_map (λ (mark : Mark). mark.atom.args) table.marks ++ (step_terms table.steps ++ (goal_terms table.goal ++ row_terms (rows_of table.proofs)))
+    flat_map (λ (mark : Mark). mark.atom.args) table.marks ++
+    (step_terms table.steps ++ (goal_terms table.goal ++ row_terms (rows_of table.proofs)))
 
 -- each parameter occurs, and they are numbered in the order in which they first occur
 abbrev pub IsNumbered : Table → Type 0

@@ -59,7 +59,8 @@ walked_terms problem plan =
 
 -- along the walk the names are the parameters in order, where each stands first
 abbrev pub AreNumbered : Problem → Table → List Term → ℕ → Type 0
-AreNumbered problem plan names params = each_once term_eq (filter (is_parameter params) (map (substitute names) (walked_terms problem plan))) ≡ variables params
+AreNumbered problem plan names params = each_once term_eq (filter (is_parameter params)
+    (map (substitute names) (walked_terms problem plan))) ≡ variables params
 
 abbrev pub is_variable : Term → Bool
 is_variable (Obj n) = false
@@ -77,18 +78,19 @@ pub record AreLabels (resolved labels : List Term) (next : ℕ) (walked : List T
 
 -- The table is made of these steps and rows and of the plan's goal, with these names for the variables. Those of the goal's objects begin
 -- at number `first`.
-pub record IsMadeOf (steps : List OpInst) (rows : List (List Derivation)) (first : ℕ) (plan general : Table) (names : List Term) : Type 0 where
-  pub steps_are : general.steps ≡ map (substitute_instance names) steps
-  pub goal_is : general.goal ≡ named_goal names general.params first plan.goal
-  pub goal_vars : general.goal_vars ≡ plan.goal_vars
-  pub rows_are : rows_of general.proofs ≡ map (map (derivation_under names)) rows
-  pub marks_are : general.marks ≡ marks_from 1 (rows_of general.proofs)
+pub record IsMadeOf (steps : List OpInst) (rows : List (List Derivation)) (first : ℕ) (plan general : Table) (names : List Term) : Type 0
+  where
+    pub steps_are : general.steps ≡ map (substitute_instance names) steps
+    pub goal_is : general.goal ≡ named_goal names general.params first plan.goal
+    pub goal_vars : general.goal_vars ≡ plan.goal_vars
+    pub rows_are : rows_of general.proofs ≡ map (map (derivation_under names)) rows
+    pub marks_are : general.marks ≡ marks_from 1 (rows_of general.proofs)
 
 -- the table is made of the opened plan with these names
 abbrev pub IsBuilt : Problem → Table → Table → List Term → Type 0
 IsBuilt problem plan general names = IsMadeOf (steps_opened plan) (rows_opened problem plan) (step_variables plan.steps) plan general names
 
--- Bindings of so many variables fit just what makes the pairs equal, and each variable was followed to its end in them.
+-- Bindings of this number of variables fit just what makes the pairs equal, and each variable was followed to its end in them.
 pub record IsSolvedBy (changes : List Change) (pairs : List (Atom × Atom)) (count : ℕ) (resolved : List Term) : Type 0 where
   pub solutions : HasSolutions changes
   pub fits : (terms : List Term) → Fits terms changes ↔ MakesEachEqual pairs terms

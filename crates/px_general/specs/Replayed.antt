@@ -20,7 +20,8 @@ use Rattle.px_replay.specs.Opened.{named_goal, opened_terms, replay_pairs, rows_
 -- values that these terms give the roots.
 pub record IsMostGeneral (pairs : List (Atom × Atom)) (at : List Term) (names roots : List Term) : Type 0 where
   pub unifies : MakesEachEqual pairs names
-  pub factors : (terms : List Term) → MakesEachEqual pairs terms → (t : Term) → Contains at t → substitute terms t ≡ substitute (map (substitute terms) roots) (substitute names t)
+  pub factors : (terms : List Term) → MakesEachEqual pairs terms → (t : Term) → Contains at t
+      → substitute terms t ≡ substitute (map (substitute terms) roots) (substitute names t)
 
 -- The table is the opened plan under a most general solution of the replay, in whose terms each parameter occurs.
 pub record IsReplayed (problem : Problem) (plan general : Table) (names roots : List Term) : Type 0 where

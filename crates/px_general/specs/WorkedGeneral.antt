@@ -52,7 +52,8 @@ plan = touching_twice 0 (Obj 0) (Obj 0)
 abbrev pub mixed_proof : Derivation
 mixed_proof =
     step 0 (Obj 0 ∷ Obj 1 ∷ Obj 0 ∷ []) 0
-    (also (fact (record { column = 0; index = 0; atom = record { pred = 1; args = Obj 0 ∷ Obj 1 ∷ [] } })) (also (fact (of_second (Obj 0))) none))
+    (also (fact (record { column = 0; index = 0; atom = record { pred = 1; args = Obj 0 ∷ Obj 1 ∷ [] } }))
+    (also (fact (of_second (Obj 0))) none))
 
 -- The parameter of the second step occurs first, in the mark. Two parameters in the other order aren't numbered so; the plan itself and
 -- the table with one parameter for both things don't generalise the plan.

@@ -99,8 +99,10 @@ fn replayed(
     requires problem { IsValid problem.now }
     requires schemas { All (HasSchema problem.now) plan.now.steps.items }
     requires few { count ≤ 1000000 }
-    requires can { CanReplayRows problem.now plan.now.steps.items plan.now.goal.items (rows_of plan.now.rows.items) (replicate count Fresh) }
-    ensures { IfOk result (λ resolved. IsSolutionOf (rows_pairs problem.now plan.now.steps.items plan.now.goal.items (rows_of plan.now.rows.items)) count resolved.items) }
+    requires can { CanReplayRows problem.now plan.now.steps.items plan.now.goal.items (rows_of plan.now.rows.items)
+        (replicate count Fresh) }
+    ensures { IfOk result (λ resolved. IsSolutionOf (rows_pairs problem.now plan.now.steps.items plan.now.goal.items
+        (rows_of plan.now.rows.items)) count resolved.items) }
 {
     let mut bind = Bind::new(alloc);
     match bind.fresh(count) {
@@ -134,7 +136,8 @@ fn build_general(
     requires rows { All (IsVariableBelow (length names.now)) (row_terms (rows_of plan.now.rows.items)) }
     requires short { length plan.now.rows.items ≤ 4294967295 }
     ensures params { IfOk result (λ general. general.params ≡ params) }
-    ensures made { IfOk result (λ general. IsMadeOf plan.now.steps.items (rows_of plan.now.rows.items) plan.now.first_object table.now general names.now) }
+    ensures made { IfOk result (λ general. IsMadeOf plan.now.steps.items (rows_of plan.now.rows.items) plan.now.first_object table.now
+        general names.now) }
 {
     let steps = named_steps(alloc, names, &plan.steps)?;
     let goal = named_goal(

@@ -30,7 +30,8 @@ fn label(labels: &mut [Term], next: u32, resolved: &[Term], term: Term) -> u32
     requires inside { IsVariableBelow (length resolved.now) term }
     ensures long { length labels.new ≡ length labels.old }
     ensures left { result + unlabelled labels.new ≡ next + unlabelled labels.old }
-    ensures labels { (walked : List Term) → AreLabels resolved.now labels.old next walked → AreLabels resolved.now labels.new result (walked ++ term ∷ []) }
+    ensures labels { (walked : List Term) → AreLabels resolved.now labels.old next walked
+        → AreLabels resolved.now labels.new result (walked ++ term ∷ []) }
 {
     match apply_term(resolved, term) {
         Term::Var(root) => match labels[root as usize] {
@@ -51,7 +52,8 @@ fn label_each(labels: &mut [Term], next: u32, resolved: &[Term], terms: &[Term])
     requires inside { All (IsVariableBelow (length resolved.now)) terms.now }
     ensures long { length labels.new ≡ length labels.old }
     ensures left { result + unlabelled labels.new ≡ next + unlabelled labels.old }
-    ensures labels { (walked : List Term) → AreLabels resolved.now labels.old next walked → AreLabels resolved.now labels.new result (walked ++ terms.now) }
+    ensures labels { (walked : List Term) → AreLabels resolved.now labels.old next walked
+        → AreLabels resolved.now labels.new result (walked ++ terms.now) }
 {
     let mut given = next;
     for term in terms {

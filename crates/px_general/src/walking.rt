@@ -24,7 +24,8 @@ pub fn walk(
     objects: u32,
 ) -> Result<Vec<Term>, NoMemory>
     requires { first + objects ≤ 1000000 }
-    ensures { IfOk result (λ walked. walked.items ≡ leaf_terms (rows_of rows.now) ++ (step_terms steps.now ++ (variables_from first objects ++ row_terms (rows_of rows.now)))) }
+    ensures { IfOk result (λ walked. walked.items ≡ leaf_terms (rows_of rows.now) ++
+        (step_terms steps.now ++ (variables_from first objects ++ row_terms (rows_of rows.now)))) }
 {
     let mut walked = Vec::new(alloc);
     add_leaves(&mut walked, alloc, rows)?;

@@ -84,7 +84,8 @@ impl Sink for MemSink {
         ensures nature { sure_room self.new ≡ sure_room self.old }
         ensures listed { IsErr result ↔ WriteFails self.old (length bytes.now) }
         ensures amount { IfOk result (λ count. count ≡ min (length bytes.now) (self.old.room - length self.old.written)) }
-        ensures ok { IfOk result (λ count. self.new ≡ record self.old { written = self.old.written ++ take count bytes.now; call = next_call self.old.call }) }
+        ensures ok { IfOk result (λ count. self.new ≡ record self.old
+            { written = self.old.written ++ take count bytes.now; call = next_call self.old.call }) }
         ensures err { OnErr result (self.new ≡ record self.old { call = next_call self.old.call; faults = next_fault self.old.faults }) }
     {
         let fails = self.fails(bytes.len());

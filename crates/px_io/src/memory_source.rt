@@ -26,7 +26,15 @@ impl Model for MemSource {
 
     ghost Value = { SourceValue };
 
-    ghost view = { λ s. record { left = drop s.at s.bytes.items; taken = s.at; most = s.most; failing = s.failing.items; call = s.call; faults = s.faults } };
+    ghost view = { λ s. record {
+      left = drop s.at s.bytes.items;
+      taken = s.at;
+      most = s.most;
+      failing = s.failing.items;
+      call =
+          s.call;
+      faults = s.faults;
+    } };
 
     ghost invariant = { λ s. (s.at ≤ vec_len s.bytes) × (1 ≤ s.most) };
 }
@@ -68,7 +76,8 @@ impl Source for MemSource {
         ensures nature { lists_none self.new.failing ≡ lists_none self.old.failing }
         ensures listed { IsErr result ↔ Contains self.old.failing self.old.call }
         ensures amount { IfOk result (λ count. count ≡ min (min (length self.old.left) (length into.old)) self.old.most) }
-        ensures ok { IfOk result (λ count. self.new ≡ record self.old { left = drop count self.old.left; taken = self.old.taken + count; call = next_call self.old.call }) }
+        ensures ok { IfOk result (λ count. self.new ≡ record self.old
+            { left = drop count self.old.left; taken = self.old.taken + count; call = next_call self.old.call }) }
         ensures err { OnErr result (self.new ≡ record self.old { call = next_call self.old.call; faults = next_fault self.old.faults }) }
         ensures piece { OnErr result (into.new ≡ into.old) }
     {

@@ -51,7 +51,8 @@ pub fn read_all<S: Source>(alloc: Global, source: &mut S, limit: usize) -> Resul
     ensures no_memory_short { IsErrOf result ReadErr.NoMemory → S.taken source.new ≤ S.taken source.old + limit }
     ensures too_long { IsErrOf result ReadErr.TooLong → S.taken source.old + limit < S.taken source.new }
     ensures too_long_first { IsErrOf result ReadErr.TooLong → S.faults source.new ≡ S.faults source.old }
-    ensures gone { (came : List ℕ) × Consumes (S.left source.old) (S.left source.new) came × (S.taken source.new ≡ S.taken source.old + length came) }
+    ensures gone { (came : List ℕ) × Consumes (S.left source.old) (S.left source.new) came
+        × (S.taken source.new ≡ S.taken source.old + length came) }
     ensures later { S.faults source.old ≤ S.faults source.new }
     ensures nature { S.never_fails source.new ≡ S.never_fails source.old }
 {

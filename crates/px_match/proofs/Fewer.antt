@@ -98,7 +98,7 @@ without_atom-near atom xs set =
     ]) in
     omega (arith, all)
 
--- and as many where it hasn't the atom
+-- and as many where the atom isn't in it
 without_atom-same : (atom : Atom) (xs : List Atom) → IsAtomSet xs → ¬ Contains xs atom → length xs ≤ length (without_atom atom xs)
 without_atom-same atom xs set hasnt =
     no_more xs (without_atom atom xs) (set_different xs set) (λ q h. (without_atom-members atom xs q).1 (h, λ same. hasnt (subst (Contains xs) same h)))

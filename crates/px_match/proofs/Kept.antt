@@ -89,6 +89,6 @@ module _ (c : Atom → Bool) (atom : Atom) (atoms : List Atom) (set : IsAtomSet 
 pub matches_set : (mark : Atom) (atoms list : List Atom) → IsAtomSet atoms → list ≡ matches mark atoms → IsAtomSet list
 matches_set mark atoms list set is = subst IsAtomSet (sym is) (IsStrictlySortedBy-filter atom_cmp (covers mark) atoms set)
 
--- and has no atom that the set hasn't
+-- and has only atoms of the set
 pub matches_without : (mark : Atom) (atoms list : List Atom) (atom : Atom) → list ≡ matches mark atoms → ¬ Contains atoms atom → ¬ Contains list atom
 matches_without mark atoms list atom is hasnt = λ has. hasnt ((Contains-filter (covers mark) atoms atom).0 (subst (λ l. Contains l atom) is has)).0

@@ -42,7 +42,7 @@ find_end p [] (suc i) end = refl
 find_end p (x ∷ xs) zero end = absurd (omega (arith, end))
 find_end p (x ∷ xs) (suc i) end = find_end p xs i (omega (arith, end))
 
--- ---- parameters that the table hasn't
+-- ---- parameters that aren't the table's
 
 pub is_low : (a params : ℕ) → a < 1 → not (nat_le 1 a && nat_le a params) ≡ true
 is_low a params low = grind (arith, nat_tests)

@@ -27,41 +27,47 @@ matches mark atoms = filter (covers mark) atoms
 -- the list of each mark has the atoms that it covers
 pub record AreMatches (marks : List Mark) (atoms : List Atom) (lists : List ModelValue) : Type 0 where
   pub same : length lists ≡ length marks
-  pub each : (k : ℕ) (l : ModelValue) (m : Mark) → k < length marks → (slice_index_or lists k l).atoms ≡ matches (slice_index_or marks k m).atom atoms
+  pub each : (k : ℕ) (l : ModelValue) (m : Mark) → k < length marks
+      → (slice_index_or lists k l).atoms ≡ matches (slice_index_or marks k m).atom atoms
 
--- there are places for so many atoms, those that are there counted
+-- there are places for this number of atoms, those that are there included
 abbrev pub HasRoom : ℕ → ModelValue → Type 0
 HasRoom room list = room ≤ list.spare + length list.atoms
 
--- the list has the atoms that the mark covers, and room for so many
+-- the list has the atoms that the mark covers, and room for the given number
 pub record IsListOf (room : ℕ) (mark : Atom) (atoms : List Atom) (list : ModelValue) : Type 0 where
   pub same : list.atoms ≡ matches mark atoms
   pub places : HasRoom room list
 
--- the lists of all marks are such, and so many atoms may be kept
+-- the lists of all marks are such, and the given number of atoms may be kept
 pub record AreKept (room : ℕ) (marks : List Mark) (kept : ModelValue) (lists : List ModelValue) : Type 0 where
   pub places : HasRoom room kept
   pub same : length lists ≡ length marks
-  pub each : (k : ℕ) (l : ModelValue) (m : Mark) → k < length marks → IsListOf room (slice_index_or marks k m).atom kept.atoms (slice_index_or lists k l)
+  pub each : (k : ℕ) (l : ModelValue) (m : Mark) → k < length marks
+      → IsListOf room (slice_index_or marks k m).atom kept.atoms (slice_index_or lists k l)
 
 -- when an atom is taken, a list of a mark's atoms among whatever ones is one among the others
 pub record IsTaken (mark atom : Atom) (old new : ModelValue) : Type 0 where
-  pub each : (room : ℕ) (atoms : List Atom) → IsAtomSet atoms → IsListOf room mark atoms old → IsListOf room mark (without_atom atom atoms) new
+  pub each : (room : ℕ) (atoms : List Atom) → IsAtomSet atoms → IsListOf room mark atoms old
+      → IsListOf room mark (without_atom atom atoms) new
 
 -- and when a new one is put, among these with it
 pub record IsPut (mark atom : Atom) (old new : ModelValue) : Type 0 where
-  pub each : (room : ℕ) (atoms : List Atom) → IsAtomSet atoms → ¬ Contains atoms atom → IsListOf room mark atoms old → IsListOf room mark (with_atom atom atoms) new
+  pub each : (room : ℕ) (atoms : List Atom) → IsAtomSet atoms → ¬ Contains atoms atom → IsListOf room mark atoms old
+      → IsListOf room mark (with_atom atom atoms) new
 
 -- the same of the list of each mark
 pub record AreTaken (marks : List Mark) (atom : Atom) (old new : List ModelValue) : Type 0 where
   pub same : length new ≡ length old
-  pub each : (k : ℕ) (l : ModelValue) (m : Mark) → k < length marks → IsTaken (slice_index_or marks k m).atom atom (slice_index_or old k l) (slice_index_or new k l)
+  pub each : (k : ℕ) (l : ModelValue) (m : Mark) → k < length marks
+      → IsTaken (slice_index_or marks k m).atom atom (slice_index_or old k l) (slice_index_or new k l)
 
 pub record ArePut (marks : List Mark) (atom : Atom) (old new : List ModelValue) : Type 0 where
   pub same : length new ≡ length old
-  pub each : (k : ℕ) (l : ModelValue) (m : Mark) → k < length marks → IsPut (slice_index_or marks k m).atom atom (slice_index_or old k l) (slice_index_or new k l)
+  pub each : (k : ℕ) (l : ModelValue) (m : Mark) → k < length marks
+      → IsPut (slice_index_or marks k m).atom atom (slice_index_or old k l) (slice_index_or new k l)
 
--- so many lists without atoms, each with room for so many
+-- `count` lists without atoms, each with room for `room`
 pub record AreEmpty (room count : ℕ) (lists : List ModelValue) : Type 0 where
   pub same : length lists ≡ count
   pub empty : (k : ℕ) (l : ModelValue) → k < length lists → (slice_index_or lists k l).atoms ≡ []

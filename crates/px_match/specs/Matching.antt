@@ -13,7 +13,7 @@ use Rattle.px_table.specs.Kernels.{IsInstantiation, IsProper, kernel_under}
 abbrev pub Extends : List (ℕ × ℕ) → List ℕ → Type 0
 Extends bound objects = All (λ (pair : ℕ × ℕ). (k : ℕ) × (pair.0 ≡ suc k) × (slice_get objects k ≡ Some pair.1)) bound
 
--- the first bound parameter that the table hasn't; its parameters are counted from 1
+-- the first bound parameter that isn't the table's; its parameters are counted from 1
 abbrev pub first_bad : Table → List (ℕ × ℕ) → Option ℕ
 first_bad table bound =
     option_map (λ (pair : ℕ × ℕ). pair.0) (find (λ (pair : ℕ × ℕ). not (nat_le 1 pair.0 && nat_le pair.0 table.params)) bound)

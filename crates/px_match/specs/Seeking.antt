@@ -24,16 +24,20 @@ pub record IsLike (work : List ℕ) (place : ℕ) (terms : List Term) (tau : Lis
 
 -- what the term becomes isn't before the expected one with at least the limit, and not after it with at most the limit
 pub record IsExpected (work : List ℕ) (place : ℕ) (limit : Option ℕ) (term expected : Term) : Type 0 where
-  pub from : (tau : List ℕ) → length tau ≡ length work → IsSameBefore work place tau term → IsFrom limit place tau → term_cmp expected (substitute (map Obj tau) term) ≢ Greater
-  pub up_to : (tau : List ℕ) → length tau ≡ length work → IsSameBefore work place tau term → IsUpTo limit place tau → term_cmp (substitute (map Obj tau) term) expected ≢ Greater
+  pub from : (tau : List ℕ) → length tau ≡ length work → IsSameBefore work place tau term → IsFrom limit place tau
+      → term_cmp expected (substitute (map Obj tau) term) ≢ Greater
+  pub up_to : (tau : List ℕ) → length tau ≡ length work → IsSameBefore work place tau term → IsUpTo limit place tau
+      → term_cmp (substitute (map Obj tau) term) expected ≢ Greater
 
 -- the found terms are before all that the terms become
 pub record AreTermsBelow (work : List ℕ) (place : ℕ) (limit : Option ℕ) (terms found : List Term) : Type 0 where
-  pub each : (tau : List ℕ) → IsLike work place terms tau → IsFrom limit place tau → slice_cmp term_cmp found (map (substitute (map Obj tau)) terms) ≡ Less
+  pub each : (tau : List ℕ) → IsLike work place terms tau → IsFrom limit place tau
+      → slice_cmp term_cmp found (map (substitute (map Obj tau)) terms) ≡ Less
 
 -- or after them
 pub record AreTermsAbove (work : List ℕ) (place : ℕ) (limit : Option ℕ) (terms found : List Term) : Type 0 where
-  pub each : (tau : List ℕ) → IsLike work place terms tau → IsUpTo limit place tau → slice_cmp term_cmp (map (substitute (map Obj tau)) terms) found ≡ Less
+  pub each : (tau : List ℕ) → IsLike work place terms tau → IsUpTo limit place tau
+      → slice_cmp term_cmp (map (substitute (map Obj tau)) terms) found ≡ Less
 
 -- the same of the atoms that a mark becomes
 pub record AreBelow (work : List ℕ) (place : ℕ) (limit : Option ℕ) (mark atom : Atom) : Type 0 where
@@ -44,8 +48,10 @@ pub record AreAbove (work : List ℕ) (place : ℕ) (limit : Option ℕ) (mark a
 
 -- the mark becomes none of the atoms before the end with at least `from` at the place
 pub record IsNoneBefore (work : List ℕ) (place from : ℕ) (mark : Atom) (atoms : List Atom) (end : ℕ) : Type 0 where
-  pub none : (tau : List ℕ) → IsLike work place mark.args tau → from ≤ object_at tau place → (k : ℕ) (d : Atom) → k < end → slice_index_or atoms k d ≢ atom_under tau mark
+  pub none : (tau : List ℕ) → IsLike work place mark.args tau → from ≤ object_at tau place → (k : ℕ) (d : Atom) → k < end
+      → slice_index_or atoms k d ≢ atom_under tau mark
 
 -- what the mark becomes with at least `from` at the place is before the atom, or has at least the best object there
 pub record IsPast (work : List ℕ) (place from : ℕ) (best : Option ℕ) (mark atom : Atom) : Type 0 where
-  pub each : (tau : List ℕ) → IsLike work place mark.args tau → from ≤ object_at tau place → IsAtMost best (object_at tau place) ⊎ (atom_cmp (atom_under tau mark) atom ≡ Less)
+  pub each : (tau : List ℕ) → IsLike work place mark.args tau → from ≤ object_at tau place → IsAtMost best (object_at tau place)
+      ⊎ (atom_cmp (atom_under tau mark) atom ≡ Less)

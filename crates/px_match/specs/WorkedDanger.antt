@@ -129,7 +129,7 @@ pub record DangerSensed : Type 0 where
   pub higher : IsSensed danger danger_table [] (p (Obj a) ∷ q (Obj a) ∷ q (Obj b) ∷ r (Obj a) ∷ []) (Some (kernel 2 a a))
   -- a parameter in no mark of the kernel gets the least object
   pub unused : IsSensed danger danger_table [] (g (Obj b) ∷ []) (Some (kernel 3 b a))
-  -- the first bound parameter that the table hasn't
+  -- the first bound parameter that isn't the table's
   pub above : first_bad danger_table ((2, b) ∷ (3, a) ∷ (0, a) ∷ []) ≡ Some 3
   pub zero : first_bad danger_table ((0, a) ∷ []) ≡ Some 0
   pub within : first_bad danger_table ((2, b) ∷ (1, a) ∷ []) ≡ None

@@ -33,7 +33,8 @@ pub fn least_of(
     requires place { place < length work.now }
     requires mark { IsMarkOf question.now number mark.now }
     ensures at_least { IfSome result (λ r. from ≤ r) }
-    ensures at_most { (objects : List ℕ) → IsAnswer question.now objects → All (IsSameBefore work.now place objects) mark.now.atom.args → from ≤ object_at objects place → IsAtMost result (object_at objects place) }
+    ensures at_most { (objects : List ℕ) → IsAnswer question.now objects → All (IsSameBefore work.now place objects) mark.now.atom.args
+        → from ≤ object_at objects place → IsAtMost result (object_at objects place) }
 {
     least(
         question.lists[number].atoms(),

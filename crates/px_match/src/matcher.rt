@@ -55,9 +55,18 @@ impl<'a> std::marker::Model for Matcher<'a> {
 
     ghost coded = { Prim.hlevel (codes, term.the_row.coded) };
 
-    ghost view = { λ m. record { problem = m.problem.now; table = m.table.now; bound = m.bound; room = m.room; instance = cond m.is_found m.instance.items [] } };
+    ghost view = { λ m. record {
+      problem = m.problem.now;
+      table = m.table.now;
+      bound = m.bound;
+      room = m.room;
+      instance =
+          cond m.is_found m.instance.items [];
+    } };
 
-    ghost invariant = { λ m. IsValid m.problem.now × IsTable m.problem.now m.table.now × (length m.work.items ≡ m.table.now.params) × (length m.instance.items ≡ m.table.now.params) × AreKept m.room m.table.now.marks m.sensed m.lists.items × AreProperFrom m.problem.now m.table.now m.instance.items m.proper_from };
+    ghost invariant = { λ m. IsValid m.problem.now × IsTable m.problem.now m.table.now × (length m.work.items ≡ m.table.now.params)
+        × (length m.instance.items ≡ m.table.now.params) × AreKept m.room m.table.now.marks m.sensed m.lists.items
+        × AreProperFrom m.problem.now m.table.now m.instance.items m.proper_from };
 }
 
 /// The first bound parameter that the table does not have.
@@ -112,10 +121,12 @@ impl<'a> Matcher<'a> {
         requires table { IsTable problem.now table.now }
         requires objects { All (λ pair. pair.1 < problem.now.objects) bind.now }
         requires once { AllPairs (λ one other. one.0 ≢ other.0) bind.now }
-        ensures value { IfOk result (λ matcher. matcher ≡ record { problem = problem.now; table = table.now; bound = bind.now; room = room; instance = [] }) }
+        ensures value { IfOk result (λ matcher. matcher ≡ record
+            { problem = problem.now; table = table.now; bound = bind.now; room = room; instance = [] }) }
         ensures in_range { OnOk result (spec_first_bad table.now bind.now ≡ None) }
         ensures bad { (n : ℕ) → IsErrOf result (MatchErr.BadParam n) → spec_first_bad table.now bind.now ≡ Some n }
-        ensures always_bad { (n : ℕ) → spec_first_bad table.now bind.now ≡ Some n → IsErrOf result (MatchErr.BadParam n) ⊎ IsErrOf result MatchErr.NoMemory }
+        ensures always_bad { (n : ℕ) → spec_first_bad table.now bind.now ≡ Some n → IsErrOf result (MatchErr.BadParam n)
+            ⊎ IsErrOf result MatchErr.NoMemory }
     {
         if let Some(number) = first_bad(table, bind) {
             return Err(MatchErr::BadParam(number));
@@ -152,8 +163,10 @@ impl<'a> Matcher<'a> {
         requires room { length model.now.atoms ≤ self.old.room }
         ensures none { (result ≡ None) ↔ NoKernelFits self.old.problem self.old.table self.old.bound model.now.atoms }
         ensures kept { result ≡ None → self.new.instance ≡ self.old.instance }
-        ensures some { IfSome result (λ number. IsHighest self.old.problem self.old.table self.old.bound model.now.atoms (kernel_with self.new.instance number)) }
-        ensures always { (kernel : KernelInstance) → IsHighest self.old.problem self.old.table self.old.bound model.now.atoms kernel → (result ≡ Some kernel.number) × (self.new.instance ≡ kernel.objects) }
+        ensures some { IfSome result (λ number. IsHighest self.old.problem self.old.table self.old.bound model.now.atoms
+            (kernel_with self.new.instance number)) }
+        ensures always { (kernel : KernelInstance) → IsHighest self.old.problem self.old.table self.old.bound model.now.atoms kernel
+            → (result ≡ Some kernel.number) × (self.new.instance ≡ kernel.objects) }
         ensures frame { self.new ≡ record self.old { instance = self.new.instance } }
     {
         let marks = self.table.marks.as_slice();

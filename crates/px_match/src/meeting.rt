@@ -111,7 +111,8 @@ fn is_none_left(
     requires tried { IsTried question.now work.now later }
     requires place { place < later }
     ensures grown { Grown cells.old cells.new }
-    ensures never { IsTrue is_blamed → IsTrue result → (objects : List ℕ) → IsAnswer question.now objects → Agree cells.new (length work.now) work.now place objects → object_at work.now place ≢ object_at objects place }
+    ensures never { IsTrue is_blamed → IsTrue result → (objects : List ℕ) → IsAnswer question.now objects
+        → Agree cells.new (length work.now) work.now place objects → object_at work.now place ≢ object_at objects place }
 {
     let mut from = 0;
     loop {
@@ -132,7 +133,8 @@ fn is_none_left(
 pub fn has_meeting(question: &Question, cells: &mut [bool], work: &[u32], place: usize) -> bool
     requires { IsTried question.now work.now place }
     ensures grown { Grown cells.old cells.new }
-    ensures never { IsTrue result → (objects : List ℕ) → IsAnswer question.now objects → Agree cells.new (length work.now) work.now place objects → object_at work.now place ≢ object_at objects place }
+    ensures never { IsTrue result → (objects : List ℕ) → IsAnswer question.now objects
+        → Agree cells.new (length work.now) work.now place objects → object_at work.now place ≢ object_at objects place }
 {
     let Some(hints) = question.hints.get(place) else {
         return false;

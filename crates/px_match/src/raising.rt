@@ -36,7 +36,8 @@ fn are_up_to(terms: &[Term], place: usize) -> bool
 fn least_bound(bound: &[(u32, u32)], place: usize, from: u32) -> Option<u32>
     requires place { place < 4294967295 }
     ensures at_least { IfSome result (λ r. from ≤ r) }
-    ensures at_most { (objects : List ℕ) → Extends bound.now objects → from ≤ object_at objects place → IsAtMost result (object_at objects place) }
+    ensures at_most { (objects : List ℕ) → Extends bound.now objects → from ≤ object_at objects place
+        → IsAtMost result (object_at objects place) }
 {
     for pair in bound {
         if pair.0 as usize == place + 1 {
@@ -136,7 +137,8 @@ fn deleting(question: &Question, work: &[u32], place: usize, clash: &Clash) -> O
 fn has_clash(question: &Question, cells: &mut [bool], work: &[u32], place: usize) -> bool
     requires { IsTried question.now work.now place }
     ensures grown { Grown cells.old cells.new }
-    ensures never { IsTrue result → (objects : List ℕ) → IsAnswer question.now objects → Agree cells.new (length work.now) work.now place objects → object_at work.now place ≢ object_at objects place }
+    ensures never { IsTrue result → (objects : List ℕ) → IsAnswer question.now objects
+        → Agree cells.new (length work.now) work.now place objects → object_at work.now place ≢ object_at objects place }
 {
     let Some(hints) = question.hints.get(place) else {
         return false;
@@ -181,7 +183,8 @@ fn put_object(cells: &mut [bool], work: &mut [u32], place: usize, object: u32)
     ensures objects { (limit : ℕ) → object < limit → All (λ n. n < limit) work.old → All (λ n. n < limit) work.new }
     ensures put { object_at work.new place ≡ object }
     ensures others { (k : ℕ) → k ≢ place → object_at work.new k ≡ object_at work.old k }
-    ensures stale { object_at work.old place ≢ object → (k : ℕ) → place < k → k < length work.old → IsReason cells.old (length work.old) k place → IsStale cells.new (length work.old) k }
+    ensures stale { object_at work.old place ≢ object → (k : ℕ) → place < k → k < length work.old
+        → IsReason cells.old (length work.old) k place → IsStale cells.new (length work.old) k }
 {
     if work[place] == object {
         return;

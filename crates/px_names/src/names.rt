@@ -26,7 +26,13 @@ impl Model for Names {
 
     ghost view = { λ n. record { objects = n.objects; predicates = n.predicates; operators = n.operators; results = n.results } };
 
-    ghost invariant = { λ n. AreNameLists (record { objects = n.objects; predicates = n.predicates; operators = n.operators; results = n.results }) };
+    ghost invariant = { λ n. AreNameLists (record {
+      objects = n.objects;
+      predicates = n.predicates;
+      operators = n.operators;
+      results =
+          n.results;
+    }) };
 }
 
 impl Names {
@@ -82,7 +88,8 @@ impl Names {
     /// `number` is the contract. `position` and `found` say the same by tests that compute, for callers whose own
     /// definitions compute numbers.
     pub fn find(&self, kind: Kind, name: &str) -> Option<u32>
-        ensures number { MatchOption result (¬ Contains (names_of kind self.now) name.now) (λ number. slice_get (names_of kind self.now) number ≡ Some name.now) }
+        ensures number { MatchOption result (¬ Contains (names_of kind self.now) name.now)
+            (λ number. slice_get (names_of kind self.now) number ≡ Some name.now) }
         ensures position { result ≡ position (bytes_eq name.now) (names_of kind self.now) }
         ensures found { is_some result ≡ has_name name.now (names_of kind self.now) }
         ensures names { AreNames kind (names_of kind self.now) }

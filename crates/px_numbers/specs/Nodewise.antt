@@ -37,7 +37,8 @@ top_of entries (Some frame) = items_of (slice_get entries frame.entry)
 unfoldable pub stack_of : Kept → ℕ → ℕ → List Entry
 stack_of kept zero number = []
 stack_of kept (suc most) zero = []
-stack_of kept (suc most) (suc place) = top_of kept.entries (slice_get kept.frames place) ++ stack_of kept most (below_of (slice_get kept.frames place))
+stack_of kept (suc most) (suc place) = top_of kept.entries (slice_get kept.frames place) ++ stack_of kept most
+    (below_of (slice_get kept.frames place))
 
 -- the node of the pair
 abbrev pub node_of : Kept → NodeKey → Node

@@ -51,7 +51,8 @@ IsModelAt kept number model = (numbers : List ℕ) × (slice_get kept.lists numb
 abbrev pub IsStackAt : Kept → ℕ → List Entry → Type 0
 IsStackAt kept number [] = number ≡ 0
 IsStackAt kept number (entry ∷ below) =
-    (place : ℕ) × (frame : Frame) × (number ≡ suc place) × (slice_get kept.frames place ≡ Some frame) × (slice_get kept.entries frame.entry ≡ Some entry) × IsStackAt kept frame.below below
+    (place : ℕ) × (frame : Frame) × (number ≡ suc place) × (slice_get kept.frames place ≡ Some frame)
+    × (slice_get kept.entries frame.entry ≡ Some entry) × IsStackAt kept frame.below below
 
 -- nothing is on top of the empty stack, and on top of another one is this entry, over this stack
 abbrev pub IsTopOf : Kept → List Entry → Option Frame → Type 0

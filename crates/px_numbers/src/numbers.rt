@@ -154,7 +154,8 @@ impl Numbers {
     pub fn pushed(&mut self, entry: u32, below: u32) -> Result<u32, NoMemory>
         requires { (stack : List Entry) × IsStackAt self.old below stack }
         ensures keeps { KeepsAll self.old self.new }
-        ensures stack { IfOk result (λ number. (top : Entry) (stack : List Entry) → slice_get self.old.entries entry ≡ Some top → IsStackAt self.old below stack → IsStackAt self.new number (top ∷ stack)) }
+        ensures stack { IfOk result (λ number. (top : Entry) (stack : List Entry) → slice_get self.old.entries entry ≡ Some top
+            → IsStackAt self.old below stack → IsStackAt self.new number (top ∷ stack)) }
     {
         let place = self.stacks.intern(Frame { entry, below })?;
         Ok(place + 1)
@@ -176,7 +177,8 @@ impl Numbers {
     /// Is the entry on the stack? Does not allocate.
     pub fn is_stacked(&self, stack: u32, entry: u32) -> bool
         requires { (entries : List Entry) × IsStackAt self.now stack entries }
-        ensures { (entries : List Entry) (one : Entry) → IsStackAt self.now stack entries → slice_get self.now.entries entry ≡ Some one → IsTrue result ↔ Contains entries one }
+        ensures { (entries : List Entry) (one : Entry) → IsStackAt self.now stack entries → slice_get self.now.entries entry ≡ Some one
+            → IsTrue result ↔ Contains entries one }
     {
         let mut rest = stack;
         while rest > 0 {

@@ -29,7 +29,8 @@ push-keeps [] y k x e = absurd (cc)
 push-keeps (z ∷ xs) y zero x e = e
 push-keeps (z ∷ xs) y (suc k) x e = push-keeps xs y k x e
 
-pub push-cases : {X : Type 0} (xs : List X) (y x : X) (k : ℕ) → slice_get (xs ++ y ∷ []) k ≡ Some x → (slice_get xs k ≡ Some x) ⊎ ((k ≡ length xs) × (y ≡ x))
+pub push-cases : {X : Type 0} (xs : List X) (y x : X) (k : ℕ) → slice_get (xs ++ y ∷ []) k ≡ Some x → (slice_get xs k ≡ Some x)
+    ⊎ ((k ≡ length xs) × (y ≡ x))
 push-cases [] y x zero e = inr (refl, cc)
 push-cases [] y x (suc k) e = absurd (cc)
 push-cases (z ∷ xs) y x zero e = inl e
@@ -63,13 +64,19 @@ keeps-once old new item number kept once = elim kept.change [
 
 -- what inserting into a set does, where `==` is equality
 module _ {K : Type 0} (eq : K → K → Bool) (decides : (x y : K) → Decides (eq x y) (x ≡ y)) where
-  inserts : (old new : List K) (item : K) (number : ℕ) → new ≡ insert_key eq old item → ((k : K) × (slice_get new number ≡ Some k) × (eq item k ≡ true)) → Keeps old new item number
+  inserts : (old new : List K) (item : K) (number : ℕ) → new ≡ insert_key eq old item
+      → ((k : K) × (slice_get new number ≡ Some k) × (eq item k ≡ true)) → Keeps old new item number
   inserts old new item number put stored = record {
     here = stored.1 ∙ ap Some (sym ((decides item stored.0).0 stored.2));
-    change = elim (list_any (eq item) old) as (λ t. list_any (eq item) old ≡ t → new ≡ (if t then old else old ++ item ∷ []) → (Contains old item × (new ≡ old)) ⊎ ((¬ Contains old item) × (new ≡ old ++ item ∷ []))) [
-      | true ↦ λ is p. inl (Contains-from_any (λ x y. (decides x y).0) item old is, p)
-      | false ↦ λ is p. inr (λ has. both_answers (list_any (eq item) old) is (list_any-from_Contains (decides_equiv eq decides) item old has), p)
-    ] refl put;
+    change = elim (list_any (eq item) old) as (λ t. list_any (eq item) old ≡ t → new ≡ (if t then old else old ++ item ∷ [])
+        → (Contains old item × (new ≡ old)) ⊎ ((¬ Contains old item) × (new ≡ old ++ item ∷ []))) [
+          | true ↦ λ is p. inl (Contains-from_any (λ x y. (decides x y).0) item old is, p)
+          | false ↦ λ is p. inr (
+            λ has. both_answers (list_any (eq item) old) is
+                (list_any-from_Contains (decides_equiv eq decides) item old has),
+            p,
+          )
+        ] refl put;
   }
 
   pub keeps : {E : Type 0} (old new : List K) (item : K) (result : Result ℕ E) → OnOk result (new ≡ insert_key eq old item)

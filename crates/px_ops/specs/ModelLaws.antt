@@ -39,7 +39,8 @@ other a b = (
   clash t f g = cc
 
 -- the members of a set without an atom are the other ones
-pub without_atom-members : (atom : Atom) (atoms : List Atom) (q : Atom) → Contains (without_atom atom atoms) q ↔ (Contains atoms q × (¬ (q ≡ atom)))
+pub without_atom-members : (atom : Atom) (atoms : List Atom) (q : Atom) → Contains (without_atom atom atoms) q
+    ↔ (Contains atoms q × (¬ (q ≡ atom)))
 without_atom-members atom atoms q =
     let kept = Contains-filter (λ a. not (atom_eq a atom)) atoms q in
     (λ h. ((kept.0 h).0, (other q atom).0 (kept.0 h).1), λ h. kept.1 (h.0, (other q atom).1 h.1))

@@ -37,7 +37,8 @@ pub record Parts (atom : Atom) (before after : List Atom) : Type 0 where
 
 -- where an atom stands in a set, or where it would
 abbrev pub IsPlace : List Atom → Atom → Result ℕ ℕ → Type 0
-IsPlace atoms atom (Ok place) = (place < length atoms) × (slice_index_or atoms place atom ≡ atom) × Parts atom (take place atoms) (drop (place + 1) atoms)
+IsPlace atoms atom (Ok place) = (place < length atoms) × (slice_index_or atoms place atom ≡ atom)
+    × Parts atom (take place atoms) (drop (place + 1) atoms)
 IsPlace atoms atom (Err place) = (place ≤ length atoms) × Parts atom (take place atoms) (drop place atoms)
 
 -- the instance has an argument for each parameter of the schema

@@ -35,7 +35,7 @@ IsFirstOf P xs = P xs × ((ys : List ℕ) → P ys → slice_cmp nat_cmp ys xs �
 abbrev pub FirstOrNone : (List ℕ → Type 0) → Type 0
 FirstOrNone P = ((xs : List ℕ) × IsFirstOf P xs) ⊎ ((xs : List ℕ) → ¬ P xs)
 
--- there are so many numbers, all below the top
+-- `len` numbers, all below the top
 abbrev pub IsWithin : ℕ → ℕ → List ℕ → Type 0
 IsWithin top len xs = (length xs ≡ len) × All (λ n. n < top) xs
 

@@ -15,7 +15,7 @@ use Rattle.px_planex.specs.Executors.{ChangesNothing, EventsTakePlaces, places_f
 use Rattle.px_planex.proofs.OneTrace.{ActGives, SenseGives, act_gives, disturb_gives, sense_gives}
 
 module _ {E : Type 0} (leaves : E → List Atom → List Atom) (problem : Problem) (table : Table) (bound : List (ℕ × ℕ)) where
-  -- the event adds at most so many atoms, and none where its outcome changes nothing
+  -- the event adds at most `places` atoms, and none where its outcome changes nothing
   abbrev pub Adds : ℕ → Running → Outcome → Running → Type 0
   Adds places old outcome new = (length new.atoms ≤ length old.atoms + places) × (ChangesNothing outcome → new.atoms ≡ old.atoms)
 

@@ -98,7 +98,7 @@ module _ (p : Problem) (valid : IsValid p) (t : Table) (table : IsTable p t) (bi
   abbrev n : ℕ
   n = length t.steps
 
-  -- at most so many turns are left at a sensing that finds this
+  -- the most turns that are left at a sensing that finds this
   abbrev turns_left : Option KernelInstance → ℕ → ℕ
   turns_left None number = 1
   turns_left (Some kernel) number = (n + 2 - kernel.number) + (n + 1) * count_after number recorded

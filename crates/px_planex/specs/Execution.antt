@@ -30,11 +30,13 @@ pub record Running : Type 0 where
 
 -- each mark of the row that has the kernel's number is true in the atoms
 abbrev pub RowHolds : Table → KernelInstance → List Atom → Type 0
-RowHolds table kernel atoms = (mark : Mark) → Contains table.marks mark → mark.row ≡ kernel.number → Contains atoms (atom_under kernel.objects mark.atom)
+RowHolds table kernel atoms = (mark : Mark) → Contains table.marks mark → mark.row ≡ kernel.number
+    → Contains atoms (atom_under kernel.objects mark.atom)
 
 -- some mark of that row isn't
 abbrev pub RowFails : Table → KernelInstance → List Atom → Type 0
-RowFails table kernel atoms = (mark : Mark) × Contains table.marks mark × (mark.row ≡ kernel.number) × (¬ Contains atoms (atom_under kernel.objects mark.atom))
+RowFails table kernel atoms = (mark : Mark) × Contains table.marks mark × (mark.row ≡ kernel.number)
+    × (¬ Contains atoms (atom_under kernel.objects mark.atom))
 
 -- the step that has the kernel's number, and the one that is remembered
 abbrev pub step_of_kernel : Table → KernelInstance → Option OpInst
@@ -58,9 +60,11 @@ module _ {E : Type 0} (leaves : E → List Atom → List Atom) (problem : Proble
   Happens old (Disturb edit) Disturbed new = new ≡ record { atoms = leaves edit old.atoms; memory = old.memory }
   Happens old Sense NoKernel new = NoKernelFits problem table bound old.atoms × (new ≡ forgetting old old.atoms)
   Happens old Sense Goal new =
-      (kernel : KernelInstance) × IsHighest problem table bound old.atoms kernel × (kernel.number ≡ length table.steps + 1) × (new ≡ sensing old None kernel)
+      (kernel : KernelInstance) × IsHighest problem table bound old.atoms kernel × (kernel.number ≡ length table.steps + 1)
+      × (new ≡ sensing old None kernel)
   Happens old Sense (Sensed i) new =
-      (kernel : KernelInstance) × IsHighest problem table bound old.atoms kernel × (kernel.number ≡ i) × (i ≤ length table.steps) × (new ≡ sensing old (Some kernel) kernel)
+      (kernel : KernelInstance) × IsHighest problem table bound old.atoms kernel × (kernel.number ≡ i) × (i ≤ length table.steps)
+      × (new ≡ sensing old (Some kernel) kernel)
   Happens old Act NotSensed new = (old.memory.remembered ≡ None) × (new ≡ old)
   Happens old Act Slipped new =
       (kernel : KernelInstance) × (old.memory.remembered ≡ Some kernel) × RowFails table kernel old.atoms × (new ≡ forgetting old old.atoms)

@@ -27,7 +27,8 @@ pub record PlanexValue : Type 0 where
 -- the kernel, if there is one, has the number of a step, and an object of the problem for each parameter
 abbrev pub IsActable : Problem → Table → Option KernelInstance → Type 0
 IsActable problem table None = Unit {0}
-IsActable problem table (Some kernel) = (1 ≤ kernel.number) × (kernel.number ≤ length table.steps) × IsInstantiation problem table kernel.objects
+IsActable problem table (Some kernel) = (1 ≤ kernel.number) × (kernel.number ≤ length table.steps)
+    × IsInstantiation problem table kernel.objects
 
 -- how many atoms the step adds, if there is one
 abbrev pub places_for : Problem → Option OpInst → ℕ
@@ -54,16 +55,18 @@ ChangesNothing outcome = Unit {0}
 abbrev pub EditsAddOne : {E : Type 0} → (E → List Atom → List Atom) → Type 0
 EditsAddOne {E} leaves = (edit : E) (atoms : List Atom) → length (leaves edit atoms) ≤ length atoms + 1
 
--- an event leaves at most so many atoms more as it may want places, and the same atoms where its outcome changes nothing
+-- an event adds no more atoms than the places that it may want, and the same atoms where its outcome changes nothing
 abbrev pub EventsTakePlaces : {E : Type 0} → (E → List Atom → List Atom) → Type 0
-EventsTakePlaces {E} leaves = (problem : Problem) (table : Table) (bound : List (ℕ × ℕ)) (old new : Running) (event : Event E) (outcome : Outcome)
+EventsTakePlaces {E} leaves = (problem : Problem) (table : Table) (bound : List (ℕ × ℕ)) (old new : Running) (event : Event E)
+    (outcome : Outcome)
     → EditsAddOne leaves → Happens leaves problem table bound old event outcome new
     → (length new.atoms ≤ length old.atoms + places_of problem table old.memory event) × (ChangesNothing outcome → new.atoms ≡ old.atoms)
 
 -- ---- what an executor keeps
 
 -- the matcher is the table's, there is room for the atoms of a world, and what is remembered can be acted by
-pub record IsReady (problem : Problem) (table : Table) (matcher : MatcherValue) (sensed : ModelValue) (room : ℕ) (remembered : Option KernelInstance) : Type 0 where
+pub record IsReady (problem : Problem) (table : Table) (matcher : MatcherValue) (sensed : ModelValue) (room : ℕ)
+    (remembered : Option KernelInstance) : Type 0 where
   pub is_table : IsTable problem table
   pub same_problem : matcher.problem ≡ problem
   pub same_table : matcher.table ≡ table

@@ -18,9 +18,10 @@ abbrev pub ActsAndGoesOn : {E : Type 0} → (E → List Atom → List Atom) → 
 ActsAndGoesOn leaves = (problem : Problem) (table : Table) (bound : List (ℕ × ℕ)) (old sensed acted : Running) (i : ℕ) (outcome : Outcome)
     → IsValid problem → IsTable problem table
     → Happens leaves problem table bound old Sense (Sensed i) sensed → Happens leaves problem table bound sensed Act outcome acted
-    → (outcome ≡ Acted) × ((answer : Option KernelInstance) → IsSensed problem table bound acted.atoms answer → (next : KernelInstance) × (answer ≡ Some next) × (i < next.number))
+    → (outcome ≡ Acted) × ((answer : Option KernelInstance) → IsSensed problem table bound acted.atoms answer → (next : KernelInstance)
+    × (answer ≡ Some next) × (i < next.number))
 
--- acting and sensing in turn, so many times
+-- acting and sensing in turn, the given number of times
 abbrev pub alternating : {E : Type 0} → ℕ → List (Event E)
 alternating zero = []
 alternating (suc count) = Act ∷ Sense ∷ alternating count
@@ -34,6 +35,7 @@ ClimbsToGoal i outcomes = ⊥
 
 -- after kernel `i` of a table of `n` steps was sensed, the goal comes in alternation after at most `n + 1 - i` actions
 abbrev pub GoalIsReached : {E : Type 0} → (E → List Atom → List Atom) → Type 0
-GoalIsReached leaves = (problem : Problem) (table : Table) (bound : List (ℕ × ℕ)) (old sensed new : Running) (i : ℕ) (outcomes : List Outcome)
+GoalIsReached leaves = (problem : Problem) (table : Table) (bound : List (ℕ × ℕ)) (old sensed new : Running) (i : ℕ)
+    (outcomes : List Outcome)
     → IsValid problem → IsTable problem table → Happens leaves problem table bound old Sense (Sensed i) sensed
     → Traces leaves problem table bound sensed (alternating (length table.steps + 1 - i)) outcomes new → ClimbsToGoal i outcomes

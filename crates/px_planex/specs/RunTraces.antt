@@ -23,8 +23,10 @@ module _ {E : Type 0} (recorded : List (Recorded E)) where
   abbrev pub turn_events : ℕ → TurnEnd → List (Event E)
   turn_events number AtGoal = disturbing (edits_at recorded number false) ++ Sense ∷ []
   turn_events number AtNoKernel = disturbing (edits_at recorded number false) ++ Sense ∷ []
-  turn_events number ByActing = disturbing (edits_at recorded number false) ++ Sense ∷ (disturbing (edits_at recorded number true) ++ Act ∷ [])
-  turn_events number BySlipping = disturbing (edits_at recorded number false) ++ Sense ∷ (disturbing (edits_at recorded number true) ++ Act ∷ [])
+  turn_events number ByActing = disturbing (edits_at recorded number false) ++ Sense ∷
+      (disturbing (edits_at recorded number true) ++ Act ∷ [])
+  turn_events number BySlipping = disturbing (edits_at recorded number false) ++ Sense ∷
+      (disturbing (edits_at recorded number true) ++ Act ∷ [])
 
   -- and their outcomes, where the turn had this kernel
   abbrev pub turn_outcomes : ℕ → ℕ → TurnEnd → List Outcome

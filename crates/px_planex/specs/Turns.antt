@@ -83,7 +83,8 @@ module _ {E : Type 0} (leaves : E → List Atom → List Atom) (problem : Proble
     -- a run in a world of these atoms, disturbed as recorded: its turns, from 1 on, and the atoms after it
     abbrev pub RunsTable : List Atom → List TurnValue → List Atom → Type 0
     RunsTable atoms turns after =
-        (memory : Memory) × TakesTurns 1 (record { atoms = atoms; memory = nothing_sensed }) turns (record { atoms = after; memory = memory })
+        (memory : Memory) × TakesTurns 1 (record { atoms = atoms; memory = nothing_sensed }) turns
+        (record { atoms = after; memory = memory })
 
 -- a run with D recorded disturbances of a table of n steps has at most (D + 1) * (n + 1) turns
 abbrev pub TurnsAreFew : {E : Type 0} → (E → List Atom → List Atom) → Type 0

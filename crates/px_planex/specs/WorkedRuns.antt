@@ -23,14 +23,16 @@ tried kernel inst end = record { kernel = kernel; op = Some inst; end = end }
 
 pub record DangerRuns : Type 0 where
   -- Q(a) comes before the first sensing. With one object for both parameters no kernel fits then.
-  pub stuck : RunsTable edited danger danger_table ((1, a) ∷ (2, a) ∷ []) (record { turn = 1; between = false; edits = Add (q (Obj a)) ∷ [] } ∷ [])
+  pub stuck : RunsTable edited danger danger_table ((1, a) ∷ (2, a) ∷ [])
+      (record { turn = 1; between = false; edits = Add (q (Obj a)) ∷ [] } ∷ [])
       (p (Obj a) ∷ q (Obj b) ∷ []) (lost ∷ []) danger_facts
   -- with the first parameter bound alone, two steps lead to the goal
   pub straight : RunsTable edited danger danger_table ((1, a) ∷ []) []
       danger_facts (tried 1 (a_step (Obj a)) ByActing ∷ tried 2 (b_step (Obj a) (Obj b)) ByActing ∷ arrived ∷ [])
       (p (Obj a) ∷ q (Obj b) ∷ r (Obj a) ∷ g (Obj a) ∷ [])
   -- P(a) goes between the first sensing and its action, which slips; and then nothing fits
-  pub slipped : RunsTable edited danger danger_table ((1, a) ∷ []) (record { turn = 1; between = true; edits = Remove (p (Obj a)) ∷ [] } ∷ [])
+  pub slipped : RunsTable edited danger danger_table ((1, a) ∷ [])
+      (record { turn = 1; between = true; edits = Remove (p (Obj a)) ∷ [] } ∷ [])
       danger_facts (tried 1 (a_step (Obj a)) BySlipping ∷ lost ∷ []) (q (Obj a) ∷ q (Obj b) ∷ [])
   -- an action before any sensing isn't taken, nor is a second one after a sensing
   pub unsensed : Traces edited danger danger_table ((1, a) ∷ []) (record { atoms = danger_facts; memory = nothing_sensed })

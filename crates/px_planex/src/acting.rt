@@ -35,7 +35,8 @@ fn row_holds<W: World>(
 ) -> bool
     requires table { IsTable problem.now table.now }
     requires objects { IsInstantiation problem.now table.now objects.now }
-    ensures { MatchBool result (RowHolds table.now (kernel_with objects.now row) (W.atoms world.now)) (RowFails table.now (kernel_with objects.now row) (W.atoms world.now)) }
+    ensures { MatchBool result (RowHolds table.now (kernel_with objects.now row) (W.atoms world.now))
+        (RowFails table.now (kernel_with objects.now row) (W.atoms world.now)) }
 {
     for mark in table.marks.as_slice() {
         if mark.row == row && !world.holds(&atom_with(objects, &mark.atom)) {
@@ -58,8 +59,10 @@ pub(crate) fn act_by<W: World>(
     requires objects { IsInstantiation problem.now table.now objects.now }
     requires number { (1 ≤ number) × (number ≤ length table.now.steps) }
     requires places { places_for problem.now (step_of_kernel table.now (kernel_with objects.now number)) ≤ W.spare world.old }
-    ensures taken { MatchBool result (IsTaken problem.now table.now (kernel_with objects.now number) (W.atoms world.old) (W.atoms world.new)) (RowFails table.now (kernel_with objects.now number) (W.atoms world.old) × (world.new ≡ world.old)) }
-    ensures spare { W.spare world.old ≤ W.spare world.new + places_for problem.now (step_of_kernel table.now (kernel_with objects.now number)) }
+    ensures taken { MatchBool result (IsTaken problem.now table.now (kernel_with objects.now number) (W.atoms world.old)
+        (W.atoms world.new)) (RowFails table.now (kernel_with objects.now number) (W.atoms world.old) × (world.new ≡ world.old)) }
+    ensures spare { W.spare world.old ≤ W.spare world.new + places_for problem.now
+        (step_of_kernel table.now (kernel_with objects.now number)) }
     ensures rules { W.rules world.new ≡ W.rules world.old }
     ensures edits { (edit : W.Edit) → W.admits world.new edit ↔ W.admits world.old edit }
 {

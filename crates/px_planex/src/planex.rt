@@ -55,7 +55,8 @@ impl<'a> std::marker::Model for Planex<'a> {
       memory = record { remembered = option_map (kernel_with p.matcher.instance) p.remembered; instance = p.matcher.instance };
     } };
 
-    ghost invariant = { λ p. IsReady p.problem.now p.table.now p.matcher p.sensed p.room (option_map (kernel_with p.matcher.instance) p.remembered) };
+    ghost invariant = { λ p. IsReady p.problem.now p.table.now p.matcher p.sensed p.room
+        (option_map (kernel_with p.matcher.instance) p.remembered) };
 }
 
 impl<'a> Planex<'a> {
@@ -76,10 +77,12 @@ impl<'a> Planex<'a> {
         requires table { IsTable problem.now table.now }
         requires objects { All (λ pair. pair.1 < problem.now.objects) bind.now }
         requires once { AllPairs (λ one other. one.0 ≢ other.0) bind.now }
-        ensures value { IfOk result (λ planex. planex ≡ record { problem = problem.now; table = table.now; bound = bind.now; room = room; memory = nothing_sensed }) }
+        ensures value { IfOk result (λ planex. planex ≡ record
+            { problem = problem.now; table = table.now; bound = bind.now; room = room; memory = nothing_sensed }) }
         ensures in_range { OnOk result (first_bad table.now bind.now ≡ None) }
         ensures bad { (n : ℕ) → IsErrOf result (MatchErr.BadParam n) → first_bad table.now bind.now ≡ Some n }
-        ensures always_bad { (n : ℕ) → first_bad table.now bind.now ≡ Some n → IsErrOf result (MatchErr.BadParam n) ⊎ IsErrOf result MatchErr.NoMemory }
+        ensures always_bad { (n : ℕ) → first_bad table.now bind.now ≡ Some n → IsErrOf result (MatchErr.BadParam n)
+            ⊎ IsErrOf result MatchErr.NoMemory }
     {
         let matcher = match Matcher::reserve(alloc, problem, table, bind, room) {
             Ok(matcher) => matcher,
@@ -133,11 +136,13 @@ impl<'a> Planex<'a> {
         requires room { length (W.atoms world.old) ≤ self.old.room }
         requires admitted { (edit : W.Edit) → event ≡ Event.Disturb edit → W.admits world.old edit }
         requires places { places_of self.old.problem self.old.table self.old.memory event ≤ W.spare world.old }
-        ensures happens { Happens W.leaves self.old.problem self.old.table self.old.bound (running (W.atoms world.old) self.old.memory) event result (running (W.atoms world.new) self.new.memory) }
+        ensures happens { Happens W.leaves self.old.problem self.old.table self.old.bound (running (W.atoms world.old) self.old.memory)
+            event result (running (W.atoms world.new) self.new.memory) }
         ensures frame { self.new ≡ record self.old { memory = self.new.memory } }
         ensures unchanged { ChangesNothing result → world.new ≡ world.old }
         ensures spare { W.spare world.old ≤ W.spare world.new + places_of self.old.problem self.old.table self.old.memory event }
-        ensures number { length (W.atoms world.new) ≤ length (W.atoms world.old) + places_of self.old.problem self.old.table self.old.memory event }
+        ensures number { length (W.atoms world.new) ≤ length (W.atoms world.old) + places_of self.old.problem self.old.table self.old.memory
+            event }
         ensures rules { W.rules world.new ≡ W.rules world.old }
         ensures edits { (edit : W.Edit) → W.admits world.new edit ↔ W.admits world.old edit }
     {
@@ -154,7 +159,8 @@ impl<'a> Planex<'a> {
     /// Senses: finds the highest kernel that fits the world.
     fn sense<W: World>(&mut self, world: &W) -> Outcome
         requires room { length (W.atoms world.now) ≤ self.old.room }
-        ensures happens { Happens W.leaves self.old.problem self.old.table self.old.bound (running (W.atoms world.now) self.old.memory) Event.Sense result (running (W.atoms world.now) self.new.memory) }
+        ensures happens { Happens W.leaves self.old.problem self.old.table self.old.bound (running (W.atoms world.now) self.old.memory)
+            Event.Sense result (running (W.atoms world.now) self.new.memory) }
         ensures frame { self.new ≡ record self.old { memory = self.new.memory } }
     {
         self.sensed.clear();
@@ -181,10 +187,12 @@ impl<'a> Planex<'a> {
     fn act<W: World>(&mut self, world: &mut W) -> Outcome
         requires rules { HaveSameRules (W.rules world.old) self.old.problem }
         requires places { places_for self.old.problem (remembered_step self.old.table self.old.memory) ≤ W.spare world.old }
-        ensures happens { Happens W.leaves self.old.problem self.old.table self.old.bound (running (W.atoms world.old) self.old.memory) Event.Act result (running (W.atoms world.new) self.new.memory) }
+        ensures happens { Happens W.leaves self.old.problem self.old.table self.old.bound (running (W.atoms world.old) self.old.memory)
+            Event.Act result (running (W.atoms world.new) self.new.memory) }
         ensures frame { self.new ≡ record self.old { memory = self.new.memory } }
         ensures unchanged { ChangesNothing result → world.new ≡ world.old }
-        ensures spare { W.spare world.old ≤ W.spare world.new + places_for self.old.problem (remembered_step self.old.table self.old.memory) }
+        ensures spare { W.spare world.old ≤ W.spare world.new + places_for self.old.problem
+            (remembered_step self.old.table self.old.memory) }
         ensures rules { W.rules world.new ≡ W.rules world.old }
         ensures edits { (edit : W.Edit) → W.admits world.new edit ↔ W.admits world.old edit }
     {

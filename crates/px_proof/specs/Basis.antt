@@ -6,7 +6,13 @@ use Rattle.px_proof.specs.Proves.{Rules, from_facts, IsName}
 
 -- proofs over names from whatever leaves they have
 abbrev pub over_names : ℕ → ℕ → Rules
-over_names objects params = record { IsChoice = IsName objects params; IsFact = λ leaf. All (IsName objects params) leaf.atom.args; IsGap = λ atom. ⊥; IsOpen = ⊥ }
+over_names objects params = record {
+  IsChoice = IsName objects params;
+  IsFact = λ leaf. All (IsName objects params) leaf.atom.args;
+  IsGap =
+      λ atom. ⊥;
+  IsOpen = ⊥;
+}
 
 abbrev pub rules_of : Basis → Rules
 rules_of (Facts facts) = from_facts facts.now

@@ -46,21 +46,27 @@ module _ (R : Leaf → Derivation → Type 0) where
       (each_has-front (first_leaves xs) (first_leaves ys) parts both, each_has-back (first_leaves xs) (first_leaves ys) parts both)
 
 -- where the atoms have their parts, the leaves have
-pub each_has-atoms : (R : Atom → Derivation → Type 0) (leaves : List Leaf) (parts : List Derivation) → AllZip R (leaf_atoms leaves) parts → EachHas (λ leaf part. R leaf.atom part) leaves parts
+pub each_has-atoms : (R : Atom → Derivation → Type 0) (leaves : List Leaf) (parts : List Derivation) → AllZip R (leaf_atoms leaves) parts
+    → EachHas (λ leaf part. R leaf.atom part) leaves parts
 each_has-atoms R [] parts all = tt
 each_has-atoms R (leaf ∷ leaves) [] all = all
 each_has-atoms R (leaf ∷ leaves) (part ∷ parts) all = (all.0, each_has-atoms R leaves parts all.1)
 
 -- where each leaf has what it is mapped to
-pub each_has-map : (R : Leaf → Derivation → Type 0) (f : Leaf → Derivation) (leaves : List Leaf) → ((leaf : Leaf) → Contains leaves leaf → R leaf (f leaf)) → EachHas R leaves (map f leaves)
+pub each_has-map : (R : Leaf → Derivation → Type 0) (f : Leaf → Derivation) (leaves : List Leaf)
+    → ((leaf : Leaf) → Contains leaves leaf → R leaf (f leaf)) → EachHas R leaves (map f leaves)
 each_has-map R f [] each = tt
-each_has-map R f (leaf ∷ leaves) each = (each leaf (Contains-first leaf leaves), each_has-map R f leaves (λ other has. each other (Contains-later leaf leaves other has)))
+each_has-map R f (leaf ∷ leaves) each = (
+  each leaf (Contains-first leaf leaves),
+  each_has-map R f leaves (λ other has. each other (Contains-later leaf leaves other has)),
+)
 
 -- where all leaves are in column 0, as in a proof from a model, each has its part
 pub first_leaves-all : (leaves : List Leaf) → All (λ leaf. leaf.column ≡ 0) leaves → first_leaves leaves ≡ leaves
 first_leaves-all [] all = refl
 first_leaves-all (leaf ∷ leaves) all =
-    ap (λ b. cond b (leaf ∷ first_leaves leaves) (first_leaves leaves)) (ap (λ n. n == 0) (All-head (λ (l : Leaf). l.column ≡ 0) leaf leaves all))
+    ap (λ b. cond b (leaf ∷ first_leaves leaves) (first_leaves leaves))
+    (ap (λ n. n == 0) (All-head (λ (l : Leaf). l.column ≡ 0) leaf leaves all))
     ∙ ap (λ ls. leaf ∷ ls) (first_leaves-all leaves (All-tail (λ (l : Leaf). l.column ≡ 0) leaf leaves all))
 
 -- ---- a grafted derivation proves
@@ -73,8 +79,10 @@ module _ (axioms : List Clause) (old new : Rules) (allows : Allows old new) (shi
   abbrev Rise : List Leaf → Type 0
   Rise leaves = (leaf : Leaf) → Contains leaves leaf → (leaf.column == 0) ≡ false → old.IsFact leaf → new.IsFact (raised shift leaf)
 
-  in_place : (path : List Lit) (lit : Lit) (leaf : Leaf) (parts : List Derivation) (is_first : Bool) → lit ≡ positive_of leaf.atom → EachHas Closes (cond is_first (leaf ∷ []) []) parts
-      → (is_first ≡ false → new.IsFact (raised shift leaf)) → Proves new axioms path lit (cond is_first (slice_index_or parts 0 open_place) (fact (raised shift leaf)))
+  in_place : (path : List Lit) (lit : Lit) (leaf : Leaf) (parts : List Derivation) (is_first : Bool) → lit ≡ positive_of leaf.atom
+      → EachHas Closes (cond is_first (leaf ∷ []) []) parts
+      → (is_first ≡ false → new.IsFact (raised shift leaf)) → Proves new axioms path lit
+      (cond is_first (slice_index_or parts 0 open_place) (fact (raised shift leaf)))
   in_place path lit leaf [] true is has rises = absurd has
   in_place path lit leaf (part ∷ parts) true is has rises =
       subst (λ (l : Lit). Proves new axioms path l part) (sym is) (proves_longer new axioms path [] (positive_of leaf.atom) part has.0)
@@ -82,25 +90,34 @@ module _ (axioms : List Clause) (old new : Rules) (allows : Allows old new) (shi
 
   mutual
     -- whatever literal it proved, where each part proves the atom of its leaf under the empty path
-    pub proves_grafted : (path : List Lit) (lit : Lit) (d : Derivation) (parts : List Derivation) → EachHas Closes (first_leaves (leaves_of d)) parts → Rise (leaves_of d)
+    pub proves_grafted : (path : List Lit) (lit : Lit) (d : Derivation) (parts : List Derivation)
+        → EachHas Closes (first_leaves (leaves_of d)) parts → Rise (leaves_of d)
         → Proves old axioms path lit d → Proves new axioms path lit (grafted shift parts d)
     proves_grafted path lit (fact leaf) parts has rise proved =
         in_place path lit leaf parts (leaf.column == 0) proved.0 has (λ later. rise leaf (Contains-first leaf []) later proved.1)
     proves_grafted path lit (ancestor i) parts has rise proved = proved
     proves_grafted path lit (step number theta place ds) parts has rise proved = (
       proved.0,
-      record { axiom_at = proved.1.axiom_at; terms = proved.1.terms; choices = λ k d below. allows.choices _ (proved.1.choices k d below); literal_at = proved.1.literal_at },
+      record {
+        axiom_at = proved.1.axiom_at;
+        terms = proved.1.terms;
+        choices =
+            λ k d below. allows.choices _ (proved.1.choices k d below);
+        literal_at = proved.1.literal_at;
+      },
       each_grafted (lit ∷ path) (parts_of proved.0.lits theta place) ds parts has rise proved.2,
     )
     proves_grafted path lit (gap atom) parts has rise proved = (proved.0, allows.gaps atom proved.1)
     proves_grafted path lit open_place parts has rise proved = allows.opens proved
 
-    pub each_grafted : (path lits : List Lit) (ds : Derivations) (parts : List Derivation) → EachHas Closes (first_leaves (all_leaves_of ds)) parts → Rise (all_leaves_of ds)
+    pub each_grafted : (path lits : List Lit) (ds : Derivations) (parts : List Derivation)
+        → EachHas Closes (first_leaves (all_leaves_of ds)) parts → Rise (all_leaves_of ds)
         → ProvesEach old axioms path lits ds → ProvesEach new axioms path lits (all_grafted shift parts ds)
     each_grafted path [] none parts has rise each = tt
     each_grafted path (lit ∷ lits) (also d ds) parts has rise each =
         let both = each_has-both Closes (leaves_of d) (all_leaves_of ds) parts has in (
-          proves_grafted path lit d parts both.0 (λ leaf there. rise leaf (Contains-append_left (leaves_of d) (all_leaves_of ds) leaf there)) each.0,
+          proves_grafted path lit d parts both.0 (λ leaf there. rise leaf
+              (Contains-append_left (leaves_of d) (all_leaves_of ds) leaf there)) each.0,
           each_grafted path lits ds (drop (length (first_leaves (leaves_of d))) parts) both.1
               (λ leaf there. rise leaf (Contains-append_right (leaves_of d) (all_leaves_of ds) leaf there)) each.1,
         )
@@ -110,25 +127,33 @@ module _ (axioms : List Clause) (old new : Rules) (allows : Allows old new) (shi
 pub graft_is_tree : (shift : ℕ) (parts : List Derivation) (d : Derivation) → GraftIsTree parts d (grafted shift parts d)
 graft_is_tree shift parts d axioms objects params lit trees tree = record {
   proves = (own_leaves axioms objects params [] lit (grafted shift parts d)).0
-      (proves_grafted axioms (over_names objects params) (over_names objects params) (record { choices = λ t h. h; gaps = λ atom h. h; opens = λ h. h }) shift [] lit d parts
-      (over_own_leaves (first_leaves (leaves_of d)) parts (each_has-atoms (λ atom part. IsTree axioms objects params (positive_of atom) part) (first_leaves (leaves_of d)) parts trees))
+      (proves_grafted axioms (over_names objects params) (over_names objects params)
+      (record { choices = λ t h. h; gaps = λ atom h. h; opens = λ h. h }) shift [] lit d parts
+      (over_own_leaves (first_leaves (leaves_of d)) parts (each_has-atoms
+      (λ atom part. IsTree axioms objects params (positive_of atom) part) (first_leaves (leaves_of d)) parts trees))
       (λ leaf there later h. h) ((own_leaves axioms objects params [] lit d).1 tree.proves));
   terms = tree.terms;
 }
   where
-    over_own_leaves : (leaves : List Leaf) (parts : List Derivation) → EachHas (λ leaf part. IsTree axioms objects params (positive_of leaf.atom) part) leaves parts
+    over_own_leaves : (leaves : List Leaf) (parts : List Derivation)
+        → EachHas (λ leaf part. IsTree axioms objects params (positive_of leaf.atom) part) leaves parts
         → EachHas (λ leaf part. Proves (over_names objects params) axioms [] (positive_of leaf.atom) part) leaves parts
     over_own_leaves [] parts has = tt
     over_own_leaves (leaf ∷ leaves) [] has = absurd has
-    over_own_leaves (leaf ∷ leaves) (part ∷ parts) has = ((own_leaves axioms objects params [] (positive_of leaf.atom) part).1 has.0.proves, over_own_leaves leaves parts has.1)
+    over_own_leaves (leaf ∷ leaves) (part ∷ parts) has = (
+      (own_leaves axioms objects params [] (positive_of leaf.atom) part).1 has.0.proves,
+      over_own_leaves leaves parts has.1,
+    )
 
 pub graft_proves : (shift : ℕ) (parts : List Derivation) (d : Derivation) → GraftProves parts d (grafted shift parts d)
 graft_proves shift parts d axioms old_facts facts path lit later each proved =
-    proves_grafted axioms (from_facts old_facts) (from_facts facts) (record { choices = λ t h. h; gaps = λ atom h. h; opens = λ h. h }) shift path lit d parts
+    proves_grafted axioms (from_facts old_facts) (from_facts facts) (record { choices = λ t h. h; gaps = λ atom h. h; opens = λ h. h })
+    shift path lit d parts
     (each_has-atoms (λ atom part. Proves (from_facts facts) axioms [] (positive_of atom) part) (first_leaves (leaves_of d)) parts each)
     (λ leaf there is_later from. (
       All-at (Contains facts) (leaf_atoms (later_leaves (leaves_of d))) leaf.atom later
-          (Contains-mapped (λ (l : Leaf). l.atom) (later_leaves (leaves_of d)) leaf ((Contains-filter (λ (l : Leaf). not (l.column == 0)) (leaves_of d) leaf).1 (there, ap not is_later))),
+          (Contains-mapped (λ (l : Leaf). l.atom) (later_leaves (leaves_of d)) leaf
+          ((Contains-filter (λ (l : Leaf). not (l.column == 0)) (leaves_of d) leaf).1 (there, ap not is_later))),
       from.1,
     ))
     proved
@@ -147,18 +172,21 @@ in_places-append shift parts [] ys = refl
 in_places-append shift parts (x ∷ xs) ys =
     ap (λ ds. in_place_of shift parts x ∷ ds)
     (in_places-append shift (if x.column == 0 then drop 1 parts else parts) xs ys
-    ∙ ap (λ (rest : List Derivation). in_places_of shift (if x.column == 0 then drop 1 parts else parts) xs ++ in_places_of shift rest ys) (sym (drop_first (x.column == 0) x (first_leaves xs) parts)))
+    ∙ ap (λ (rest : List Derivation). in_places_of shift (if x.column == 0 then drop 1 parts else parts) xs ++ in_places_of shift rest ys)
+    (sym (drop_first (x.column == 0) x (first_leaves xs) parts)))
 
 mutual
   -- they are the leaves of what comes in the places of its leaves
-  pub leaves-grafted : (shift : ℕ) (parts : List Derivation) (d : Derivation) → leaves_of (grafted shift parts d) ≡ flat_map leaves_of (in_places_of shift parts (leaves_of d))
+  pub leaves-grafted : (shift : ℕ) (parts : List Derivation) (d : Derivation)
+      → leaves_of (grafted shift parts d) ≡ flat_map leaves_of (in_places_of shift parts (leaves_of d))
   leaves-grafted shift parts (fact leaf) = sym (append-nil (leaves_of (in_place_of shift parts leaf)))
   leaves-grafted shift parts (ancestor i) = refl
   leaves-grafted shift parts (step number theta place ds) = all_leaves-grafted shift parts ds
   leaves-grafted shift parts (gap atom) = refl
   leaves-grafted shift parts open_place = refl
 
-  pub all_leaves-grafted : (shift : ℕ) (parts : List Derivation) (ds : Derivations) → all_leaves_of (all_grafted shift parts ds) ≡ flat_map leaves_of (in_places_of shift parts (all_leaves_of ds))
+  pub all_leaves-grafted : (shift : ℕ) (parts : List Derivation) (ds : Derivations)
+      → all_leaves_of (all_grafted shift parts ds) ≡ flat_map leaves_of (in_places_of shift parts (all_leaves_of ds))
   all_leaves-grafted shift parts none = refl
   all_leaves-grafted shift parts (also d ds) =
       let rest = drop (length (first_leaves (leaves_of d))) parts in
@@ -171,7 +199,8 @@ module _ (P : Leaf → Type 0) (shift : ℕ) where
   abbrev AreAll : Leaf → Derivation → Type 0
   AreAll leaf part = All P (leaves_of part)
 
-  place_all : (leaf : Leaf) (parts : List Derivation) (is_first : Bool) → EachHas AreAll (cond is_first (leaf ∷ []) []) parts → (is_first ≡ false → P (raised shift leaf))
+  place_all : (leaf : Leaf) (parts : List Derivation) (is_first : Bool) → EachHas AreAll (cond is_first (leaf ∷ []) []) parts
+      → (is_first ≡ false → P (raised shift leaf))
       → All P (leaves_of (cond is_first (slice_index_or parts 0 open_place) (fact (raised shift leaf))))
   place_all leaf [] true has rises = absurd has
   place_all leaf (part ∷ parts) true has rises = has.0
@@ -180,7 +209,8 @@ module _ (P : Leaf → Type 0) (shift : ℕ) where
   mutual
     -- what holds of the leaves of the parts, and of those in later columns in their higher ones, holds of all
     pub grafted_leaves-all : (d : Derivation) (parts : List Derivation) → EachHas AreAll (first_leaves (leaves_of d)) parts
-        → ((leaf : Leaf) → Contains (leaves_of d) leaf → (leaf.column == 0) ≡ false → P (raised shift leaf)) → All P (leaves_of (grafted shift parts d))
+        → ((leaf : Leaf) → Contains (leaves_of d) leaf → (leaf.column == 0) ≡ false → P (raised shift leaf))
+        → All P (leaves_of (grafted shift parts d))
     grafted_leaves-all (fact leaf) parts has rise = place_all leaf parts (leaf.column == 0) has (rise leaf (Contains-first leaf []))
     grafted_leaves-all (ancestor i) parts has rise = All-nil P
     grafted_leaves-all (step number theta place ds) parts has rise = all_grafted_leaves-all ds parts has rise
@@ -188,11 +218,13 @@ module _ (P : Leaf → Type 0) (shift : ℕ) where
     grafted_leaves-all open_place parts has rise = All-nil P
 
     pub all_grafted_leaves-all : (ds : Derivations) (parts : List Derivation) → EachHas AreAll (first_leaves (all_leaves_of ds)) parts
-        → ((leaf : Leaf) → Contains (all_leaves_of ds) leaf → (leaf.column == 0) ≡ false → P (raised shift leaf)) → All P (all_leaves_of (all_grafted shift parts ds))
+        → ((leaf : Leaf) → Contains (all_leaves_of ds) leaf → (leaf.column == 0) ≡ false → P (raised shift leaf))
+        → All P (all_leaves_of (all_grafted shift parts ds))
     all_grafted_leaves-all none parts has rise = All-nil P
     all_grafted_leaves-all (also d ds) parts has rise =
         let both = each_has-both AreAll (leaves_of d) (all_leaves_of ds) parts has in
         let rest = drop (length (first_leaves (leaves_of d))) parts in
         All-append P (leaves_of (grafted shift parts d)) (all_leaves_of (all_grafted shift rest ds))
         (grafted_leaves-all d parts both.0 (λ leaf there. rise leaf (Contains-append_left (leaves_of d) (all_leaves_of ds) leaf there)))
-        (all_grafted_leaves-all ds rest both.1 (λ leaf there. rise leaf (Contains-append_right (leaves_of d) (all_leaves_of ds) leaf there)))
+        (all_grafted_leaves-all ds rest both.1 (λ leaf there. rise leaf
+        (Contains-append_right (leaves_of d) (all_leaves_of ds) leaf there)))

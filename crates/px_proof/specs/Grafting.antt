@@ -38,7 +38,8 @@ abbrev mutual
   -- the parts of a derivation come after those of the derivations before it
   pub all_grafted : ℕ → List Derivation → Derivations → Derivations
   all_grafted shift parts none = none
-  all_grafted shift parts (also d ds) = also (grafted shift parts d) (all_grafted shift (drop (length (first_leaves (leaves_of d))) parts) ds)
+  all_grafted shift parts (also d ds) = also (grafted shift parts d)
+      (all_grafted shift (drop (length (first_leaves (leaves_of d))) parts) ds)
 
 -- what comes in the places of the leaves, in order
 abbrev pub in_places_of : ℕ → List Derivation → List Leaf → List Derivation

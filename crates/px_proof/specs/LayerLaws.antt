@@ -38,7 +38,8 @@ derivation_of-ancestor i = ap derivation_of (sym (rolls-Anc i)) ∙ fold-roll-Pr
 pub derivation_of-step : (clause : ℕ) (theta : List Term) (place : ℕ) (subs : List Proof)
     → derivation_of (Step clause theta place subs) ≡ step clause theta place (derivations (map derivation_of subs))
 derivation_of-step clause theta place subs =
-    ap derivation_of (sym (rolls-Step clause theta place subs)) ∙ fold-roll-Proof Derivation derivation_step (layer.Step clause theta place subs)
+    ap derivation_of (sym (rolls-Step clause theta place subs)) ∙ fold-roll-Proof Derivation derivation_step
+    (layer.Step clause theta place subs)
 
 pub derivation_of-gap : (atom : Atom) → derivation_of (Gap atom) ≡ gap atom
 derivation_of-gap atom = ap derivation_of (sym (rolls-Gap atom)) ∙ fold-roll-Proof Derivation derivation_step (layer.Gap atom)
@@ -60,7 +61,8 @@ abbrev mutual
 abbrev ComesBack : Proof → Type 0
 ComesBack p = proof_of (derivation_of p) ≡ p
 
-all_come_back : (ps : List ((p : Proof) × ComesBack p)) → proofs_of (derivations (map derivation_of (map (λ e. e.0) ps))) ≡ map (λ e. e.0) ps
+all_come_back : (ps : List ((p : Proof) × ComesBack p)) → proofs_of (derivations (map derivation_of (map (λ e. e.0) ps))) ≡ map (λ e. e.0)
+    ps
 all_come_back [] = refl
 all_come_back (e ∷ ps) = λ i. e.1 i ∷ all_come_back ps i
 

@@ -55,7 +55,8 @@ All-got P (y ∷ ys) zero x all at = subst P (some_same y x at) (all 0 y (omega 
 All-got P (y ∷ ys) (suc k) x all at = All-got P ys k x (λ j d below. all (suc j) d (omega (arith, below))) at
 
 -- an element stands at the place, or is among the others
-pub other_part : {X : Type 0} (xs : List X) (place k : ℕ) (x : X) → slice_get xs k ≡ Some x → (k ≡ place) ⊎ ((j : ℕ) × (slice_get (remove xs place) j ≡ Some x))
+pub other_part : {X : Type 0} (xs : List X) (place k : ℕ) (x : X) → slice_get xs k ≡ Some x → (k ≡ place)
+    ⊎ ((j : ℕ) × (slice_get (remove xs place) j ≡ Some x))
 other_part [] place k x at = absurd (cc)
 other_part (y ∷ ys) zero zero x at = inl refl
 other_part (y ∷ ys) zero (suc k) x at = inr (k, at)

@@ -30,7 +30,8 @@ parts_of lits theta place = map complement_of (remove (instance_of lits theta) p
 
 -- the axiom of that number is the clause, theta has a term that may be chosen for each of its variables, and under
 -- theta the literal stands at the place
-pub record UsesClause (IsChoice : Term → Type 0) (axioms : List Clause) (lit : Lit) (number : ℕ) (theta : List Term) (place : ℕ) (clause : Clause) : Type 0 where
+pub record UsesClause (IsChoice : Term → Type 0) (axioms : List Clause) (lit : Lit) (number : ℕ) (theta : List Term) (place : ℕ)
+    (clause : Clause) : Type 0 where
   pub axiom_at : slice_get axioms number ≡ Some clause
   pub terms : length theta ≡ clause.vars
   pub choices : All IsChoice theta
@@ -90,8 +91,8 @@ IsName objects params (Obj n) = n < objects
 IsName objects params (Var v) = v < params
 IsName objects params Any = ⊥
 
--- a proof of the literal under the empty path from the atoms of its own leaves, with no other terms than so many
--- objects and parameters, in the literal either
+-- a proof of the literal under the empty path from the atoms of its own leaves. All terms, those of the literal too, are objects
+-- and parameters with numbers below these
 pub record IsTree (axioms : List Clause) (objects params : ℕ) (lit : Lit) (d : Derivation) : Type 0 where
   pub proves : Proves (from_atoms (IsName objects params) (leaf_atoms (leaves_of d))) axioms [] lit d
   pub terms : All (IsName objects params) lit.atom.args

@@ -37,19 +37,27 @@ pub record Allows (old new : Rules) : Type 0 where
 module _ (axioms : List Clause) (old new : Rules) (allows : Allows old new) where
   mutual
     -- it is enough that the facts at its own leaves are allowed
-    pub proves_by : (path : List Lit) (lit : Lit) (d : Derivation) → ((leaf : Leaf) → Contains (leaves_of d) leaf → old.IsFact leaf → new.IsFact leaf)
+    pub proves_by : (path : List Lit) (lit : Lit) (d : Derivation)
+        → ((leaf : Leaf) → Contains (leaves_of d) leaf → old.IsFact leaf → new.IsFact leaf)
         → Proves old axioms path lit d → Proves new axioms path lit d
     proves_by path lit (fact leaf) facts proved = (proved.0, facts leaf (Contains-first leaf []) proved.1)
     proves_by path lit (ancestor i) facts proved = proved
     proves_by path lit (step number theta place parts) facts proved = (
       proved.0,
-      record { axiom_at = proved.1.axiom_at; terms = proved.1.terms; choices = λ k d below. allows.choices _ (proved.1.choices k d below); literal_at = proved.1.literal_at },
+      record {
+        axiom_at = proved.1.axiom_at;
+        terms = proved.1.terms;
+        choices =
+            λ k d below. allows.choices _ (proved.1.choices k d below);
+        literal_at = proved.1.literal_at;
+      },
       each_by (lit ∷ path) (parts_of proved.0.lits theta place) parts facts proved.2,
     )
     proves_by path lit (gap atom) facts proved = (proved.0, allows.gaps atom proved.1)
     proves_by path lit open_place facts proved = allows.opens proved
 
-    pub each_by : (path lits : List Lit) (ds : Derivations) → ((leaf : Leaf) → Contains (all_leaves_of ds) leaf → old.IsFact leaf → new.IsFact leaf)
+    pub each_by : (path lits : List Lit) (ds : Derivations) →
+        ((leaf : Leaf) → Contains (all_leaves_of ds) leaf → old.IsFact leaf → new.IsFact leaf)
         → ProvesEach old axioms path lits ds → ProvesEach new axioms path lits ds
     each_by path [] none facts each = tt
     each_by path (lit ∷ lits) (also d ds) facts each = (
@@ -67,21 +75,25 @@ slice_get-front (y ∷ xs) ys (suc k) x at = slice_get-front xs ys k x at
 -- what is proved under a path is proved under a longer one
 module _ (rules : Rules) (axioms : List Clause) (far : List Lit) where
   mutual
-    pub proves_longer : (path : List Lit) (lit : Lit) (d : Derivation) → Proves rules axioms path lit d → Proves rules axioms (path ++ far) lit d
+    pub proves_longer : (path : List Lit) (lit : Lit) (d : Derivation) → Proves rules axioms path lit d
+        → Proves rules axioms (path ++ far) lit d
     proves_longer path lit (fact leaf) proved = proved
     proves_longer path lit (ancestor i) proved = slice_get-front path far i (complement_of lit) proved
-    proves_longer path lit (step number theta place parts) proved = (proved.0, proved.1, each_longer (lit ∷ path) (parts_of proved.0.lits theta place) parts proved.2)
+    proves_longer path lit (step number theta place parts) proved =
+        (proved.0, proved.1, each_longer (lit ∷ path) (parts_of proved.0.lits theta place) parts proved.2)
     proves_longer path lit (gap atom) proved = proved
     proves_longer path lit open_place proved = proved
 
-    pub each_longer : (path lits : List Lit) (ds : Derivations) → ProvesEach rules axioms path lits ds → ProvesEach rules axioms (path ++ far) lits ds
+    pub each_longer : (path lits : List Lit) (ds : Derivations) → ProvesEach rules axioms path lits ds
+        → ProvesEach rules axioms (path ++ far) lits ds
     each_longer path [] none each = tt
     each_longer path (lit ∷ lits) (also d ds) each = (proves_longer path lit d each.0, each_longer path lits ds each.1)
     each_longer path [] (also d ds) each = absurd each
     each_longer path (lit ∷ lits) none each = absurd each
 
 pub stays_under_longer_paths : StaysUnderLongerPaths
-stays_under_longer_paths axioms objects params atoms path far lit d = proves_longer (from_atoms (IsName objects params) atoms) axioms far path lit d
+stays_under_longer_paths axioms objects params atoms path far lit d =
+    proves_longer (from_atoms (IsName objects params) atoms) axioms far path lit d
 
 -- each leaf is a fact that the rules allow
 module _ (rules : Rules) (axioms : List Clause) where
@@ -89,11 +101,13 @@ module _ (rules : Rules) (axioms : List Clause) where
     pub leaves_allowed : (path : List Lit) (lit : Lit) (d : Derivation) → Proves rules axioms path lit d → All rules.IsFact (leaves_of d)
     leaves_allowed path lit (fact leaf) proved = All-cons rules.IsFact leaf [] proved.1 (All-nil rules.IsFact)
     leaves_allowed path lit (ancestor i) proved = All-nil rules.IsFact
-    leaves_allowed path lit (step number theta place parts) proved = all_leaves_allowed (lit ∷ path) (parts_of proved.0.lits theta place) parts proved.2
+    leaves_allowed path lit (step number theta place parts) proved =
+        all_leaves_allowed (lit ∷ path) (parts_of proved.0.lits theta place) parts proved.2
     leaves_allowed path lit (gap atom) proved = All-nil rules.IsFact
     leaves_allowed path lit open_place proved = All-nil rules.IsFact
 
-    pub all_leaves_allowed : (path lits : List Lit) (ds : Derivations) → ProvesEach rules axioms path lits ds → All rules.IsFact (all_leaves_of ds)
+    pub all_leaves_allowed : (path lits : List Lit) (ds : Derivations) → ProvesEach rules axioms path lits ds
+        → All rules.IsFact (all_leaves_of ds)
     all_leaves_allowed path [] none each = All-nil rules.IsFact
     all_leaves_allowed path (lit ∷ lits) (also d ds) each =
         All-append rules.IsFact (leaves_of d) (all_leaves_of ds) (leaves_allowed path lit d each.0) (all_leaves_allowed path lits ds each.1)
@@ -113,13 +127,15 @@ module _ (axioms : List Clause) (IsTerm : Term → Type 0) (rules : Rules) (only
     only_terms path lit (fact leaf) proved = only.facts leaf proved.1
     only_terms path lit (ancestor i) proved = All-nil IsTerm
     only_terms path lit (step number theta place parts) proved =
-        All-append IsTerm theta (all_terms_of parts) (λ k d below. only.choices _ (proved.1.choices k d below)) (only_terms_each (lit ∷ path) (parts_of proved.0.lits theta place) parts proved.2)
+        All-append IsTerm theta (all_terms_of parts) (λ k d below. only.choices _ (proved.1.choices k d below))
+        (only_terms_each (lit ∷ path) (parts_of proved.0.lits theta place) parts proved.2)
     only_terms path lit (gap atom) proved = only.gaps atom proved.1
     only_terms path lit open_place proved = All-nil IsTerm
 
     only_terms_each : (path lits : List Lit) (ds : Derivations) → ProvesEach rules axioms path lits ds → All IsTerm (all_terms_of ds)
     only_terms_each path [] none each = All-nil IsTerm
-    only_terms_each path (lit ∷ lits) (also d ds) each = All-append IsTerm (terms_of d) (all_terms_of ds) (only_terms path lit d each.0) (only_terms_each path lits ds each.1)
+    only_terms_each path (lit ∷ lits) (also d ds) each = All-append IsTerm (terms_of d) (all_terms_of ds) (only_terms path lit d each.0)
+        (only_terms_each path lits ds each.1)
     only_terms_each path [] (also d ds) each = absurd each
     only_terms_each path (lit ∷ lits) none each = absurd each
 
@@ -127,14 +143,17 @@ module _ (axioms : List Clause) (IsTerm : Term → Type 0) (rules : Rules) (only
 pub terms_from : (IsTerm : Term → Type 0) (axioms : List Clause) (atoms : List Atom) (path : List Lit) (lit : Lit) (d : Derivation)
     → Proves (from_atoms IsTerm atoms) axioms path lit d → All IsTerm (terms_of d)
 terms_from IsTerm axioms atoms path lit d =
-    only_terms axioms IsTerm (from_atoms IsTerm atoms) (record { choices = λ t h. h; facts = λ leaf from. from.1; gaps = λ atom h. absurd h }) path lit d
+    only_terms axioms IsTerm (from_atoms IsTerm atoms) (record
+    { choices = λ t h. h; facts = λ leaf from. from.1; gaps = λ atom h. absurd h }) path lit d
 
 -- each leaf closes its own atom, so of the leaves only their terms are asked
 pub own_leaves : (axioms : List Clause) (objects params : ℕ) (path : List Lit) (lit : Lit) (d : Derivation)
-    → Proves (over_names objects params) axioms path lit d ↔ Proves (from_atoms (IsName objects params) (leaf_atoms (leaves_of d))) axioms path lit d
+    → Proves (over_names objects params) axioms path lit d ↔ Proves (from_atoms (IsName objects params) (leaf_atoms (leaves_of d))) axioms
+    path lit d
 own_leaves axioms objects params path lit d = (
   proves_by axioms (over_names objects params) (from_atoms (IsName objects params) (leaf_atoms (leaves_of d)))
-      (record { choices = λ t h. h; gaps = λ atom h. h; opens = λ h. h }) path lit d (λ leaf has names. (Contains-mapped (λ (l : Leaf). l.atom) (leaves_of d) leaf has, names)),
+      (record { choices = λ t h. h; gaps = λ atom h. h; opens = λ h. h }) path lit d
+      (λ leaf has names. (Contains-mapped (λ (l : Leaf). l.atom) (leaves_of d) leaf has, names)),
   proves_by axioms (from_atoms (IsName objects params) (leaf_atoms (leaves_of d))) (over_names objects params)
       (record { choices = λ t h. h; gaps = λ atom h. h; opens = λ h. h }) path lit d (λ leaf has h. h.1),
 )

@@ -49,11 +49,14 @@ module _ (state : State) (values : List ℕ) (rules : Rules) (axioms : List Clau
       elim (other_part (instance_of lits theta) place k (substitute_literal theta l) at_k) [
         | inl same ↦ subst IsTrueHere (some_same _ _ (sym at_k ∙ ap (slice_get (instance_of lits theta)) same ∙ at)) here
         | inr part ↦ absurd (complement-fails state values (substitute_literal theta l)
-            (others part.0 (complement_of (substitute_literal theta l)) (slice_get-map complement_of (remove (instance_of lits theta) place) part.0 (substitute_literal theta l) part.1)) here)
+            (others part.0 (complement_of (substitute_literal theta l))
+            (slice_get-map complement_of (remove (instance_of lits theta) place) part.0 (substitute_literal theta l) part.1)) here)
       ]
 
-  by_step : (lit : Lit) (number : ℕ) (theta : List Term) (place : ℕ) (clause : Clause) → UsesClause rules.IsChoice axioms lit number theta place clause
-      → ((¬ IsTrueHere lit) → (k : ℕ) (other : Lit) → slice_get (parts_of clause.lits theta place) k ≡ Some other → IsTrueHere other) → IsTrueHere lit
+  by_step : (lit : Lit) (number : ℕ) (theta : List Term) (place : ℕ) (clause : Clause)
+      → UsesClause rules.IsChoice axioms lit number theta place clause
+      → ((¬ IsTrueHere lit) → (k : ℕ) (other : Lit) → slice_get (parts_of clause.lits theta place) k ≡ Some other → IsTrueHere other)
+      → IsTrueHere lit
   by_step lit number theta place clause uses others =
       elim (literal-decided state values lit) [
         | inl holds ↦ holds
@@ -70,14 +73,16 @@ module _ (state : State) (values : List ℕ) (rules : Rules) (axioms : List Clau
     sound_under path lit (fact leaf) proved path_false = subst IsTrueHere (sym proved.0) (model.facts_hold leaf proved.1)
     sound_under path lit (ancestor i) proved path_false = complement-holds state values lit (path_false i (complement_of lit) proved)
     sound_under path lit (step number theta place parts) proved path_false =
-        by_step lit number theta place proved.0 proved.1 (λ fails. sound_each (lit ∷ path) (parts_of proved.0.lits theta place) parts proved.2 (path_false-under path lit fails path_false))
+        by_step lit number theta place proved.0 proved.1 (λ fails. sound_each (lit ∷ path) (parts_of proved.0.lits theta place) parts
+        proved.2 (path_false-under path lit fails path_false))
     sound_under path lit (gap atom) proved path_false = absurd (model.no_gap atom proved.1)
     sound_under path lit open_place proved path_false = absurd (model.no_open proved)
 
     sound_each : (path lits : List Lit) (ds : Derivations) → ProvesEach rules axioms path lits ds → PathFalse path
         → (k : ℕ) (other : Lit) → slice_get lits k ≡ Some other → IsTrueHere other
     sound_each path [] none each path_false k other at = absurd (cc)
-    sound_each path (lit ∷ lits) (also d ds) each path_false zero other at = subst IsTrueHere (some_same lit other at) (sound_under path lit d each.0 path_false)
+    sound_each path (lit ∷ lits) (also d ds) each path_false zero other at =
+        subst IsTrueHere (some_same lit other at) (sound_under path lit d each.0 path_false)
     sound_each path (lit ∷ lits) (also d ds) each path_false (suc k) other at = sound_each path lits ds each.1 path_false k other at
     sound_each path [] (also d ds) each path_false k other at = absurd each
     sound_each path (lit ∷ lits) none each path_false k other at = absurd each
@@ -87,7 +92,8 @@ module _ (state : State) (values : List ℕ) (rules : Rules) (axioms : List Clau
   sound lit d proved = sound_under [] lit d proved (λ i other at. absurd (cc))
 
 -- what has a proof from facts follows from the axioms and the facts
-pub follows : (axioms : List Clause) (facts : List Atom) (lit : Lit) (d : Derivation) → Proves (from_facts facts) axioms [] lit d → Follows axioms facts lit
+pub follows : (axioms : List Clause) (facts : List Atom) (lit : Lit) (d : Derivation) → Proves (from_facts facts) axioms [] lit d
+    → Follows axioms facts lit
 follows axioms facts lit d proved state is axioms_hold facts_hold =
     sound state [] (from_facts facts) axioms
     record {
@@ -100,7 +106,8 @@ follows axioms facts lit d proved state is axioms_hold facts_hold =
     lit d proved
 
 -- what has a proof over objects and parameters follows from the axioms and its leaves, whatever elements the parameters have
-pub tree_follows : (axioms : List Clause) (objects params : ℕ) (lit : Lit) (d : Derivation) → IsTree axioms objects params lit d → FollowsUnder axioms params (leaf_atoms (leaves_of d)) lit
+pub tree_follows : (axioms : List Clause) (objects params : ℕ) (lit : Lit) (d : Derivation) → IsTree axioms objects params lit d
+    → FollowsUnder axioms params (leaf_atoms (leaves_of d)) lit
 tree_follows axioms objects params lit d tree state is axioms_hold values are atoms_hold =
     sound state values (from_atoms (IsName objects params) (leaf_atoms (leaves_of d))) axioms
     record {

@@ -30,7 +30,8 @@ abbrev mutual
 -- replacing twice is replacing once, by the inner terms under the outer ones
 abbrev pub SubstitutionsCompose : Type 0
 SubstitutionsCompose =
-    (outer inner : List Term) (d : Derivation) → derivation_under outer (derivation_under inner d) ≡ derivation_under (map (substitute outer) inner) d
+    (outer inner : List Term) (d : Derivation) → derivation_under outer (derivation_under inner d) ≡ derivation_under
+    (map (substitute outer) inner) d
 
 -- what stands for the variables doesn't change the shape
 abbrev pub ShapesStay : Type 0
@@ -43,7 +44,8 @@ abbrev pub StaysProof : List Term → Derivation → Derivation → Type 0
 StaysProof terms old new =
     (axioms : List Clause) (objects params : ℕ) (atoms : List Atom) (path : List Lit) (lit : Lit) → All (IsName objects params) terms
     → Proves (from_atoms (IsName objects (length terms)) atoms) axioms path lit old
-    → Proves (from_atoms (IsName objects params) (map (substitute_atom terms) atoms)) axioms (map (substitute_literal terms) path) (substitute_literal terms lit) new
+    → Proves (from_atoms (IsName objects params) (map (substitute_atom terms) atoms)) axioms (map (substitute_literal terms) path)
+    (substitute_literal terms lit) new
 
 -- of whatever literal the old one is a tree, over objects and no more parameters than there are terms, of that literal
 -- under the terms the new one is a tree, over the objects and parameters that these have; both are over one number of

@@ -30,7 +30,8 @@ numbers_decide = pointwise_decides (λ m n. (eqb-true m n, eq-eqb m n))
 tuple_decided : (tuples : List (List ℕ)) (tuple : List ℕ) → Contains tuples tuple ⊎ (¬ Contains tuples tuple)
 tuple_decided [] tuple = inr (Contains-none tuple)
 tuple_decided (first ∷ tuples) tuple =
-    elim (pointwise nat_eq first tuple) as (λ b. pointwise nat_eq first tuple ≡ b → Contains (first ∷ tuples) tuple ⊎ (¬ Contains (first ∷ tuples) tuple)) [
+    elim (pointwise nat_eq first tuple) as (λ b. pointwise nat_eq first tuple ≡ b → Contains (first ∷ tuples) tuple
+    ⊎ (¬ Contains (first ∷ tuples) tuple)) [
       | true ↦ λ same. inl (subst (Contains (first ∷ tuples)) ((numbers_decide first tuple).0 same) (Contains-first first tuples))
       | false ↦ λ differ. elim (tuple_decided tuples tuple) [
         | inl later ↦ inl (Contains-later first tuples tuple later)
@@ -45,31 +46,39 @@ pub holds-decided : (state : State) (values : List ℕ) (atom : Atom) → HoldsU
 holds-decided state values atom = tuple_decided (slice_index_or state.tuples atom.pred []) (map (element_of state values) atom.args)
 
 signed_decided : (state : State) (values : List ℕ) (positive : Bool) (atom : Atom)
-    → LiteralHoldsUnder state values (record { positive = positive; atom = atom }) ⊎ (¬ LiteralHoldsUnder state values (record { positive = positive; atom = atom }))
+    → LiteralHoldsUnder state values (record { positive = positive; atom = atom })
+    ⊎ (¬ LiteralHoldsUnder state values (record { positive = positive; atom = atom }))
 signed_decided state values true atom = holds-decided state values atom
-signed_decided state values false atom = elim (holds-decided state values atom) [ inl holds ↦ inr (λ fails. fails holds) | inr fails ↦ inl fails ]
+signed_decided state values false atom = elim (holds-decided state values atom)
+    [ inl holds ↦ inr (λ fails. fails holds) | inr fails ↦ inl fails ]
 
-pub literal-decided : (state : State) (values : List ℕ) (lit : Lit) → LiteralHoldsUnder state values lit ⊎ (¬ LiteralHoldsUnder state values lit)
+pub literal-decided : (state : State) (values : List ℕ) (lit : Lit) → LiteralHoldsUnder state values lit
+    ⊎ (¬ LiteralHoldsUnder state values lit)
 literal-decided state values lit = signed_decided state values lit.positive lit.atom
 
 -- ---- complements
 
-signed_fails : (state : State) (values : List ℕ) (positive : Bool) (atom : Atom) → LiteralHoldsUnder state values (complement_of (record { positive = positive; atom = atom }))
+signed_fails : (state : State) (values : List ℕ) (positive : Bool) (atom : Atom)
+    → LiteralHoldsUnder state values (complement_of (record { positive = positive; atom = atom }))
     → ¬ LiteralHoldsUnder state values (record { positive = positive; atom = atom })
 signed_fails state values true atom complement = complement
 signed_fails state values false atom complement = λ fails. fails complement
 
-signed_holds : (state : State) (values : List ℕ) (positive : Bool) (atom : Atom) → (¬ LiteralHoldsUnder state values (complement_of (record { positive = positive; atom = atom })))
+signed_holds : (state : State) (values : List ℕ) (positive : Bool) (atom : Atom)
+    → (¬ LiteralHoldsUnder state values (complement_of (record { positive = positive; atom = atom })))
     → LiteralHoldsUnder state values (record { positive = positive; atom = atom })
-signed_holds state values true atom fails = elim (holds-decided state values atom) [ inl holds ↦ holds | inr not_so ↦ absurd (fails not_so) ]
+signed_holds state values true atom fails = elim (holds-decided state values atom)
+    [ inl holds ↦ holds | inr not_so ↦ absurd (fails not_so) ]
 signed_holds state values false atom fails = fails
 
 -- a literal is false where its complement is true
-pub complement-fails : (state : State) (values : List ℕ) (lit : Lit) → LiteralHoldsUnder state values (complement_of lit) → ¬ LiteralHoldsUnder state values lit
+pub complement-fails : (state : State) (values : List ℕ) (lit : Lit) → LiteralHoldsUnder state values (complement_of lit)
+    → ¬ LiteralHoldsUnder state values lit
 complement-fails state values lit = signed_fails state values lit.positive lit.atom
 
 -- and true where its complement is false
-pub complement-holds : (state : State) (values : List ℕ) (lit : Lit) → (¬ LiteralHoldsUnder state values (complement_of lit)) → LiteralHoldsUnder state values lit
+pub complement-holds : (state : State) (values : List ℕ) (lit : Lit) → (¬ LiteralHoldsUnder state values (complement_of lit))
+    → LiteralHoldsUnder state values lit
 complement-holds state values lit = signed_holds state values lit.positive lit.atom
 
 -- ---- variables replaced
@@ -78,12 +87,14 @@ complement-holds state values lit = signed_holds state values lit.positive lit.a
 abbrev pub elements_of : State → List ℕ → List Term → List ℕ
 elements_of state values theta = map (element_of state values) theta
 
-element_at : (state : State) (values : List ℕ) (theta : List Term) (v : ℕ) → element_of state values (slice_index_or theta v Any) ≡ slice_index (elements_of state values theta) v
+element_at : (state : State) (values : List ℕ) (theta : List Term) (v : ℕ)
+    → element_of state values (slice_index_or theta v Any) ≡ slice_index (elements_of state values theta) v
 element_at state values [] v = refl
 element_at state values (x ∷ theta) zero = refl
 element_at state values (x ∷ theta) (suc v) = element_at state values theta v
 
-element_under : (state : State) (values : List ℕ) (theta : List Term) (t : Term) → element_of state values (substitute theta t) ≡ element_of state (elements_of state values theta) t
+element_under : (state : State) (values : List ℕ) (theta : List Term) (t : Term)
+    → element_of state values (substitute theta t) ≡ element_of state (elements_of state values theta) t
 element_under state values theta (Obj n) = refl
 element_under state values theta (Var v) = element_at state values theta v
 element_under state values theta Any = refl
@@ -122,7 +133,8 @@ object-within state is values (Obj n) h = element_within state.size is.not_empty
 object-within state is values (Var v) h = absurd h
 object-within state is values Any h = absurd h
 
-pub name-within : (state : State) → IsState state → (objects params : ℕ) (values : List ℕ) → AreValues state params values → (t : Term) → IsName objects params t → element_of state values t < state.size
+pub name-within : (state : State) → IsState state → (objects params : ℕ) (values : List ℕ) → AreValues state params values → (t : Term)
+    → IsName objects params t → element_of state values t < state.size
 name-within state is objects params values are (Obj n) h = element_within state.size is.not_empty state.elements n is.elements
 name-within state is objects params values are (Var v) h = element_within state.size is.not_empty values v are.1
 name-within state is objects params values are Any h = absurd h

@@ -58,7 +58,8 @@ fn step_proves(
     theta: &[Term],
     place: u32,
 ) -> bool
-    ensures { IsTrue result ↔ Proves (rules_of basis.now) arena.now (literals_of path.now) lit.now (step clause theta.now place (derivations (map derivation_of subs.now))) }
+    ensures { IsTrue result ↔ Proves (rules_of basis.now) arena.now (literals_of path.now) lit.now
+        (step clause theta.now place (derivations (map derivation_of subs.now))) }
 {
     if !uses_clause(arena, basis, lit, clause, theta, place) {
         return false;
@@ -80,7 +81,8 @@ fn each_proves(
 ) -> bool
     requires place { place < length lits.now }
     requires plain { ArePlainBelow (length theta.now) lits.now }
-    ensures { IsTrue result ↔ ProvesEach (rules_of basis.now) arena.now (literals_of path.now) (parts_of lits.now theta.now place) (derivations (map derivation_of subs.now)) }
+    ensures { IsTrue result ↔ ProvesEach (rules_of basis.now) arena.now (literals_of path.now) (parts_of lits.now theta.now place)
+        (derivations (map derivation_of subs.now)) }
 {
     if subs.len() != lits.len() - 1 {
         return false;
@@ -119,7 +121,8 @@ fn uses_clause(
     theta: &[Term],
     place: u32,
 ) -> bool
-    ensures { IsTrue result ↔ ((clause : Clause) × UsesClause (rules_of basis.now).IsChoice arena.now lit.now number theta.now place clause) }
+    ensures { IsTrue result ↔ ((clause : Clause) × UsesClause (rules_of basis.now).IsChoice arena.now lit.now number theta.now place
+        clause) }
 {
     if number >= arena.count() || theta.len() != arena.vars(number) as usize {
         return false;

@@ -20,7 +20,8 @@ pub fn graft(alloc: Global, proof: &Proof, parts: &[Proof], shift: u32) -> Resul
     requires parts { length parts.now ≡ length (first_leaves (leaves_of (derivation_of proof.now))) }
     requires columns { All (λ leaf. leaf.column + shift ≤ 4294967295) (later_leaves (leaves_of (derivation_of proof.now))) }
     ensures value { IfOk result (λ made. derivation_of made ≡ grafted shift (map derivation_of parts.now) (derivation_of proof.now)) }
-    ensures leaves { IfOk result (λ made. leaves_of (derivation_of made) ≡ flat_map leaves_of (in_places_of shift (map derivation_of parts.now) (leaves_of (derivation_of proof.now)))) }
+    ensures leaves { IfOk result (λ made. leaves_of (derivation_of made) ≡ flat_map leaves_of
+        (in_places_of shift (map derivation_of parts.now) (leaves_of (derivation_of proof.now)))) }
     ensures tree { IfOk result (λ made. GraftIsTree (map derivation_of parts.now) (derivation_of proof.now) (derivation_of made)) }
     ensures proves { IfOk result (λ made. GraftProves (map derivation_of parts.now) (derivation_of proof.now) (derivation_of made)) }
 {
@@ -40,7 +41,8 @@ fn graft_all(
 ) -> Result<Proof, NoMemory>
     requires parts { used.old + length (first_leaves (leaves_of (derivation_of proof.now))) ≤ length parts.now }
     requires columns { All (λ leaf. leaf.column + shift ≤ 4294967295) (later_leaves (leaves_of (derivation_of proof.now))) }
-    ensures value { IfOk result (λ made. derivation_of made ≡ grafted shift (drop used.old (map derivation_of parts.now)) (derivation_of proof.now)) }
+    ensures value { IfOk result (λ made. derivation_of made ≡ grafted shift (drop used.old (map derivation_of parts.now))
+        (derivation_of proof.now)) }
     ensures used { OnOk result (used.new ≡ used.old + length (first_leaves (leaves_of (derivation_of proof.now)))) }
 {
     match proof {
@@ -75,8 +77,10 @@ fn graft_each(
     shift: u32,
 ) -> Result<Vec<Proof>, NoMemory>
     requires parts { used.old + length (first_leaves (all_leaves_of (derivations (map derivation_of proofs.now)))) ≤ length parts.now }
-    requires columns { All (λ leaf. leaf.column + shift ≤ 4294967295) (later_leaves (all_leaves_of (derivations (map derivation_of proofs.now)))) }
-    ensures value { IfOk result (λ made. derivations (map derivation_of made.items) ≡ all_grafted shift (drop used.old (map derivation_of parts.now)) (derivations (map derivation_of proofs.now))) }
+    requires columns { All (λ leaf. leaf.column + shift ≤ 4294967295)
+        (later_leaves (all_leaves_of (derivations (map derivation_of proofs.now)))) }
+    ensures value { IfOk result (λ made. derivations (map derivation_of made.items) ≡ all_grafted shift
+        (drop used.old (map derivation_of parts.now)) (derivations (map derivation_of proofs.now))) }
     ensures used { OnOk result (used.new ≡ used.old + length (first_leaves (all_leaves_of (derivations (map derivation_of proofs.now))))) }
 {
     let mut made = Vec::new(alloc);

@@ -64,7 +64,8 @@ fn substitute_all(alloc: Global, proof: &Proof, map: &[Term]) -> Result<Proof, N
 #[cycle(substitute)]
 fn substitute_each(alloc: Global, proofs: &[Proof], map: &[Term]) -> Result<Vec<Proof>, NoMemory>
     requires { All (IsVariableBelow (length map.now)) (all_terms_of (derivations (map_list derivation_of proofs.now))) }
-    ensures { IfOk result (λ made. derivations (map_list derivation_of made.items) ≡ derivations_under map.now (derivations (map_list derivation_of proofs.now))) }
+    ensures { IfOk result (λ made. derivations (map_list derivation_of made.items) ≡ derivations_under map.now
+        (derivations (map_list derivation_of proofs.now))) }
 {
     let mut made = Vec::new(alloc);
     for proof in proofs {

@@ -164,7 +164,8 @@ fn a_step_under_objects_and_parameters(rt: HostRuntime) -> Result<(), NoMemory> 
 
 /// A step by the first clause from three facts.
 fn step_from_three(alloc: Global, a: Leaf, b: Leaf, c: Leaf) -> Result<Proof, NoMemory>
-    ensures { IfOk result (λ proof. derivation_of proof ≡ derivation.step 0 [] 0 (also (derivation.fact a) (also (derivation.fact b) (also (derivation.fact c) none)))) }
+    ensures { IfOk result (λ proof. derivation_of proof ≡ derivation.step 0 [] 0
+        (also (derivation.fact a) (also (derivation.fact b) (also (derivation.fact c) none)))) }
 {
     let mut subs = Vec::new(alloc);
     push(&mut subs, Proof::Fact(a))?;

@@ -8,7 +8,7 @@ use Rattle.px_ops.specs.Models.{IsModel}
 use Rattle.px_prover.specs.Building.{AreLeast, IsThere, built, fresh_sum}
 use Rattle.px_prover.specs.Standing.{ticks_in, IsAsked, IsSound, IsStanding}
 use Rattle.px_prover.proofs.Moves.{standing-sound, ticks-map}
-use Rattle.px_stack.specs.declared.open.Choice.{Choice}
+use Rattle.px_proof_state.specs.declared.open.Choice.{Choice}
 use Rattle.px_unify.specs.declared.change.Change.{Change}
 use Rattle.px_prover.proofs.Built.{built-is}
 use Rattle.px_proof.specs.Derivation.{Derivation, Derivations, derivations}
@@ -19,8 +19,8 @@ use Rattle.px_proof.specs.declared.shape.Tick.{Tick}
 use Rattle.px_proof.specs.declared.shape.Tick.TheVariants.{Fact, Anc, Step, Gap, Open}
 use Rattle.px_question.specs.Answers.{AtMost, IsFirst, IsList, all_choices_of, literals_of, object_of, object_terms}
 use Rattle.px_question.specs.Settings.{Setting, proofs_in, setting_of}
-use Rattle.px_stack.specs.Arena.{goals_at}
-use Rattle.px_stack.specs.States.{StackValue}
+use Rattle.px_proof_state.specs.Arena.{goals_at}
+use Rattle.px_proof_state.specs.States.{ProofStateValue}
 use Rattle.px_terms.specs.Validity.{IsValid, IsAtomOf}
 use Rattle.px_terms.specs.declared.atom.Atom.{Atom}
 use Rattle.px_terms.specs.declared.clause.Clause.{Clause}
@@ -28,19 +28,19 @@ use Rattle.px_terms.specs.declared.problem.Problem.{Problem}
 use Rattle.px_terms.specs.declared.term.Term.{Term}
 use Rattle.px_terms.specs.declared.term.Term.TheVariants.{Obj, Var, Any}
 use Rattle.px_unify.specs.Changes.{variables_of}
-use Rattle.px_walk.specs.GapAtoms.{variables_in}
-use Rattle.px_walk.specs.Pending.{Goal, Closing, Pending, Solves, open_after, closing_at, fresh_of, goals_of, by_fact, by_step, variables_from, vars_of}
-use Rattle.px_walk.specs.Possible.{IsClosing, IsFinished, IsPossible, open_count}
-use Rattle.px_walk.specs.Search.{ComesFirst}
-use Rattle.px_walk.specs.Values.{AreValues, value_of}
-use Rattle.px_walk.proofs.Answering.{values-solve, zero-below}
-use Rattle.px_walk.proofs.Gathering.{AreParted, values-parted}
-use Rattle.px_walk.proofs.Lifting.{open_after-step}
-use Rattle.px_walk.proofs.Lists.{list-solved}
-use Rattle.px_walk.proofs.Outcomes.{first-is}
-use Rattle.px_walk.proofs.Partial.{closed-proves-each}
-use Rattle.px_walk.proofs.Questions.{formula-in, setting_of-is}
-use Rattle.px_walk.proofs.Values.{values-least, zero_at}
+use Rattle.px_proof_walk.specs.GapAtoms.{variables_in}
+use Rattle.px_proof_walk.specs.Pending.{Goal, Closing, Pending, Solves, open_after, closing_at, fresh_of, goals_of, by_fact, by_step, variables_from, vars_of}
+use Rattle.px_proof_walk.specs.Possible.{IsClosing, IsFinished, IsPossible, open_count}
+use Rattle.px_proof_walk.specs.Search.{ComesFirst}
+use Rattle.px_proof_walk.specs.Values.{AreValues, value_of}
+use Rattle.px_proof_walk.proofs.Answering.{values-solve, zero-below}
+use Rattle.px_proof_walk.proofs.Gathering.{AreParted, values-parted}
+use Rattle.px_proof_walk.proofs.Lifting.{open_after-step}
+use Rattle.px_proof_walk.proofs.Lists.{list-solved}
+use Rattle.px_proof_walk.proofs.Outcomes.{first-is}
+use Rattle.px_proof_walk.proofs.Partial.{closed-proves-each}
+use Rattle.px_proof_walk.proofs.Questions.{formula-in, setting_of-is}
+use Rattle.px_proof_walk.proofs.Values.{values-least, zero_at}
 
 -- a valid problem, a formula of it and a model are as the walk asks
 pub asked-of : (problem : Problem) (atoms formula : List Atom) (vars : ℕ) → IsValid problem → IsModel atoms → All (IsAtomOf problem vars) formula → vars ≤ 4096 → (0 < vars → 0 < problem.objects) → IsAsked (setting_of problem atoms) formula vars
@@ -101,7 +101,7 @@ zero-of n (Obj k) = refl
 zero-of n (Var w) = sym (zero_at n w)
 zero-of n Any = refl
 
-module _ (s : Setting) (formula : List Atom) (vars : ℕ) (ticks : List Tick) (v : StackValue) (asked : IsAsked s formula vars) (sound : IsSound false s formula vars ticks v) where
+module _ (s : Setting) (formula : List Atom) (vars : ℕ) (ticks : List Tick) (v : ProofStateValue) (asked : IsAsked s formula vars) (sound : IsSound false s formula vars ticks v) where
   pub sum-is : variables_of v.changes ≡ vars + fresh_sum s ticks
   sum-is = variables-sum false s ticks vars (goals_of s formula) (record { variables = variables_of v.changes; goals = goals_at v.goals v.first }) sound.stands.pending
 
@@ -155,7 +155,7 @@ module _ (s : Setting) (formula : List Atom) (vars : ℕ) (ticks : List Tick) (v
         (λ others solves long. subst (λ (ns : List ℕ). AtMost ns others) (sym all_objects) (values-least v.changes (variables_of v.changes) objects others values (long ∙ ap length all_objects) ((sound.stands.matched (object_terms others)).1 solves))))
 
 -- the same of the state itself
-module _ (loose : Bool) (s : Setting) (formula : List Atom) (vars : ℕ) (v : StackValue) (strict : loose ≡ false) (standing : IsStanding loose s formula vars v) (choices : List Choice) (are : reverse choices ≡ v.choices) where
+module _ (loose : Bool) (s : Setting) (formula : List Atom) (vars : ℕ) (v : ProofStateValue) (strict : loose ≡ false) (standing : IsStanding loose s formula vars v) (choices : List Choice) (are : reverse choices ≡ v.choices) where
   ticks-same : ticks_in v.choices ≡ map (λ (c : Choice). c.tick) choices
   ticks-same = ap ticks_in (sym are) ∙ ticks-map choices
 

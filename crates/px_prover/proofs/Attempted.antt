@@ -16,14 +16,14 @@ use Rattle.px_proof.specs.declared.shape.Tick.TheVariants.{Fact, Anc}
 use Rattle.px_unify.specs.Changes.{variables_of}
 use Rattle.px_question.specs.Settings.{Setting, IsObjectBelow}
 use Rattle.px_question.specs.Answers.{object_terms}
-use Rattle.px_walk.specs.Pending.{Goal, Pending, open_after, closing_at, goals_of, IsFeasible}
-use Rattle.px_walk.specs.Scope.{IsSetting, IsLitIn}
-use Rattle.px_walk.proofs.Pushing.{solves-push, open_after-push}
-use Rattle.px_stack.specs.declared.open.OpenGoal.{OpenGoal}
-use Rattle.px_stack.specs.Arena.{goals_at}
-use Rattle.px_stack.specs.States.{StackValue, Stands}
-use Rattle.px_stack.specs.Ranges.{NeverFact, ComesFact}
-use Rattle.px_stack.specs.Ancestors.{NeverAncestor, ComesAncestor}
+use Rattle.px_proof_walk.specs.Pending.{Goal, Pending, open_after, closing_at, goals_of, IsFeasible}
+use Rattle.px_proof_walk.specs.Scope.{IsSetting, IsLitIn}
+use Rattle.px_proof_walk.proofs.Pushing.{solves-push, open_after-push}
+use Rattle.px_proof_state.specs.declared.open.OpenGoal.{OpenGoal}
+use Rattle.px_proof_state.specs.Arena.{goals_at}
+use Rattle.px_proof_state.specs.States.{ProofStateValue, Stands}
+use Rattle.px_proof_state.specs.Ranges.{NeverFact, ComesFact}
+use Rattle.px_proof_state.specs.Ancestors.{NeverAncestor, ComesAncestor}
 use Rattle.px_prover.proofs.StepTurns.{none-at, none-agree}
 use Rattle.px_prover.proofs.Turns.{stands-closed}
 
@@ -48,7 +48,7 @@ ground-same tau (Obj o ∷ ts) ground = ap (λ ys. Obj o ∷ ys) (ground-same ta
 ground-same tau (Var v ∷ ts) ground = absurd ground.0
 ground-same tau (Any ∷ ts) ground = absurd ground.0
 
-module _ (loose : Bool) (s : Setting) (valid : IsSetting s) (formula : List Atom) (vars : ℕ) (ticks : List Tick) (old new : StackValue) (stands : Stands loose s formula vars ticks old)
+module _ (loose : Bool) (s : Setting) (valid : IsSetting s) (formula : List Atom) (vars : ℕ) (ticks : List Tick) (old new : ProofStateValue) (stands : Stands loose s formula vars ticks old)
     (g : OpenGoal) (goal : Goal) (goals : List Goal) (open_is : goals_at old.goals old.first ≡ goal ∷ goals) (rest_is : goals_at old.goals g.next ≡ goals) (lit_is : g.lit ≡ goal.lit) where
   now : open_after loose s vars (goals_of s formula) ticks ≡ Some (record { variables = variables_of old.changes; goals = goal ∷ goals })
   now = rw (← open_is) stands.pending

@@ -10,12 +10,12 @@ use Rattle.px_proof.specs.declared.shape.Tick.TheVariants.{Step}
 use Rattle.px_proof.specs.Proves.{instance_of, parts_of}
 use Rattle.px_unify.specs.Changes.{variables_of}
 use Rattle.px_question.specs.Settings.{Setting}
-use Rattle.px_walk.specs.Pending.{Goal, goals_below, has_room, variables_from, IsFeasible}
-use Rattle.px_stack.specs.declared.open.OpenGoal.{OpenGoal}
-use Rattle.px_stack.specs.Arena.{goals_at, path_at}
-use Rattle.px_stack.specs.States.{StackValue, Stands}
-use Rattle.px_stack.specs.Steps.{ClosesByStep, new_literal}
-use Rattle.px_stack.specs.Axioms.{IsFrom, NeverAxiom, ComesAxiom}
+use Rattle.px_proof_walk.specs.Pending.{Goal, goals_below, has_room, variables_from, IsFeasible}
+use Rattle.px_proof_state.specs.declared.open.OpenGoal.{OpenGoal}
+use Rattle.px_proof_state.specs.Arena.{goals_at, path_at}
+use Rattle.px_proof_state.specs.States.{ProofStateValue, Stands}
+use Rattle.px_proof_state.specs.Steps.{ClosesByStep, new_literal}
+use Rattle.px_proof_state.specs.Axioms.{IsFrom, NeverAxiom, ComesAxiom}
 use Rattle.px_prover.proofs.StepTurns.{step-closing, step-none, none-at, none-agree, stands-stepped}
 
 or_right : (a b : Bool) → b ≡ true → (a || b) ≡ true
@@ -50,7 +50,7 @@ less_or_not m zero = inr (omega arith)
 less_or_not zero (suc n) = inl (omega arith)
 less_or_not (suc m) (suc n) = elim (less_or_not m n) [ inl h ↦ inl (omega (arith, h)) | inr h ↦ inr (omega (arith, h)) ]
 
-module _ (loose : Bool) (s : Setting) (formula : List Atom) (vars : ℕ) (ticks : List Tick) (old new : StackValue) (stands : Stands loose s formula vars ticks old)
+module _ (loose : Bool) (s : Setting) (formula : List Atom) (vars : ℕ) (ticks : List Tick) (old new : ProofStateValue) (stands : Stands loose s formula vars ticks old)
     (g : OpenGoal) (goal : Goal) (goals : List Goal) (open_is : goals_at old.goals old.first ≡ goal ∷ goals) (rest_is : goals_at old.goals g.next ≡ goals)
     (lit_is : g.lit ≡ goal.lit) (path_is : path_at old.goals old.first ≡ goal.lit ∷ goal.path) (budget_is : g.budget ≡ goal.budget) (from place : ℕ) where
   -- a place that never does leads nowhere

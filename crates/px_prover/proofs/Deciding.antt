@@ -9,10 +9,10 @@ use Rattle.px_question.proofs.DeterminedLaws.{few_or_limited}
 use Rattle.px_question.specs.Limits.{AreFewBefore, AreFewShapes, IsLimited}
 use Rattle.px_question.specs.Settings.{Setting}
 use Rattle.px_terms.specs.declared.atom.Atom.{Atom}
-use Rattle.px_walk.specs.Possible.{IsPossible, IsFinished, shape_of}
-use Rattle.px_walk.specs.Search.{ComesFirst, NoneComes, LimitComes}
-use Rattle.px_walk.proofs.Bridge.{possible-finished, finished-possible}
-use Rattle.px_walk.proofs.Outcomes.{first-few, limit-is, none-few, none-unprovable, not_seen}
+use Rattle.px_proof_walk.specs.Possible.{IsPossible, IsFinished, shape_of}
+use Rattle.px_proof_walk.specs.Search.{ComesFirst, NoneComes, LimitComes}
+use Rattle.px_proof_walk.proofs.Bridge.{possible-finished, finished-possible}
+use Rattle.px_proof_walk.proofs.Outcomes.{first-few, limit-is, none-few, none-unprovable, not_seen}
 
 module _ (s : Setting) (formula : List Atom) (vars : ℕ) (asked : IsAsked s formula vars) where
   module _ (ticks : List Tick) (first : ComesFirst (IsPossible false s formula vars) (IsFinished false s formula vars) s.limit ticks) (objects : List ℕ) (ds : Derivations) (answer : IsFirst s formula vars objects ds) where

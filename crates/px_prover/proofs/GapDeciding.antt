@@ -11,9 +11,9 @@ use Rattle.px_question.specs.Answers.{IsList}
 use Rattle.px_question.specs.Limits.{AreFewGapShapes, IsGapLimited}
 use Rattle.px_question.specs.Settings.{Setting, loose_gaps_in}
 use Rattle.px_terms.specs.declared.atom.Atom.{Atom}
-use Rattle.px_walk.specs.Possible.{IsGoingOn, shape_of}
-use Rattle.px_walk.specs.Search.{AreAll, LimitComes}
-use Rattle.px_walk.proofs.GapOutcomes.{gap-all-few, gap-limit-is}
+use Rattle.px_proof_walk.specs.Possible.{IsGoingOn, shape_of}
+use Rattle.px_proof_walk.specs.Search.{AreAll, LimitComes}
+use Rattle.px_proof_walk.proofs.GapOutcomes.{gap-all-few, gap-limit-is}
 
 pub empty-test : {X : Type 0} (xs : List X) (b : Bool) → b ≡ (length xs == 0) → b ≡ true → length xs ≡ 0
 empty-test [] b is says = refl

@@ -10,16 +10,16 @@ use Rattle.px_proof.specs.declared.shape.Tick.{Tick}
 use Rattle.px_proof.specs.declared.shape.Tick.TheVariants.{Fact}
 use Rattle.px_question.proofs.RowLaws.{IsName-from_object}
 use Rattle.px_question.specs.Settings.{Setting, IsObjectBelow}
-use Rattle.px_stack.specs.Matches.{ClosesBy}
-use Rattle.px_stack.specs.Steps.{ClosesByStep}
-use Rattle.px_stack.specs.States.{StackValue, Stands}
-use Rattle.px_stack.specs.declared.open.OpenGoal.{OpenGoal}
+use Rattle.px_proof_state.specs.Matches.{ClosesBy}
+use Rattle.px_proof_state.specs.Steps.{ClosesByStep}
+use Rattle.px_proof_state.specs.States.{ProofStateValue, Stands}
+use Rattle.px_proof_state.specs.declared.open.OpenGoal.{OpenGoal}
 use Rattle.px_terms.specs.declared.atom.Atom.{Atom}
 use Rattle.px_terms.specs.declared.clause.Clause.{Clause}
 use Rattle.px_terms.specs.declared.clause.Lit.{Lit}
-use Rattle.px_walk.specs.Possible.{IsClosing}
-use Rattle.px_walk.proofs.Every.{all-push, all-recursion, all-weaker}
-use Rattle.px_walk.proofs.Objects.{FactIsIn}
+use Rattle.px_proof_walk.specs.Possible.{IsClosing}
+use Rattle.px_proof_walk.proofs.Every.{all-push, all-recursion, all-weaker}
+use Rattle.px_proof_walk.proofs.Objects.{FactIsIn}
 
 -- a fact over the objects
 pub fact-in : (s : Setting) (k : ℕ) (fact : Atom) → slice_get s.facts k ≡ Some fact → All (IsObjectBelow s.objects) fact.args → FactIsIn s (Fact k)
@@ -27,7 +27,7 @@ fact-in s k fact at below a is =
     let same : fact ≡ a = some_same _ _ (sym at ∙ is) in
     rw (← same) (all-weaker (IsObjectBelow s.objects) (IsName s.objects 0) fact.args (IsName-from_object s.objects) (all-recursion (IsObjectBelow s.objects) fact.args below))
 
-module _ (loose : Bool) (s : Setting) (formula : List Atom) (vars : ℕ) (ticks : List Tick) (old new : StackValue) (goal : OpenGoal) (ready : IsReady loose s formula vars ticks old goal) (tick : Tick)
+module _ (loose : Bool) (s : Setting) (formula : List Atom) (vars : ℕ) (ticks : List Tick) (old new : ProofStateValue) (goal : OpenGoal) (ready : IsReady loose s formula vars ticks old goal) (tick : Tick)
     (closes_place : IsClosing tick) (fact_is_in : FactIsIn s tick) (stands : Stands loose s formula vars (ticks ++ tick ∷ []) new) where
   more : length (ticks ++ tick ∷ []) ≡ length ticks + 1
   more = length-append ticks (tick ∷ [])
@@ -36,8 +36,8 @@ module _ (loose : Bool) (s : Setting) (formula : List Atom) (vars : ℕ) (ticks 
   pub longer-closed : (lit : Lit) → ClosesBy old new tick goal.lit lit goal.next true → IsLonger loose s formula vars ticks old tick new
   longer-closed lit closes =
       let pushed = closes.pushed refl in
-      let goals_same : new.goals ≡ old.goals = ap (λ (v : StackValue). v.goals) pushed in
-      let first_is : new.first ≡ goal.next = ap (λ (v : StackValue). v.first) pushed in
+      let goals_same : new.goals ≡ old.goals = ap (λ (v : ProofStateValue). v.goals) pushed in
+      let first_is : new.first ≡ goal.next = ap (λ (v : ProofStateValue). v.first) pushed in
       let grows = closes.is_match.grows refl in
       record {
         sound = record {
@@ -49,7 +49,7 @@ module _ (loose : Bool) (s : Setting) (formula : List Atom) (vars : ℕ) (ticks 
           solvable = closes.is_match.solvable refl;
           few = omega (arith, grows.variables, ready.sound.few, more);
         };
-        chosen = ap (λ (v : StackValue). v.choices) pushed;
+        chosen = ap (λ (v : ProofStateValue). v.choices) pushed;
         changes = grows.prefix;
         more_changes = grows.grown;
         goals = ap (take (length old.goals)) goals_same ∙ take-length old.goals;

@@ -10,25 +10,25 @@ use Rattle.px_prover.proofs.Since.{fact-join, ancestor-join, axiom-join, gap-non
 use Rattle.px_proof.specs.declared.shape.Tick.{Tick}
 use Rattle.px_proof.specs.declared.shape.Tick.TheVariants.{Fact, Anc, Step, Gap}
 use Rattle.px_question.specs.Settings.{added_by}
-use Rattle.px_stack.specs.Ancestors.{NeverAncestor, ComesAncestor}
-use Rattle.px_stack.specs.Arena.{path_at}
-use Rattle.px_stack.specs.Axioms.{NeverAxiom, ComesAxiom}
-use Rattle.px_stack.specs.Matches.{ClosesBy}
-use Rattle.px_stack.specs.Ranges.{TriesRange, NeverFact, ComesFact}
-use Rattle.px_stack.specs.States.{StackValue}
-use Rattle.px_stack.specs.declared.open.OpenGoal.{OpenGoal}
+use Rattle.px_proof_state.specs.Ancestors.{NeverAncestor, ComesAncestor}
+use Rattle.px_proof_state.specs.Arena.{path_at}
+use Rattle.px_proof_state.specs.Axioms.{NeverAxiom, ComesAxiom}
+use Rattle.px_proof_state.specs.Matches.{ClosesBy}
+use Rattle.px_proof_state.specs.Ranges.{TriesRange, NeverFact, ComesFact}
+use Rattle.px_proof_state.specs.States.{ProofStateValue}
+use Rattle.px_proof_state.specs.declared.open.OpenGoal.{OpenGoal}
 use Rattle.px_terms.specs.declared.atom.Atom.{Atom}
 use Rattle.px_terms.specs.declared.problem.Schema.{Schema}
 
-module _ (q : Question) (old mid : StackValue) (goal : OpenGoal) where
+module _ (q : Question) (old mid : ProofStateValue) (goal : OpenGoal) where
   -- a state that is the same is ready too
   pub ready-same : mid ≡ old → IsReadyIn q old goal → IsReadyIn q mid goal
-  ready-same same ready = subst (λ (v : StackValue). IsReadyIn q v goal) (sym same) ready
+  ready-same same ready = subst (λ (v : ProofStateValue). IsReadyIn q v goal) (sym same) ready
 
-  tried-same : (start : Tick) (new : StackValue) (found : Bool) → mid ≡ old → TriesSince q start mid new found → TriesSince q start old new found
-  tried-same start new found same tried = subst (λ (v : StackValue). TriesSince q start v new found) same tried
+  tried-same : (start : Tick) (new : ProofStateValue) (found : Bool) → mid ≡ old → TriesSince q start mid new found → TriesSince q start old new found
+  tried-same start new found same tried = subst (λ (v : ProofStateValue). TriesSince q start v new found) same tried
 
-  module _ (ready : IsReadyIn q old goal) (new : StackValue) (found : Bool) where
+  module _ (ready : IsReadyIn q old goal) (new : ProofStateValue) (found : Bool) where
     pub join-fact : (from : ℕ) → TriesRange (NeverFact (setting_in q).objects (setting_in q).facts old goal) (ComesFact (setting_in q).objects (setting_in q).facts old goal) from (length (setting_in q).facts) old mid false →
         TriesSince q (Anc 0) mid new found → TriesSince q (Fact from) old new found
     join-fact from range later =
@@ -87,7 +87,7 @@ third-off false b c e = refl
 all-on : (a b c : Bool) → a ≡ true → b ≡ true → c ≡ true → (a && b && c) ≡ true
 all-on a b c e f g = rw (e, f, g) refl
 
-module _ (q : Question) (old : StackValue) (goal : OpenGoal) (ready : IsReadyIn q old goal) where
+module _ (q : Question) (old : ProofStateValue) (goal : OpenGoal) (ready : IsReadyIn q old goal) where
   pub gap-not_loose : q.loose ≡ false → TriesSince q Gap old old false
   gap-not_loose e = gap-none q.loose (setting_in q) q.formula.now q.vars (ticks_in old.choices) old goal ready (first-off q.loose goal.lit.positive (list_any (nat_eq goal.lit.atom.pred) (setting_in q).added) e)
 
@@ -97,6 +97,6 @@ module _ (q : Question) (old : StackValue) (goal : OpenGoal) (ready : IsReadyIn 
   pub gap-not_added : list_any (nat_eq goal.lit.atom.pred) (setting_in q).added ≡ false → TriesSince q Gap old old false
   gap-not_added e = gap-none q.loose (setting_in q) q.formula.now q.vars (ticks_in old.choices) old goal ready (third-off q.loose goal.lit.positive (list_any (nat_eq goal.lit.atom.pred) (setting_in q).added) e)
 
-  pub gap-tried : q.loose ≡ true → goal.lit.positive ≡ true → list_any (nat_eq goal.lit.atom.pred) (setting_in q).added ≡ true → (new : StackValue) (found : Bool) → ClosesBy old new Gap goal.lit goal.lit goal.next found → TriesSince q Gap old new found
+  pub gap-tried : q.loose ≡ true → goal.lit.positive ≡ true → list_any (nat_eq goal.lit.atom.pred) (setting_in q).added ≡ true → (new : ProofStateValue) (found : Bool) → ClosesBy old new Gap goal.lit goal.lit goal.next found → TriesSince q Gap old new found
   gap-tried e f g new found closes =
       gap-closed q.loose (setting_in q) q.formula.now q.vars (ticks_in old.choices) old goal ready (all-on q.loose goal.lit.positive (list_any (nat_eq goal.lit.atom.pred) (setting_in q).added) e f g) new found closes

@@ -8,10 +8,10 @@ use Rattle.px_proof.specs.Shapes.{TickBefore, tick_kind, tick_number}
 use Rattle.px_proof.specs.declared.shape.Tick.{Tick}
 use Rattle.px_proof.specs.declared.shape.Tick.TheVariants.{Fact, Anc, Step, Gap, Open}
 use Rattle.px_question.specs.Settings.{Setting}
-use Rattle.px_stack.specs.States.{StackValue}
+use Rattle.px_proof_state.specs.States.{ProofStateValue}
 use Rattle.px_terms.specs.declared.atom.Atom.{Atom}
-use Rattle.px_walk.specs.Order.{IsAfter}
-use Rattle.px_walk.specs.Possible.{IsClosing}
+use Rattle.px_proof_walk.specs.Order.{IsAfter}
+use Rattle.px_proof_walk.specs.Possible.{IsClosing}
 
 last-closing : (ticks : List Tick) (u : Tick) → AllByRecursion IsClosing (ticks ++ u ∷ []) → IsClosing u
 last-closing [] u all = all.0
@@ -113,14 +113,14 @@ none-after Gap closing (inl h) = omega (arith, h)
 none-after Gap closing (inr (inl h)) = omega (arith, h.1)
 none-after Gap closing (inr (inr h)) = omega (arith, h.2)
 
-module _ (loose : Bool) (s : Setting) (formula : List Atom) (vars : ℕ) (ticks : List Tick) (old new : StackValue) (found : Bool) where
+module _ (loose : Bool) (s : Setting) (formula : List Atom) (vars : ℕ) (ticks : List Tick) (old new : ProofStateValue) (found : Bool) where
   pub later-begins : (last : Option Tick) (start : Tick) → Begins last start → TriesAmong (IsSince start) loose s formula vars ticks old new found → TriesAmong (IsAfter last) loose s formula vars ticks old new found
   later-begins last start begins tried = record {
     least = λ is_found. let h = tried.least is_found in (h.0, begins.back h.0 h.1, h.2, λ u after leads. h.3 u (begins.to u (last-closing ticks u leads.0) after) leads);
     no_more = λ is_not. let h = tried.no_more is_not in (h.0, λ u after leads. h.1 u (begins.to u (last-closing ticks u leads.0) after) leads);
   }
 
-pub later-none : (loose : Bool) (s : Setting) (formula : List Atom) (vars : ℕ) (ticks : List Tick) (old : StackValue) → TriesAmong (IsAfter (Some Gap)) loose s formula vars ticks old old false
+pub later-none : (loose : Bool) (s : Setting) (formula : List Atom) (vars : ℕ) (ticks : List Tick) (old : ProofStateValue) → TriesAmong (IsAfter (Some Gap)) loose s formula vars ticks old old false
 later-none loose s formula vars ticks old = record {
   least = λ is_found. absurd (cc);
   no_more = λ is_not. (refl, λ u after leads. none-after u (last-closing ticks u leads.0) after);

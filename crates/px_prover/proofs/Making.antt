@@ -17,9 +17,9 @@ use Rattle.px_terms.specs.declared.clause.Lit.{Lit}
 use Rattle.px_terms.specs.declared.term.Term.{Term}
 use Rattle.px_proof.specs.declared.shape.Tick.{Tick}
 use Rattle.px_question.specs.Settings.{Setting}
-use Rattle.px_stack.specs.declared.open.Choice.{Choice}
+use Rattle.px_proof_state.specs.declared.open.Choice.{Choice}
 use Rattle.px_unify.specs.declared.change.Change.{Change}
-use Rattle.px_walk.specs.Pending.{fresh_of, vars_of}
+use Rattle.px_proof_walk.specs.Pending.{fresh_of, vars_of}
 
 -- ---- objects
 

@@ -11,11 +11,11 @@ use Rattle.px_prover.proofs.Scopes.{open-in, lit-plain}
 use Rattle.px_proof.specs.declared.shape.Tick.{Tick}
 use Rattle.px_proof.specs.declared.shape.Tick.TheVariants.{Fact, Anc, Step, Gap, Open}
 use Rattle.px_question.specs.Settings.{Setting}
-use Rattle.px_stack.specs.Arena.{goals_at, path_at}
-use Rattle.px_stack.specs.States.{StackValue}
-use Rattle.px_stack.specs.declared.open.Choice.{Choice}
-use Rattle.px_stack.specs.declared.open.OpenGoal.{OpenGoal}
-use Rattle.px_stack.proofs.Hanging.{goals_at-index, goals_at-nothing}
+use Rattle.px_proof_state.specs.Arena.{goals_at, path_at}
+use Rattle.px_proof_state.specs.States.{ProofStateValue}
+use Rattle.px_proof_state.specs.declared.open.Choice.{Choice}
+use Rattle.px_proof_state.specs.declared.open.OpenGoal.{OpenGoal}
+use Rattle.px_proof_state.proofs.Hanging.{goals_at-index, goals_at-nothing}
 use Rattle.px_terms.specs.Language.{IsVariableBelow, IsPlainBelow}
 use Rattle.px_terms.specs.declared.atom.Atom.{Atom}
 use Rattle.px_terms.specs.declared.clause.Lit.{Lit}
@@ -25,11 +25,11 @@ use Rattle.px_unify.specs.ChangeLaws.{slots_after-append}
 use Rattle.px_unify.specs.Changes.{slots_after, slots_of, variables_of}
 use Rattle.px_unify.specs.declared.change.Change.{Change}
 use Rattle.px_unify.specs.declared.change.Change.TheVariants.{Fresh, Bound}
-use Rattle.px_walk.specs.GapAtoms.{gap_at, gap_atoms}
-use Rattle.px_walk.specs.Pending.{Goal, goals_of, open_after}
-use Rattle.px_walk.specs.Scope.{IsGoalIn}
-use Rattle.px_walk.proofs.Gaps.{gap_atoms-push}
-use Rattle.px_walk.proofs.Objects.{goals-in}
+use Rattle.px_proof_walk.specs.GapAtoms.{gap_at, gap_atoms}
+use Rattle.px_proof_walk.specs.Pending.{Goal, goals_of, open_after}
+use Rattle.px_proof_walk.specs.Scope.{IsGoalIn}
+use Rattle.px_proof_walk.proofs.Gaps.{gap_atoms-push}
+use Rattle.px_proof_walk.proofs.Objects.{goals-in}
 
 -- ---- fronts of lists
 
@@ -61,7 +61,7 @@ variable-more m n le (Var v) below = omega (arith, le, below)
 variable-more m n le Any below = tt
 
 module _ (s : Setting) (formula : List Atom) (vars : ℕ) where
-  -- the goal was the first one that was open after the ticks, and its arguments are over the first so many variables
+  -- the goal was the first one that was open after the ticks, and its arguments are over the first variables, of the given number
   pub record WasFirst (ticks : List Tick) (variables : ℕ) (g : OpenGoal) : Type 0 where
     pub last : ℕ
     pub path : List Lit
@@ -139,7 +139,7 @@ module _ (s : Setting) (formula : List Atom) (vars : ℕ) where
         ∙ ap (λ (ys : List Choice). reverse (drop (i + 1) xs) ++ reverse ys) more ∙ ap (λ (ys : List Choice). reverse (drop (i + 1) xs) ++ ys) (reverse-append (take i xs) (c ∷ []))
 
     -- where each choice was made a goal was open
-    pub missing-open : (xs : List Choice) (v : StackValue) → IsStanding true s formula vars v → reverse xs ≡ v.choices → (i : ℕ) (c : Choice) → i < length xs → c ≡ get_or xs i c →
+    pub missing-open : (xs : List Choice) (v : ProofStateValue) → IsStanding true s formula vars v → reverse xs ≡ v.choices → (i : ℕ) (c : Choice) → i < length xs → c ≡ get_or xs i c →
         WasOpen (map (λ (x : Choice). x.tick) (take i xs)) (variables_of v.changes) v.goals c.first
     missing-open xs v standing are i c within is =
         subst (λ (ts : List Tick). WasOpen ts (variables_of v.changes) v.goals c.first) (ticks-map (take i xs))

@@ -11,23 +11,23 @@ use Rattle.px_proof.specs.PlaceLaws.{some_same}
 use Rattle.px_proof.specs.declared.shape.Tick.{Tick}
 use Rattle.px_proof.specs.declared.shape.Tick.TheVariants.{Open}
 use Rattle.px_question.specs.Settings.{Setting}
-use Rattle.px_stack.specs.Arena.{goals_at, AreOlder}
-use Rattle.px_stack.specs.Matches.{choice_by}
-use Rattle.px_stack.specs.Parts.{goals_under}
-use Rattle.px_stack.specs.States.{StackValue, IsOpening, CanRetract, retracted}
-use Rattle.px_stack.specs.declared.open.Choice.{Choice}
-use Rattle.px_stack.specs.declared.open.OpenGoal.{OpenGoal}
-use Rattle.px_stack.proofs.Hanging.{goals_at-index, goals_at-nothing}
+use Rattle.px_proof_state.specs.Arena.{goals_at, AreOlder}
+use Rattle.px_proof_state.specs.Matches.{choice_by}
+use Rattle.px_proof_state.specs.Parts.{goals_under}
+use Rattle.px_proof_state.specs.States.{ProofStateValue, IsOpening, CanRetract, retracted}
+use Rattle.px_proof_state.specs.declared.open.Choice.{Choice}
+use Rattle.px_proof_state.specs.declared.open.OpenGoal.{OpenGoal}
+use Rattle.px_proof_state.proofs.Hanging.{goals_at-index, goals_at-nothing}
 use Rattle.px_terms.specs.declared.atom.Atom.{Atom}
 use Rattle.px_unify.specs.ChangeLaws.{variables-fresh}
 use Rattle.px_unify.specs.declared.change.Change.{Change}
 use Rattle.px_unify.specs.declared.change.Change.TheVariants.{Fresh}
 use Rattle.px_unify.specs.Changes.{Meets, variables_of}
-use Rattle.px_walk.specs.Order.{IsAfter, TriesAfter}
-use Rattle.px_walk.specs.Pending.{Goal, Pending, Solves, open_after, goals_of, IsFeasible, Closing, closing_at, fresh_of}
-use Rattle.px_walk.proofs.Lifting.{open_after-step}
-use Rattle.px_walk.specs.Possible.{IsPossible, IsFinished, open_count, left_of, shape_of}
-use Rattle.px_walk.proofs.Objects.{feasible-from_bindings}
+use Rattle.px_proof_walk.specs.Order.{IsAfter, TriesAfter}
+use Rattle.px_proof_walk.specs.Pending.{Goal, Pending, Solves, open_after, goals_of, IsFeasible, Closing, closing_at, fresh_of}
+use Rattle.px_proof_walk.proofs.Lifting.{open_after-step}
+use Rattle.px_proof_walk.specs.Possible.{IsPossible, IsFinished, open_count, left_of, shape_of}
+use Rattle.px_proof_walk.proofs.Objects.{feasible-from_bindings}
 
 module _ (loose : Bool) (s : Setting) (formula : List Atom) (vars : ℕ) where
   pub sound-now : (choices : List Choice) (changes : List Change) (goals : List OpenGoal) (first : ℕ) → WasSound loose s formula vars choices changes goals first →
@@ -35,14 +35,14 @@ module _ (loose : Bool) (s : Setting) (formula : List Atom) (vars : ℕ) where
   sound-now [] changes goals first was = was
   sound-now (c ∷ rest) changes goals first was = was.0
 
-  pub standing-sound : (v : StackValue) → IsStanding loose s formula vars v → IsSound loose s formula vars (ticks_in v.choices) v
+  pub standing-sound : (v : ProofStateValue) → IsStanding loose s formula vars v → IsSound loose s formula vars (ticks_in v.choices) v
   standing-sound v standing = sound-now v.choices v.changes v.goals v.first standing.was
 
-  pub standing-ready : (v : StackValue) (goal : OpenGoal) → IsStanding loose s formula vars v → 0 < v.first → slice_get v.goals (v.first - 1) ≡ Some goal → length (ticks_in v.choices) < s.limit → IsReady loose s formula vars (ticks_in v.choices) v goal
+  pub standing-ready : (v : ProofStateValue) (goal : OpenGoal) → IsStanding loose s formula vars v → 0 < v.first → slice_get v.goals (v.first - 1) ≡ Some goal → length (ticks_in v.choices) < s.limit → IsReady loose s formula vars (ticks_in v.choices) v goal
   standing-ready v goal standing some at room = record { asked = standing.asked; sound = standing-sound v standing; some = some; at = at; room = omega (arith, room, standing.asked.few_ticks) }
 
   -- a sound state shows its ticks possible
-  pub sound-possible : (ticks : List Tick) (v : StackValue) → IsAsked s formula vars → IsSound loose s formula vars ticks v → IsPossible loose s formula vars ticks
+  pub sound-possible : (ticks : List Tick) (v : ProofStateValue) → IsAsked s formula vars → IsSound loose s formula vars ticks v → IsPossible loose s formula vars ticks
   sound-possible ticks v asked sound =
       let p : Pending = record { variables = variables_of v.changes; goals = goals_at v.goals v.first } in (
         sound.closing,
@@ -50,10 +50,10 @@ module _ (loose : Bool) (s : Setting) (formula : List Atom) (vars : ℕ) where
             (object-there loose s asked.setting ticks vars (goals_of s formula) p sound.stands.pending asked.some_object),
       )
 
-  ticks-longer : (ticks : List Tick) (old new : StackValue) (tick : Tick) → IsLonger loose s formula vars ticks old tick new → ticks_in new.choices ≡ ticks_in old.choices ++ tick ∷ []
+  ticks-longer : (ticks : List Tick) (old new : ProofStateValue) (tick : Tick) → IsLonger loose s formula vars ticks old tick new → ticks_in new.choices ≡ ticks_in old.choices ++ tick ∷ []
   ticks-longer ticks old new tick longer = ap ticks_in longer.chosen
 
-  was-longer : (choices : List Choice) (old new : StackValue) (c : Choice) → choices ≡ c ∷ old.choices → c.mark ≤ length new.changes → c.goals ≤ length new.goals →
+  was-longer : (choices : List Choice) (old new : ProofStateValue) (c : Choice) → choices ≡ c ∷ old.choices → c.mark ≤ length new.changes → c.goals ≤ length new.goals →
       take c.mark new.changes ≡ old.changes → take c.goals new.goals ≡ old.goals → c.first ≡ old.first →
       IsSound loose s formula vars (ticks_in choices) (record { changes = new.changes; goals = new.goals; first = new.first; choices = choices }) →
       WasSound loose s formula vars old.choices old.changes old.goals old.first → WasSound loose s formula vars choices new.changes new.goals new.first
@@ -61,7 +61,7 @@ module _ (loose : Bool) (s : Setting) (formula : List Atom) (vars : ℕ) where
       rw is (rw is at sound, mark, goals, rw (changes_are, goals_are, first_is) was)
 
   -- after one more tick it is still one of the question
-  pub standing-longer : (old new : StackValue) (tick : Tick) → IsStanding loose s formula vars old → IsLonger loose s formula vars (ticks_in old.choices) old tick new → IsStanding loose s formula vars new
+  pub standing-longer : (old new : ProofStateValue) (tick : Tick) → IsStanding loose s formula vars old → IsLonger loose s formula vars (ticks_in old.choices) old tick new → IsStanding loose s formula vars new
   standing-longer old new tick standing longer = record {
     asked = standing.asked;
     was = was-longer new.choices old new (choice_by tick old) longer.chosen longer.more_changes longer.more_goals longer.changes longer.goals refl
@@ -69,23 +69,23 @@ module _ (loose : Bool) (s : Setting) (formula : List Atom) (vars : ℕ) where
   }
 
   -- what an attempt says of the lists
-  pub later-tried : (last : Option Tick) (old new : StackValue) (found : Bool) → IsStanding loose s formula vars old → TriesAmong (IsAfter last) loose s formula vars (ticks_in old.choices) old new found →
+  pub later-tried : (last : Option Tick) (old new : ProofStateValue) (found : Bool) → IsStanding loose s formula vars old → TriesAmong (IsAfter last) loose s formula vars (ticks_in old.choices) old new found →
       TriesAfter (IsPossible loose s formula vars) (ticks_in old.choices) (ticks_in new.choices) last found
   later-tried last old new found standing tried = record {
     least = λ is_found.
         let h = tried.least is_found in
         let is = ticks-longer (ticks_in old.choices) old new h.0 h.2 in
         (h.0, is, h.1, rw is (sound-possible (ticks_in old.choices ++ h.0 ∷ []) new standing.asked h.2.sound), h.3);
-    no_more = λ is_not. let h = tried.no_more is_not in (ap (λ (v : StackValue). ticks_in v.choices) h.0, h.1);
+    no_more = λ is_not. let h = tried.no_more is_not in (ap (λ (v : ProofStateValue). ticks_in v.choices) h.0, h.1);
   }
 
-  pub later-standing : (last : Option Tick) (old new : StackValue) (found : Bool) → IsStanding loose s formula vars old → TriesAmong (IsAfter last) loose s formula vars (ticks_in old.choices) old new found → IsStanding loose s formula vars new
+  pub later-standing : (last : Option Tick) (old new : ProofStateValue) (found : Bool) → IsStanding loose s formula vars old → TriesAmong (IsAfter last) loose s formula vars (ticks_in old.choices) old new found → IsStanding loose s formula vars new
   later-standing last old new true standing tried = let h = tried.least refl in standing-longer old new h.0 standing h.2
-  later-standing last old new false standing tried = subst (λ (v : StackValue). IsStanding loose s formula vars v) (sym (tried.no_more refl).0) standing
+  later-standing last old new false standing tried = subst (λ (v : ProofStateValue). IsStanding loose s formula vars v) (sym (tried.no_more refl).0) standing
 
   -- ---- what is open
 
-  pub count-open : (v : StackValue) → IsStanding loose s formula vars v → open_count loose s formula vars (ticks_in v.choices) ≡ length (goals_at v.goals v.first)
+  pub count-open : (v : ProofStateValue) → IsStanding loose s formula vars v → open_count loose s formula vars (ticks_in v.choices) ≡ length (goals_at v.goals v.first)
   count-open v standing = ap left_of (standing-sound v standing).stands.pending
 
   pub none-long : (ticks : List Tick) (u : Tick) (n : ℕ) (goals : List Goal) (p q : Pending) → open_after loose s n goals ticks ≡ Some p → p.goals ≡ [] → ¬ (open_after loose s n goals (ticks ++ u ∷ []) ≡ Some q)
@@ -101,7 +101,7 @@ module _ (loose : Bool) (s : Setting) (formula : List Atom) (vars : ℕ) where
           next closing (sym (open_after-step loose s n g goals t ticks closing is) ∙ now) empty (sym (open_after-step loose s n g goals t (ticks ++ u ∷ []) closing is) ∙ later)
 
   -- where nothing is open nothing comes
-  pub finished-tried : (v : StackValue) (last : Option Tick) → IsStanding loose s formula vars v → v.first ≡ 0 → TriesAfter (IsPossible loose s formula vars) (ticks_in v.choices) (ticks_in v.choices) last false
+  pub finished-tried : (v : ProofStateValue) (last : Option Tick) → IsStanding loose s formula vars v → v.first ≡ 0 → TriesAfter (IsPossible loose s formula vars) (ticks_in v.choices) (ticks_in v.choices) last false
   finished-tried v last standing none = record {
     least = λ is_found. absurd (cc);
     no_more = λ is_not. (
@@ -112,7 +112,7 @@ module _ (loose : Bool) (s : Setting) (formula : List Atom) (vars : ℕ) where
     );
   }
 
-  goals-there : (v : StackValue) → AreOlder v.goals → 0 < v.first → v.first ≤ length v.goals → 0 < length (goals_at v.goals v.first)
+  goals-there : (v : ProofStateValue) → AreOlder v.goals → 0 < v.first → v.first ≤ length v.goals → 0 < length (goals_at v.goals v.first)
   goals-there v older some within = go (read v.goals (v.first - 1) (omega (arith, some, within)))
     where
       read : {X : Type 0} (xs : List X) (k : ℕ) → k < length xs → (x : X) × (slice_get xs k ≡ Some x)
@@ -126,7 +126,7 @@ module _ (loose : Bool) (s : Setting) (formula : List Atom) (vars : ℕ) where
           let both = older (v.first - 1) g at in
           rw (ap (goals_at v.goals) place ∙ goals_at-index v.goals (v.first - 1) g at both.1 both.0) (omega arith)
 
-  pub finished-is : (v : StackValue) → IsStanding loose s formula vars v → (v.first ≡ 0) ↔ IsFinished loose s formula vars (ticks_in v.choices)
+  pub finished-is : (v : ProofStateValue) → IsStanding loose s formula vars v → (v.first ≡ 0) ↔ IsFinished loose s formula vars (ticks_in v.choices)
   finished-is v standing = (
     λ none. count-open v standing ∙ ap length (ap (goals_at v.goals) none ∙ goals_at-nothing v.goals),
     λ finished. by_first v.first refl finished,
@@ -141,14 +141,14 @@ module _ (loose : Bool) (s : Setting) (formula : List Atom) (vars : ℕ) where
 
   -- ---- going back
 
-  can : (choices : List Choice) (v : StackValue) → v.choices ≡ choices → WasSound loose s formula vars choices v.changes v.goals v.first → CanRetract v
+  can : (choices : List Choice) (v : ProofStateValue) → v.choices ≡ choices → WasSound loose s formula vars choices v.changes v.goals v.first → CanRetract v
   can [] v is was = rw is tt
   can (c ∷ rest) v is was = rw is (was.1, was.2)
 
-  pub standing-can : (v : StackValue) → IsStanding loose s formula vars v → CanRetract v
+  pub standing-can : (v : ProofStateValue) → IsStanding loose s formula vars v → CanRetract v
   standing-can v standing = can v.choices v refl standing.was
 
-  pub standing-retracted : (old new : StackValue) (c : Choice) (rest : List Choice) → IsStanding loose s formula vars old → old.choices ≡ c ∷ rest → new ≡ retracted old c rest → IsStanding loose s formula vars new
+  pub standing-retracted : (old new : ProofStateValue) (c : Choice) (rest : List Choice) → IsStanding loose s formula vars old → old.choices ≡ c ∷ rest → new ≡ retracted old c rest → IsStanding loose s formula vars new
   standing-retracted old new c rest standing is new_is = rw new_is (record { asked = standing.asked; was = (rw is at standing.was).3 })
 
   -- ---- the start
@@ -157,7 +157,7 @@ module _ (loose : Bool) (s : Setting) (formula : List Atom) (vars : ℕ) where
   formula-goals [] = refl
   formula-goals (a ∷ atoms) = ap (λ gs. record { lit = positive_of a; path = []; budget = s.height } ∷ gs) (formula-goals atoms)
 
-  pub opening-sound : (v : StackValue) → IsOpening formula vars s.height v → IsSound loose s formula vars [] v
+  pub opening-sound : (v : ProofStateValue) → IsOpening formula vars s.height v → IsSound loose s formula vars [] v
   opening-sound v opening =
       let variables : variables_of v.changes ≡ vars = ap variables_of opening.variables ∙ variables-fresh [] vars ∙ omega arith in
       record {
@@ -173,7 +173,7 @@ module _ (loose : Bool) (s : Setting) (formula : List Atom) (vars : ℕ) where
         few = omega (arith, variables);
       }
 
-  pub opening-standing : (v : StackValue) → IsAsked s formula vars → IsOpening formula vars s.height v → IsStanding loose s formula vars v
+  pub opening-standing : (v : ProofStateValue) → IsAsked s formula vars → IsOpening formula vars s.height v → IsStanding loose s formula vars v
   opening-standing v asked opening = record { asked = asked; was = go v.choices opening.choices }
     where
       sound : IsSound loose s formula vars [] v
@@ -217,7 +217,7 @@ pub open-ended : (arena : List OpenGoal) (at : ℕ) (items total : List Tick) �
 open-ended arena at items total none all = sym (append-nil items) ∙ ap (λ gs. items ++ replicate (length gs) Open) (sym (ap (goals_at arena) none ∙ goals_at-nothing arena)) ∙ all
 
 -- the shape has the ticks of the choices, then a tick for each open place
-pub shape-made : (loose : Bool) (s : Setting) (formula : List Atom) (vars : ℕ) (v : StackValue) → IsStanding loose s formula vars v → (choices : List Choice) → reverse choices ≡ v.choices → (front whole : List Tick) (n : ℕ) →
+pub shape-made : (loose : Bool) (s : Setting) (formula : List Atom) (vars : ℕ) (v : ProofStateValue) → IsStanding loose s formula vars v → (choices : List Choice) → reverse choices ≡ v.choices → (front whole : List Tick) (n : ℕ) →
     length choices ≤ n → front ≡ map (λ (c : Choice). c.tick) (take n choices) → whole ≡ front ++ replicate (length (goals_at v.goals v.first)) Open → whole ≡ shape_of loose s formula vars (ticks_in v.choices)
 shape-made loose s formula vars v standing choices are front whole n past front_is whole_is =
     let ticks_are : front ≡ ticks_in v.choices = front_is ∙ ap (map (λ (c : Choice). c.tick)) (take_all n choices past) ∙ sym (ticks-map choices) ∙ ap ticks_in are in

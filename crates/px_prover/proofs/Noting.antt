@@ -81,7 +81,7 @@ ends-both A B C roots old mid new first second are = record {
   );
 }
 
--- ---- the first so many variables
+-- ---- the first variables
 
 pub first-start : (roots : List Term) (old : List ℕ) → NotesEnds (IsFirstVariable 0) roots old old
 first-start roots old = ends-none (IsFirstVariable 0) roots old (λ t w such end. omega (arith, such.1))

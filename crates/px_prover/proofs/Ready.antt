@@ -7,24 +7,24 @@ use Rattle.px_prover.proofs.Scopes.{open-in, open-near, goals-near, lit-plain, l
 use Rattle.px_proof.specs.PlaceLaws.{All-got, slice_get-read}
 use Rattle.px_proof.specs.declared.shape.Tick.{Tick}
 use Rattle.px_question.specs.Settings.{Setting}
-use Rattle.px_stack.specs.Arena.{goals_at, path_at}
-use Rattle.px_stack.specs.Axioms.{IsFit}
-use Rattle.px_stack.specs.Parts.{IsLitBelow}
-use Rattle.px_stack.specs.States.{StackValue}
-use Rattle.px_stack.specs.declared.open.OpenGoal.{OpenGoal}
-use Rattle.px_stack.proofs.Hanging.{goals_at-index, path_at-index}
+use Rattle.px_proof_state.specs.Arena.{goals_at, path_at}
+use Rattle.px_proof_state.specs.Axioms.{IsFit}
+use Rattle.px_proof_state.specs.Parts.{IsLitBelow}
+use Rattle.px_proof_state.specs.States.{ProofStateValue}
+use Rattle.px_proof_state.specs.declared.open.OpenGoal.{OpenGoal}
+use Rattle.px_proof_state.proofs.Hanging.{goals_at-index, path_at-index}
 use Rattle.px_terms.specs.declared.atom.Atom.{Atom}
 use Rattle.px_terms.specs.declared.clause.Clause.{Clause}
 use Rattle.px_unify.specs.Changes.{variables_of}
-use Rattle.px_walk.specs.Pending.{Goal, goals_of}
-use Rattle.px_walk.specs.Scope.{IsGoalIn}
-use Rattle.px_walk.proofs.Objects.{goals-in}
+use Rattle.px_proof_walk.specs.Pending.{Goal, goals_of}
+use Rattle.px_proof_walk.specs.Scope.{IsGoalIn}
+use Rattle.px_proof_walk.proofs.Objects.{goals-in}
 
 -- the goal with what hangs above it
-abbrev pub goal_in : StackValue → OpenGoal → Goal
+abbrev pub goal_in : ProofStateValue → OpenGoal → Goal
 goal_in old g = record { lit = g.lit; path = path_at old.goals g.above; budget = g.budget }
 
-module _ (loose : Bool) (s : Setting) (formula : List Atom) (vars : ℕ) (ticks : List Tick) (old : StackValue) (goal : OpenGoal) (ready : IsReady loose s formula vars ticks old goal) where
+module _ (loose : Bool) (s : Setting) (formula : List Atom) (vars : ℕ) (ticks : List Tick) (old : ProofStateValue) (goal : OpenGoal) (ready : IsReady loose s formula vars ticks old goal) where
   older : (goal.above ≤ old.first - 1) × (goal.next ≤ old.first - 1)
   older = ready.sound.arena (old.first - 1) goal ready.at
 

@@ -14,11 +14,11 @@ use Rattle.px_terms.specs.declared.clause.Clause.{Clause}
 use Rattle.px_terms.specs.declared.clause.Lit.{Lit}
 use Rattle.px_terms.specs.declared.term.Term.{Term}
 use Rattle.px_terms.specs.declared.term.Term.TheVariants.{Obj, Var, Any}
-use Rattle.px_walk.specs.Pending.{Goal, Closing, Pending, open_after, closing_at, fresh_of, vars_of, goals_of, goals_below, by_fact, by_ancestor, by_literal, by_step, has_room, variables_from}
-use Rattle.px_walk.specs.Scope.{IsSetting, IsLitIn, IsGoalIn}
-use Rattle.px_walk.proofs.Every.{all-both, all-weaker}
-use Rattle.px_walk.proofs.Lifting.{open_after-step}
-use Rattle.px_walk.proofs.Objects.{FactIsIn, closing-in, goal-more}
+use Rattle.px_proof_walk.specs.Pending.{Goal, Closing, Pending, open_after, closing_at, fresh_of, vars_of, goals_of, goals_below, by_fact, by_ancestor, by_literal, by_step, has_room, variables_from}
+use Rattle.px_proof_walk.specs.Scope.{IsSetting, IsLitIn, IsGoalIn}
+use Rattle.px_proof_walk.proofs.Every.{all-both, all-weaker}
+use Rattle.px_proof_walk.proofs.Lifting.{open_after-step}
+use Rattle.px_proof_walk.proofs.Objects.{FactIsIn, closing-in, goal-more}
 
 name-plain : (objects n : ℕ) (t : Term) → IsName objects n t → IsPlainBelow n t
 name-plain objects n (Obj o) h = tt
@@ -81,7 +81,7 @@ module _ (loose : Bool) (s : Setting) (valid : IsSetting s) where
       go None is later = absurd (let none = rw is at ends in cc)
       go (Some closing) is later = later closing (sym (open_after-step loose s n goal goals tick ticks closing is) ∙ ends) (either n (fresh_of s tick) given (new tick)) some
 
--- a goal has at most so many literals above it
+-- a goal has at most `k` literals above it
 abbrev pub IsNear : ℕ → Goal → Type 0
 IsNear k goal = length goal.path ≤ k
 

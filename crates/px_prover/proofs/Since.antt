@@ -14,20 +14,20 @@ use Rattle.px_proof.specs.Shapes.{TickBefore, tick_kind}
 use Rattle.px_proof.specs.declared.shape.Tick.{Tick}
 use Rattle.px_proof.specs.declared.shape.Tick.TheVariants.{Fact, Anc, Step, Gap, Open}
 use Rattle.px_question.specs.Settings.{Setting}
-use Rattle.px_stack.specs.Ancestors.{NeverAncestor, ComesAncestor}
-use Rattle.px_stack.specs.Arena.{goals_at, path_at}
-use Rattle.px_stack.specs.Axioms.{IsFrom, NeverAxiom, ComesAxiom}
-use Rattle.px_stack.specs.Ranges.{TriesRange, NeverFact, ComesFact}
-use Rattle.px_stack.specs.States.{StackValue}
-use Rattle.px_stack.specs.declared.open.OpenGoal.{OpenGoal}
+use Rattle.px_proof_state.specs.Ancestors.{NeverAncestor, ComesAncestor}
+use Rattle.px_proof_state.specs.Arena.{goals_at, path_at}
+use Rattle.px_proof_state.specs.Axioms.{IsFrom, NeverAxiom, ComesAxiom}
+use Rattle.px_proof_state.specs.Ranges.{TriesRange, NeverFact, ComesFact}
+use Rattle.px_proof_state.specs.States.{ProofStateValue}
+use Rattle.px_proof_state.specs.declared.open.OpenGoal.{OpenGoal}
 use Rattle.px_terms.specs.declared.atom.Atom.{Atom}
 use Rattle.px_terms.specs.declared.clause.Clause.{Clause}
-use Rattle.px_stack.specs.Matches.{ClosesBy}
+use Rattle.px_proof_state.specs.Matches.{ClosesBy}
 use Rattle.px_prover.proofs.StepTurns.{none-at}
 use Rattle.px_prover.proofs.Turns.{stands-closed, none-closed}
 use Rattle.px_unify.specs.Changes.{variables_of}
-use Rattle.px_walk.specs.Pending.{IsFeasible, closing_at}
-use Rattle.px_walk.specs.Possible.{IsPossible}
+use Rattle.px_proof_walk.specs.Pending.{IsFeasible, closing_at}
+use Rattle.px_proof_walk.specs.Possible.{IsPossible}
 
 -- ---- which ticks are left
 
@@ -165,7 +165,7 @@ step-since from place k start p after begins past = elim (less_same_more from k)
 past-none : {X : Type 0} (xs : List X) (k : ℕ) (x : X) → length xs ≤ k → ¬ (slice_get xs k ≡ Some x)
 past-none xs k x past at = omega (arith, past, slice_get-within xs k x at)
 
-module _ (loose : Bool) (s : Setting) (formula : List Atom) (vars : ℕ) (ticks : List Tick) (old : StackValue) (goal : OpenGoal) (ready : IsReady loose s formula vars ticks old goal) where
+module _ (loose : Bool) (s : Setting) (formula : List Atom) (vars : ℕ) (ticks : List Tick) (old : ProofStateValue) (goal : OpenGoal) (ready : IsReady loose s formula vars ticks old goal) where
   open_is : goals_at old.goals old.first ≡ goal_in old goal ∷ goals_at old.goals goal.next
   open_is = ready-open loose s formula vars ticks old goal ready
 
@@ -175,11 +175,11 @@ module _ (loose : Bool) (s : Setting) (formula : List Atom) (vars : ℕ) (ticks 
   abbrev pub Leads : Tick → Type 0
   Leads u = IsPossible loose s formula vars (ticks ++ u ∷ [])
 
-  abbrev pub Tried : Tick → StackValue → Bool → Type 0
+  abbrev pub Tried : Tick → ProofStateValue → Bool → Type 0
   Tried start new found = TriesAmong (IsSince start) loose s formula vars ticks old new found
 
   -- the first number of a kind that leads to a list comes before the later numbers and the later kinds
-  found-number : (kind : ℕ → Tick) (from k : ℕ) (after : Tick) (new : StackValue) → from ≤ k → ((u : Tick) → IsSince (kind from) u → ((j : ℕ) × (u ≡ kind j) × (from ≤ j)) ⊎ IsSince after u) →
+  found-number : (kind : ℕ → Tick) (from k : ℕ) (after : Tick) (new : ProofStateValue) → from ≤ k → ((u : Tick) → IsSince (kind from) u → ((j : ℕ) × (u ≡ kind j) × (from ≤ j)) ⊎ IsSince after u) →
       ((i j : ℕ) → i ≤ j → IsSince (kind i) (kind j)) → IsLonger loose s formula vars ticks old (kind k) new → ((j : ℕ) → from ≤ j → j < k → ¬ Leads (kind j)) → tick_kind (kind k) < tick_kind after → Tried (kind from) new true
   found-number kind from k after new reached split since longer never earlier = record {
     least = λ is_found. (kind k, since from k reached, longer, λ u start leads. go u (split u start) leads);
@@ -192,7 +192,7 @@ module _ (loose : Bool) (s : Setting) (formula : List Atom) (vars : ℕ) (ticks 
 
   -- where no tick before a later start leads to a list, trying from the later start on is trying from the earlier one on
   joined : (start after : Tick) (Here : Tick → Type 0) → ((u : Tick) → IsSince start u → Here u ⊎ IsSince after u) → ((u : Tick) → Here u → ¬ Leads u) → tick_kind start < tick_kind after →
-      (new : StackValue) (found : Bool) → Tried after new found → Tried start new found
+      (new : ProofStateValue) (found : Bool) → Tried after new found → Tried start new found
   joined start after Here split none earlier new found later = record {
     least = λ is_found.
         let h = later.least is_found in
@@ -213,15 +213,15 @@ module _ (loose : Bool) (s : Setting) (formula : List Atom) (vars : ℕ) (ticks 
       (elim (cases_lt j (length s.facts)) [ inl h ↦ never j after h | inr past ↦ λ fact at. absurd (past-none s.facts j fact past at) ])
       leads.1
 
-  pub fact-found : (from : ℕ) (new : StackValue) → TriesRange (NeverFact s.objects s.facts old goal) (ComesFact s.objects s.facts old goal) from (length s.facts) old new true → Tried (Fact from) new true
+  pub fact-found : (from : ℕ) (new : ProofStateValue) → TriesRange (NeverFact s.objects s.facts old goal) (ComesFact s.objects s.facts old goal) from (length s.facts) old new true → Tried (Fact from) new true
   fact-found from new range =
       let h = range.least refl in
       let stands = fact-stands loose s ready.asked.setting formula vars ticks old new ready.sound.stands goal (goal_in old goal) (goals_at old.goals goal.next) open_is refl refl h.0 h.3 in
       found-number (λ j. Fact j) from h.0 (Anc 0) new h.1 (since-fact from) fact-since (longer-closed loose s formula vars ticks old new goal ready (Fact h.0) tt (fact-in s h.0 h.3.0 h.3.1 h.3.2) stands (positive_of h.3.0) h.3.3)
       (λ j after before leads. fact-nowhere loose s ready.asked.setting formula vars ticks old old ready.sound.stands goal (goal_in old goal) (goals_at old.goals goal.next) open_is refl refl (ready-in loose s formula vars ticks old goal ready).lit j (h.4 j after before) leads.1) (omega arith)
 
-  pub fact-join : (from : ℕ) (mid : StackValue) → TriesRange (NeverFact s.objects s.facts old goal) (ComesFact s.objects s.facts old goal) from (length s.facts) old mid false →
-      (new : StackValue) (found : Bool) → Tried (Anc 0) new found → Tried (Fact from) new found
+  pub fact-join : (from : ℕ) (mid : ProofStateValue) → TriesRange (NeverFact s.objects s.facts old goal) (ComesFact s.objects s.facts old goal) from (length s.facts) old mid false →
+      (new : ProofStateValue) (found : Bool) → Tried (Anc 0) new found → Tried (Fact from) new found
   fact-join from mid range new found later =
       joined (Fact from) (Anc 0) (λ u. (j : ℕ) × (u ≡ Fact j) × (from ≤ j)) (since-fact from) (λ u h leads. fact-off from h.0 (range.no_more refl).1 h.2 (rw h.1 at leads)) (omega arith) new found later
 
@@ -233,7 +233,7 @@ module _ (loose : Bool) (s : Setting) (formula : List Atom) (vars : ℕ) (ticks 
       (elim (cases_lt j (length (path_at old.goals goal.above))) [ inl h ↦ never j after h | inr past ↦ λ above at. absurd (past-none (path_at old.goals goal.above) j above past at) ])
       leads.1
 
-  pub ancestor-found : (from : ℕ) (new : StackValue) →
+  pub ancestor-found : (from : ℕ) (new : ProofStateValue) →
       TriesRange (NeverAncestor (path_at old.goals goal.above) old goal) (ComesAncestor (path_at old.goals goal.above) old goal) from (length (path_at old.goals goal.above)) old new true → Tried (Anc from) new true
   ancestor-found from new range =
       let h = range.least refl in
@@ -241,9 +241,9 @@ module _ (loose : Bool) (s : Setting) (formula : List Atom) (vars : ℕ) (ticks 
       found-number (λ j. Anc j) from h.0 (Step 0 0) new h.1 (since-ancestor from) anc-since (longer-closed loose s formula vars ticks old new goal ready (Anc h.0) tt tt stands (complement_of h.3.0) h.3.2)
       (λ j after before leads. ancestor-nowhere loose s ready.asked.setting formula vars ticks old old ready.sound.stands goal (goal_in old goal) (goals_at old.goals goal.next) open_is refl refl j (h.4 j after before) leads.1) (omega arith)
 
-  pub ancestor-join : (from : ℕ) (mid : StackValue) →
+  pub ancestor-join : (from : ℕ) (mid : ProofStateValue) →
       TriesRange (NeverAncestor (path_at old.goals goal.above) old goal) (ComesAncestor (path_at old.goals goal.above) old goal) from (length (path_at old.goals goal.above)) old mid false →
-      (new : StackValue) (found : Bool) → Tried (Step 0 0) new found → Tried (Anc from) new found
+      (new : ProofStateValue) (found : Bool) → Tried (Step 0 0) new found → Tried (Anc from) new found
   ancestor-join from mid range new found later =
       joined (Anc from) (Step 0 0) (λ u. (j : ℕ) × (u ≡ Anc j) × (from ≤ j)) (since-ancestor from) (λ u h leads. ancestor-off from h.0 (range.no_more refl).1 h.2 (rw h.1 at leads)) (omega arith) new found later
 
@@ -254,7 +254,7 @@ module _ (loose : Bool) (s : Setting) (formula : List Atom) (vars : ℕ) (ticks 
       let begin = begin-at from place c p at in
       axiom-nowhere loose s formula vars ticks old old ready.sound.stands goal (goal_in old goal) (goals_at old.goals goal.next) open_is refl refl path_is refl from place c never begin.0 begin.1 p begin.2 leads.1
 
-  pub axiom-found : (from place : ℕ) (new : StackValue) → TriesRange (NeverAxiom s.axioms old goal from place) (ComesAxiom s.axioms old goal from place) from (length s.axioms) old new true → Tried (Step from place) new true
+  pub axiom-found : (from place : ℕ) (new : ProofStateValue) → TriesRange (NeverAxiom s.axioms old goal from place) (ComesAxiom s.axioms old goal from place) from (length s.axioms) old new true → Tried (Step from place) new true
   axiom-found from place new range = record {
     least = λ is_found.
         let h = range.least refl in
@@ -285,8 +285,8 @@ module _ (loose : Bool) (s : Setting) (formula : List Atom) (vars : ℕ) (ticks 
           subst-leads k c q same h = rw same h
       go k start p begins earlier before u (inr later) leads = inr (by-kind (Step k p) u (omega (arith, kind-since Gap u later)))
 
-  pub axiom-join : (from place : ℕ) (mid : StackValue) → TriesRange (NeverAxiom s.axioms old goal from place) (ComesAxiom s.axioms old goal from place) from (length s.axioms) old mid false →
-      (new : StackValue) (found : Bool) → Tried Gap new found → Tried (Step from place) new found
+  pub axiom-join : (from place : ℕ) (mid : ProofStateValue) → TriesRange (NeverAxiom s.axioms old goal from place) (ComesAxiom s.axioms old goal from place) from (length s.axioms) old mid false →
+      (new : ProofStateValue) (found : Bool) → Tried Gap new found → Tried (Step from place) new found
   axiom-join from place mid range new found later =
       joined (Step from place) Gap (λ u. (c : ℕ) × (q : ℕ) × (u ≡ Step c q) × StandsAt from place c q) (since-step from place)
       (λ u h leads. axiom-off from place h.0 h.1 (never h.0 (at-least from place h.0 h.1 h.3)) h.3 (rw h.2 at leads)) (omega arith) new found later
@@ -305,7 +305,7 @@ module _ (loose : Bool) (s : Setting) (formula : List Atom) (vars : ℕ) (ticks 
       off : (u : Tick) → u ≡ Gap → ¬ Leads u
       off u e leads = none-at loose s formula vars ticks old old ready.sound.stands Gap (goal_in old goal) (goals_at old.goals goal.next) open_is (rw is refl) (rw e at leads).1
 
-  pub gap-closed : (loose && goal.lit.positive && list_any (nat_eq goal.lit.atom.pred) s.added) ≡ true → (new : StackValue) (found : Bool) → ClosesBy old new Gap goal.lit goal.lit goal.next found → Tried Gap new found
+  pub gap-closed : (loose && goal.lit.positive && list_any (nat_eq goal.lit.atom.pred) s.added) ≡ true → (new : ProofStateValue) (found : Bool) → ClosesBy old new Gap goal.lit goal.lit goal.next found → Tried Gap new found
   gap-closed is new true closes = record {
     least = λ is_found.
         let closing : closing_at loose s (variables_of old.changes) (goal_in old goal) Gap ≡ Some (record { equal_to = goal.lit; parts = [] }) = rw is refl in

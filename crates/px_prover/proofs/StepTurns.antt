@@ -10,14 +10,14 @@ use Rattle.px_proof.specs.declared.shape.Tick.TheVariants.{Step}
 use Rattle.px_proof.specs.Proves.{instance_of, parts_of}
 use Rattle.px_unify.specs.Changes.{Fits, variables_of}
 use Rattle.px_question.specs.Settings.{Setting}
-use Rattle.px_walk.specs.Pending.{Goal, Closing, open_after, closing_at, fresh_of, vars_of, goals_of, goals_below, has_room, variables_from, IsFeasible}
-use Rattle.px_walk.proofs.Pushing.{open_after-push}
-use Rattle.px_walk.proofs.Attempts.{matched-push, infeasible-clash, infeasible-none}
-use Rattle.px_stack.specs.declared.open.OpenGoal.{OpenGoal}
-use Rattle.px_stack.specs.Arena.{goals_at, path_at}
-use Rattle.px_stack.specs.Parts.{goals_under}
-use Rattle.px_stack.specs.States.{StackValue, Stands}
-use Rattle.px_stack.specs.Steps.{ClosesByStep, new_literal, no_literal}
+use Rattle.px_proof_walk.specs.Pending.{Goal, Closing, open_after, closing_at, fresh_of, vars_of, goals_of, goals_below, has_room, variables_from, IsFeasible}
+use Rattle.px_proof_walk.proofs.Pushing.{open_after-push}
+use Rattle.px_proof_walk.proofs.Attempts.{matched-push, infeasible-clash, infeasible-none}
+use Rattle.px_proof_state.specs.declared.open.OpenGoal.{OpenGoal}
+use Rattle.px_proof_state.specs.Arena.{goals_at, path_at}
+use Rattle.px_proof_state.specs.Parts.{goals_under}
+use Rattle.px_proof_state.specs.States.{ProofStateValue, Stands}
+use Rattle.px_proof_state.specs.Steps.{ClosesByStep, new_literal, no_literal}
 
 slice_get-literal : (lits : List Lit) (theta : List Term) (place : ℕ) (d : Lit) → place < length lits → slice_get (instance_of lits theta) place ≡ Some (substitute_literal theta (get_or lits place d))
 slice_get-literal [] theta place d within = absurd (omega (arith, within))
@@ -38,7 +38,7 @@ step-none loose s n goal number place clause is room = rw (is, room) refl
 goals-same : (goal : Goal) (path : List Lit) (budget : ℕ) (lits : List Lit) → path ≡ goal.lit ∷ goal.path → budget ≡ goal.budget - 1 → goals_under path budget lits ≡ goals_below goal lits
 goals-same goal path budget lits path_is budget_is = rw (path_is, budget_is) refl
 
-module _ (loose : Bool) (s : Setting) (formula : List Atom) (vars : ℕ) (ticks : List Tick) (old new : StackValue) (stands : Stands loose s formula vars ticks old)
+module _ (loose : Bool) (s : Setting) (formula : List Atom) (vars : ℕ) (ticks : List Tick) (old new : ProofStateValue) (stands : Stands loose s formula vars ticks old)
     (tick : Tick) (goal : Goal) (goals : List Goal) (open_is : goals_at old.goals old.first ≡ goal ∷ goals) where
   now : open_after loose s vars (goals_of s formula) ticks ≡ Some (record { variables = variables_of old.changes; goals = goal ∷ goals })
   now = rw (← open_is) stands.pending
@@ -60,7 +60,7 @@ module _ (loose : Bool) (s : Setting) (formula : List Atom) (vars : ℕ) (ticks 
   none-agree closing is never = infeasible-clash loose s formula vars (variables_of old.changes) goal goals ticks old.changes tick now stands.matched closing is never
 
 -- the same for a step
-module _ (loose : Bool) (s : Setting) (formula : List Atom) (vars : ℕ) (ticks : List Tick) (old new : StackValue) (stands : Stands loose s formula vars ticks old)
+module _ (loose : Bool) (s : Setting) (formula : List Atom) (vars : ℕ) (ticks : List Tick) (old new : ProofStateValue) (stands : Stands loose s formula vars ticks old)
     (g : OpenGoal) (goal : Goal) (goals : List Goal) (open_is : goals_at old.goals old.first ≡ goal ∷ goals) (rest_is : goals_at old.goals g.next ≡ goals)
     (lit_is : g.lit ≡ goal.lit) (path_is : path_at old.goals old.first ≡ goal.lit ∷ goal.path) (budget_is : g.budget ≡ goal.budget)
     (number place : ℕ) (clause : Clause) (axiom_is : slice_get s.axioms number ≡ Some clause) (room : has_room goal clause ≡ true) (within : place < length clause.lits) where

@@ -5,14 +5,14 @@ use Rattle.px_terms.specs.declared.clause.Lit.{Lit}
 use Rattle.px_proof.specs.declared.shape.Tick.{Tick}
 use Rattle.px_unify.specs.Changes.{variables_of}
 use Rattle.px_question.specs.Settings.{Setting}
-use Rattle.px_walk.specs.Pending.{Goal, open_after, closing_at, fresh_of, goals_of, IsFeasible}
-use Rattle.px_walk.proofs.Pushing.{open_after-push}
-use Rattle.px_walk.proofs.Attempts.{matched-push, infeasible-clash}
-use Rattle.px_stack.specs.Arena.{goals_at}
-use Rattle.px_stack.specs.States.{StackValue, Stands}
-use Rattle.px_stack.specs.Matches.{ClosesBy}
+use Rattle.px_proof_walk.specs.Pending.{Goal, open_after, closing_at, fresh_of, goals_of, IsFeasible}
+use Rattle.px_proof_walk.proofs.Pushing.{open_after-push}
+use Rattle.px_proof_walk.proofs.Attempts.{matched-push, infeasible-clash}
+use Rattle.px_proof_state.specs.Arena.{goals_at}
+use Rattle.px_proof_state.specs.States.{ProofStateValue, Stands}
+use Rattle.px_proof_state.specs.Matches.{ClosesBy}
 
-module _ (loose : Bool) (s : Setting) (formula : List Atom) (vars : ℕ) (ticks : List Tick) (old new : StackValue) (stands : Stands loose s formula vars ticks old)
+module _ (loose : Bool) (s : Setting) (formula : List Atom) (vars : ℕ) (ticks : List Tick) (old new : ProofStateValue) (stands : Stands loose s formula vars ticks old)
     (tick : Tick) (goal : Goal) (goals : List Goal) (lit : Lit) (next : ℕ) (open_is : goals_at old.goals old.first ≡ goal ∷ goals) (rest_is : goals_at old.goals next ≡ goals)
     (is : closing_at loose s (variables_of old.changes) goal tick ≡ Some (record { equal_to = lit; parts = [] })) (none_fresh : fresh_of s tick ≡ 0) where
   now : open_after loose s vars (goals_of s formula) ticks ≡ Some (record { variables = variables_of old.changes; goals = goal ∷ goals })

@@ -24,8 +24,8 @@ use Rattle.px_terms.specs.Substitution.{substitute_atom}
 use Rattle.px_terms.specs.declared.atom.Atom.{Atom}
 use Rattle.px_terms.specs.declared.term.Term.{Term}
 use Rattle.px_terms.specs.declared.term.Term.TheVariants.{Obj, Var, Any}
-use Rattle.px_walk.specs.Values.{value_of}
-use Rattle.px_walk.proofs.Values.{term_at}
+use Rattle.px_proof_walk.specs.Values.{value_of}
+use Rattle.px_proof_walk.proofs.Values.{term_at}
 
 -- ---- the list of one pattern
 

@@ -3,7 +3,7 @@ use Rattle.std.specs.Prelude.{List}
 use Rattle.px_prover.specs.declared.question.Question.{Question}
 use Rattle.px_proof.specs.declared.shape.Tick.{Tick}
 use Rattle.px_question.specs.Settings.{Setting, setting_of}
-use Rattle.px_walk.specs.Possible.{IsPossible, IsFinished, shape_of}
+use Rattle.px_proof_walk.specs.Possible.{IsPossible, IsFinished, shape_of}
 
 abbrev pub setting_in : Question → Setting
 setting_in q = setting_of q.problem.now q.facts.now

@@ -3,7 +3,7 @@ use Rattle.std.specs.Prelude.{true, List}
 use Rattle.px_prover.specs.declared.gap_question.GapQuestion.{GapQuestion}
 use Rattle.px_proof.specs.declared.shape.Tick.{Tick}
 use Rattle.px_question.specs.Settings.{Setting, setting_of}
-use Rattle.px_walk.specs.Possible.{IsGoingOn}
+use Rattle.px_proof_walk.specs.Possible.{IsGoingOn}
 
 abbrev pub gap_setting : GapQuestion → Setting
 gap_setting q = setting_of q.problem.now q.facts.now

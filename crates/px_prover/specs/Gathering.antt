@@ -8,8 +8,8 @@ use Rattle.px_terms.specs.declared.term.Term.{Term}
 use Rattle.px_terms.specs.declared.term.Term.TheVariants.{Obj, Var, Any}
 use Rattle.px_unify.specs.declared.change.Change.{Change}
 use Rattle.px_unify.specs.Changes.{AreOneUnder, IsRoot, variables_of}
-use Rattle.px_walk.specs.GapAtoms.{gap_atoms}
-use Rattle.px_walk.specs.Pending.{goals_of}
+use Rattle.px_proof_walk.specs.GapAtoms.{gap_atoms}
+use Rattle.px_proof_walk.specs.Pending.{goals_of}
 
 -- the bindings of the variable end in the term
 pub record IsEnd (changes : List Change) (v : ℕ) (root : Term) : Type 0 where
@@ -21,10 +21,11 @@ pub record AreEnds (changes : List Change) (roots : List Term) : Type 0 where
   pub count : length roots ≡ variables_of changes
   pub each : (v : ℕ) (root : Term) → slice_get roots v ≡ Some root → IsEnd changes v root
 
--- the atoms are those that the ticks close by gaps, over the first so many variables
-pub record AreMissing (s : Setting) (formula : List Atom) (vars : ℕ) (ticks : List Tick) (variables : ℕ) (missing : List Atom) : Type 0 where
-  pub atoms : missing ≡ gap_atoms true s vars (goals_of s formula) ticks
-  pub below : All (λ (atom : Atom). All (IsVariableBelow variables) atom.args) missing
+-- the atoms are those that the ticks close by gaps, over the first variables, of the given number
+pub record AreMissing (s : Setting) (formula : List Atom) (vars : ℕ) (ticks : List Tick) (variables : ℕ) (missing : List Atom) : Type 0
+  where
+    pub atoms : missing ≡ gap_atoms true s vars (goals_of s formula) ticks
+    pub below : All (λ (atom : Atom). All (IsVariableBelow variables) atom.args) missing
 
 -- the bindings of the term end in this variable
 abbrev pub EndsIn : List Term → Term → ℕ → Type 0
@@ -44,7 +45,7 @@ pub record NotesRoot (root : Term) (old new : List ℕ) : Type 0 where
 pub record NotesEnds (IsSuch : Term → Type 0) (roots : List Term) (old new : List ℕ) : Type 0 where
   pub members : (w : ℕ) → Contains new w ↔ (Contains old w ⊎ ((t : Term) × IsSuch t × EndsIn roots t w))
 
--- the term is one of the first so many variables
+-- the term is one of the first variables, of the given number
 abbrev pub IsFirstVariable : ℕ → Term → Type 0
 IsFirstVariable vars t = (v : ℕ) × (v < vars) × (Var v ≡ t)
 

@@ -3,18 +3,18 @@ use Rattle.std.specs.Prelude.{ℕ, ◌+◌, ◌*◌, ◌<◌, ◌≤◌, Bool, L
 use Rattle.std.specs.List.{AllByRecursion}
 use Rattle.px_proof.specs.declared.shape.Tick.{Tick}
 use Rattle.px_question.specs.Settings.{Setting}
-use Rattle.px_stack.specs.Arena.{AreOlder}
-use Rattle.px_stack.specs.States.{StackValue, Stands}
-use Rattle.px_stack.specs.declared.open.Choice.{Choice}
-use Rattle.px_stack.specs.declared.open.OpenGoal.{OpenGoal}
+use Rattle.px_proof_state.specs.Arena.{AreOlder}
+use Rattle.px_proof_state.specs.States.{ProofStateValue, Stands}
+use Rattle.px_proof_state.specs.declared.open.Choice.{Choice}
+use Rattle.px_proof_state.specs.declared.open.OpenGoal.{OpenGoal}
 use Rattle.px_terms.specs.AtomSets.{IsAtomSet}
 use Rattle.px_terms.specs.declared.atom.Atom.{Atom}
 use Rattle.px_terms.specs.declared.clause.Clause.{Clause}
 use Rattle.px_unify.specs.declared.change.Change.{Change}
 use Rattle.px_unify.specs.Changes.{HasSolutions, variables_of}
-use Rattle.px_walk.proofs.Objects.{FactIsIn}
-use Rattle.px_walk.specs.Possible.{IsClosing}
-use Rattle.px_walk.specs.Scope.{IsSetting, IsAtomIn}
+use Rattle.px_proof_walk.proofs.Objects.{FactIsIn}
+use Rattle.px_proof_walk.specs.Possible.{IsClosing}
+use Rattle.px_proof_walk.specs.Scope.{IsSetting, IsAtomIn}
 
 -- the ticks of the choices, which stand last first
 abbrev pub ticks_in : List Choice → List Tick
@@ -33,7 +33,7 @@ pub record IsAsked (s : Setting) (formula : List Atom) (vars : ℕ) : Type 0 whe
   pub few_ticks : s.limit ≤ 70000
 
 -- the state is that after its ticks, which close places, by facts over the objects; its goals name older ones; its bindings can be met
-pub record IsSound (loose : Bool) (s : Setting) (formula : List Atom) (vars : ℕ) (ticks : List Tick) (v : StackValue) : Type 0 where
+pub record IsSound (loose : Bool) (s : Setting) (formula : List Atom) (vars : ℕ) (ticks : List Tick) (v : ProofStateValue) : Type 0 where
   pub stands : Stands loose s formula vars ticks v
   pub facts_in : AllByRecursion (FactIsIn s) ticks
   pub closing : AllByRecursion IsClosing ticks
@@ -44,13 +44,14 @@ pub record IsSound (loose : Bool) (s : Setting) (formula : List Atom) (vars : �
 
 -- it is sound, and so is each state before, which the marks of the choices give back
 abbrev pub WasSound : Bool → Setting → List Atom → ℕ → List Choice → List Change → List OpenGoal → ℕ → Type 0
-WasSound loose s formula vars [] changes goals first = IsSound loose s formula vars [] (record { changes = changes; goals = goals; first = first; choices = [] })
+WasSound loose s formula vars [] changes goals first = IsSound loose s formula vars []
+    (record { changes = changes; goals = goals; first = first; choices = [] })
 WasSound loose s formula vars (c ∷ rest) changes goals first =
     IsSound loose s formula vars (ticks_in (c ∷ rest)) (record { changes = changes; goals = goals; first = first; choices = c ∷ rest })
     × (c.mark ≤ length changes) × (c.goals ≤ length goals)
     × WasSound loose s formula vars rest (take c.mark changes) (take c.goals goals) c.first
 
 -- the state is one of the question
-pub record IsStanding (loose : Bool) (s : Setting) (formula : List Atom) (vars : ℕ) (v : StackValue) : Type 0 where
+pub record IsStanding (loose : Bool) (s : Setting) (formula : List Atom) (vars : ℕ) (v : ProofStateValue) : Type 0 where
   pub asked : IsAsked s formula vars
   pub was : WasSound loose s formula vars v.choices v.changes v.goals v.first

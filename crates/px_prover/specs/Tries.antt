@@ -6,15 +6,16 @@ use Rattle.px_prover.specs.declared.question.Question.{Question}
 use Rattle.px_proof.specs.Shapes.{TickBefore}
 use Rattle.px_proof.specs.declared.shape.Tick.{Tick}
 use Rattle.px_question.specs.Settings.{Setting}
-use Rattle.px_stack.specs.Matches.{choice_by}
-use Rattle.px_stack.specs.States.{StackValue}
-use Rattle.px_stack.specs.declared.open.OpenGoal.{OpenGoal}
+use Rattle.px_proof_state.specs.Matches.{choice_by}
+use Rattle.px_proof_state.specs.States.{ProofStateValue}
+use Rattle.px_proof_state.specs.declared.open.OpenGoal.{OpenGoal}
 use Rattle.px_terms.specs.declared.atom.Atom.{Atom}
-use Rattle.px_walk.specs.Order.{IsAfter}
-use Rattle.px_walk.specs.Possible.{IsPossible}
+use Rattle.px_proof_walk.specs.Order.{IsAfter}
+use Rattle.px_proof_walk.specs.Possible.{IsPossible}
 
 -- the goal is the first open one of a sound state with room for one more tick
-pub record IsReady (loose : Bool) (s : Setting) (formula : List Atom) (vars : ℕ) (ticks : List Tick) (old : StackValue) (goal : OpenGoal) : Type 0 where
+pub record IsReady (loose : Bool) (s : Setting) (formula : List Atom) (vars : ℕ) (ticks : List Tick) (old : ProofStateValue)
+    (goal : OpenGoal) : Type 0 where
   pub asked : IsAsked s formula vars
   pub sound : IsSound loose s formula vars ticks old
   pub some : 0 < old.first
@@ -26,7 +27,8 @@ abbrev pub IsSince : Tick → Tick → Type 0
 IsSince start tick = (start ≡ tick) ⊎ TickBefore start tick
 
 -- the new state is that after one more tick, and what was there before is kept
-pub record IsLonger (loose : Bool) (s : Setting) (formula : List Atom) (vars : ℕ) (ticks : List Tick) (old : StackValue) (tick : Tick) (new : StackValue) : Type 0 where
+pub record IsLonger (loose : Bool) (s : Setting) (formula : List Atom) (vars : ℕ) (ticks : List Tick) (old : ProofStateValue) (tick : Tick)
+    (new : ProofStateValue) : Type 0 where
   pub sound : IsSound loose s formula vars (ticks ++ tick ∷ []) new
   pub chosen : new.choices ≡ choice_by tick old ∷ old.choices
   pub changes : take (length old.changes) new.changes ≡ old.changes
@@ -35,18 +37,20 @@ pub record IsLonger (loose : Bool) (s : Setting) (formula : List Atom) (vars : �
   pub more_goals : length old.goals ≤ length new.goals
 
 -- among the ticks that count, the least by which the list is possible is the new one; or there is none, and nothing changes
-pub record TriesAmong (Counts : Tick → Type 0) (loose : Bool) (s : Setting) (formula : List Atom) (vars : ℕ) (ticks : List Tick) (old new : StackValue) (found : Bool) : Type 0 where
+pub record TriesAmong (Counts : Tick → Type 0) (loose : Bool) (s : Setting) (formula : List Atom) (vars : ℕ) (ticks : List Tick)
+    (old new : ProofStateValue) (found : Bool) : Type 0 where
   pub least : found ≡ true →
       (tick : Tick) × Counts tick × IsLonger loose s formula vars ticks old tick new
       × ((u : Tick) → Counts u → IsPossible loose s formula vars (ticks ++ u ∷ []) → IsSince tick u)
   pub no_more : found ≡ false → (new ≡ old) × ((u : Tick) → Counts u → ¬ IsPossible loose s formula vars (ticks ++ u ∷ []))
 
 -- the same for a question
-abbrev pub IsReadyIn : Question → StackValue → OpenGoal → Type 0
+abbrev pub IsReadyIn : Question → ProofStateValue → OpenGoal → Type 0
 IsReadyIn q old goal = IsReady q.loose (setting_in q) q.formula.now q.vars (ticks_in old.choices) old goal
 
-abbrev pub TriesSince : Question → Tick → StackValue → StackValue → Bool → Type 0
-TriesSince q start old new found = TriesAmong (IsSince start) q.loose (setting_in q) q.formula.now q.vars (ticks_in old.choices) old new found
+abbrev pub TriesSince : Question → Tick → ProofStateValue → ProofStateValue → Bool → Type 0
+TriesSince q start old new found = TriesAmong (IsSince start) q.loose (setting_in q) q.formula.now q.vars (ticks_in old.choices) old new
+    found
 
-abbrev pub TriesLater : Question → Option Tick → StackValue → StackValue → Bool → Type 0
+abbrev pub TriesLater : Question → Option Tick → ProofStateValue → ProofStateValue → Bool → Type 0
 TriesLater q last old new found = TriesAmong (IsAfter last) q.loose (setting_in q) q.formula.now q.vars (ticks_in old.choices) old new found

@@ -6,13 +6,13 @@ ghost use Rattle.px_proof.specs.ProofTerm.{derivation_of};
 ghost use Rattle.px_proof.specs.declared.shape.Tick.{Tick as TickValue};
 ghost use Rattle.px_question.specs.Answers.{object_of as object_value, object_terms};
 ghost use Rattle.px_question.specs.Settings.{setting_of};
-ghost use Rattle.px_stack.specs.declared.open.Choice.{Choice as ChoiceValue};
-ghost use Rattle.px_walk.specs.Pending.{fresh_of};
+ghost use Rattle.px_proof_state.specs.declared.open.Choice.{Choice as ChoiceValue};
+ghost use Rattle.px_proof_walk.specs.Pending.{fresh_of};
 ghost use Rattle.px_prover.specs.Building.{AreLeast, IsThere, built, extended, fresh_sum, parts_count};
 
 use px_base::{NoMemory, Sequence, push};
 use px_proof::{Leaf, Proof, Tick};
-use px_stack::Choice;
+use px_proof_state::Choice;
 use px_terms::{Atom, Problem, Term};
 use px_unify::Bind;
 use std::alloc::Global;
@@ -76,8 +76,10 @@ fn push_step(
     place: u32,
 ) -> Result<(), NoMemory>
     requires { clause < length problem.now.axioms }
-    ensures { let count = parts_count (slice_get problem.now.axioms clause) in let later = map_list derivation_of (reverse made.old.items) in
-        IfOk result (λ _. map_list derivation_of (reverse made.new.items) ≡ step_of clause (object_terms theta.now) place (derivations (take count later)) ∷ drop count later) }
+    ensures { let count = parts_count (slice_get problem.now.axioms clause) in let later =
+        map_list derivation_of (reverse made.old.items) in
+        IfOk result (λ _. map_list derivation_of (reverse made.new.items) ≡ step_of clause (object_terms theta.now) place
+        (derivations (take count later)) ∷ drop count later) }
 {
     let count = problem.axioms.lits(clause).len() - 1;
     let theta = terms_of(alloc, theta)?;
@@ -106,7 +108,8 @@ fn push_proof(
     requires room { fresh_of (setting_of problem.now facts.now) tick ≤ end }
     requires within { end ≤ length objects.now }
     ensures start { IfOk result (λ start. start + fresh_of (setting_of problem.now facts.now) tick ≡ end) }
-    ensures made { IfOk result (λ start. map_list derivation_of (reverse made.new.items) ≡ extended (setting_of problem.now facts.now) tick (drop start objects.now) (map_list derivation_of (reverse made.old.items))) }
+    ensures made { IfOk result (λ start. map_list derivation_of (reverse made.new.items) ≡ extended (setting_of problem.now facts.now) tick
+        (drop start objects.now) (map_list derivation_of (reverse made.old.items))) }
 {
     match tick {
         Tick::Fact(index) => {
@@ -147,7 +150,8 @@ pub(crate) fn build(
     requires there { AllByRecursion (IsThere (setting_of problem.now facts.now)) (map_list (λ (c : ChoiceValue). c.tick) choices.now) }
     requires room { fresh_sum (setting_of problem.now facts.now) (map_list (λ (c : ChoiceValue). c.tick) choices.now) ≤ length objects.now }
     ensures { let s = setting_of problem.now facts.now in let ticks = map_list (λ (c : ChoiceValue). c.tick) choices.now in
-        IfOk result (λ made. map_list derivation_of (reverse made.items) ≡ built s ticks (drop (length objects.now - fresh_sum s ticks) objects.now)) }
+        IfOk result (λ made. map_list derivation_of (reverse made.items) ≡ built s ticks
+        (drop (length objects.now - fresh_sum s ticks) objects.now)) }
 {
     let mut made = Vec::new(alloc);
     let mut end = objects.len();

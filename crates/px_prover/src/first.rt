@@ -8,7 +8,7 @@ ghost use Rattle.px_question.specs.Answers.{IsAnswer, IsFirst};
 ghost use Rattle.px_question.specs.Limits.{AreFewBefore, AreFewShapes, IsLimited};
 ghost use Rattle.px_question.specs.Settings.{setting_of};
 ghost use Rattle.px_terms.specs.Validity.{IsValid, IsAtomOf};
-ghost use Rattle.px_walk.specs.Search.{ComesFirst};
+ghost use Rattle.px_proof_walk.specs.Search.{ComesFirst};
 ghost use Rattle.px_prover.specs.Asking.{setting_in, IsPossibleIn, IsFinishedIn};
 ghost use Rattle.px_prover.specs.Outcomes.{IfShapeLimit};
 ghost use Rattle.px_prover.specs.Standing.{ticks_in, IsStanding};
@@ -18,24 +18,26 @@ use crate::outcome::{Answer, ProveErr};
 use crate::question::Question;
 use px_base::{NoMemory, Sequence};
 use px_ops::Model;
-use px_stack::Stack;
+use px_proof_state::ProofState;
+use px_proof_walk::{End, walk_to_finished};
 use px_terms::{Atom, Problem};
-use px_walk::{End, walk_to_finished};
 use std::alloc::Global;
 
 /// The answer of a state in which no place is open.
-fn answer(alloc: Global, question: &Question, stack: &Stack) -> Result<Answer, NoMemory>
+fn answer(alloc: Global, question: &Question, state: &ProofState) -> Result<Answer, NoMemory>
     requires strict { question.now.loose ≡ false }
-    requires stands { IsStanding question.now.loose (setting_in question.now) question.now.formula.now question.now.vars stack.now }
-    requires first { ComesFirst (IsPossibleIn question.now) (IsFinishedIn question.now) question.now.problem.now.shapes (ticks_in stack.now.choices) }
-    ensures { IfOk result (λ answer. IsFirst (setting_in question.now) question.now.formula.now question.now.vars answer.objects (derivations (map_list derivation_of answer.proofs))) }
+    requires stands { IsStanding question.now.loose (setting_in question.now) question.now.formula.now question.now.vars state.now }
+    requires first { ComesFirst (IsPossibleIn question.now) (IsFinishedIn question.now) question.now.problem.now.shapes
+        (ticks_in state.now.choices) }
+    ensures { IfOk result (λ answer. IsFirst (setting_in question.now) question.now.formula.now question.now.vars answer.objects
+        (derivations (map_list derivation_of answer.proofs))) }
 {
-    let mut objects = least_objects(alloc, stack.bind())?;
+    let mut objects = least_objects(alloc, state.bind())?;
     let mut proofs = build(
         alloc,
         question.problem,
         question.facts,
-        stack.choices(),
+        state.choices(),
         &objects,
     )?;
     proofs.reverse();
@@ -64,12 +66,16 @@ pub fn prove(
     requires formula { All (IsAtomOf problem.now vars) formula.now }
     requires few_variables { vars ≤ 12 }
     requires objects { 0 < vars → 0 < problem.now.objects }
-    ensures first { IfOk result (λ answer. IsFirst (setting_of problem.now model.now.atoms) formula.now vars answer.objects (derivations (map_list derivation_of answer.proofs))) }
+    ensures first { IfOk result (λ answer. IsFirst (setting_of problem.now model.now.atoms) formula.now vars answer.objects
+        (derivations (map_list derivation_of answer.proofs))) }
     ensures of_problem { IfOk result (λ answer. All (IsDerivationOf problem.now 0) (map_list derivation_of answer.proofs)) }
-    ensures few { IfOk result (λ answer. (shapes : List (List Tick)) → ¬ IsLimited (setting_of problem.now model.now.atoms) formula.now vars shapes) }
-    ensures few_before { IfOk result (λ answer. AreFewBefore (setting_of problem.now model.now.atoms) formula.now vars (derivations (map_list derivation_of answer.proofs))) }
+    ensures few { IfOk result (λ answer. (shapes : List (List Tick))
+        → ¬ IsLimited (setting_of problem.now model.now.atoms) formula.now vars shapes) }
+    ensures few_before { IfOk result (λ answer. AreFewBefore (setting_of problem.now model.now.atoms) formula.now vars
+        (derivations (map_list derivation_of answer.proofs))) }
     ensures none { result ≡ Err ProveErr.Unprovable → ¬ IsAnswer (setting_of problem.now model.now.atoms) formula.now vars }
-    ensures none_few { result ≡ Err ProveErr.Unprovable → (shapes : List (List Tick)) → ¬ IsLimited (setting_of problem.now model.now.atoms) formula.now vars shapes }
+    ensures none_few { result ≡ Err ProveErr.Unprovable → (shapes : List (List Tick))
+        → ¬ IsLimited (setting_of problem.now model.now.atoms) formula.now vars shapes }
     ensures few_shapes { result ≡ Err ProveErr.Unprovable → AreFewShapes (setting_of problem.now model.now.atoms) formula.now vars }
     ensures limited { IfShapeLimit result (IsLimited (setting_of problem.now model.now.atoms) formula.now vars) }
 {
@@ -80,12 +86,12 @@ pub fn prove(
         facts: model.atoms(),
         loose: false,
     };
-    let mut stack = match Stack::new(alloc, formula, vars, problem.height) {
-        Ok(stack) => stack,
+    let mut state = match ProofState::new(alloc, formula, vars, problem.height) {
+        Ok(state) => state,
         Err(NoMemory) => return Err(ProveErr::NoMemory),
     };
-    match walk_to_finished(alloc, &question, &mut stack, problem.shapes) {
-        Ok(End::Found) => match answer(alloc, &question, &stack) {
+    match walk_to_finished(alloc, &question, &mut state, problem.shapes) {
+        Ok(End::Found) => match answer(alloc, &question, &state) {
             Ok(answer) => Ok(answer),
             Err(NoMemory) => Err(ProveErr::NoMemory),
         },

@@ -5,9 +5,9 @@ ghost use Rattle.px_prover.specs.Passed.{IsSmall};
 use crate::question::Question;
 use px_base::NoMemory;
 use px_proof::{Shape, Tick};
-use px_stack::Stack;
+use px_proof_state::ProofState;
+use px_proof_walk::Walk;
 use px_terms::{Atom, Problem};
-use px_walk::Walk;
 
 /// What is asked where gaps are allowed. The walk over it visits unfinished lists only.
 #[derive(Clone, Copy)]
@@ -21,7 +21,14 @@ pub(crate) struct GapQuestion<'a> {
 impl<'a> GapQuestion<'a> {
     /// The question whose walk visits finished lists, too.
     pub(crate) fn loose(&self) -> Question<'a>
-        ensures { result ≡ record { problem = self.now.problem; formula = self.now.formula; vars = self.now.vars; facts = self.now.facts; loose = true } }
+        ensures { result ≡ record {
+          problem = self.now.problem;
+          formula = self.now.formula;
+          vars = self.now.vars;
+          facts =
+              self.now.facts;
+          loose = true;
+        } }
     {
         Question {
             problem: self.problem,
@@ -47,12 +54,12 @@ pub(crate) fn sized(tick: Tick) -> Tick
     }
 }
 
-impl<'a> Walk<GapQuestion<'a>> for Stack {
+impl<'a> Walk<GapQuestion<'a>> for ProofState {
     ghost use Rattle.std.specs.Prelude.{true};
     ghost use Rattle.px_prover.specs.GapAsking.{gap_setting, IsGoingOnIn};
     ghost use Rattle.px_prover.specs.Standing.{ticks_in, IsStanding};
-    ghost use Rattle.px_walk.proofs.Starts.{going-shorter};
-    ghost use Rattle.px_walk.specs.Possible.{IsFinished, shape_of};
+    ghost use Rattle.px_proof_walk.proofs.Starts.{going-shorter};
+    ghost use Rattle.px_proof_walk.specs.Possible.{IsFinished, shape_of};
 
     ghost ticks = { λ v. ticks_in v.choices };
 

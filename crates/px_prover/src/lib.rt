@@ -45,8 +45,8 @@
 //! variables, one for each atom, and nothing of how they are found. Each answer is exact: it comes only where its meaning
 //! holds, and the answers of a call exclude each other.
 //!
-//! Internally places are closed from left to right, over variables whose bindings are undone (`px_stack`), in the order
-//! of the shapes (`px_walk`). [`prove`] stops at the first finished list. `gap_patterns` visits the unfinished ones, and at
+//! Internally places are closed from left to right, over variables whose bindings are undone (`px_proof_state`), in the order
+//! of the shapes (`px_proof_walk`). [`prove`] stops at the first finished list. `gap_patterns` visits the unfinished ones, and at
 //! each gathers a pattern for each list that one more closing finishes; equal patterns are kept once. `gap_lists` puts all
 //! objects in the place of their variables.
 #![tactic(auto)]

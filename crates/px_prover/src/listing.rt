@@ -9,7 +9,7 @@ ghost use Rattle.px_terms.specs.AtomSets.{IsAtomSet};
 ghost use Rattle.px_terms.specs.Language.{IsVariableBelow};
 ghost use Rattle.px_terms.specs.Validity.{IsValid, IsAtomOf};
 ghost use Rattle.px_terms.specs.declared.atom.Atom.{Atom as AtomValue};
-ghost use Rattle.px_walk.specs.Values.{value_of as value_by};
+ghost use Rattle.px_proof_walk.specs.Values.{value_of as value_by};
 ghost use Rattle.px_prover.specs.Outcomes.{IfGapLimit};
 ghost use Rattle.px_prover.specs.PatternLists.{all_under as all_lists_under, list_under as list_by};
 ghost use Rattle.px_prover.specs.Patterns.{IsOverItsVariables};

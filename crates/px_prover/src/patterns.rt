@@ -9,7 +9,7 @@ ghost use Rattle.px_prover.specs.GapAsking.{gap_setting};
 ghost use Rattle.px_prover.specs.Outcomes.{IfPatternLimit};
 ghost use Rattle.px_prover.specs.declared.pattern.GapPattern.{GapPattern as PatternValue};
 ghost use Rattle.px_prover.specs.Patterns.{AreGapPatterns, GathersPatternsOf, IsPatternBy, ends_of, place_of, renamed};
-ghost use Rattle.px_walk.specs.Pending.{variables_from};
+ghost use Rattle.px_proof_walk.specs.Pending.{variables_from};
 ghost use Rattle.px_prover.specs.Standing.{ticks_in, IsStanding};
 
 use crate::gap_question::{GapQuestion, sized};
@@ -18,9 +18,9 @@ use crate::outcome::GapErr;
 use crate::pattern::GapPattern;
 use px_base::{NoMemory, Sequence, push};
 use px_ops::Model;
-use px_stack::Stack;
+use px_proof_state::ProofState;
+use px_proof_walk::{Gather, Walk, walk_to_end};
 use px_terms::{Atom, Problem, Term};
-use px_walk::{Gather, Walk, walk_to_end};
 use std::alloc::Global;
 
 /// The place of the variable in the list of `count` variables, or `count` if it is not there.
@@ -102,16 +102,16 @@ struct Patterns {
 fn gather_finished(
     found: &mut Vec<GapPattern>,
     question: &GapQuestion,
-    stack: &Stack,
+    state: &ProofState,
 ) -> Result<(), NoMemory>
-    requires stands { IsStanding true (gap_setting question.now) question.now.formula.now question.now.vars stack.now }
-    requires finished { stack.now.first ≡ 0 }
-    ensures { IfOk result (λ _. GathersPatternsOf question.now (ticks_in stack.now.choices) found.old.items found.new.items) }
+    requires stands { IsStanding true (gap_setting question.now) question.now.formula.now question.now.vars state.now }
+    requires finished { state.now.first ≡ 0 }
+    ensures { IfOk result (λ _. GathersPatternsOf question.now (ticks_in state.now.choices) found.old.items found.new.items) }
 {
-    let alloc = *stack.allocator();
-    let ends = roots_of(alloc, stack.bind())?;
+    let alloc = *state.allocator();
+    let ends = roots_of(alloc, state.bind())?;
     let roots = ends.as_slice();
-    let atoms = missing_atoms(question, stack)?;
+    let atoms = missing_atoms(question, state)?;
     let missing = atoms.as_slice();
     let variables = free_of(alloc, roots, question.vars, missing)?;
     let free = variables.as_slice();
@@ -124,24 +124,28 @@ fn gather_finished(
 fn gather_here(
     found: &mut Vec<GapPattern>,
     question: &GapQuestion,
-    stack: &Stack,
+    state: &ProofState,
 ) -> Result<(), NoMemory>
-    requires { IsStanding true (gap_setting question.now) question.now.formula.now question.now.vars stack.now }
-    ensures { IfOk result (λ _. GathersPatternsOf question.now (ticks_in stack.now.choices) found.old.items found.new.items) }
+    requires { IsStanding true (gap_setting question.now) question.now.formula.now question.now.vars state.now }
+    ensures { IfOk result (λ _. GathersPatternsOf question.now (ticks_in state.now.choices) found.old.items found.new.items) }
 {
-    if stack.first() > 0 {
+    if state.first() > 0 {
         return Ok(());
     }
-    gather_finished(found, question, stack)
+    gather_finished(found, question, state)
 }
 
-impl<'a> Gather<GapQuestion<'a>, Stack> for Patterns {
+impl<'a> Gather<GapQuestion<'a>, ProofState> for Patterns {
     ghost use Rattle.px_prover.specs.GapAsking.{gap_setting};
     ghost use Rattle.px_prover.specs.Patterns.{ArePatternsOf};
 
     ghost gathered = { λ q g seen. ArePatternsOf (gap_setting q) q.formula.now q.vars seen g.found.items };
 
-    fn gather(&mut self, question: &GapQuestion<'a>, walk: &mut Stack) -> Result<(), NoMemory> {
+    fn gather(
+        &mut self,
+        question: &GapQuestion<'a>,
+        walk: &mut ProofState,
+    ) -> Result<(), NoMemory> {
         let loose = question.loose();
         let mut last = None;
         while walk.try_after(&loose, last)? {
@@ -222,11 +226,11 @@ pub fn gap_patterns(
         vars,
         facts,
     };
-    let mut stack = match Stack::new(alloc, formula, vars, problem.height) {
-        Ok(stack) => stack,
+    let mut state = match ProofState::new(alloc, formula, vars, problem.height) {
+        Ok(state) => state,
         Err(NoMemory) => return Err(GapErr::NoMemory),
     };
-    match walk_to_end(alloc, &question, &mut stack, &mut patterns, problem.shapes) {
+    match walk_to_end(alloc, &question, &mut state, &mut patterns, problem.shapes) {
         Ok(None) => Ok(distinct(patterns.found)),
         Ok(Some(shapes)) => Err(GapErr::ShapeLimit(shapes)),
         Err(NoMemory) => Err(GapErr::NoMemory),

@@ -1,29 +1,30 @@
 //! The prover's state as a walk over unfinished lists.
 ghost use Rattle.std.specs.Prelude.{◌≡◌, ◌≤◌, ◌++◌, ◌∷◌, [], IfOk, length, replicate};
-ghost use Rattle.px_stack.specs.Arena.{goals_at, AreOlder};
+ghost use Rattle.px_proof_state.specs.Arena.{goals_at, AreOlder};
 
 use crate::attempts::try_later;
 use crate::question::Question;
 use px_base::{NoMemory, push};
 use px_proof::{Shape, Tick};
-use px_stack::Stack;
-use px_walk::Walk;
+use px_proof_state::ProofState;
+use px_proof_walk::Walk;
 
 /// Appends a tick for each open place.
-fn push_open(stack: &Stack, ticks: &mut Vec<Tick>) -> Result<(), NoMemory>
-    requires arena { AreOlder stack.now.goals }
-    requires within { stack.now.first ≤ length stack.now.goals }
-    ensures { IfOk result (λ _. ticks.new.items ≡ ticks.old.items ++ replicate (length (goals_at stack.now.goals stack.now.first)) Tick.Open) }
+fn push_open(state: &ProofState, ticks: &mut Vec<Tick>) -> Result<(), NoMemory>
+    requires arena { AreOlder state.now.goals }
+    requires within { state.now.first ≤ length state.now.goals }
+    ensures { IfOk result (λ _. ticks.new.items ≡ ticks.old.items ++ replicate (length (goals_at state.now.goals state.now.first))
+        Tick.Open) }
 {
-    let mut at = stack.first();
+    let mut at = state.first();
     while at > 0 {
         push(ticks, Tick::Open)?;
-        at = stack.goal_at(at).next;
+        at = state.goal_at(at).next;
     }
     Ok(())
 }
 
-impl<'a> Walk<Question<'a>> for Stack {
+impl<'a> Walk<Question<'a>> for ProofState {
     ghost use Rattle.px_prover.specs.Asking.{setting_in, IsPossibleIn, IsFinishedIn, shape_in};
     ghost use Rattle.px_prover.specs.Standing.{ticks_in, IsStanding};
     ghost use Rattle.px_prover.specs.Shorter.{possible-shorter};

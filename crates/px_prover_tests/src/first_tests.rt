@@ -1,18 +1,17 @@
 //! First proofs on small examples, compared with the plain listing, with limits of shapes and heights that are met and just not met.
 use crate::reference::{Mark, Tree, are_shapes, first_finished, lists, partial_shapes};
-use crate::samples::{
-    Asked, about, add_axiom, are_open_boxes, assert_asked, atom, box_in_first_room, model_of, no,
-    o, opening, problem_of, rooms, v, yes,
-};
+use crate::samples::{Asked, about, are_open_boxes, assert_asked};
 use px_base::NoMemory;
 use px_ops::Model;
 use px_proof::Proof;
 use px_prover::{Answer, ProveErr, prove};
+use px_samples::{
+    add_axiom, atom, box_in_first_room, model_of, no, o, opening, problem_of, rooms, v, yes,
+};
 use px_terms::{ClauseArena, Problem, Term};
 use std::alloc::Global;
 use std::process::Abort;
 use std::rt::HostRuntime;
-use std::test::Fail;
 
 /// Asks the prover, once it is seen that the problem and the formula are valid.
 fn ask(rt: &impl Abort, problem: &Problem, asked: Asked) -> Result<Answer, ProveErr> {
@@ -91,33 +90,37 @@ fn is_right(
 }
 
 /// Does `prove` answer what the definition says, by the reference, at each limit up to one more than there are shapes?
-fn agrees(rt: &impl Abort, problem: &mut Problem, asked: Asked) -> Result<bool, NoMemory> {
+fn agrees(rt: &impl Abort, problem: &mut Problem, asked: Asked) -> bool {
     let alloc = asked.alloc;
-    let all = lists(problem, asked, &[])?;
-    let shapes = partial_shapes(alloc, &all)?;
+    let all = lists(problem, asked, &[]).expect(rt, "memory");
+    let shapes = partial_shapes(alloc, &all).expect(rt, "memory");
     for limit in 2..shapes.len().min(1000) as u32 + 3 {
         problem.shapes = limit;
         let found = ask(rt, problem, asked);
-        if !is_right(alloc, &found, limit as usize, &shapes, first_finished(&all))? {
-            return Ok(false);
+        if !is_right(alloc, &found, limit as usize, &shapes, first_finished(&all)).expect(
+            rt, "memory",
+        ) {
+            return false;
         }
     }
-    Ok(true)
+    true
 }
 
 /// A chain of eleven atoms over 256 objects takes the facts in turn.
 #[test]
-fn a_chain_of_eleven_atoms(rt: HostRuntime) -> Result<(), Fail> {
+fn a_chain_of_eleven_atoms(rt: HostRuntime) {
     let alloc = rt.alloc();
-    let problem = problem_of(alloc, 256, &[2], ClauseArena::new(alloc), 4, 10000)?;
+    let problem = problem_of(alloc, 256, &[2], ClauseArena::new(alloc), []).expect(&rt, "memory");
     let mut facts = Vec::new(alloc);
     for i in 0..255 {
-        facts.push(atom(&rt, 0, &[o(i), o(i + 1)]))?;
+        facts.push(atom(0, &[o(i), o(i + 1)])).expect(&rt, "memory");
     }
-    let model = model_of(alloc, &facts)?;
+    let model = model_of(alloc, &facts).expect(&rt, "memory");
     let mut formula = Vec::new(alloc);
     for i in 0..11 {
-        formula.push(atom(&rt, 0, &[v(i), v(i + 1)]))?;
+        formula
+            .push(atom(0, &[v(i), v(i + 1)]))
+            .expect(&rt, "memory");
     }
     match ask(&rt, &problem, about(alloc, &formula, 12, &model)) {
         Ok(answer) => {
@@ -128,16 +131,16 @@ fn a_chain_of_eleven_atoms(rt: HostRuntime) -> Result<(), Fail> {
         }
         Err(_) => assert!(&rt; false),
     }
-    Ok(())
 }
 
 /// The goal `BOX(?x) INROOM(?x,R1)` of the example of Fikes, Hart and Nilsson (1972), which the opening model doesn't meet.
 #[test]
-fn the_box_is_in_another_room(rt: HostRuntime) -> Result<(), Fail> {
+fn the_box_is_in_another_room(rt: HostRuntime) {
     let alloc = rt.alloc();
-    let mut problem = rooms(alloc, &rt, 2)?;
-    let model = model_of(alloc, &opening(&rt))?;
-    let formula = box_in_first_room(&rt);
+    let mut problem = rooms(alloc).expect(&rt, "memory");
+    problem.shapes = 2;
+    let model = opening(alloc).expect(&rt, "memory");
+    let formula = box_in_first_room();
     let limited = ask(&rt, &problem, about(alloc, &formula, 1, &model));
     match &limited {
         Err(ProveErr::ShapeLimit(shapes)) => assert!(&rt; are_open_boxes(shapes)),
@@ -146,105 +149,102 @@ fn the_box_is_in_another_room(rt: HostRuntime) -> Result<(), Fail> {
     problem.shapes = 3;
     let found = ask(&rt, &problem, about(alloc, &formula, 1, &model));
     assert!(&rt; matches!(found, Err(ProveErr::Unprovable)));
-    Ok(())
 }
 
 /// Facts with an object outside the problem are passed over, and a free variable gets object 0.
 #[test]
-fn facts_repeated_and_free_variables(rt: HostRuntime) -> Result<(), Fail> {
+fn facts_repeated_and_free_variables(rt: HostRuntime) {
     let alloc = rt.alloc();
     let facts = [
-        atom(&rt, 0, &[o(0), o(7)]),
-        atom(&rt, 0, &[o(1), o(0)]),
-        atom(&rt, 0, &[o(1), o(1)]),
-        atom(&rt, 1, &[o(0)]),
-        atom(&rt, 3, &[o(1)]),
+        atom(0, &[o(0), o(7)]),
+        atom(0, &[o(1), o(0)]),
+        atom(0, &[o(1), o(1)]),
+        atom(1, &[o(0)]),
+        atom(3, &[o(1)]),
     ];
-    let model = model_of(alloc, &facts)?;
-    let mut problem = problem_of(alloc, 2, &[2, 1], ClauseArena::new(alloc), 1, 2)?;
-    let twice = [atom(&rt, 0, &[v(1), v(1)])];
-    assert!(&rt; agrees(&rt, &mut problem, about(alloc, &twice, 2, &model))?);
-    let other = [atom(&rt, 0, &[v(0), v(1)]), atom(&rt, 1, &[v(1)])];
-    assert!(&rt; agrees(&rt, &mut problem, about(alloc, &other, 2, &model))?);
-    assert!(&rt; agrees(&rt, &mut problem, about(alloc, &[], 2, &model))?);
-    Ok(())
+    let model = model_of(alloc, &facts).expect(&rt, "memory");
+    let axioms = ClauseArena::new(alloc);
+    let mut problem = problem_of(alloc, 2, &[2, 1], axioms, []).expect(&rt, "memory");
+    problem.height = 1;
+    let twice = [atom(0, &[v(1), v(1)])];
+    assert!(&rt; agrees(&rt, &mut problem, about(alloc, &twice, 2, &model)));
+    let other = [atom(0, &[v(0), v(1)]), atom(1, &[v(1)])];
+    assert!(&rt; agrees(&rt, &mut problem, about(alloc, &other, 2, &model)));
+    assert!(&rt; agrees(&rt, &mut problem, about(alloc, &[], 2, &model)));
 }
 
 /// Axioms over variables, at heights and limits that are met and just not met.
 #[test]
-fn axioms_over_variables(rt: HostRuntime) -> Result<(), Fail> {
+fn axioms_over_variables(rt: HostRuntime) {
     let alloc = rt.alloc();
     let mut axioms = ClauseArena::new(alloc);
     // Q holds of each thing that P holds of, and something about pairs either way round.
-    let (p, q, r) = (
-        atom(&rt, 0, &[v(0)]),
-        atom(&rt, 1, &[v(0)]),
-        atom(&rt, 3, &[v(0)]),
-    );
-    let (pair, turned) = (atom(&rt, 2, &[v(0), v(1)]), atom(&rt, 2, &[v(1), v(0)]));
-    add_axiom(&rt, &mut axioms, 1, &[no(p), yes(q)])?;
-    add_axiom(&rt, &mut axioms, 2, &[no(pair), yes(turned)])?;
-    add_axiom(&rt, &mut axioms, 1, &[yes(r)])?;
-    let model = model_of(alloc, &[atom(&rt, 0, &[o(1)]), atom(&rt, 2, &[o(0), o(1)])])?;
+    let (p, q, r) = (atom(0, &[v(0)]), atom(1, &[v(0)]), atom(3, &[v(0)]));
+    let (pair, turned) = (atom(2, &[v(0), v(1)]), atom(2, &[v(1), v(0)]));
+    add_axiom(&mut axioms, 1, &[no(p), yes(q)]).expect(&rt, "an axiom");
+    add_axiom(&mut axioms, 2, &[no(pair), yes(turned)]).expect(&rt, "an axiom");
+    add_axiom(&mut axioms, 1, &[yes(r)]).expect(&rt, "an axiom");
+    let model = model_of(alloc, &[atom(0, &[o(1)]), atom(2, &[o(0), o(1)])]).expect(&rt, "memory");
     let formulas = [
         [q, pair],
-        [r, atom(&rt, 2, &[o(1), v(1)])],
-        [atom(&rt, 2, &[v(0), v(0)]), atom(&rt, 1, &[v(1)])],
+        [r, atom(2, &[o(1), v(1)])],
+        [atom(2, &[v(0), v(0)]), atom(1, &[v(1)])],
     ];
-    let mut problem = problem_of(alloc, 2, &[1, 1, 2, 1], axioms, 1, 2)?;
+    let mut problem = problem_of(alloc, 2, &[1, 1, 2, 1], axioms, []).expect(&rt, "memory");
     for height in 1..4 {
         problem.height = height;
         for formula in &formulas {
-            assert!(&rt; agrees(&rt, &mut problem, about(alloc, formula, 2, &model))?);
+            assert!(&rt; agrees(&rt, &mut problem, about(alloc, formula, 2, &model)));
         }
     }
-    Ok(())
 }
 
 /// An axiom is used at each of its places, also from its denial; ancestors are tried from the nearest.
 #[test]
-fn contrapositive_places_and_ancestors(rt: HostRuntime) -> Result<(), Fail> {
+fn contrapositive_places_and_ancestors(rt: HostRuntime) {
     let alloc = rt.alloc();
-    let (p, q, r) = (atom(&rt, 0, &[]), atom(&rt, 1, &[]), atom(&rt, 2, &[]));
+    let (p, q, r) = (atom(0, &[]), atom(1, &[]), atom(2, &[]));
     let mut axioms = ClauseArena::new(alloc);
-    add_axiom(&rt, &mut axioms, 0, &[yes(p), yes(q)])?;
-    add_axiom(&rt, &mut axioms, 0, &[no(q), yes(r)])?;
-    add_axiom(&rt, &mut axioms, 0, &[no(r), yes(p), yes(p)])?;
-    add_axiom(&rt, &mut axioms, 0, &[no(p), yes(q)])?;
-    let mut problem = problem_of(alloc, 1, &[0, 0, 0], axioms, 1, 2)?;
+    add_axiom(&mut axioms, 0, &[yes(p), yes(q)]).expect(&rt, "an axiom");
+    add_axiom(&mut axioms, 0, &[no(q), yes(r)]).expect(&rt, "an axiom");
+    add_axiom(&mut axioms, 0, &[no(r), yes(p), yes(p)]).expect(&rt, "an axiom");
+    add_axiom(&mut axioms, 0, &[no(p), yes(q)]).expect(&rt, "an axiom");
+    let mut problem = problem_of(alloc, 1, &[0, 0, 0], axioms, []).expect(&rt, "memory");
     let empty = Model::new(alloc);
-    let with_r = model_of(alloc, &[r])?;
+    let with_r = model_of(alloc, &[r]).expect(&rt, "memory");
     for height in 1..4 {
         problem.height = height;
         for goal in [p, q, r] {
-            assert!(&rt; agrees(&rt, &mut problem, about(alloc, &[goal], 0, &empty))?);
-            assert!(&rt; agrees(&rt, &mut problem, about(alloc, &[goal], 0, &with_r))?);
+            assert!(&rt; agrees(&rt, &mut problem, about(alloc, &[goal], 0, &empty)));
+            assert!(&rt; agrees(&rt, &mut problem, about(alloc, &[goal], 0, &with_r)));
         }
     }
-    Ok(())
 }
 
 /// A formula with more unfinished lists than the greatest shape limit.
 #[test]
-fn seventy_thousand_shapes(rt: HostRuntime) -> Result<(), Fail> {
+fn seventy_thousand_shapes(rt: HostRuntime) {
     let alloc = rt.alloc();
     let mut facts = Vec::new(alloc);
     for i in 0..50 {
         for j in 0..50 {
-            facts.push(atom(&rt, 0, &[o(i), o(j)]))?;
+            facts.push(atom(0, &[o(i), o(j)])).expect(&rt, "memory");
         }
     }
-    let model = model_of(alloc, &facts)?;
+    let model = model_of(alloc, &facts).expect(&rt, "memory");
     let mut formula = Vec::new(alloc);
     for i in 0..11 {
-        formula.push(atom(&rt, 0, &[v(i), v(i + 1)]))?;
+        formula
+            .push(atom(0, &[v(i), v(i + 1)]))
+            .expect(&rt, "memory");
     }
-    formula.push(atom(&rt, 1, &[]))?;
-    let problem = problem_of(alloc, 50, &[2, 0], ClauseArena::new(alloc), 8, 70_000)?;
+    formula.push(atom(1, &[])).expect(&rt, "memory");
+    let axioms = ClauseArena::new(alloc);
+    let mut problem = problem_of(alloc, 50, &[2, 0], axioms, []).expect(&rt, "memory");
+    (problem.height, problem.shapes) = (8, 70_000);
     let found = ask(&rt, &problem, about(alloc, &formula, 12, &model));
     match &found {
         Err(ProveErr::ShapeLimit(shapes)) => assert!(&rt; shapes.len() == 70_000),
         _ => assert!(&rt; false),
     }
-    Ok(())
 }

@@ -1,4 +1,4 @@
--- Of a kind of shapes that a list has, either fewer exist than a number, or the first so many make a list.
+-- Of a kind of shapes that a list has, either fewer exist than a number, or the first ones, as many as the number, make a list.
 use Rattle.std.proofs.Common.{◌≡◌, ◌⊎◌, ◌∙◌, ℕ, zero, suc, ◌<◌, ◌≤◌, List, [], ◌∷◌, length, take, refl, ap, sym, subst, arith, inl, inr}
 use Rattle.std.specs.Prelude.{◌↔◌, All, Contains}
 use Rattle.std.specs.List.{AllByRecursion}

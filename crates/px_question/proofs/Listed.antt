@@ -80,7 +80,7 @@ listed-below (suc n) = listed-by (λ k. (n ≡ k) ⊎ (k < n)) (λ k. k < suc n)
     to k (inl is) = omega (arith, is)
     to k (inr less) = omega (arith, less)
 
--- so many numbers below a number
+-- `n` numbers, all below the bound
 abbrev pub AreBelow : ℕ → ℕ → List ℕ → Type 0
 AreBelow bound n ns = (length ns ≡ n) × All (λ k. k < bound) ns
 

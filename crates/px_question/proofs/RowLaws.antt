@@ -72,14 +72,14 @@ tree-row problem atom d leaves tree = record {
 
 -- ---- other leaves put in
 
-abbrev AreFirst : List Leaf → Type 0
-AreFirst = All (λ leaf. leaf.column ≡ 0)
+abbrev AreInitial : List Leaf → Type 0
+AreInitial = All (λ leaf. leaf.column ≡ 0)
 
 abbrev facts_of : List Leaf → List Derivation
 facts_of leaves = map (λ leaf. fact leaf) leaves
 
 -- each leaf in column 0 gets its fact
-put_in : (old new : List Leaf) → AreFirst old → length new ≡ length old → in_places_of 0 (facts_of new) old ≡ facts_of new
+put_in : (old new : List Leaf) → AreInitial old → length new ≡ length old → in_places_of 0 (facts_of new) old ≡ facts_of new
 put_in [] [] are long = refl
 put_in [] (leaf ∷ new) are long = absurd (omega (arith, long))
 put_in (was ∷ old) [] are long = absurd (omega (arith, long))
@@ -101,7 +101,7 @@ facts-trees problem (leaf ∷ leaves) are =
       facts-trees problem leaves (All-tail (IsAtomOf problem 0) leaf.atom (leaf_atoms leaves) are),
     )
 
-renamed-row : (problem : Problem) (atom : Atom) (d : Derivation) → AreFirst (leaves_of d) → IsRowProof problem atom (leaves_of d) d
+renamed-row : (problem : Problem) (atom : Atom) (d : Derivation) → AreInitial (leaves_of d) → IsRowProof problem atom (leaves_of d) d
     → (leaves : List Leaf) → leaf_atoms leaves ≡ leaf_atoms (leaves_of d) → IsRowProof problem atom leaves (grafted 0 (facts_of leaves) d)
 renamed-row problem atom d first row leaves same =
     let new = grafted 0 (facts_of leaves) d in

@@ -66,4 +66,5 @@ pub record IsFirst (s : Setting) (formula : List Atom) (vars : ℕ) (objects : L
   pub finished : IsList (proofs_in s) s formula vars objects ds
   pub least :
       (others : List ℕ) (es : Derivations) → IsList (proofs_in s) s formula vars others es →
-      ShapeBefore (ticks_of ds) (ticks_of es) ⊎ ((ticks_of ds ≡ ticks_of es) × AtMost (objects ++ all_choices_of ds) (others ++ all_choices_of es))
+      ShapeBefore (ticks_of ds) (ticks_of es) ⊎ ((ticks_of ds ≡ ticks_of es)
+      × AtMost (objects ++ all_choices_of ds) (others ++ all_choices_of es))

@@ -15,6 +15,9 @@ pub record QuestionsAreDecided : Type 0 where
       ((shapes : List (List Tick)) × IsLimited s formula vars shapes)
       ⊎ ((objects : List ℕ) × (ds : Derivations) × IsFirst s formula vars objects ds × AreFewBefore s formula vars ds)
       ⊎ ((¬ IsAnswer s formula vars) × AreFewShapes s formula vars)
-  pub gap_shapes : (s : Setting) (formula : List Atom) (vars : ℕ) → ((shapes : List (List Tick)) × IsGapLimited s formula vars shapes) ⊎ AreFewGapShapes s formula vars
-  pub below : (s : Setting) (formula : List Atom) (vars : ℕ) → ((shapes : List (List Tick)) → ¬ IsLimited s formula vars shapes) → StaysBelowLimit s formula vars
-  pub gaps_below : (s : Setting) (formula : List Atom) (vars : ℕ) → ((kept : List Atom) (shapes : List (List Tick)) → ¬ MeetsGapLimit s formula vars kept shapes) → StaysBelowGapLimit s formula vars
+  pub gap_shapes : (s : Setting) (formula : List Atom) (vars : ℕ) → ((shapes : List (List Tick)) × IsGapLimited s formula vars shapes)
+      ⊎ AreFewGapShapes s formula vars
+  pub below : (s : Setting) (formula : List Atom) (vars : ℕ) → ((shapes : List (List Tick)) → ¬ IsLimited s formula vars shapes)
+      → StaysBelowLimit s formula vars
+  pub gaps_below : (s : Setting) (formula : List Atom) (vars : ℕ)
+      → ((kept : List Atom) (shapes : List (List Tick)) → ¬ MeetsGapLimit s formula vars kept shapes) → StaysBelowGapLimit s formula vars

@@ -41,9 +41,11 @@ abbrev mutual
 -- other exist than the limit, fewer exist of it.
 pub record FewerFactsHaveNoMore : Type 0 where
   pub proofs : (s : Setting) (fewer formula : List Atom) (vars : ℕ) (objects : List ℕ) (ds : Derivations) → All (Contains s.facts) fewer
-      → IsList (proofs_in (with_facts s fewer)) (with_facts s fewer) formula vars objects ds → IsList (proofs_in s) s formula vars objects (all_placed_in s.facts ds)
+      → IsList (proofs_in (with_facts s fewer)) (with_facts s fewer) formula vars objects ds
+      → IsList (proofs_in s) s formula vars objects (all_placed_in s.facts ds)
   pub gap_proofs : (s : Setting) (fewer formula : List Atom) (vars : ℕ) (objects : List ℕ) (ds : Derivations) → All (Contains s.facts) fewer
-      → IsList (loose_gaps_in (with_facts s fewer)) (with_facts s fewer) formula vars objects ds → IsList (loose_gaps_in s) s formula vars objects (all_placed_in s.facts ds)
+      → IsList (loose_gaps_in (with_facts s fewer)) (with_facts s fewer) formula vars objects ds
+      → IsList (loose_gaps_in s) s formula vars objects (all_placed_in s.facts ds)
   pub shapes : (s : Setting) (fewer formula : List Atom) (vars : ℕ) → All (Contains s.facts) fewer → IsAtomSet fewer
       → AreFewShapes s formula vars → AreFewShapes (with_facts s fewer) formula vars
   pub gap_shapes : (s : Setting) (fewer formula : List Atom) (vars : ℕ) → All (Contains s.facts) fewer → IsAtomSet fewer

@@ -42,11 +42,13 @@ IsGapOf s formula vars atom =
 -- under these objects, a gap closes exactly these atoms in some list of loose gap proofs
 abbrev pub IsGapList : Setting → List Atom → ℕ → List ℕ → List Atom → Type 0
 IsGapList s formula vars objects gaps =
-    (ds : Derivations) × IsList (loose_gaps_in s) s formula vars objects ds × ((atom : Atom) → Contains gaps atom ↔ Contains (all_gaps_of ds) atom)
+    (ds : Derivations) × IsList (loose_gaps_in s) s formula vars objects ds
+    × ((atom : Atom) → Contains gaps atom ↔ Contains (all_gaps_of ds) atom)
 
 -- the order of gap lists: by objects, then by atoms
 abbrev pub gap_list_cmp : GapList → GapList → Ordering
-gap_list_cmp = then_cmp (on (λ (list : GapList). list.objects) (slice_cmp nat_cmp)) (on (λ (list : GapList). list.gaps) (slice_cmp atom_cmp))
+gap_list_cmp = then_cmp (on (λ (list : GapList). list.objects) (slice_cmp nat_cmp))
+    (on (λ (list : GapList). list.gaps) (slice_cmp atom_cmp))
 
 -- all gap lists of the formula whose atoms are sets, ascending, each once
 pub record AreGapLists (s : Setting) (formula : List Atom) (vars : ℕ) (lists : List GapList) : Type 0 where

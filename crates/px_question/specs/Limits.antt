@@ -13,7 +13,8 @@ use Rattle.px_question.specs.Settings.{Setting, proofs_in, loose_gaps_in}
 -- right
 abbrev pub IsPartialShape : Rules → Setting → List Atom → ℕ → List Tick → Type 0
 IsPartialShape rules s formula vars shape =
-    IsUnfinished shape × ((objects : List ℕ) × (ds : Derivations) × IsList (or_open rules) s formula vars objects ds × (ticks_of ds ≡ shape))
+    IsUnfinished shape × ((objects : List ℕ) × (ds : Derivations) × IsList (or_open rules) s formula vars objects ds
+    × (ticks_of ds ≡ shape))
 
 -- each shape stands before those after it
 abbrev pub IsAscending : List (List Tick) → Type 0
@@ -31,7 +32,8 @@ pub record AreFirstShapes (IsShape : List Tick → Type 0) (shapes : List (List 
 pub record IsLimited (s : Setting) (formula : List Atom) (vars : ℕ) (shapes : List (List Tick)) : Type 0 where
   pub count : length shapes ≡ s.limit
   pub kept : AreFirstShapes (IsPartialShape (proofs_in s) s formula vars) shapes
-  pub before : (objects : List ℕ) (ds : Derivations) → IsList (proofs_in s) s formula vars objects ds → All (λ shape. ShapeBefore shape (ticks_of ds)) shapes
+  pub before : (objects : List ℕ) (ds : Derivations) → IsList (proofs_in s) s formula vars objects ds
+      → All (λ shape. ShapeBefore shape (ticks_of ds)) shapes
 
 -- as many shapes of unfinished lists of loose gap proofs as the limit, the first ones
 pub record IsGapLimited (s : Setting) (formula : List Atom) (vars : ℕ) (shapes : List (List Tick)) : Type 0 where
@@ -50,12 +52,14 @@ AreFewShapes s formula vars = AreFewerThan (IsPartialShape (proofs_in s) s formu
 
 -- fewer of them than the limit stand before the shape of the list
 abbrev pub AreFewBefore : Setting → List Atom → ℕ → Derivations → Type 0
-AreFewBefore s formula vars ds = AreFewerThan (λ shape. IsPartialShape (proofs_in s) s formula vars shape × ShapeBefore shape (ticks_of ds)) s.limit
+AreFewBefore s formula vars ds = AreFewerThan (λ shape. IsPartialShape (proofs_in s) s formula vars shape × ShapeBefore shape (ticks_of ds))
+    s.limit
 
 -- Proving the formula stays below the limit: fewer shapes than the limit stand before that of the first answer, or exist at all.
 abbrev pub StaysBelowLimit : Setting → List Atom → ℕ → Type 0
 StaysBelowLimit s formula vars =
-    ((objects : List ℕ) × (ds : Derivations) × IsFirst s formula vars objects ds × AreFewBefore s formula vars ds) ⊎ AreFewShapes s formula vars
+    ((objects : List ℕ) × (ds : Derivations) × IsFirst s formula vars objects ds × AreFewBefore s formula vars ds)
+    ⊎ AreFewShapes s formula vars
 
 -- fewer shapes of unfinished lists of loose gap proofs exist than the limit
 abbrev pub AreFewGapShapes : Setting → List Atom → ℕ → Type 0

@@ -29,13 +29,16 @@ pub record IsRowProof (problem : Problem) (atom : Atom) (leaves : List Leaf) (d 
 pub record IsAnswerProof (problem : Problem) (atoms : List Atom) (atom : Atom) (d : Derivation) : Type 0 where
   pub here : IsRowProof problem atom (leaves_of d) d
   pub placed : All (λ leaf. (leaf.column ≡ 0) × (slice_get atoms leaf.index ≡ Some leaf.atom)) (leaves_of d)
-  pub renamed : (leaves : List Leaf) → leaf_atoms leaves ≡ leaf_atoms (leaves_of d) → IsRowProof problem atom leaves (grafted 0 (map (λ leaf. fact leaf) leaves) d)
+  pub renamed : (leaves : List Leaf) → leaf_atoms leaves ≡ leaf_atoms (leaves_of d)
+      → IsRowProof problem atom leaves (grafted 0 (map (λ leaf. fact leaf) leaves) d)
 
 -- the proofs of an answer are such proofs of the formula's atoms, with the objects put in for its variables
 pub record AnswersMakeRows : Type 0 where
-  pub under : (problem : Problem) (atoms formula : List Atom) (vars : ℕ) (objects : List ℕ) (ds : List Derivation) → All (IsAxiomOf problem) problem.axioms → All (IsAtomOf problem vars) formula
+  pub under : (problem : Problem) (atoms formula : List Atom) (vars : ℕ) (objects : List ℕ) (ds : List Derivation)
+      → All (IsAxiomOf problem) problem.axioms → All (IsAtomOf problem vars) formula
       → IsList (proofs_in (setting_of problem atoms)) (setting_of problem atoms) formula vars objects (derivations ds)
       → AllZip (IsAnswerProof problem atoms) (map (substitute_atom (object_terms objects)) formula) ds
-  pub without_variables : (problem : Problem) (atoms formula : List Atom) (objects : List ℕ) (ds : List Derivation) → All (IsAxiomOf problem) problem.axioms → All (IsAtomOf problem 0) formula
+  pub without_variables : (problem : Problem) (atoms formula : List Atom) (objects : List ℕ) (ds : List Derivation)
+      → All (IsAxiomOf problem) problem.axioms → All (IsAtomOf problem 0) formula
       → IsList (proofs_in (setting_of problem atoms)) (setting_of problem atoms) formula 0 objects (derivations ds)
       → AllZip (IsAnswerProof problem atoms) formula ds

@@ -8,7 +8,11 @@ trichotomy : (m n : ℕ) → (m < n) ⊎ (m ≡ n) ⊎ (n < m)
 trichotomy zero zero = inr (inl refl)
 trichotomy zero (suc n) = inl (omega arith)
 trichotomy (suc m) zero = inr (inr (omega arith))
-trichotomy (suc m) (suc n) = elim (trichotomy m n) [ inl h ↦ inl (omega (arith, h)) | inr h ↦ elim h [ inl e ↦ inr (inl (ap suc e)) | inr g ↦ inr (inr (omega (arith, g))) ] ]
+trichotomy (suc m) (suc n) = elim (trichotomy m n) [
+  | inl h ↦ inl (omega (arith, h))
+  | inr h ↦ elim h
+      [ inl e ↦ inr (inl (ap suc e)) | inr g ↦ inr (inr (omega (arith, g))) ]
+]
 
 pub TickBefore-irrefl : (a : Tick) → ¬ TickBefore a a
 TickBefore-irrefl a (inl h) = omega (arith, h)
@@ -37,17 +41,20 @@ tick_same _ _ k n p = absurd (omega (arith, k))
 pub tick_trichotomy : (a b : Tick) → TickBefore a b ⊎ (a ≡ b) ⊎ TickBefore b a
 tick_trichotomy a b = by_kind (trichotomy (tick_kind a) (tick_kind b))
   where
-    by_place : tick_kind a ≡ tick_kind b → tick_number a ≡ tick_number b → (tick_place a < tick_place b) ⊎ (tick_place a ≡ tick_place b) ⊎ (tick_place b < tick_place a) → TickBefore a b ⊎ (a ≡ b) ⊎ TickBefore b a
+    by_place : tick_kind a ≡ tick_kind b → tick_number a ≡ tick_number b → (tick_place a < tick_place b) ⊎ (tick_place a ≡ tick_place b)
+        ⊎ (tick_place b < tick_place a) → TickBefore a b ⊎ (a ≡ b) ⊎ TickBefore b a
     by_place k n (inl h) = inl (inr (inr (k, n, h)))
     by_place k n (inr (inl h)) = inr (inl (tick_same a b k n h))
     by_place k n (inr (inr h)) = inr (inr (inr (inr (sym k, sym n, h))))
 
-    by_number : tick_kind a ≡ tick_kind b → (tick_number a < tick_number b) ⊎ (tick_number a ≡ tick_number b) ⊎ (tick_number b < tick_number a) → TickBefore a b ⊎ (a ≡ b) ⊎ TickBefore b a
+    by_number : tick_kind a ≡ tick_kind b → (tick_number a < tick_number b) ⊎ (tick_number a ≡ tick_number b)
+        ⊎ (tick_number b < tick_number a) → TickBefore a b ⊎ (a ≡ b) ⊎ TickBefore b a
     by_number k (inl h) = inl (inr (inl (k, h)))
     by_number k (inr (inl h)) = by_place k h (trichotomy (tick_place a) (tick_place b))
     by_number k (inr (inr h)) = inr (inr (inr (inl (sym k, h))))
 
-    by_kind : (tick_kind a < tick_kind b) ⊎ (tick_kind a ≡ tick_kind b) ⊎ (tick_kind b < tick_kind a) → TickBefore a b ⊎ (a ≡ b) ⊎ TickBefore b a
+    by_kind : (tick_kind a < tick_kind b) ⊎ (tick_kind a ≡ tick_kind b) ⊎ (tick_kind b < tick_kind a) → TickBefore a b ⊎ (a ≡ b)
+        ⊎ TickBefore b a
     by_kind (inl h) = inl (inl h)
     by_kind (inr (inl h)) = by_number h (trichotomy (tick_number a) (tick_number b))
     by_kind (inr (inr h)) = inr (inr (inl h))
@@ -58,12 +65,14 @@ shape_trichotomy [] (t ∷ b) = inl tt
 shape_trichotomy (t ∷ a) [] = inr (inr tt)
 shape_trichotomy (t ∷ a) (u ∷ b) = by_tick (tick_trichotomy t u) (shape_trichotomy a b)
   where
-    by_rest : t ≡ u → ShapeBefore a b ⊎ (a ≡ b) ⊎ ShapeBefore b a → ShapeBefore (t ∷ a) (u ∷ b) ⊎ ((t ∷ a) ≡ (u ∷ b)) ⊎ ShapeBefore (u ∷ b) (t ∷ a)
+    by_rest : t ≡ u → ShapeBefore a b ⊎ (a ≡ b) ⊎ ShapeBefore b a → ShapeBefore (t ∷ a) (u ∷ b) ⊎ ((t ∷ a) ≡ (u ∷ b))
+        ⊎ ShapeBefore (u ∷ b) (t ∷ a)
     by_rest e (inl h) = inl (inr (e, h))
     by_rest e (inr (inl h)) = inr (inl (rw (e, h) refl))
     by_rest e (inr (inr h)) = inr (inr (inr (sym e, h)))
 
-    by_tick : TickBefore t u ⊎ (t ≡ u) ⊎ TickBefore u t → ShapeBefore a b ⊎ (a ≡ b) ⊎ ShapeBefore b a → ShapeBefore (t ∷ a) (u ∷ b) ⊎ ((t ∷ a) ≡ (u ∷ b)) ⊎ ShapeBefore (u ∷ b) (t ∷ a)
+    by_tick : TickBefore t u ⊎ (t ≡ u) ⊎ TickBefore u t → ShapeBefore a b ⊎ (a ≡ b) ⊎ ShapeBefore b a → ShapeBefore (t ∷ a) (u ∷ b)
+        ⊎ ((t ∷ a) ≡ (u ∷ b)) ⊎ ShapeBefore (u ∷ b) (t ∷ a)
     by_tick (inl h) rest = inl (inl h)
     by_tick (inr (inl e)) rest = by_rest e rest
     by_tick (inr (inr h)) rest = inr (inr (inl h))

@@ -1,12 +1,12 @@
 -- What a script is about, made of what its lines have declared.
-use Rattle.px_reader.proofs.Common.{◌≡◌, ◌<◌, ◌≤◌, ◌+◌, ℕ, List, map, length, refl, sym, ap, ◌∙◌, subst, arith, IfSome, Option, None, Some, option_map, Atom, Problem, ScriptValue, content_of, facts_of, own_problem, problem_of, Declared, greatest, command_view, script_of}
+use Rattle.px_reader.proofs.Common.{◌≡◌, ◌<◌, ◌≤◌, ◌+◌, ℕ, List, map, length, sym, ap, ◌∙◌, subst, arith, IfSome, Option, None, Some, option_map, Atom, Problem, content_of, facts_of, own_problem, problem_of, Declared, greatest, command_view, script_of}
 use Rattle.px_ops.specs.ModelValue.{ModelValue}
 use Rattle.px_rooms.specs.declared.building.Building.{Building}
 use Rattle.px_rooms.specs.Domain.{building_problem}
 use Rattle.px_rooms.specs.States.{IsBuilding, first_state, rendering, standings}
 use Rattle.px_rooms.proofs.Starting.{objects_are}
+use Rattle.px_terms.specs.Validity.{IsValid}
 use Rattle.px_world.specs.declared.thing.Thing.{Thing}
-use Rattle.px_script.specs.Commands as spec
 use Rattle.px_script.specs.Limits as limit
 use Rattle.px_script.specs.Ranges.{IsBuildingOf, IsInRange}
 use Rattle.px_reader.specs.declared.command.Command.{Command}
@@ -45,31 +45,8 @@ module _ (d : Declared) (r : IsInRange (content_of d)) (b : Option Building) (is
   has-objects own own_is = each (λ t. own.objects ≡ length (standings t) + 1) (λ t of_things. ap (λ p. p.objects) own_is
       ∙ of_things.objects)
 
--- the limits of the problem are the script's
-same-limits : (own : Problem) (things : Option (List Thing)) → ((problem_of own things).height ≡ own.height)
-    × ((problem_of own things).nodes ≡ own.nodes) × ((problem_of own things).shapes ≡ own.shapes)
-same-limits own None = (refl, refl, refl)
-same-limits own (Some things) = (refl, refl, refl)
-
-module _ (d : Declared) (r : IsInRange (content_of d)) (own : Problem) (is : own ≡ own_problem d) where
-  same : ((problem_of own d.things).height ≡ own.height)
-      × ((problem_of own d.things).nodes ≡ own.nodes) × ((problem_of own d.things).shapes ≡ own.shapes)
-  same = same-limits own d.things
-
-  made : problem_of own d.things ≡ problem_of (own_problem d) d.things
-  made = ap (λ p. problem_of p d.things) is
-
-  pub has-height : (1 ≤ own.height) × (own.height ≤ 8)
-  has-height = let at = r.problem.valid.height in let e = ap (λ p. p.height) made in
-      (omega (arith, at.0, e, same.0), omega (arith, at.1, e, same.0))
-
-  pub has-nodes : (1 ≤ own.nodes) × (own.nodes ≤ 50000)
-  has-nodes = let at = r.problem.valid.nodes in let e = ap (λ p. p.nodes) made in
-      (omega (arith, at.0, e, same.1), omega (arith, at.1, e, same.1))
-
-  pub has-shapes : (2 ≤ own.shapes) × (own.shapes ≤ 70000)
-  has-shapes = let at = r.problem.valid.shapes in let e = ap (λ p. p.shapes) made in
-      (omega (arith, at.0, e, same.2), omega (arith, at.1, e, same.2))
+  pub is-valid : (own : Problem) → own ≡ own_problem d → IsValid (problem_of own (things_of b))
+  is-valid own own_is = subst IsValid (sym (ap (λ p. problem_of p (things_of b)) own_is ∙ ap (problem_of (own_problem d)) is)) r.problem.valid
 
 -- the parts make the content
 pub content_is : (d : Declared) → IsInRange (content_of d) → (own problem : Problem) (facts : ModelValue) (b : Option Building)
@@ -77,19 +54,17 @@ pub content_is : (d : Declared) → IsInRange (content_of d) → (own problem : 
     → own ≡ own_problem d → things_of b ≡ d.things → problem ≡ problem_of own (things_of b) → facts.atoms ≡ facts_of d.facts (things_of b)
     → map command_view commands ≡ d.commands → script_of d.version d.names problem facts b commands ≡ content_of d
 content_is d r own problem facts b commands own_is is problem_is facts_are commands_are =
-    let V : Problem → List Atom → Option (List Thing) → List spec.Command → ScriptValue = λ p a t c. record {
+    let whole : problem ≡ problem_of (own_problem d) d.things
+    = problem_is ∙ ap (λ p. problem_of p (things_of b)) own_is ∙ ap (problem_of (own_problem d)) is in
+    let all : facts.atoms ≡ facts_of d.facts d.things = facts_are ∙ ap (facts_of d.facts) is in
+    λ i. record {
       version = d.version;
       names = d.names;
-      problem = p;
-      facts = a;
-      building = t;
-      commands = c;
-    } in
-    ap (λ p. V p facts.atoms (things_of b) (map command_view commands))
-    (problem_is ∙ ap (λ p. problem_of p (things_of b)) own_is ∙ ap (problem_of (own_problem d)) is)
-    ∙ ap (λ a. V (problem_of (own_problem d) d.things) a (things_of b) (map command_view commands)) (facts_are ∙ ap (facts_of d.facts) is)
-    ∙ ap (λ t. V (problem_of (own_problem d) d.things) (facts_of d.facts d.things) t (map command_view commands)) is
-    ∙ ap (V (problem_of (own_problem d) d.things) (facts_of d.facts d.things) d.things) commands_are
+      problem = whole i;
+      facts = all i;
+      building = is i;
+      commands = commands_are i;
+    }
 
 pub content_in_range : (d : Declared) → IsInRange (content_of d) → (own problem : Problem) (facts : ModelValue) (b : Option Building)
     (commands : List Command)

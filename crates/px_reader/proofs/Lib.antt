@@ -9,12 +9,11 @@ pub mod Parameters
 -- tests of a line
 pub mod AtomTests
 pub mod Variables
-pub mod Seen
-pub mod Bound
+pub mod Twice
 pub mod Facts
 -- what a line adds
-pub mod Named
 pub mod Right
+pub mod MoreNames
 pub mod Fresh
 -- lines, and the whole input
 pub mod Late

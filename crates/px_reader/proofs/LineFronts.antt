@@ -25,9 +25,9 @@ pub all-read : (line : List ℕ) (got : List Lexeme) (rest : List ℕ) → ReadS
 all-read line got rest so_far scan = rw (← append-nil got) (so_far.goes_on [] (scanned-ignored rest scan))
 
 pub none-read : (line : List ℕ) (got : List Lexeme) (rest : List ℕ) → ReadSoFar line got rest → first rest ≡ bad → (all : List Lexeme)
-    → Lexes line all → ⊥
+    → ¬ Lexes line all
 none-read line got rest so_far scan all is = let parts = so_far.only all is in by_more parts.0 parts.2
   where
-    by_more : (more : List Lexeme) → Lexes rest more → ⊥
+    by_more : (more : List Lexeme) → ¬ Lexes rest more
     by_more [] is = let e = ignored-scanned rest is in cc
     by_more (m ∷ more) is = let e = begins-found rest m is.0 is.1 in cc

@@ -1,10 +1,11 @@
 -- Lines without what ends them, and what reading a line shows.
-use Rattle.px_reader.proofs.Common.{◌≡◌, ◌≢◌, ℕ, ◌+◌, ◌-◌, ◌<◌, true, List, [], ◌∷◌, ◌++◌, take, drop, length, get_or, refl, sym, ap, ◌∙◌, subst, inl, inr, arith, Option, None, Some, Result, Ok, Err, OnOk, IfErr, slice_index, ◌==◌, all_scalars, bytes_eq, eqb-true, take-append-drop, take_more, take_all, bytes_eq-Decides, Lexeme, name, Lexes, mark, without_mark, without_return, Statement, line_of, Forms, begins_with_word, is_formed, Declared, after_line, fault_at, coded, Stage, Passes, Fails, parse-sound, parse-complete, by_test, parse, Token, lexemes_of, DeclaresNames, StatementFails, LineFails}
-use Rattle.std.specs.Prelude.{encode_utf8}
+use Rattle.px_reader.proofs.Common.{AllByRecursion, IsNamed, all_scalars, spelling, subst, ◌≡◌, ◌≢◌, ℕ, ◌+◌, ◌-◌, ◌<◌, true, List, [], ◌∷◌, ◌++◌, take, drop, length, get_or, refl, sym, ap, ◌∙◌, inl, inr, arith, Option, None, Some, Result, Ok, Err, IfOk, slice_index, ◌==◌, bytes_eq, eqb-true, take-append-drop, take_more, take_all, bytes_eq-Decides, Lexeme, Lexes, mark, without_mark, without_return, Statement, line_of, Forms, begins_with_word, is_formed, Declared, coded, Stage, Fails, parse-sound, parse-complete, by_test, parse, HasFault, LineEnds}
+use Rattle.std.specs.Prelude.{encode_utf8, MatchOption}
 use Rattle.std.specs.Str.Pattern.{HasCharAt}
-use Rattle.px_reader.specs.declared.fault.LineErr.{LineErr}
-use Rattle.px_reader.specs.declared.fault.LineErr.TheVariants.{Fault, NoMemory}
-use Rattle.px_reader.proofs.Named.{declared-named}
+use Rattle.px_base.specs.declared.no_memory.NoMemory.{NoMemory}
+use Rattle.px_reader.specs.declared.fault.Fault.{Fault}
+use Rattle.px_script.specs.Declarations.{after_line}
+use Rattle.px_reader.proofs.Fresh.{lexemes-named}
 use lib.Utf8.{encode}
 
 mark-encoded : encode_utf8 0xFEFF ≡ mark
@@ -35,47 +36,28 @@ unreturned (b ∷ bs) none = by_test (slice_index (b ∷ bs) (length (b ∷ bs) 
     (last-of (b ∷ bs) (omega arith) ∙ ap (λ t. take (length (b ∷ bs) - 1) (b ∷ bs) ++ t ∷ []) (eqb-true _ 13 e))))
     (λ e. rw e refl)
 
-pub tail-all : {A : Type 0} (xs : List A) → take (length xs - 1) (drop 1 xs) ≡ drop 1 xs
-tail-all [] = refl
-tail-all (x ∷ xs) = ap (λ k. take k xs) (omega arith) ∙ take_all (length xs) xs (omega arith)
+-- A line has these lexemes, which the parser was given.
+module _ (stage : Stage) (d : Declared) (line : List ℕ) where
+  form : (lexemes : List Lexeme) (s : Statement) → Some s ≡ parse d lexemes → Forms d lexemes s
+  form lexemes s e = parse-sound d lexemes s (sym e)
 
--- A line has lexemes, and begins with a word; the parser was given the tokens past the word.
-module _ (stage : Stage) (d : Declared) (line : List ℕ) (tokens : List Token) (lexes : Lexes line (lexemes_of tokens)) (w : List ℕ)
-    (is : lexemes_of tokens ≡ name w ∷ lexemes_of (drop 1 tokens)) (now : List Token) (same : now ≡ tokens) where
-  abbrev rest : List Lexeme
-  rest = lexemes_of (drop 1 tokens)
+  pub formed : (lexemes : List Lexeme) (s : Statement) → Some s ≡ parse d lexemes → is_formed d (line_of s) ≡ true
+  formed lexemes s e = (form lexemes s e).1
 
-  abbrev given : List Lexeme
-  given = lexemes_of (take (length now - 1) (drop 1 now))
+  pub named : (lexemes : List Lexeme) → Lexes line lexemes → all_scalars line ≡ true → (s : Statement) → Some s ≡ parse d lexemes
+      → AllByRecursion IsNamed (spelling s)
+  named lexemes lexes scalars s e = subst (AllByRecursion IsNamed) (form lexemes s e).0 (lexemes-named lexemes line scalars lexes)
 
-  read : Lexes line (name w ∷ rest)
-  read = let P : List Lexeme → Type 0 = Lexes line in subst P is lexes
+  pub ends-read : (n : ℕ) (after : Declared) (lexemes : List Lexeme) → Lexes line lexemes → (s : Statement) → Some s ≡ parse d lexemes
+      → (r : Result (Option Fault) NoMemory) → IfOk r (HasFault stage d s)
+      → IfOk r (λ fault. MatchOption fault (after ≡ after_line n d s) (λ _. Unit {0})) → IfOk r (LineEnds stage n d line after)
+  ends-read n after [] lexes s e r fault declared = cc
+  ends-read n after (x ∷ xs) lexes s e (Ok None) fault declared = (x ∷ xs, lexes, (s, form (x ∷ xs) s e, fault, declared))
+  ends-read n after (x ∷ xs) lexes s e (Ok (Some f)) fault declared = inr (x ∷ xs, lexes, inr (inr (s, form (x ∷ xs) s e, fault)))
+  ends-read n after (x ∷ xs) lexes s e (Err none) fault declared = tt
 
-  parsed : (found : Option Statement) → found ≡ parse d (name w ∷ given) → found ≡ parse d (name w ∷ rest)
-  parsed found e = e ∙ ap (λ ts. parse d (name w ∷ lexemes_of ts)) (tail-all now ∙ ap (drop 1) same)
-
-  form : (s : Statement) → Some s ≡ parse d (name w ∷ given) → Forms d (name w ∷ rest) s
-  form s e = parse-sound d (name w ∷ rest) s (sym (parsed (Some s) e))
-
-  pub formed : (s : Statement) → Some s ≡ parse d (name w ∷ given) → is_formed d (line_of s) ≡ true
-  formed s e = (form s e).1
-
-  pub named : all_scalars line ≡ true → (s : Statement) → Some s ≡ parse d (name w ∷ given) → DeclaresNames s
-  named scalars s e = declared-named d line (name w ∷ rest) s scalars read (form s e)
-
-  pub passes-read : (n : ℕ) (after : Declared) (r : Result (Unit {0}) LineErr) (s : Statement) → Some s ≡ parse d (name w ∷ given)
-      → OnOk r (fault_at stage d s ≡ None) → OnOk r (after ≡ after_line n d s) → OnOk r (Passes stage n d line after)
-  passes-read n after (Ok x) s e right declared = (name w ∷ rest, read, (s, form s e, right, declared))
-  passes-read n after (Err x) s e right declared = tt
-
-  pub statement-fails : (r : Result (Unit {0}) LineErr) (s : Statement) → Some s ≡ parse d (name w ∷ given)
-      → IfErr r (StatementFails stage d s) → IfErr r (LineFails stage d line)
-  statement-fails (Ok x) s e fails = tt
-  statement-fails (Err (Fault fault)) s e fails = inr (name w ∷ rest, read, inr (inr (s, form s e, fails)))
-  statement-fails (Err NoMemory) s e fails = tt
-
-  pub fails-form : begins_with_word d (lexemes_of tokens) ≡ true → None ≡ parse d (name w ∷ given) → Fails stage d line (coded 2)
-  fails-form word e =
-      let no-form : (s : Statement) → Forms d (name w ∷ rest) s
-      → ⊥ = λ s forms. let p = parse-complete d (name w ∷ rest) s forms in let q = parsed None e in cc in
-      inr (name w ∷ rest, read, inr (inl (sym (ap (begins_with_word d) is) ∙ word, no-form, refl)))
+  pub fails-form : (lexemes : List Lexeme) → Lexes line lexemes → begins_with_word d lexemes ≡ true → None ≡ parse d lexemes
+      → Fails stage d line (coded 2)
+  fails-form [] lexes word e = cc
+  fails-form (x ∷ xs) lexes word e =
+      inr (x ∷ xs, lexes, inr (inl (word, λ s forms. let p = parse-complete d (x ∷ xs) s forms in cc, refl)))

@@ -20,7 +20,7 @@ decimal-begins = decimal_by_steps BeginsAbove (λ n small. (omega arith, λ some
           = omega (arith, large) in rw (first-kept ds ((48 + n % 10) ∷ []) is.0) (is.1 tenth),
     ))
 
-pub no-parameter : (w : List ℕ) (k : ℕ) → (0 < k → k < 10000 → w ≡ parameter_name k → ⊥) → parameter_if w k ≡ None
+pub no-parameter : (w : List ℕ) (k : ℕ) → (0 < k → k < 10000 → w ≢ parameter_name k) → parameter_if w k ≡ None
 no-parameter w k not = by_test (bytes_eq w (parameter_name k))
     (λ e. by_test (is_parameter_number k)
     (λ f. let both = and_parts (nat_lt 0 k) (nat_lt k 10000) f in elim
@@ -45,7 +45,7 @@ no-digit w ds is low = sym (no-parameter w _ (λ above below e.
 
 -- where no number to 9999 is read
 pub no-number : {E : Type 0} (w ds : List ℕ) (r : Result ℕ E) → w ≡ 112 ∷ ds → ParsesUnsigned 32 10 ds r
-    → ((n : ℕ) → r ≡ Ok n → n ≤ 9999 → ⊥) → None ≡ parameter_of w
+    → ((n : ℕ) → r ≡ Ok n → ¬ (n ≤ 9999)) → None ≡ parameter_of w
 no-number w ds r is parses none = sym (no-parameter w _ (λ above below e.
     let same : ds ≡ decimal _ = tails 112 112 ds _ (sym is ∙ e) in
     none _ (parse-decimal 32 _ ds r (omega (arith, below)) (omega (arith, below)) same parses) (omega (arith, below))))

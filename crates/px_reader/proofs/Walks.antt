@@ -1,5 +1,5 @@
 -- Lists of tokens, read from left to right: things of one kind to the end of a line, and items in parentheses.
-use Rattle.px_reader.proofs.Common.{◌≡◌, ℕ, zero, suc, ◌+◌, ◌-◌, ◌≤◌, ◌<◌, Bool, true, false, ◌==◌, List, [], ◌∷◌, ◌++◌, map, take, drop, length, refl, sym, ap, ◌∙◌, arith, append_assoc, append-nil, length-append, take_all, Option, None, Some, Result, Ok, Err, IfOk, option_map, option_and_then, if◌then◌else◌, map-append, drop-drop, drop-map, length-drop, length-map, drop_all, Lexeme, name, sign, ReadsBack, ReadsSpelled, atom-sound, atoms-back, binding-sound, bindings-back, room-edit-sound, room-edits-back, all_within, all_of, atom_at, room_edit_at, binding_at, items_after, item_at, items_at, opens, names_at, operator_form, lexemes_of, lexeme_of, Token}
+use Rattle.px_reader.proofs.Common.{◌≡◌, ℕ, zero, suc, ◌+◌, ◌-◌, ◌≤◌, ◌<◌, Bool, true, false, ◌==◌, List, [], ◌∷◌, ◌++◌, map, take, drop, length, refl, sym, ap, ◌∙◌, subst, arith, append_assoc, append-nil, length-append, take_all, Option, None, Some, Result, Ok, Err, IfOk, IfSome, option_map, option_and_then, if◌then◌else◌, map-append, drop-drop, length-drop, length-map, drop_all, Lexeme, sign, ReadsBack, ReadsSpelled, atom-sound, atoms-back, binding-sound, bindings-back, room-edit-sound, room-edits-back, all_within, all_of, atom_at, room_edit_at, binding_at, items_after, item_at, items_at, opens, at_end, operator, lexemes_of, lexeme_of, Token}
 
 -- ---- answers
 
@@ -14,15 +14,26 @@ pub ok-then : {T E X : Type 0} (r : Result T E) (view : T → X) (a : X) (P : T 
 ok-then (Ok t) view a P f h = f t h
 ok-then (Err x) view a P f h = h
 
-pub lexemes-drop : (n m : ℕ) (tokens : List Token) → drop n (lexemes_of (drop m tokens)) ≡ lexemes_of (drop (m + n) tokens)
-lexemes-drop n m tokens = drop-map lexeme_of n (drop m tokens) ∙ ap lexemes_of (drop-drop n m tokens)
+-- what is at the end of the line, and what isn't
+pub ended : {A : Type 0} (found : Option A) (after : List Lexeme) → length after ≤ 0
+    → found ≡ option_and_then at_end (option_map (λ a. (a, after)) found)
+ended None after none = refl
+ended (Some a) [] none = refl
+ended (Some a) (x ∷ xs) none = absurd (omega (arith, none))
 
--- parameters that aren't the end of the line
-pub no-operator : (n : List ℕ) (rest : List Lexeme) (parameters : List (List ℕ)) (after : List Lexeme)
-    → Some (parameters, after) ≡ names_at rest → 0 < length after
-    → None ≡ operator_form (name n ∷ rest)
-no-operator n rest parameters [] e more = absurd (omega (arith, more))
-no-operator n rest parameters (x ∷ xs) e more = rw (← e) refl
+pub not-ended : {A : Type 0} (found : Option A) (after : List Lexeme) → 0 < length after
+    → None ≡ option_and_then at_end (option_map (λ a. (a, after)) found)
+not-ended None after more = refl
+not-ended (Some a) [] more = absurd (omega (arith, more))
+not-ended (Some a) (x ∷ xs) more = refl
+
+pub operator-ends : (n : List ℕ) (found : Option (List (List ℕ) × List Lexeme)) → option_map (operator n) (option_and_then at_end found)
+    ≡ option_and_then (λ items. at_end (operator n items.0, items.1)) found
+operator-ends n None = refl
+operator-ends n (Some (ns, [])) = refl
+operator-ends n (Some (ns, x ∷ xs)) = refl
+
+pub ruleset operators = (operator-ends)
 
 -- ---- things of one kind
 
@@ -34,7 +45,8 @@ advances-spelled : {A : Type 0} (good : A → Bool) (one : List Lexeme → Optio
     → ReadsBack good one spell → ReadsSpelled one spell → Advances one
 advances-spelled good one spell back sound lexemes front e =
     let long = back.long front.0 in
-    let whole = ap length (sound lexemes front e) ∙ length-append (spell front.0) front.1 in
+    let read = subst (λ o. IfSome o (λ f. lexemes ≡ spell f.0 ++ f.1)) e (sound lexemes) in
+    let whole = ap length read ∙ length-append (spell front.0) front.1 in
     omega (arith, long, whole)
 
 pub atom-advances : Advances atom_at
@@ -161,33 +173,23 @@ in_front-more : {A : Type 0} (got : List A) (a : A) (found : Option (List A × L
 in_front-more got a None = refl
 in_front-more got a (Some r) = ap (λ t. Some (t, r.1)) (sym (append_assoc got (a ∷ []) r.0))
 
-stepped : {A : Type 0} (item : Lexeme → Option A) (all rest : List Lexeme) (got : List A) (step : A × ℕ × List Lexeme)
-    → items_after item all ≡ in_front got (items_after item rest) → Some step ≡ item_at item rest
-    → items_after item all ≡ in_front got (after_item item step)
-stepped item all rest got step whole at = whole ∙ ap (in_front got) (items_step item rest ∙ ap (option_and_then (after_item item)) (sym at))
+module _ {A : Type 0} (item : Lexeme → Option A) (all rest : List Lexeme) (got : List A)
+    (whole : items_after item all ≡ in_front got (items_after item rest)) where
+  stepped : (step : A × ℕ × List Lexeme) → Some step ≡ item_at item rest → items_after item all ≡ in_front got (after_item item step)
+  stepped step at = whole ∙ ap (in_front got) (items_step item rest ∙ ap (option_and_then (after_item item)) (sym at))
 
-pub items-closed : {A : Type 0} (item : Lexeme → Option A) (all rest : List Lexeme) (got : List A) (a : A) (s : ℕ) (after : List Lexeme)
-    → items_after item all ≡ in_front got (items_after item rest) → Some (a, s, after) ≡ item_at item rest → s ≡ 41
-    → Some (got ++ a ∷ [], after) ≡ items_after item all
-items-closed item all rest got a s after whole at close =
-    let e = stepped item all rest got (a, s, after) whole at in sym (e ∙ rw close refl)
+  module _ (a : A) (s : ℕ) (after : List Lexeme) (at : Some (a, s, after) ≡ item_at item rest) where
+    pub items-closed : s ≡ 41 → Some (got ++ a ∷ [], after) ≡ items_after item all
+    items-closed close = let e = stepped (a, s, after) at in sym (e ∙ rw close refl)
 
-pub items-wrong : {A : Type 0} (item : Lexeme → Option A) (all rest : List Lexeme) (got : List A) (a : A) (s : ℕ) (after : List Lexeme)
-    → items_after item all ≡ in_front got (items_after item rest) → Some (a, s, after) ≡ item_at item rest → (s == 41) ≡ false
-    → (s == 44) ≡ false → None ≡ items_after item all
-items-wrong item all rest got a s after whole at not_close not_comma =
-    let e = stepped item all rest got (a, s, after) whole at in sym (e ∙ rw (not_close, not_comma) refl)
+    pub items-wrong : (s == 41) ≡ false → (s == 44) ≡ false → None ≡ items_after item all
+    items-wrong not_close not_comma = let e = stepped (a, s, after) at in sym (e ∙ rw (not_close, not_comma) refl)
 
-pub items-more : {A : Type 0} (item : Lexeme → Option A) (all rest : List Lexeme) (got : List A) (a : A) (s : ℕ) (after : List Lexeme)
-    → items_after item all ≡ in_front got (items_after item rest) → Some (a, s, after) ≡ item_at item rest → s ≡ 44
-    → items_after item all ≡ in_front (got ++ a ∷ []) (items_after item after)
-items-more item all rest got a s after whole at comma = let e = stepped item all rest got (a, s, after) whole at in e
-    ∙ rw comma (in_front-more got a (items_after item after))
+    pub items-more : s ≡ 44 → items_after item all ≡ in_front (got ++ a ∷ []) (items_after item after)
+    items-more comma = let e = stepped (a, s, after) at in e ∙ rw comma (in_front-more got a (items_after item after))
 
-pub items-none : {A : Type 0} (item : Lexeme → Option A) (all rest : List Lexeme) (got : List A)
-    → items_after item all ≡ in_front got (items_after item rest) → None ≡ item_at item rest → None ≡ items_after item all
-items-none item all rest got whole at =
-    sym (whole ∙ ap (in_front got) (items_step item rest ∙ ap (option_and_then (after_item item)) (sym at)))
+  pub items-none : None ≡ item_at item rest → None ≡ items_after item all
+  items-none at = sym (whole ∙ ap (in_front got) (items_step item rest ∙ ap (option_and_then (after_item item)) (sym at)))
 
 pub items-opened : {A : Type 0} (item : Lexeme → Option A) (lexemes : List Lexeme) → opens lexemes ≡ true
     → items_at item lexemes ≡ items_after item (drop 1 lexemes)

@@ -1,25 +1,44 @@
 -- Tests of the code's statements, and of what it has of them.
-use Rattle.std.specs.Prelude.{◌≡◌, ◌≤◌, ℕ, Bool, true, false, List, [], ◌∷◌, All, length, not, nat_lt, if◌then◌else◌, fold, Option}
-use Rattle.std.specs.List.{AllByRecursion, list_any}
-use Rattle.px_names.specs.Lists.{has_name}
-use Rattle.px_names.specs.Name.{is_name_text}
+use Rattle.std.specs.Prelude.{◌≡◌, ◌≤◌, ◌++◌, ℕ, Bool, true, false, List, [], ◌∷◌, All, length, map, not, Option}
+use Rattle.std.specs.Option.{option_map}
+use Rattle.std.specs.List.{list_any}
+use Rattle.px_names.specs.Lists.{AreDistinct, NameLists, has_name, limit_of, names_of}
+use Rattle.px_names.specs.Name.{IsName}
+use Rattle.px_names.specs.declared.kind.Kind.{Kind}
+use Rattle.px_names.specs.declared.kind.Kind.TheVariants as kind
 use Rattle.px_script.specs.Causes.{has_long_name, is_known_argument, takes}
+use Rattle.px_script.specs.Lexemes.{Lexeme, name}
 use Rattle.px_script.specs.Limits.{name_bytes, number_of}
-use Rattle.px_script.specs.Declarations.{Declared, OpenOperator, parameters_here, names_here, declared_by, with_variable}
-use Rattle.px_script.specs.Faults.{Refusal, causes_with, first_of, grown, own_limits}
+use Rattle.px_script.specs.Declarations.{Declared, OpenOperator, parameters_here, names_here}
+use Rattle.px_script.specs.Faults.{Refusal, causes_with, first_of, grown, own_limits, passed}
 use Rattle.px_script.specs.Stages.{Stage}
 use Rattle.px_script.specs.Statements.{Statement, Manner, line_of, pre, delete, add, fact}
 use Rattle.px_script.specs.Items as spec
+use Rattle.px_reader.specs.FaultViews.{limit_refusal}
 use Rattle.px_reader.specs.StatementViews.{argument_view}
+use Rattle.px_reader.specs.declared.fault.Limit.{Limit}
 use Rattle.px_reader.specs.declared.statement.SignedAtom.{SignedAtom}
 
--- the names of a group are names
-abbrev pub IsNamedGroup : spec.Named × List (List ℕ) → Type 0
-IsNamedGroup group = All (λ n. is_name_text n ≡ true) group.1
+-- a lexeme that is to be a name is one
+abbrev pub IsNamed : Lexeme → Type 0
+IsNamed (name text) = IsName text
+IsNamed _ = Unit {0}
 
--- The names that a line declares are names.
-abbrev pub DeclaresNames : Statement → Type 0
-DeclaresNames s = AllByRecursion IsNamedGroup (declared_by (line_of s))
+-- the names of a kind are different, and no more than there may be
+pub record AreOfKind (kind : Kind) (names : List (List ℕ)) : Type 0 where
+  pub distinct : AreDistinct names
+  pub few : length names ≤ limit_of kind
+
+-- the names of each kind are so
+pub record AreOfKinds (names : NameLists) : Type 0 where
+  pub objects : AreOfKind kind.Object names.objects
+  pub predicates : AreOfKind kind.Predicate names.predicates
+  pub operators : AreOfKind kind.Operator names.operators
+  pub results : AreOfKind kind.Result names.results
+
+-- the name is one, is new to its kind, and there is room for it
+abbrev pub IsFresh : Kind → NameLists → List ℕ → Type 0
+IsFresh kind names n = IsName n × AreOfKind kind (names_of kind names ++ n ∷ [])
 
 -- an atom with a variable
 abbrev pub varies : SignedAtom → Bool
@@ -37,14 +56,6 @@ refuses d manner atom = list_any (λ a. not (takes d manner (argument_view a))) 
 abbrev pub lacks : Declared → spec.Named × List ℕ → Bool
 lacks d wanted = not (has_name wanted.1 (names_here d wanted.0))
 
--- one variable more, where there are no more than twelve
-abbrev pub with_early_variable : List (List ℕ) → spec.Argument → List (List ℕ)
-with_early_variable seen a = if nat_lt 12 (length seen) then seen else with_variable seen a
-
--- the first thirteen variables of atoms
-abbrev pub early_variables : List (List ℕ) → List spec.Argument → List (List ℕ)
-early_variables = fold with_early_variable
-
 -- how many atoms a list of the open operator has with those of the line
 abbrev pub grown_by : Option OpenOperator → Statement → ℕ
 grown_by o (pre atoms) = grown o (λ schema. length schema.pre) atoms
@@ -52,7 +63,7 @@ grown_by o (delete atoms) = grown o (λ schema. length schema.del) atoms
 grown_by o (add atoms) = grown o (λ schema. length schema.add) atoms
 grown_by o _ = 0
 
--- the atoms can be told by numbers: none has more than six arguments, and the open operator hasn't more than eight parameters
+-- the atoms can be told by numbers: none has more than six arguments, and the open operator has no more than eight parameters
 pub record AreReadable (d : Declared) (atoms : List SignedAtom) : Type 0 where
   pub few : length (parameters_here d) ≤ 8
   pub sizes : All (λ atom. length atom.arguments.items ≤ 6) atoms
@@ -73,3 +84,7 @@ early_limits d s = (has_long_name d (line_of s), number_of name_bytes) ∷ early
 -- the first fault of a line but for the limit of facts
 abbrev pub early_fault : Stage → Declared → Statement → Option Refusal
 early_fault stage d s = first_of (causes_with stage d s (early_limits d s))
+
+-- the first of these limits that is passed, if one is
+abbrev pub IsFirstLimit : Option Limit → List (Bool × ℕ) → Type 0
+IsFirstLimit found tests = option_map limit_refusal found ≡ first_of (map passed tests)

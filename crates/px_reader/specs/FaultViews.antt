@@ -5,10 +5,6 @@ use Rattle.px_reader.specs.declared.fault.Fault.{Fault}
 use Rattle.px_reader.specs.declared.fault.Fault.TheVariants as fault
 use Rattle.px_reader.specs.declared.fault.Limit.{Limit}
 use Rattle.px_reader.specs.declared.fault.Limit.TheVariants as limit
-use Rattle.px_reader.specs.declared.fault.LineErr.{LineErr}
-use Rattle.px_reader.specs.declared.fault.LineErr.TheVariants as line
-use Rattle.px_reader.specs.declared.lexing.LexErr.{LexErr}
-use Rattle.px_reader.specs.declared.lexing.LexErr.TheVariants as lexing
 
 abbrev pub limit_number : Limit → ℕ
 limit_number limit.NameBytes = 1
@@ -44,8 +40,3 @@ refusal_of (fault.Limit limit) = limit_refusal limit
 refusal_of fault.Order = coded 9
 refusal_of fault.MissingEnd = coded 10
 refusal_of fault.NotBuilt = coded 11
-
--- the error of a line by that of its tokens
-abbrev pub line_error : LexErr → LineErr
-line_error lexing.BadToken = line.Fault fault.BadToken
-line_error lexing.NoMemory = line.NoMemory

@@ -1,12 +1,9 @@
 pub mod CommandViews
-pub mod Classes
 pub mod StatementViews
 pub mod LineViews
-pub mod Progress
 pub mod Tokens
-pub mod Views
-pub mod Roles
 pub mod Readers
 pub mod Checks
 pub mod FaultViews
 pub mod LineReads
+pub mod Common

@@ -1,16 +1,14 @@
 -- What reading a line, and all lines, ends with.
-use Rattle.std.specs.Prelude.{◌≡◌, ℕ, List, map, Some, Ok, Err, Result, MatchResult}
+use Rattle.std.specs.Prelude.{◌≡◌, ℕ, List, map, None, Some, Option, Ok, Err, Result, MatchResult}
 use Rattle.std.specs.Str.{chars}
 use Rattle.px_script.specs.Content.{ScriptValue}
 use Rattle.px_script.specs.Declarations.{Declared, nothing_declared}
 use Rattle.px_script.specs.Faults.{Refusal, fault_at}
 use Rattle.px_script.specs.Lines.{without_return}
 use Rattle.px_script.specs.Stages.{Stage}
-use Rattle.px_script.specs.Scripts.{Fails, FailsIn, FirstFault}
+use Rattle.px_script.specs.Scripts.{Passes, Fails, FailsIn, FirstFault}
 use Rattle.px_script.specs.Statements.{Statement}
 use Rattle.px_reader.specs.declared.fault.Fault.{Fault}
-use Rattle.px_reader.specs.declared.fault.LineErr.{LineErr}
-use Rattle.px_reader.specs.declared.fault.LineErr.TheVariants as line
 use Rattle.px_reader.specs.declared.script.Refused.{Refused}
 use Rattle.px_reader.specs.declared.script.ScriptErr.{ScriptErr}
 use Rattle.px_reader.specs.declared.script.ScriptErr.TheVariants as script
@@ -24,15 +22,15 @@ use denote.Ref.{Bor}
 abbrev pub stage_view : List (Bor (List ℕ)) → Stage
 stage_view words = map text_of words
 
--- a statement's fault is the first, unless memory ran out
-abbrev pub StatementFails : Stage → Declared → Statement → LineErr → Type 0
-StatementFails stage d s (line.Fault fault) = fault_at stage d s ≡ Some (refusal_of fault)
-StatementFails stage d s line.NoMemory = Unit {0}
+-- this is the first fault of a statement, if it has one
+abbrev pub HasFault : Stage → Declared → Statement → Option Fault → Type 0
+HasFault stage d s None = fault_at stage d s ≡ None
+HasFault stage d s (Some fault) = fault_at stage d s ≡ Some (refusal_of fault)
 
--- a line's fault is the first, unless memory ran out
-abbrev pub LineFails : Stage → Declared → List ℕ → LineErr → Type 0
-LineFails stage d characters (line.Fault fault) = Fails stage d characters (refusal_of fault)
-LineFails stage d characters line.NoMemory = Unit {0}
+-- a line has no fault and leaves this, or has this first fault
+abbrev pub LineEnds : Stage → ℕ → Declared → List ℕ → Declared → Option Fault → Type 0
+LineEnds stage n d characters after None = Passes stage n d characters after
+LineEnds stage n d characters after (Some fault) = Fails stage d characters (refusal_of fault)
 
 -- the characters of lines without what ends them
 abbrev pub characters_of : List (Bor (List ℕ)) → List (List ℕ)

@@ -11,6 +11,7 @@ abbrev pub block_view : Block → spec.Block
 block_view block.Operator = spec.operator_block
 block_view block.Building = spec.building_block
 
+-- Alike: `manner_view`, and the views of statements: each names the variants of one type by those of another.
 abbrev pub place_view : Place → spec.Place
 place_view place.First = spec.first
 place_view place.Domain = spec.domain

@@ -9,9 +9,9 @@ use Rattle.px_script.specs.Declarations.{Declared, OpenBlock, OpenOperator, Bloc
 use Rattle.px_script.specs.Statements.{Statement, line_of}
 pub use Rattle.px_reader.specs.CommandViews.{command_view}
 use Rattle.px_reader.specs.declared.reader.Reader.{Reader}
-use Rattle.px_reader.specs.declared.block.OpenBlock as code
-use Rattle.px_reader.specs.declared.block.OpenOperator as operator
-use Rattle.px_reader.specs.declared.block.BlockKind as block
+use Rattle.px_reader.specs.declared.blocks.OpenBlock as code
+use Rattle.px_reader.specs.declared.blocks.OpenOperator as operator
+use Rattle.px_reader.specs.declared.blocks.BlockKind as block
 
 -- an open operator with the number that its schema will have
 abbrev pub operator_view : ℕ → operator.OpenOperator → OpenOperator

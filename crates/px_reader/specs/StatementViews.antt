@@ -1,11 +1,16 @@
 -- What the definitions see of statements.
 use Rattle.std.specs.Prelude.{ℕ, List, map, drop, Option, Vec}
+use Rattle.std.specs.Cmp.Lexicographic.{slice_cmp}
 use Rattle.std.specs.Option.{option_map}
+use Rattle.std.specs.Ordering.{nat_cmp}
 use Rattle.std.specs.declared.alloc.Global.{Global}
+use Rattle.std.specs.declared.cmp.Ordering.{Ordering}
 use Rattle.px_script.specs.Lexemes.{Lexeme}
 use Rattle.px_script.specs.Items as items
 use Rattle.px_script.specs.Statements as spec
-use Rattle.px_reader.specs.Views.{lexeme_of}
+use Rattle.px_reader.specs.Tokens.{lexeme_of}
+use Rattle.px_reader.specs.declared.blocks.Role.{Role}
+use Rattle.px_reader.specs.declared.blocks.Role.TheVariants as role
 use Rattle.px_reader.specs.declared.token.Token.{Token}
 use Rattle.px_reader.specs.declared.statement.Argument.{Argument}
 use Rattle.px_reader.specs.declared.statement.Argument.TheVariants as argument
@@ -24,6 +29,9 @@ lexemes_of tokens = map lexeme_of tokens
 
 abbrev pub text_of : Bor (List ℕ) → List ℕ
 text_of s = s.now
+
+abbrev pub text_cmp : Bor (List ℕ) → Bor (List ℕ) → Ordering
+text_cmp a b = slice_cmp nat_cmp a.now b.now
 
 abbrev pub argument_view : Argument → items.Argument
 argument_view (argument.Named n) = items.named n.now
@@ -88,3 +96,8 @@ front_view view tokens found = option_map (λ p. (view p.0, lexemes_of (drop p.1
 
 abbrev pub items_view : {X Y : Type 0} → (X → Y) → Vec X Global → List Y
 items_view view items = map view items.items
+
+abbrev pub in_role : Role → List items.SignedAtom → spec.Statement
+in_role role.Pre atoms = spec.pre atoms
+in_role role.Delete atoms = spec.delete atoms
+in_role role.Add atoms = spec.add atoms

@@ -1,24 +1,58 @@
-//! What the lines of blocks add.
-ghost use Rattle.std.specs.Prelude.{◌≡◌, ◌≢◌, ◌≤◌, ◌<◌, ◌^◌, ◌++◌, ◌∷◌, [], None, length, map, All, IfOk, OnOk};
-ghost use Rattle.std.specs.String.{string_bytes};
-ghost use Rattle.px_names.specs.Lists.{refusal};
-ghost use Rattle.px_script.specs.Declarations.{parameters_here, with_thing};
+//! Blocks that are open, and what their lines add.
+ghost use Rattle.std.specs.Prelude.{◌≡◌, ◌<◌, ◌^◌, ◌++◌, ◌∷◌, ℕ, [], length, map, IfOk, OnOk};
 ghost use Rattle.px_script.specs.Statements as spec;
-ghost use Rattle.px_script.proofs.States.{AreInRange, HasNoDomain};
-ghost use Rattle.px_reader.specs.Checks.{AreReadable};
-ghost use Rattle.px_reader.specs.Readers.{declared_of, leaves, operator_view};
-ghost use Rattle.px_reader.specs.Roles.{in_role};
-ghost use Rattle.px_reader.specs.StatementViews.{signed_view, text_of};
+ghost use Rattle.px_reader.specs.Common.{AreOfKinds, IsFresh, string_bytes, kind_of_block, with_thing, AreInRange, AreReadable, block_view, declared_of, kind_view, leaves, operator_view, in_role, signed_view, text_of};
 
-use crate::block::{BlockKind, OpenBlock, OpenOperator};
-use crate::forms::Role;
+use crate::line::Block;
 use crate::reader::Reader;
 use crate::statement::SignedAtom;
 use px_base::{NoMemory, Sequence};
 use px_names::Kind;
-use px_terms::Schema;
+use px_terms::{Atom, Schema};
 use px_world::Thing;
 use std::alloc::Global;
+
+/// An operator's parameters by name, and its lists so far.
+#[derive(Drop)]
+pub struct OpenOperator {
+    pub parameters: Vec<String>,
+    pub pre: Vec<Atom>,
+    pub delete: Vec<Atom>,
+    pub add: Vec<Atom>,
+}
+
+/// A list of an operator.
+#[derive(Clone, Copy)]
+pub enum Role {
+    Pre,
+    Delete,
+    Add,
+}
+
+/// What an open block is of.
+#[derive(Drop)]
+pub enum BlockKind {
+    Operator(OpenOperator),
+    Building,
+}
+
+/// A block that isn't closed, and the line that opened it.
+#[derive(Drop)]
+pub struct OpenBlock {
+    pub line: u32,
+    pub kind: BlockKind,
+}
+
+impl BlockKind {
+    pub fn block(&self) -> Block
+        ensures { (number : ℕ) → block_view result ≡ kind_of_block (kind_view number self.now) }
+    {
+        match self {
+            BlockKind::Operator(_) => Block::Operator,
+            BlockKind::Building => Block::Building,
+        }
+    }
+}
 
 /// The predicates of every building, by number.
 const PREDICATES: [&str; 8] = [
@@ -45,13 +79,13 @@ fn owned(alloc: Global, names: &[&str]) -> Result<Vec<String>, NoMemory>
 }
 
 impl Reader {
-    pub fn open_operator_block(
+    pub fn begin_operator(
         &mut self,
         line: u32,
         name: &str,
         parameters: &[&str],
     ) -> Result<(), NoMemory>
-        requires { refusal Kind.Operator self.old.names name.now ≡ None }
+        requires { IsFresh Kind.Operator self.old.names name.now }
         ensures { OnOk result (declared_of self.new
             ≡ leaves line (declared_of self.old) (spec.operator name.now (map text_of parameters.now))) }
     {
@@ -73,9 +107,7 @@ impl Reader {
     /// Adds atoms to a list of the open operator.
     #[tactic(auto, using(crate::proofs::Facts::map_map))]
     pub fn extend_operator(&mut self, role: Role, atoms: &[SignedAtom<'_>]) -> Result<(), NoMemory>
-        requires readable { AreReadable (declared_of self.old) atoms.now }
-        requires of_axiom { role ≢ Role.Axiom }
-        requires of_fact { role ≢ Role.Fact }
+        requires { AreReadable (declared_of self.old) atoms.now }
         ensures { OnOk result (declared_of self.new ≡ leaves 0 (declared_of self.old) (in_role role (map signed_view atoms.now))) }
     {
         let atoms = self.atoms(&[], atoms)?;
@@ -85,7 +117,6 @@ impl Reader {
                     Role::Pre => operator.pre.extend_from_slice(&atoms)?,
                     Role::Delete => operator.delete.extend_from_slice(&atoms)?,
                     Role::Add => operator.add.extend_from_slice(&atoms)?,
-                    Role::Axiom | Role::Fact => {}
                 }
             }
         }
@@ -112,18 +143,12 @@ impl Reader {
         ensures schemas { OnOk result (self.new.schemas.items
             ≡ self.old.schemas.items ++ (operator_view (length self.old.schemas.items) operator).schema ∷ []) }
     {
-        let OpenOperator {
-            parameters,
-            pre,
-            delete,
-            add,
-        } = operator;
         let schema = Schema {
             op: self.schemas.len() as u32,
-            params: parameters.len() as u32,
-            pre: Sequence::from_vec(pre),
-            del: Sequence::from_vec(delete),
-            add: Sequence::from_vec(add),
+            params: operator.parameters.len() as u32,
+            pre: Sequence::from_vec(operator.pre),
+            del: Sequence::from_vec(operator.delete),
+            add: Sequence::from_vec(operator.add),
         };
         self.schemas.push(schema)?;
         Ok(())
@@ -131,7 +156,7 @@ impl Reader {
 
     /// Opens the building's block, and declares the names that every building gives to its script.
     pub fn open_building(&mut self, line: u32) -> Result<(), NoMemory>
-        requires { HasNoDomain self.old.names self.old.arities.items }
+        requires { AreOfKinds (leaves line (declared_of self.old) spec.building).names }
         ensures { OnOk result (declared_of self.new ≡ leaves line (declared_of self.old) (spec.building)) }
     {
         self.declare_names(Kind::Object, &["ROBOT"])?;
@@ -147,7 +172,7 @@ impl Reader {
     }
 
     pub fn add_room(&mut self, name: &str) -> Result<(), NoMemory>
-        requires { refusal Kind.Object self.old.names name.now ≡ None }
+        requires { IsFresh Kind.Object self.old.names name.now }
         ensures { OnOk result (declared_of self.new ≡ leaves 0 (declared_of self.old) (spec.room name.now)) }
     {
         self.add_name(Kind::Object, name)?;
@@ -162,7 +187,7 @@ impl Reader {
         other: &str,
         is_open: bool,
     ) -> Result<(), NoMemory>
-        requires { refusal Kind.Object self.old.names name.now ≡ None }
+        requires { IsFresh Kind.Object self.old.names name.now }
         ensures { OnOk result (declared_of self.new ≡ leaves 0 (declared_of self.old) (spec.door name.now one.now other.now is_open)) }
     {
         let a = self.object(one);
@@ -173,7 +198,7 @@ impl Reader {
     }
 
     pub fn add_box(&mut self, name: &str, room: &str) -> Result<(), NoMemory>
-        requires { refusal Kind.Object self.old.names name.now ≡ None }
+        requires { IsFresh Kind.Object self.old.names name.now }
         ensures { OnOk result (declared_of self.new ≡ leaves 0 (declared_of self.old) (spec.box name.now room.now)) }
     {
         let room = self.object(room);

@@ -1,18 +1,12 @@
 //! The commands that lines add.
-ghost use Rattle.std.specs.Prelude.{◌≡◌, ◌≤◌, ◌<◌, ◌∷◌, [], None, length, map, IfOk, OnOk};
-ghost use Rattle.px_names.specs.Lists.{refusal};
-ghost use Rattle.px_script.specs.Declarations.{parameters_here, number_in, variables_of, with_command, with_names};
-ghost use Rattle.px_script.specs.Items.{a_plan};
+ghost use Rattle.std.specs.Prelude.{◌≡◌, ◌≤◌, ◌<◌, ◌∷◌, [], length, map, IfOk, OnOk};
 ghost use Rattle.px_script.specs.Statements as spec;
-ghost use Rattle.px_reader.specs.Checks.{AreReadable};
-ghost use Rattle.px_reader.specs.CommandViews.{command_view};
-ghost use Rattle.px_reader.specs.Readers.{declared_of, leaves};
-ghost use Rattle.px_reader.specs.StatementViews.{signed_view, room_edit_view, binding_view};
+ghost use Rattle.px_reader.specs.Common.{IsFresh, variables_of, with_command, with_names, a_plan, AreReadable, command_view, declared_of, leaves, signed_view, room_edit_view, binding_view};
 
 use crate::command::Command;
 use crate::reader::Reader;
 use crate::statement::{SignedAtom, WrittenBinding, WrittenRoomEdit};
-use crate::terms::few_variables;
+use crate::terms::variables;
 use px_base::{NoMemory, Sequence};
 use px_names::Kind;
 
@@ -27,10 +21,10 @@ impl Reader {
     pub fn add_plan(&mut self, name: &str, goal: &[SignedAtom<'_>]) -> Result<(), NoMemory>
         requires few_variables { length (variables_of (map signed_view goal.now)) ≤ 12 }
         requires readable { AreReadable (declared_of self.old) goal.now }
-        requires fresh { refusal Kind.Result self.old.names name.now ≡ None }
+        requires fresh { IsFresh Kind.Result self.old.names name.now }
         ensures { OnOk result (declared_of self.new ≡ leaves 0 (declared_of self.old) (spec.plan name.now (map signed_view goal.now))) }
     {
-        let variables = few_variables(self.alloc, goal)?;
+        let variables = variables(self.alloc, goal)?;
         let goal = self.atoms(&variables, goal)?;
         let name = self.add_plan_name(name)?;
         self.add_command(Command::Plan {
@@ -42,7 +36,7 @@ impl Reader {
 
     /// Adds the name of a plan, and answers its number.
     fn add_plan_name(&mut self, name: &str) -> Result<u32, NoMemory>
-        requires { refusal Kind.Result self.old.names name.now ≡ None }
+        requires { IsFresh Kind.Result self.old.names name.now }
         ensures number { IfOk result (λ number. number ≡ length self.old.names.results) }
         ensures declared { OnOk result (declared_of self.new ≡ with_names a_plan (name.now ∷ []) (declared_of self.old)) }
     {
@@ -52,10 +46,10 @@ impl Reader {
     }
 
     pub fn add_learned(&mut self, name: &str, source: &str) -> Result<(), NoMemory>
-        requires { refusal Kind.Result self.old.names name.now ≡ None }
+        requires { IsFresh Kind.Result self.old.names name.now }
         ensures { OnOk result (declared_of self.new ≡ leaves 0 (declared_of self.old) (spec.learn name.now source.now)) }
     {
-        let source = self.result(source);
+        let source = self.number(Kind::Result, source);
         let name = self.add_name(Kind::Result, name)?;
         self.add_command(Command::Learn { name, source })
     }
@@ -63,15 +57,8 @@ impl Reader {
     pub fn add_show(&mut self, name: &str) -> Result<(), NoMemory>
         ensures { OnOk result (declared_of self.new ≡ leaves 0 (declared_of self.old) (spec.show name.now)) }
     {
-        let name = self.result(name);
+        let name = self.number(Kind::Result, name);
         self.add_command(Command::Show { name })
-    }
-
-    /// The number of a result.
-    fn result(&self, name: &str) -> u32
-        ensures { result ≡ number_in name.now self.now.names.results }
-    {
-        self.number(Kind::Result, name)
     }
 
     #[tactic(auto, using(crate::proofs::Facts::map_map))]
@@ -119,7 +106,7 @@ impl Reader {
     pub fn add_run(&mut self, name: &str, bindings: &[WrittenBinding<'_>]) -> Result<(), NoMemory>
         ensures { OnOk result (declared_of self.new ≡ leaves 0 (declared_of self.old) (spec.run name.now (map binding_view bindings.now))) }
     {
-        let name = self.result(name);
+        let name = self.number(Kind::Result, name);
         let bindings = self.bindings(bindings)?;
         self.disturbs = 0;
         self.add_command(Command::Run {

@@ -1,30 +1,30 @@
 //! What a line without a fault adds.
-ghost use Rattle.std.specs.Prelude.{◌≡◌, ◌≤◌, ◌+◌, ◌++◌, [], true, false, None, length, map, All, IfOk, OnOk};
-ghost use Rattle.std.specs.List.{AllByRecursion};
-ghost use Rattle.px_names.specs.Lists.{limit_of, names_of, refusal, with_name};
-ghost use Rattle.px_names.specs.Name.{is_name_text};
+ghost use Rattle.std.specs.Prelude.{◌≡◌, ◌≤◌, ◌++◌, [], true, false, Some, length, map, All, IfOk, OnOk};
+ghost use Rattle.px_names.specs.Lists.{names_of};
+ghost use Rattle.px_names.specs.Name.{IsName};
 ghost use Rattle.px_terms.specs.AtomSets.{atom_set, with_atom, IsAtomSet};
 ghost use Rattle.px_terms.specs.Clauses.{ArePlainBelow};
 ghost use Rattle.px_terms.specs.Instances.{IsGround};
-ghost use Rattle.px_script.specs.Declarations.{parameters_here, atom_of, literal_of, variables_of};
-ghost use Rattle.px_script.specs.Causes.{repeats};
-ghost use Rattle.px_script.specs.Forms.{is_formed};
 ghost use Rattle.px_script.specs.Statements as spec;
-ghost use Rattle.px_script.specs.Statements.{line_of};
 ghost use Rattle.px_script.proofs.Faultless.{IsFaultless, IsRight};
-ghost use Rattle.px_script.proofs.States.{AreInRange};
-ghost use Rattle.px_reader.specs.Checks.{AreReadable, DeclaresNames, is_fact};
-ghost use Rattle.px_reader.specs.Readers.{declared_of, leaves, with_more};
-ghost use Rattle.px_reader.specs.StatementViews.{signed_view, statement_view, text_of};
+ghost use Rattle.px_reader.specs.Common.{AllByRecursion, AreOfKind, AreOfKinds, IsFresh, IsNamed, spelling, with_name, atom_of, literal_of, variables_of, is_formed, line_of, AreInRange, AreReadable, is_fact, declared_of, leaves, with_more, signed_view, statement_view, text_of};
 
+use crate::blocks::Role;
 use crate::command::Command;
-use crate::forms::Role;
 use crate::reader::Reader;
 use crate::statement::{SignedAtom, Statement};
-use crate::terms::few_variables;
+use crate::terms::variables;
 use px_base::NoMemory;
 use px_names::{Kind, NameErr};
 use px_terms::Atom;
+
+/// Sets a limit of the script, which takes no memory.
+fn set(limit: &mut Option<u32>, number: u32) -> Result<(), NoMemory>
+    ensures { limit.new ≡ Some number }
+{
+    *limit = Some(number);
+    Ok(())
+}
 
 impl Reader {
     /// Adds what the line says, where it has no fault but that there may be too many facts.
@@ -33,7 +33,9 @@ impl Reader {
         requires formed { is_formed (declared_of self.old) (line_of (statement_view statement)) ≡ true }
         requires right { IsRight (declared_of self.old) (statement_view statement) }
         requires faultless { is_fact (statement_view statement) ≡ false → IsFaultless (declared_of self.old) (statement_view statement) }
-        requires named { DeclaresNames (statement_view statement) }
+        requires named { AllByRecursion IsNamed (spelling (statement_view statement)) }
+        requires fresh { is_fact (statement_view statement) ≡ false
+            → AreOfKinds (leaves line (declared_of self.old) (statement_view statement)).names }
         ensures { OnOk result (declared_of self.new ≡ leaves line (declared_of self.old) (statement_view statement.entry)) }
     {
         match statement {
@@ -44,11 +46,7 @@ impl Reader {
             Statement::Object(names) => self.declare_names(Kind::Object, &names),
             Statement::Predicate(name, arity) => self.declare_predicate(name, arity as u8),
             Statement::Axiom(literals) => self.add_axiom(&literals),
-            Statement::Operator(name, parameters) => self.open_operator_block(
-                line,
-                name,
-                &parameters,
-            ),
+            Statement::Operator(name, parameters) => self.begin_operator(line, name, &parameters),
             Statement::Pre(atoms) => self.extend_operator(Role::Pre, &atoms),
             Statement::Delete(atoms) => self.extend_operator(Role::Delete, &atoms),
             Statement::Add(atoms) => self.extend_operator(Role::Add, &atoms),
@@ -59,18 +57,9 @@ impl Reader {
             Statement::Robot(room) => self.add_robot(room),
             Statement::End => self.close_block(),
             Statement::Fact(atoms) => self.add_facts(&atoms),
-            Statement::Height(height) => {
-                self.height = Some(height);
-                Ok(())
-            }
-            Statement::Nodes(nodes) => {
-                self.nodes = Some(nodes);
-                Ok(())
-            }
-            Statement::Shapes(shapes) => {
-                self.shapes = Some(shapes);
-                Ok(())
-            }
+            Statement::Height(height) => set(&mut self.height, height),
+            Statement::Nodes(nodes) => set(&mut self.nodes, nodes),
+            Statement::Shapes(shapes) => set(&mut self.shapes, shapes),
             Statement::Plan(name, goal) => self.add_plan(name, &goal),
             Statement::Learn(name, source) => self.add_learned(name, source),
             Statement::Show(name) => self.add_show(name),
@@ -85,26 +74,24 @@ impl Reader {
         }
     }
 
-    /// Adds a name that its kind hasn't and has room for.
+    /// Adds a name that is new to its kind, which has room for it, and answers its number.
+    #[tactic(auto, using(crate::proofs::Fresh::welcome))]
     pub fn add_name(&mut self, kind: Kind, name: &str) -> Result<u32, NoMemory>
-        requires { refusal kind self.old.names name.now ≡ None }
+        requires { IsFresh kind self.old.names name.now }
         ensures number { IfOk result (λ number. number ≡ length (names_of kind self.old.names)) }
         ensures declared { OnOk result (self.new ≡ record self.old { names = with_name kind name.now self.old.names }) }
     {
         match self.names.declare(kind, name) {
             Ok(number) => Ok(number),
-            Err(error) => {
-                prove!(matches!(error, NameErr::NoMemory));
-                Err(NoMemory)
-            }
+            Err(NameErr::NoMemory) => Err(NoMemory),
+            Err(NameErr::BadName | NameErr::Duplicate | NameErr::Full) => unreachable!(),
         }
     }
 
-    /// Adds names that their kind hasn't and has room for.
+    /// Adds names that are new to their kind, which has room for them.
     pub fn declare_names(&mut self, kind: Kind, names: &[&str]) -> Result<(), NoMemory>
-        requires named { AllByRecursion (λ name. is_name_text name.now ≡ true) names.now }
-        requires single { repeats (names_of kind self.old.names) (map text_of names.now) ≡ false }
-        requires few { length (names_of kind self.old.names) + length names.now ≤ limit_of kind }
+        requires named { AllByRecursion (λ name. IsName name.now) names.now }
+        requires fresh { AreOfKind kind (names_of kind self.old.names ++ map text_of names.now) }
         ensures { OnOk result (self.new ≡ record self.old { names = with_more kind (map text_of names.now) self.old.names }) }
     {
         for name in names {
@@ -114,7 +101,7 @@ impl Reader {
     }
 
     fn declare_predicate(&mut self, name: &str, arity: u8) -> Result<(), NoMemory>
-        requires { refusal Kind.Predicate self.old.names name.now ≡ None }
+        requires { IsFresh Kind.Predicate self.old.names name.now }
         ensures { OnOk result (declared_of self.new ≡ leaves 0 (declared_of self.old) (spec.predicate name.now arity)) }
     {
         self.add_name(Kind::Predicate, name)?;
@@ -129,7 +116,7 @@ impl Reader {
             (map (literal_of (declared_of self.old) (variables_of (map signed_view literals.now))) (map signed_view literals.now)) }
         ensures { OnOk result (declared_of self.new ≡ leaves 0 (declared_of self.old) (spec.«axiom» (map signed_view literals.now))) }
     {
-        let variables = few_variables(self.alloc, literals)?;
+        let variables = variables(self.alloc, literals)?;
         let literals = self.literals(&variables, literals)?;
         match self.axioms.push(variables.len() as u32, &literals) {
             Ok(_) => Ok(()),

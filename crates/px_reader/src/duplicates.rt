@@ -1,33 +1,47 @@
 //! Names that are declared already or twice, and what stands a second time where it may stand once.
 ghost use Rattle.std.specs.Prelude.{◌≡◌, map, IfOk};
-ghost use Rattle.px_script.specs.Causes.{repeats};
-ghost use Rattle.px_script.specs.Faults.{binds_twice, has_duplicate};
-ghost use Rattle.px_reader.specs.Readers.{declared_of};
-ghost use Rattle.px_reader.specs.StatementViews.{binding_view, statement_view, text_of};
+ghost use Rattle.px_reader.specs.Common.{list_any, has_name, text_cmp, repeats, binds_twice, has_duplicate, declared_of, binding_view, statement_view, text_of};
+ghost use Rattle.std.specs.BTreeSet.{IsFromIterResult};
+ghost use Rattle.std.specs.Ordering.{nat_cmp};
 
 use crate::reader::Reader;
 use crate::statement::{Statement, WrittenBinding};
 use px_base::NoMemory;
 use px_names::Kind;
-use std::alloc::Global;
+use std::alloc::{AllocError, Global};
 use std::collections::BTreeSet;
+
+/// The different names.
+fn different<'a>(alloc: Global, names: &[&'a str]) -> Result<BTreeSet<&'a str>, AllocError>
+    ensures { IfOk result (IsFromIterResult text_cmp names.now) }
+{
+    names.iter().copied().collect(alloc)
+}
+
+/// The different parameters.
+fn different_parameters(
+    alloc: Global,
+    bindings: &[WrittenBinding<'_>],
+) -> Result<BTreeSet<u32>, AllocError>
+    ensures { IfOk result (IsFromIterResult nat_cmp (map (λ binding. binding.parameter) bindings.now)) }
+{
+    bindings
+        .iter()
+        .map(|binding| binding.parameter)
+        .collect(alloc)
+}
 
 /// Some parameter is bound more than once.
 fn binds_twice(alloc: Global, bindings: &[WrittenBinding<'_>]) -> Result<bool, NoMemory>
     ensures { IfOk result (λ found. found ≡ binds_twice (map binding_view bindings.now)) }
 {
-    let mut seen = BTreeSet::new(alloc);
-    for binding in bindings {
-        if !seen.insert(binding.parameter)? {
-            return Ok(true);
-        }
-    }
-    Ok(false)
+    let different = different_parameters(alloc, bindings)?;
+    Ok(different.len() < bindings.len())
 }
 
 impl Reader {
     /// The line declares what is declared already, or a name twice.
-    #[tactic(auto, using(crate::proofs::Seen::group_repeats))]
+    #[tactic(auto, using(crate::proofs::Twice::group_repeats))]
     pub fn has_duplicate(&self, statement: &Statement<'_>) -> Result<bool, NoMemory>
         ensures { IfOk result (λ found. found ≡ has_duplicate (declared_of self.now) (statement_view statement.now)) }
     {
@@ -62,12 +76,17 @@ impl Reader {
     fn repeats(&self, names: &[&str]) -> Result<bool, NoMemory>
         ensures { IfOk result (λ found. found ≡ repeats self.now.names.objects (map text_of names.now)) }
     {
-        let mut seen = BTreeSet::new(self.alloc);
-        for name in names {
-            if self.has(Kind::Object, name) || !seen.insert(*name)? {
-                return Ok(true);
-            }
+        if self.have(names) {
+            return Ok(true);
         }
-        Ok(false)
+        let different = different(self.alloc, names)?;
+        Ok(different.len() < names.len())
+    }
+
+    /// One of the names is an object's.
+    fn have(&self, names: &[&str]) -> bool
+        ensures { result ≡ list_any (λ name. has_name name.now self.now.names.objects) names.now }
+    {
+        names.iter().any(|name| self.has(Kind::Object, name))
     }
 }

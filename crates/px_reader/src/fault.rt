@@ -1,15 +1,12 @@
 //! Why a line is refused.
 ghost use Rattle.std.specs.Prelude.{◌≡◌};
-ghost use Rattle.px_reader.specs.declared.fault.LineErr.TheVariants.{NoMemory};
-ghost use Rattle.px_reader.specs.FaultViews.{limit_number, refusal_of, line_error};
-
-use crate::lexing::LexErr;
+ghost use Rattle.px_reader.specs.Common.{refusal_of};
 
 /// What a script has limits of, in the order of their numbers.
 #[derive(Clone, Copy)]
 pub enum Limit {
     /// Bytes of a name that has a number in its kind.
-    NameBytes,
+    NameBytes = 1,
     Objects,
     Predicates,
     Arity,
@@ -34,37 +31,12 @@ pub enum Limit {
     Numbers,
 }
 
-impl Limit {
-    pub fn number(self) -> u8
-        ensures { result ≡ limit_number self }
-    {
-        match self {
-            Limit::NameBytes => 1,
-            Limit::Objects => 2,
-            Limit::Predicates => 3,
-            Limit::Arity => 4,
-            Limit::Axioms => 5,
-            Limit::Literals => 6,
-            Limit::Variables => 7,
-            Limit::Operators => 8,
-            Limit::Parameters => 9,
-            Limit::OperatorAtoms => 10,
-            Limit::Facts => 11,
-            Limit::GoalAtoms => 12,
-            Limit::Commands => 13,
-            Limit::Disturbs => 14,
-            Limit::Edits => 15,
-            Limit::Numbers => 16,
-        }
-    }
-}
-
 /// What is wrong with a line.
 #[derive(Clone, Copy)]
 pub enum Fault {
     /// A byte belongs to no character.
     NotText,
-    /// A character begins no token, or the rest of the line hasn't the form of its word.
+    /// A character begins no token, or the rest of the line doesn't have the form of its word.
     BadToken,
     UnknownWord,
     UnknownName,
@@ -79,57 +51,23 @@ pub enum Fault {
 }
 
 impl Fault {
-    pub fn code(self) -> u8
-        ensures { result ≡ (refusal_of self).code }
+    /// Its code, and the number of the limit that is passed, or 0.
+    pub fn numbers(self) -> (u8, u8)
+        ensures code { result.0 ≡ (refusal_of self).code }
+        ensures limit { result.1 ≡ (refusal_of self).limit }
     {
         match self {
-            Fault::NotText => 1,
-            Fault::BadToken => 2,
-            Fault::UnknownWord => 3,
-            Fault::UnknownName => 4,
-            Fault::Duplicate => 5,
-            Fault::Arity => 6,
-            Fault::Unbound => 7,
-            Fault::Limit(_) => 8,
-            Fault::Order => 9,
-            Fault::MissingEnd => 10,
-            Fault::NotBuilt => 11,
+            Fault::NotText => (1, 0),
+            Fault::BadToken => (2, 0),
+            Fault::UnknownWord => (3, 0),
+            Fault::UnknownName => (4, 0),
+            Fault::Duplicate => (5, 0),
+            Fault::Arity => (6, 0),
+            Fault::Unbound => (7, 0),
+            Fault::Limit(limit) => (8, limit as u8),
+            Fault::Order => (9, 0),
+            Fault::MissingEnd => (10, 0),
+            Fault::NotBuilt => (11, 0),
         }
-    }
-
-    /// The number of the limit that is passed, or 0.
-    pub fn limit(self) -> u8
-        ensures { result ≡ (refusal_of self).limit }
-    {
-        match self {
-            Fault::Limit(limit) => limit.number(),
-            _ => 0,
-        }
-    }
-}
-
-/// Why a line isn't read.
-#[derive(Clone, Copy)]
-pub enum LineErr {
-    Fault(Fault),
-    NoMemory,
-}
-
-impl From<LexErr> for LineErr {
-    ghost from_gives = { λ lexing error. error ≡ line_error lexing };
-
-    fn from(error: LexErr) -> LineErr {
-        match error {
-            LexErr::BadToken => LineErr::Fault(Fault::BadToken),
-            LexErr::NoMemory => LineErr::NoMemory,
-        }
-    }
-}
-
-impl From<px_base::NoMemory> for LineErr {
-    ghost from_gives = { λ _ error. error ≡ NoMemory };
-
-    fn from(_: px_base::NoMemory) -> LineErr {
-        LineErr::NoMemory
     }
 }

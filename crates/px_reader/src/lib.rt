@@ -20,27 +20,22 @@
 //!
 //! # How it is made
 //!
-//! A line's tokens (`token`, `lexing`) are parsed to a `Statement` (`lists`, `series`, `forms`, `parsing`), which says where it
+//! A line's tokens (`token`) are parsed to a `Statement` (`lists`, `series`, `forms`, `parsing`), which says where it
 //! may stand, what its atoms may be, and which they are (`line`). `Reader` has what the lines so far have declared, field by
 //! field as `Declared` of `px_script` (`declared_of` in `specs/Readers`). The causes to refuse a line are tests of the reader, in
 //! the order of their codes (`order`, `naming`, `duplicates`, `limits`), and a line without a fault is declared (`declaring`,
 //! `blocks`, `commands`, over `terms`). Facts alone are counted once they are added.
 #![tactic(auto)]
 
-mod block;
 mod blocks;
-mod class;
 mod command;
 mod commands;
 mod declaring;
 mod duplicates;
 mod fault;
-mod first_facts;
 mod forms;
-mod lexing;
 mod limits;
 mod line;
-mod lines;
 mod lists;
 mod naming;
 mod order;
@@ -52,7 +47,6 @@ mod series;
 mod statement;
 mod terms;
 mod token;
-mod word;
 
 pub use command::{Binding, Command};
 pub use reading::read_script;

@@ -1,19 +1,8 @@
 //! The limits of a script.
 ghost use Rattle.std.specs.Prelude.{◌≡◌, ◌<◌, ◌+◌, ◌^◌, ◌&&◌, [], ◌∷◌, length, map, nat_lt, IfOk, if◌then◌else◌, Some, None};
-ghost use Rattle.std.specs.List.{list_any};
-ghost use Rattle.std.specs.Option.{option_map};
-ghost use Rattle.px_script.specs.Causes.{has_long_name};
-ghost use Rattle.px_script.specs.Declarations.{Declared, operator_here, variables_of};
-ghost use Rattle.px_script.specs.Faults.{first_of, passed, own_limits, over, outside, disturbance_limits};
 ghost use Rattle.px_script.specs.Limits as limit;
-ghost use Rattle.px_script.specs.Limits.{Bounds};
 ghost use Rattle.px_script.specs.Statements as spec;
-ghost use Rattle.px_script.specs.Statements.{line_of};
-ghost use Rattle.px_script.proofs.States.{AreInRange};
-ghost use Rattle.px_reader.specs.Checks.{early_limits, grown_by};
-ghost use Rattle.px_reader.specs.FaultViews.{limit_number, limit_refusal};
-ghost use Rattle.px_reader.specs.Readers.{declared_of};
-ghost use Rattle.px_reader.specs.StatementViews.{signed_view, statement_view};
+ghost use Rattle.px_reader.specs.Common.{IsFirstLimit, list_any, has_long_name, Declared, operator_here, variables_of, passed, own_limits, over, outside, disturbance_limits, line_of, AreInRange, early_limits, grown_by, declared_of, signed_view, statement_view};
 
 use crate::fault::Limit;
 use crate::reader::Reader;
@@ -25,16 +14,10 @@ use px_names::Kind;
 /// How many bytes a name has at most that has a number in its kind.
 const NAME_BYTES: usize = 64;
 
-fn is_long(name: &str) -> bool
-    ensures { result ≡ nat_lt 64 (length name.now) }
-{
-    name.len() > NAME_BYTES
-}
-
 fn any_long(names: &[&str]) -> bool
     ensures { result ≡ list_any (λ name. nat_lt 64 (length name.now)) names.now }
 {
-    names.iter().any(|name| is_long(name))
+    names.iter().any(|name| name.len() > NAME_BYTES)
 }
 
 impl Statement<'_> {
@@ -50,7 +33,7 @@ impl Statement<'_> {
             | Statement::Door(name, _, _, _)
             | Statement::Box(name, _)
             | Statement::Plan(name, _)
-            | Statement::Learn(name, _) => is_long(name),
+            | Statement::Learn(name, _) => name.len() > NAME_BYTES,
             _ => false,
         }
     }
@@ -65,7 +48,7 @@ fn passed(is_passed: bool, limit: Limit) -> Option<Limit>
 
 /// The limit of numbers, if this one is outside its bounds.
 fn outside(number: u32, least: u32, most: u32) -> Option<Limit>
-    ensures { option_map limit_refusal result ≡ first_of (map passed (outside (record { least = least; most = most }) number ∷ [])) }
+    ensures { IsFirstLimit result (outside (record { least = least; most = most }) number ∷ []) }
 {
     passed(number < least || most < number, Limit::Numbers)
 }
@@ -74,8 +57,7 @@ impl Reader {
     /// The least number of the limits that the line passes, but for that of facts.
     pub fn passed_limit(&self, statement: &Statement<'_>) -> Result<Option<Limit>, NoMemory>
         requires { AreInRange (declared_of self.now) }
-        ensures { IfOk result (λ found. option_map limit_refusal found
-            ≡ first_of (map passed (early_limits (declared_of self.now) (statement_view statement.now)))) }
+        ensures { IfOk result (λ found. IsFirstLimit found (early_limits (declared_of self.now) (statement_view statement.now))) }
     {
         if statement.has_long_name() {
             return Ok(Some(Limit::NameBytes));
@@ -108,8 +90,7 @@ impl Reader {
     fn objects_limit(&self, new: usize) -> Option<Limit>
         requires version { self.now.version ≡ 1 }
         requires few { new < 2 ^ 63 }
-        ensures { option_map limit_refusal result
-            ≡ first_of (map passed (over (declared_of self.now) limit.objects (length self.now.names.objects + new) ∷ [])) }
+        ensures { IsFirstLimit result (over (declared_of self.now) limit.objects (length self.now.names.objects + new) ∷ []) }
     {
         passed(
             self.names.count(Kind::Object) as usize + new > 256,
@@ -118,61 +99,55 @@ impl Reader {
     }
 
     fn predicate_limit(&self, arity: u32) -> Option<Limit>
-        ensures { option_map limit_refusal result
-            ≡ first_of (map passed (over (declared_of self.now) limit.predicates (length self.now.names.predicates + 1)
-            ∷ over (declared_of self.now) limit.arity arity ∷ [])) }
+        ensures { IsFirstLimit result (over (declared_of self.now) limit.predicates (length self.now.names.predicates + 1)
+            ∷ over (declared_of self.now) limit.arity arity ∷ []) }
     {
-        if self.names.count(Kind::Predicate) + 1 > 64 {
-            return Some(Limit::Predicates);
-        }
-        passed(arity > 6, Limit::Arity)
+        passed(
+            self.names.count(Kind::Predicate) + 1 > 64,
+            Limit::Predicates,
+        )
+        .or(passed(arity > 6, Limit::Arity))
     }
 
     fn axiom_limit(&self, literals: &[SignedAtom<'_>]) -> Result<Option<Limit>, NoMemory>
-        ensures { IfOk result (λ found. option_map limit_refusal found
-            ≡ first_of (map passed (own_limits (declared_of self.now) (spec.«axiom» (map signed_view literals.now))))) }
+        ensures { IfOk result (λ found. IsFirstLimit found (own_limits (declared_of self.now)
+            (spec.«axiom» (map signed_view literals.now)))) }
     {
-        if self.axioms.count() + 1 > 64 {
-            return Ok(Some(Limit::Axioms));
-        }
-        if literals.len() > 6 {
-            return Ok(Some(Limit::Literals));
-        }
         let many = has_many_variables(self.alloc, literals)?;
-        Ok(passed(many, Limit::Variables))
+        Ok(
+            passed(self.axioms.count() + 1 > 64, Limit::Axioms)
+                .or(passed(literals.len() > 6, Limit::Literals))
+                .or(passed(many, Limit::Variables)),
+        )
     }
 
     fn operator_limit(&self, parameters: usize) -> Option<Limit>
-        ensures { option_map limit_refusal result
-            ≡ first_of (map passed (over (declared_of self.now) limit.operators (length self.now.names.operators + 1)
-            ∷ over (declared_of self.now) limit.parameters parameters ∷ [])) }
+        ensures { IsFirstLimit result (over (declared_of self.now) limit.operators (length self.now.names.operators + 1)
+            ∷ over (declared_of self.now) limit.parameters parameters ∷ []) }
     {
-        if self.names.count(Kind::Operator) + 1 > 32 {
-            return Some(Limit::Operators);
-        }
-        passed(parameters > 8, Limit::Parameters)
+        passed(self.names.count(Kind::Operator) + 1 > 32, Limit::Operators).or(passed(
+            parameters > 8,
+            Limit::Parameters,
+        ))
     }
 
     fn plan_limit(&self, goal: &[SignedAtom<'_>]) -> Result<Option<Limit>, NoMemory>
         requires { self.now.version ≡ 1 }
-        ensures { IfOk result (λ found. option_map limit_refusal found
-            ≡ first_of (map passed (over (declared_of self.now) limit.variables (length (variables_of (map signed_view goal.now)))
-            ∷ over (declared_of self.now) limit.goal_atoms (length goal.now)
-            ∷ over (declared_of self.now) limit.commands (length self.now.commands.items + 1) ∷ []))) }
+        ensures { IfOk result (λ found. IsFirstLimit found (over (declared_of self.now) limit.variables
+            (length (variables_of (map signed_view goal.now))) ∷ over (declared_of self.now) limit.goal_atoms (length goal.now)
+            ∷ over (declared_of self.now) limit.commands (length self.now.commands.items + 1) ∷ [])) }
     {
-        if has_many_variables(self.alloc, goal)? {
-            return Ok(Some(Limit::Variables));
-        }
-        if goal.len() > 16 {
-            return Ok(Some(Limit::GoalAtoms));
-        }
-        Ok(self.commands_limit())
+        let many = has_many_variables(self.alloc, goal)?;
+        Ok(
+            passed(many, Limit::Variables)
+                .or(passed(goal.len() > 16, Limit::GoalAtoms))
+                .or(self.commands_limit()),
+        )
     }
 
     fn commands_limit(&self) -> Option<Limit>
         requires { self.now.version ≡ 1 }
-        ensures { option_map limit_refusal result
-            ≡ first_of (map passed (over (declared_of self.now) limit.commands (length self.now.commands.items + 1) ∷ [])) }
+        ensures { IsFirstLimit result (over (declared_of self.now) limit.commands (length self.now.commands.items + 1) ∷ []) }
     {
         passed(self.has_too_many_commands(), Limit::Commands)
     }
@@ -185,18 +160,12 @@ impl Reader {
 
     fn disturbance_limit(&self, turn: u32, edits: usize) -> Option<Limit>
         requires { self.now.version ≡ 1 }
-        ensures { option_map limit_refusal result ≡ first_of (map passed (disturbance_limits (declared_of self.now) turn edits)) }
+        ensures { IsFirstLimit result (disturbance_limits (declared_of self.now) turn edits) }
     {
-        if self.has_too_many_commands() {
-            return Some(Limit::Commands);
-        }
-        if self.disturbs as usize + 1 > 64 {
-            return Some(Limit::Disturbs);
-        }
-        if edits > 16 {
-            return Some(Limit::Edits);
-        }
-        outside(turn, 1, 9999)
+        passed(self.has_too_many_commands(), Limit::Commands)
+            .or(passed(self.disturbs as usize + 1 > 64, Limit::Disturbs))
+            .or(passed(edits > 16, Limit::Edits))
+            .or(outside(turn, 1, 9999))
     }
 
     /// How many atoms a list of the open operator has with the line's.

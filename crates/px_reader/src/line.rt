@@ -1,16 +1,45 @@
-//! Where a line stands, what its atoms may be, and its atoms.
+//! The words of lines, where a line stands, what its atoms may be, and its atoms.
 ghost use Rattle.std.specs.Prelude.{◌≡◌, map};
-ghost use Rattle.std.specs.List.{flat_map};
-ghost use Rattle.px_script.specs.Causes.{takes};
-ghost use Rattle.px_script.specs.Declarations.{Declared, excludes_building};
-ghost use Rattle.px_script.specs.Forms.{atoms_of, arguments_of, is_signed};
-ghost use Rattle.px_script.specs.Items.{is_variable};
-ghost use Rattle.px_script.specs.Statements.{line_of};
-ghost use Rattle.px_reader.specs.Checks.{is_fact};
-ghost use Rattle.px_reader.specs.LineViews.{place_view, manner_view};
-ghost use Rattle.px_reader.specs.StatementViews.{argument_view, sign_view, signed_view, statement_view};
+ghost use Rattle.px_script.specs.Forms.{atoms_of};
+ghost use Rattle.px_reader.specs.Common.{flat_map, excludes_building, arguments_of, is_signed, is_variable, is_word, line_of, is_fact, place_view, manner_view, argument_view, sign_view, signed_view, statement_view};
 
 use crate::statement::{Argument, Sign, SignedAtom, Statement};
+use crate::terms::is_one_of;
+
+/// The words of version 1.
+pub const WORDS: [&str; 24] = [
+    "script",
+    "object",
+    "predicate",
+    "axiom",
+    "operator",
+    "pre",
+    "delete",
+    "add",
+    "building",
+    "room",
+    "door",
+    "box",
+    "robot",
+    "end",
+    "fact",
+    "height",
+    "nodes",
+    "shapes",
+    "plan",
+    "learn",
+    "show",
+    "disturb",
+    "run",
+    "facts",
+];
+
+/// The name is one of these words.
+pub fn is_word(name: &str) -> bool
+    ensures { result ≡ is_word 1 name.now }
+{
+    is_one_of(&WORDS, name)
+}
 
 /// What a block is of.
 #[derive(Clone, Copy)]
@@ -60,17 +89,6 @@ pub enum Manner {
 }
 
 impl Manner {
-    /// The argument may stand in the line's atoms.
-    pub fn takes(self, argument: &Argument<'_>) -> bool
-        ensures { (d : Declared) → result ≡ takes d (manner_view self) (argument_view argument.now) }
-    {
-        match argument {
-            Argument::Named(_) => true,
-            Argument::Variable(_) => matches!(self, Manner::Literals | Manner::Goals),
-            Argument::Anything => matches!(self, Manner::Patterns),
-        }
-    }
-
     /// The sign may stand before the line's atoms.
     pub fn is_signed(self, sign: Sign) -> bool
         ensures { result ≡ is_signed (manner_view self) (sign_view sign) }
@@ -173,6 +191,7 @@ impl<'a> Statement<'a> {
         }
     }
 
+    // Alike: `is_filled` in `parsing`, which has the same lines with atoms among others.
     /// The atoms of the line, which has no arguments but theirs.
     pub fn atoms(&self) -> &[SignedAtom<'a>]
         ensures atoms { map signed_view result.now ≡ atoms_of (line_of (statement_view self.now)) }

@@ -1,10 +1,7 @@
 //! Lists of tokens: names to the end of a line, and items between parentheses.
 ghost use Rattle.std.specs.Prelude.{◌≡◌, ◌≤◌, ◌<◌, ◌+◌, drop, length, IfOk, IfSome, IsTrue, map};
-ghost use Rattle.std.specs.Option.{option_map};
-ghost use Rattle.px_script.specs.Lexemes.{sign};
-ghost use Rattle.px_script.proofs.Parsing.{argument_of, names_of, names_among, names_at, item_at, items_after, items_at, opens};
-ghost use Rattle.px_reader.specs.Views.{lexeme_of};
-ghost use Rattle.px_reader.specs.StatementViews.{lexemes_of, argument_view, text_of, list_view, front_view, items_view};
+ghost use Rattle.px_script.proofs.Parsing.{names_of};
+ghost use Rattle.px_reader.specs.Common.{at_end, option_and_then, option_map, argument_of, names_among, names_at, item_at, items_after, items_at, opens, lexeme_of, lexemes_of, argument_view, text_of, list_view, front_view, items_view};
 
 use crate::statement::Argument;
 use crate::token::Token;
@@ -23,6 +20,7 @@ fn argument_of(token: Token<'_>) -> Option<Argument<'_>>
     }
 }
 
+// Alike: `names_among`, which takes arguments in place of tokens.
 /// The names that the tokens are, to the last.
 pub fn names<'a>(alloc: Global, tokens: &[Token<'a>]) -> Result<Option<Vec<&'a str>>, NoMemory>
     ensures { IfOk result (λ found. list_view text_of found ≡ names_of (lexemes_of tokens.now)) }
@@ -88,21 +86,19 @@ fn arguments_after<'a>(
     Ok(None)
 }
 
-/// The arguments in parentheses at a place, or none, and the place after them.
-pub fn arguments_at<'a>(
+/// The arguments in parentheses in front, or none, and how many tokens they take.
+pub fn arguments<'a>(
     alloc: Global,
     tokens: &[Token<'a>],
-    at: usize,
 ) -> Result<Option<(Vec<Argument<'a>>, usize)>, NoMemory>
-    requires { at ≤ length tokens.now }
     ensures found { IfOk result (λ found. front_view (items_view argument_view) tokens.now found
-        ≡ items_at argument_of (lexemes_of (drop at tokens.now))) }
-    ensures within { IfOk result (λ found. IfSome found (λ p. (at ≤ p.1) × (p.1 ≤ length tokens.now))) }
+        ≡ items_at argument_of (lexemes_of tokens.now)) }
+    ensures within { IfOk result (λ found. IfSome found (λ p. p.1 ≤ length tokens.now)) }
 {
-    if opens(tokens, at) {
-        arguments_after(alloc, tokens, at + 1)
+    if opens(tokens) {
+        arguments_after(alloc, tokens, 1)
     } else {
-        Ok(Some((Vec::new(alloc), at)))
+        Ok(Some((Vec::new(alloc), 0)))
     }
 }
 
@@ -123,36 +119,24 @@ fn names_among<'a>(
     Ok(Some(names))
 }
 
-/// The names in parentheses at a place, or none, and the place after them.
-pub fn names_at<'a>(
+/// The names in parentheses, or none, where the line ends after them.
+pub fn listed_names<'a>(
     alloc: Global,
     tokens: &[Token<'a>],
-    at: usize,
-) -> Result<Option<(Vec<&'a str>, usize)>, NoMemory>
-    requires { at ≤ length tokens.now }
-    ensures found { IfOk result (λ found. front_view (items_view text_of) tokens.now found ≡ names_at (lexemes_of (drop at tokens.now))) }
-    ensures within { IfOk result (λ found. IfSome found (λ p. (at ≤ p.1) × (p.1 ≤ length tokens.now))) }
+) -> Result<Option<Vec<&'a str>>, NoMemory>
+    ensures { IfOk result (λ found. list_view text_of found ≡ option_and_then at_end (names_at (lexemes_of tokens.now))) }
 {
-    let Some((arguments, next)) = arguments_at(alloc, tokens, at)? else {
+    let Some((arguments, count)) = arguments(alloc, tokens)? else {
         return Ok(None);
     };
-    match names_among(alloc, &arguments)? {
-        Some(names) => Ok(Some((names, next))),
-        None => Ok(None),
+    if count < tokens.len() {
+        return Ok(None);
     }
-}
-
-/// Does an opening parenthesis stand at the place?
-fn opens(tokens: &[Token<'_>], at: usize) -> bool
-    requires { at ≤ length tokens.now }
-    ensures opens { result ≡ opens (lexemes_of (drop at tokens.now)) }
-    ensures some { IsTrue result → at < length tokens.now }
-{
-    begins_open(&tokens[at..])
+    names_among(alloc, &arguments)
 }
 
 /// Does an opening parenthesis stand in front?
-fn begins_open(tokens: &[Token<'_>]) -> bool
+fn opens(tokens: &[Token<'_>]) -> bool
     ensures opens { result ≡ opens (lexemes_of tokens.now) }
     ensures some { IsTrue result → 0 < length tokens.now }
 {

@@ -1,19 +1,9 @@
 //! Names that aren't declared, arguments that may not stand, and wrong numbers of arguments.
 ghost use Rattle.std.specs.Prelude.{◌≡◌, ◌==◌, ◌||◌, ◌<◌, length, not, None, Some, position, is_some, slice_index, map, IfSome, MatchOption};
-ghost use Rattle.std.specs.List.{list_any, flat_map};
-ghost use Rattle.std.specs.Str.{bytes_eq};
-ghost use Rattle.std.specs.String.{string_bytes};
-ghost use Rattle.px_names.specs.Lists.{names_of, has_name};
-ghost use Rattle.px_script.specs.Causes.{has_unknown_name, has_wrong_arity, is_known_argument, is_unbound, takes, wanted_by};
-ghost use Rattle.px_script.specs.Declarations.{Declared, operator_here, parameters_here, number_in};
-ghost use Rattle.px_script.specs.Items.{a_room, an_object, wanted_by_edit};
-ghost use Rattle.px_script.specs.Statements.{line_of};
-ghost use Rattle.px_reader.specs.Checks.{lacks, lacks_argument, refuses};
-ghost use Rattle.px_reader.specs.LineViews.{manner_view};
-ghost use Rattle.px_reader.specs.Readers.{declared_of, operator_view};
-ghost use Rattle.px_reader.specs.StatementViews.{argument_view, binding_view, room_edit_view, statement_view};
+ghost use Rattle.px_names.specs.Lists.{names_of};
+ghost use Rattle.px_reader.specs.Common.{list_any, bytes_eq, string_bytes, has_name, has_unknown_name, has_wrong_arity, is_known_argument, is_unbound, takes, wanted_by, operator_here, parameters_here, number_in, a_room, an_object, wanted_by_edit, line_of, lacks, lacks_argument, refuses, manner_view, declared_of, operator_view, argument_view, room_edit_view, statement_view};
 
-use crate::block::{BlockKind, OpenOperator};
+use crate::blocks::{BlockKind, OpenOperator};
 use crate::line::Manner;
 use crate::reader::Reader;
 use crate::statement::{Argument, SignedAtom, Statement, WrittenBinding, WrittenRoomEdit};
@@ -223,6 +213,10 @@ impl Reader {
     fn takes(&self, manner: Manner, argument: &Argument<'_>) -> bool
         ensures { result ≡ takes (declared_of self.now) (manner_view manner) (argument_view argument.now) }
     {
-        manner.takes(argument)
+        match argument {
+            Argument::Named(_) => true,
+            Argument::Variable(_) => matches!(manner, Manner::Literals | Manner::Goals),
+            Argument::Anything => matches!(manner, Manner::Patterns),
+        }
     }
 }

@@ -1,17 +1,7 @@
 //! Lines that stand where they may not, or that aren't built.
 ghost use Rattle.std.specs.Prelude.{◌≡◌, ◌||◌};
-ghost use Rattle.std.specs.List.{list_any};
-ghost use Rattle.std.specs.Option.{option_map};
-ghost use Rattle.px_script.specs.Causes.{is_out_of_order, declares_after_command, may_stand, is_late, has_two_domains, varies, varies_too_early, is_robot, has_robot, lacks_robot};
-ghost use Rattle.px_script.specs.Declarations.{has_building, block_here};
-ghost use Rattle.px_script.specs.Items.{has_parameter};
-ghost use Rattle.px_script.specs.Stages.{is_unbuilt};
-ghost use Rattle.px_script.specs.Statements.{line_of};
 ghost use Rattle.px_reader.specs.Checks as checks;
-ghost use Rattle.px_reader.specs.LineViews.{block_view, place_view};
-ghost use Rattle.px_reader.specs.LineReads.{stage_view};
-ghost use Rattle.px_reader.specs.Readers.{declared_of};
-ghost use Rattle.px_reader.specs.StatementViews.{statement_view};
+ghost use Rattle.px_reader.specs.Common.{list_any, option_map, is_out_of_order, declares_after_command, may_stand, is_late, has_two_domains, varies, varies_too_early, is_robot, has_robot, lacks_robot, has_building, block_here, has_parameter, is_unbuilt, line_of, block_view, place_view, stage_view, declared_of, statement_view};
 
 use crate::line::{Block, Place};
 use crate::reader::Reader;
@@ -35,16 +25,12 @@ fn any_varies(atoms: &[SignedAtom<'_>]) -> bool
     atoms.iter().any(|atom| atom.has_variable())
 }
 
-fn is_robot(thing: &Thing) -> bool
-    ensures { result ≡ is_robot thing.now }
-{
-    matches!(thing, Thing::Robot { .. })
-}
-
 fn any_robot(things: &[Thing]) -> bool
     ensures { result ≡ list_any is_robot things.now }
 {
-    things.iter().any(|thing| is_robot(thing))
+    things
+        .iter()
+        .any(|thing| matches!(thing, Thing::Robot { .. }))
 }
 
 impl Statement<'_> {

@@ -1,21 +1,14 @@
 //! The statement that the tokens of a line are.
-ghost use Rattle.std.specs.Prelude.{◌≡◌, ◌∷◌, IfOk};
-ghost use Rattle.std.specs.List.{list_all};
-ghost use Rattle.std.specs.Option.{option_map};
-ghost use Rattle.px_script.specs.Declarations.{Declared, has_building};
-ghost use Rattle.px_script.specs.Forms.{atoms_of, is_formed, is_of_script, is_signed};
-ghost use Rattle.px_script.specs.Items.{is_filled, is_parameter_number};
-ghost use Rattle.px_script.specs.Lexemes.{name};
-ghost use Rattle.px_script.specs.Statements.{line_of};
-ghost use Rattle.px_script.proofs.Parsing.{rest_form, parse};
-ghost use Rattle.px_reader.specs.LineViews.{manner_view};
-ghost use Rattle.px_reader.specs.StatementViews.{lexemes_of, sign_view, statement_view};
+ghost use Rattle.std.specs.Prelude.{◌≡◌, IfOk};
+ghost use Rattle.px_script.specs.Forms.{atoms_of};
+ghost use Rattle.px_reader.specs.Common.{list_all, option_map, Declared, has_building, is_formed, is_of_script, is_signed, is_filled, is_parameter_number, line_of, rest_form, parse, manner_view, lexemes_of, sign_view, statement_view};
 
 use crate::forms::{
-    Role, Setting, alone, atoms_as, box_in, disturb, door, learn, object, operator, plan,
-    predicate, robot, room, run, set, show,
+    alone, box_in, disturb, door, learn, name, number, operator, plan, predicate, run,
 };
 use crate::line::Manner;
+use crate::lists::names;
+use crate::series::atoms;
 use crate::statement::{SignedAtom, Statement, WrittenBinding};
 use crate::token::Token;
 use px_base::NoMemory;
@@ -31,27 +24,27 @@ fn form<'a>(
     ensures { IfOk result (λ found. option_map statement_view found ≡ rest_form with_building word.now (lexemes_of rest.now)) }
 {
     match word {
-        "script" => Ok(set(Setting::Version, rest)),
-        "object" => object(alloc, rest),
+        "script" => Ok(number(rest).map(|version| Statement::Script(version))),
+        "object" => Ok(names(alloc, rest)?.map(|names| Statement::Object(names))),
         "predicate" => Ok(predicate(rest)),
-        "axiom" => atoms_as(alloc, Role::Axiom, rest),
+        "axiom" => Ok(atoms(alloc, rest)?.map(|atoms| Statement::Axiom(atoms))),
         "operator" => operator(alloc, rest),
-        "pre" => atoms_as(alloc, Role::Pre, rest),
-        "delete" => atoms_as(alloc, Role::Delete, rest),
-        "add" => atoms_as(alloc, Role::Add, rest),
+        "pre" => Ok(atoms(alloc, rest)?.map(|atoms| Statement::Pre(atoms))),
+        "delete" => Ok(atoms(alloc, rest)?.map(|atoms| Statement::Delete(atoms))),
+        "add" => Ok(atoms(alloc, rest)?.map(|atoms| Statement::Add(atoms))),
         "building" => Ok(alone(Statement::Building, rest)),
-        "room" => Ok(room(rest)),
+        "room" => Ok(name(rest).map(|name| Statement::Room(name))),
         "door" => Ok(door(rest)),
         "box" => Ok(box_in(rest)),
-        "robot" => Ok(robot(rest)),
+        "robot" => Ok(name(rest).map(|name| Statement::Robot(name))),
         "end" => Ok(alone(Statement::End, rest)),
-        "fact" => atoms_as(alloc, Role::Fact, rest),
-        "height" => Ok(set(Setting::Height, rest)),
-        "nodes" => Ok(set(Setting::Nodes, rest)),
-        "shapes" => Ok(set(Setting::Shapes, rest)),
+        "fact" => Ok(atoms(alloc, rest)?.map(|atoms| Statement::Fact(atoms))),
+        "height" => Ok(number(rest).map(|most| Statement::Height(most))),
+        "nodes" => Ok(number(rest).map(|most| Statement::Nodes(most))),
+        "shapes" => Ok(number(rest).map(|most| Statement::Shapes(most))),
         "plan" => plan(alloc, rest),
         "learn" => Ok(learn(rest)),
-        "show" => Ok(show(rest)),
+        "show" => Ok(name(rest).map(|name| Statement::Show(name))),
         "disturb" => disturb(alloc, with_building, rest),
         "run" => run(alloc, rest),
         "facts" => Ok(alone(Statement::Facts, rest)),
@@ -121,18 +114,24 @@ fn is_of_script(manner: Manner, with_building: bool) -> bool
     }
 }
 
-/// The statement of a line that begins with a word, in a script with or without a building so far.
+/// The statement that the tokens of a line are, in a script with or without a building so far.
 pub fn statement<'a>(
     alloc: Global,
     with_building: bool,
-    word: &str,
-    rest: &[Token<'a>],
+    tokens: &[Token<'a>],
 ) -> Result<Option<Statement<'a>>, NoMemory>
     ensures { (d : Declared) → d.version ≡ 1 → has_building d ≡ with_building
-        → IfOk result (λ found. option_map statement_view found ≡ parse d (name word.now ∷ lexemes_of rest.now)) }
+        → IfOk result (λ found. option_map statement_view found ≡ parse d (lexemes_of tokens.now)) }
 {
-    match form(alloc, with_building, word, rest)? {
-        Some(statement) if statement.is_formed(with_building) => Ok(Some(statement)),
-        _ => Ok(None),
+    let [Token::Name(word), rest @ ..] = tokens else {
+        return Ok(None);
+    };
+    let Some(statement) = form(alloc, with_building, word, rest)? else {
+        return Ok(None);
+    };
+    if statement.is_formed(with_building) {
+        Ok(Some(statement))
+    } else {
+        Ok(None)
     }
 }

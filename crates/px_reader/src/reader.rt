@@ -1,37 +1,22 @@
 //! The lines so far, and the next one.
-ghost use Rattle.std.specs.Prelude.{◌≡◌, ◌<◌, ◌≤◌, ◌+◌, ◌∷◌, true, false, None, Some, drop, length, IfOk, IfErr, IfSome, OnOk, MatchOption, unwrap_or};
-ghost use Rattle.std.specs.Option.{option_map};
-ghost use Rattle.std.specs.Str.{chars};
-ghost use Rattle.px_rooms.specs.States.{IsBuilding, standings};
-ghost use Rattle.px_script.specs.Content.{content_of, facts_of, problem_of};
-ghost use Rattle.px_script.specs.Declarations.{OpenBlock as Opened, nothing_declared, after_line};
-ghost use Rattle.px_script.specs.Faults.{fault_at};
-ghost use Rattle.px_script.specs.Forms.{begins_with_word, is_formed};
-ghost use Rattle.px_script.specs.Lexemes.{name};
+ghost use Rattle.std.specs.Prelude.{◌≡◌, ◌<◌, ◌≤◌, ◌+◌, true, None, Some, length, IfOk, IfSome, MatchOption, unwrap_or};
+ghost use Rattle.px_rooms.specs.States.{IsBuilding, first_state, rendering, standings};
+ghost use Rattle.px_terms.specs.Validity.{IsValid};
 ghost use Rattle.px_script.specs.Ranges.{IsInRange};
-ghost use Rattle.px_script.specs.Scripts.{Passes};
-ghost use Rattle.px_script.specs.Statements.{line_of};
-ghost use Rattle.px_script.proofs.States.{AreInRange};
-ghost use Rattle.px_reader.specs.Checks.{DeclaresNames, early_fault};
-ghost use Rattle.px_reader.specs.FaultViews.{refusal_of};
-ghost use Rattle.px_reader.specs.LineReads.{StatementFails, LineFails, content, stage_view};
-ghost use Rattle.px_reader.specs.Readers.{declared_of};
-ghost use Rattle.px_reader.specs.StatementViews.{lexemes_of, statement_view};
+ghost use Rattle.px_reader.specs.Common.{AllByRecursion, IsNamed, spelling, after_line, option_map, chars, content_of, facts_of, problem_of, nothing_declared, begins_with_word, is_formed, line_of, AreInRange, early_fault, refusal_of, HasFault, LineEnds, content, stage_view, declared_of, lexemes_of, statement_view};
 
-use crate::block::OpenBlock;
+use crate::blocks::OpenBlock;
 use crate::command::Command;
-use crate::fault::{Fault, Limit, LineErr};
-use crate::first_facts::first_facts;
-use crate::lexing::tokens;
+use crate::fault::{Fault, Limit};
+use crate::line::is_word;
 use crate::parsing::statement;
 use crate::script::Script;
 use crate::statement::Statement;
-use crate::token::Token;
-use crate::word::is_word;
+use crate::token::{Token, tokens};
 use px_base::{NoMemory, Sequence};
 use px_names::{Kind, Names};
 use px_ops::Model;
-use px_rooms::{Building, rooms_problem};
+use px_rooms::{Building, RoomErr, RoomWorld, rooms_problem};
 use px_terms::{ClauseArena, Problem, Schema};
 use px_world::Thing;
 use std::alloc::Global;
@@ -96,35 +81,39 @@ impl Reader {
         })
     }
 
-    /// The word that begins a line.
-    fn word_of<'a>(&self, tokens: &[Token<'a>]) -> Option<&'a str>
+    /// The first token is a word that may begin a line.
+    fn begins_with_word(&self, tokens: &[Token<'_>]) -> bool
         requires { self.now.version ≡ 1 }
-        ensures { MatchOption result (begins_with_word (declared_of self.now) (lexemes_of tokens.now) ≡ false)
-            (λ word. (begins_with_word (declared_of self.now) (lexemes_of tokens.now) ≡ true)
-            × (lexemes_of tokens.now ≡ name word.now ∷ lexemes_of (drop 1 tokens.now))) }
+        ensures { result ≡ begins_with_word (declared_of self.now) (lexemes_of tokens.now) }
     {
-        let [Token::Name(name), ..] = tokens else {
-            return None;
-        };
-        if is_word(name) { Some(*name) } else { None }
+        match tokens {
+            [Token::Name(name), ..] => is_word(name),
+            _ => false,
+        }
     }
 
-    /// Reads the next line.
-    pub fn read_line(&mut self, stage: &[&str], number: u32, line: &str) -> Result<(), LineErr>
+    /// Reads the next line, and answers its fault, if it has one.
+    pub fn read_line(
+        &mut self,
+        stage: &[&str],
+        number: u32,
+        line: &str,
+    ) -> Result<Option<Fault>, NoMemory>
         requires { AreInRange (declared_of self.old) }
-        ensures ok { OnOk result (Passes (stage_view stage.now) number (declared_of self.old) (chars line.now) (declared_of self.new)) }
-        ensures err { IfErr result (LineFails (stage_view stage.now) (declared_of self.old) (chars line.now)) }
+        ensures { IfOk result (LineEnds (stage_view stage.now) number (declared_of self.old) (chars line.now) (declared_of self.new)) }
     {
-        let tokens = tokens(self.alloc, line)?;
-        if tokens.is_empty() {
-            return Ok(());
-        }
-        let Some(word) = self.word_of(&tokens) else {
-            return Err(LineErr::Fault(Fault::UnknownWord));
+        let Some(tokens) = tokens(self.alloc, line)? else {
+            return Ok(Some(Fault::BadToken));
         };
-        match statement(self.alloc, self.has_building(), word, &tokens[1..])? {
+        if tokens.is_empty() {
+            return Ok(None);
+        }
+        if !self.begins_with_word(&tokens) {
+            return Ok(Some(Fault::UnknownWord));
+        }
+        match statement(self.alloc, self.has_building(), &tokens)? {
             Some(statement) => self.read_statement(stage, number, statement),
-            None => Err(LineErr::Fault(Fault::BadToken)),
+            None => Ok(Some(Fault::BadToken)),
         }
     }
 
@@ -133,16 +122,16 @@ impl Reader {
         stage: &[&str],
         number: u32,
         statement: Statement<'_>,
-    ) -> Result<(), LineErr>
+    ) -> Result<Option<Fault>, NoMemory>
         requires range { AreInRange (declared_of self.old) }
         requires formed { is_formed (declared_of self.old) (line_of (statement_view statement)) ≡ true }
-        requires named { DeclaresNames (statement_view statement) }
-        ensures passes { OnOk result (fault_at (stage_view stage.now) (declared_of self.old) (statement_view statement.entry) ≡ None) }
-        ensures declared { OnOk result (declared_of self.new ≡ after_line number (declared_of self.old) (statement_view statement.entry)) }
-        ensures err { IfErr result (StatementFails (stage_view stage.now) (declared_of self.old) (statement_view statement.entry)) }
+        requires named { AllByRecursion IsNamed (spelling (statement_view statement)) }
+        ensures fault { IfOk result (HasFault (stage_view stage.now) (declared_of self.old) (statement_view statement.entry)) }
+        ensures declared { IfOk result (λ fault. MatchOption fault
+            (declared_of self.new ≡ after_line number (declared_of self.old) (statement_view statement.entry)) (λ _. Unit {0})) }
     {
         match self.fault(stage, &statement)? {
-            Some(fault) => Err(LineErr::Fault(fault)),
+            Some(fault) => Ok(Some(fault)),
             None => {
                 let own_domain = self.own_domain || statement.place().excludes_building();
                 let is_fact = statement.is_fact();
@@ -150,9 +139,9 @@ impl Reader {
                 self.own_domain = own_domain;
                 self.begun = true;
                 if self.has_too_many_facts(is_fact) {
-                    return Err(LineErr::Fault(Fault::Limit(Limit::Facts)));
+                    return Ok(Some(Fault::Limit(Limit::Facts)));
                 }
-                Ok(())
+                Ok(None)
             }
         }
     }
@@ -187,48 +176,24 @@ impl Reader {
         }
     }
 
-    /// The line that opened the block, if one is open.
-    pub fn open_line(&self) -> Option<u32>
-        ensures { MatchOption result ((declared_of self.now).block ≡ None)
-            (λ line. (block : Opened) × ((declared_of self.now).block ≡ Some block) × (line ≡ block.line)) }
-    {
-        match &self.block {
-            Some(block) => Some(block.line),
-            None => None,
-        }
-    }
-
     /// The script, where no block is open.
     #[tactic(auto, using(crate::proofs::Finishing::content_is, crate::proofs::Finishing::content_in_range))]
     pub fn finish(self) -> Result<Script, NoMemory>
         requires { IsInRange (content_of (declared_of self)) }
         ensures { IfOk result (λ script. content script ≡ content_of (declared_of self)) }
     {
-        let Reader {
-            alloc,
-            version,
-            names,
-            arities,
-            axioms,
-            schemas,
-            facts,
-            things,
-            height,
-            nodes,
-            shapes,
-            commands,
-            ..
-        } = self;
-        let own = own_problem(&names, arities, axioms, schemas, (height, nodes, shapes));
-        let building = building(things);
-        let (problem, facts) = subject(alloc, &building, own, facts)?;
+        let names = self.names;
+        let limits = (self.height, self.nodes, self.shapes);
+        let own = own_problem(&names, self.arities, self.axioms, self.schemas, limits);
+        let building = building(self.things);
+        let (problem, facts) = subject(self.alloc, &building, own, self.facts)?;
         Ok(Script {
-            version,
+            version: self.version,
             names,
             problem,
             facts,
             building,
-            commands: Sequence::from_vec(commands),
+            commands: Sequence::from_vec(self.commands),
         })
     }
 }
@@ -237,12 +202,9 @@ impl Reader {
 fn building(things: Option<Vec<Thing>>) -> Option<Building>
     ensures { option_map (λ building. building.things) result ≡ option_map (λ things. things.items) things }
 {
-    match things {
-        Some(things) => Some(Building {
-            things: Sequence::from_vec(things),
-        }),
-        None => None,
-    }
+    things.map(|things| Building {
+        things: Sequence::from_vec(things),
+    })
 }
 
 /// The problem of a script's own lines, with the limits that they give, or those that hold where they give none.
@@ -285,9 +247,7 @@ fn subject(
     requires building { IfSome building.now (λ building. IsBuilding building.things) }
     requires short { IfSome building.now (λ building. length building.things < 4294967295) }
     requires objects { IfSome building.now (λ building. own.objects ≡ length (standings building.things) + 1) }
-    requires height { (1 ≤ own.height) × (own.height ≤ 8) }
-    requires nodes { (1 ≤ own.nodes) × (own.nodes ≤ 50000) }
-    requires shapes { (2 ≤ own.shapes) × (own.shapes ≤ 70000) }
+    requires valid { IsValid (problem_of own (option_map (λ building. building.things) building.now)) }
     ensures problem { IfOk result (λ parts. parts.0 ≡ problem_of own (option_map (λ building. building.things) building.now)) }
     ensures facts { IfOk result (λ parts. parts.1.atoms ≡ facts_of facts.atoms (option_map (λ building. building.things) building.now)) }
 {
@@ -298,5 +258,18 @@ fn subject(
             let facts = first_facts(alloc, building)?;
             Ok((problem, facts))
         }
+    }
+}
+
+/// The facts of a building's first state.
+fn first_facts(alloc: Global, building: &Building) -> Result<Model, NoMemory>
+    requires short { length building.now.things < 4294967295 }
+    requires building { IsBuilding building.now.things }
+    ensures { IfOk result (λ facts. facts.atoms ≡ rendering (first_state building.now.things)) }
+{
+    match RoomWorld::new(alloc, building) {
+        Ok(world) => world.render(alloc),
+        Err(RoomErr::NoMemory) => Err(NoMemory),
+        Err(RoomErr::NoSuchThing) => unreachable!(),
     }
 }

@@ -1,33 +1,52 @@
 //! Reads all lines of an input.
-ghost use Rattle.std.specs.Prelude.{◌≡◌, ℕ, ◌<◌, ◌+◌, ◌-◌, ◌^◌, ◌==◌, IfOk, IfErr, OnOk, length, count_by};
-ghost use Rattle.px_script.specs.Content.{ScriptValue};
-ghost use Rattle.px_script.specs.Declarations.{nothing_declared};
-ghost use Rattle.px_script.specs.Faults.{Refusal};
+ghost use Rattle.std.specs.Prelude.{◌≡◌, ℕ, ◌<◌, ◌+◌, ◌-◌, ◌^◌, ◌==◌, IfOk, IfErr, OnOk, length, map, count_by};
+ghost use Rattle.px_script.specs.Lines.{without_mark, without_return};
 ghost use Rattle.px_script.specs.StageRanges.{IsOfStage};
-ghost use Rattle.px_script.specs.Stages.{stage_now};
 ghost use Rattle.px_script.specs.Scripts.{PassAll, IsScript, FirstFault};
-ghost use Rattle.px_reader.specs.LineReads.{characters_of, refusal_told, stage_view, LinesFail, HasFirstFault, IsRead, IsRefused, content, told};
-ghost use Rattle.px_reader.specs.Readers.{declared_of};
+ghost use Rattle.px_reader.specs.Common.{slice_split, ScriptValue, nothing_declared, Refusal, stage_now, characters_of, stage_view, LinesFail, HasFirstFault, IsRead, IsRefused, content, told, declared_of};
 
-use crate::fault::{Fault, LineErr};
-use crate::lines::{parts, without_mark, without_return};
+use crate::fault::Fault;
+use crate::line::WORDS;
 use crate::reader::Reader;
 use crate::script::{Refused, Script, ScriptErr};
-use crate::word::WORDS;
-use std::alloc::Global;
+use std::alloc::{AllocError, Global};
 use std::str;
 
 /// The words that are built: all of version 1.
 const STAGE: [&str; 24] = WORDS;
 
+/// The parts of a text between line feeds.
+fn parts<'a>(alloc: Global, text: &'a str) -> Result<Vec<&'a str>, AllocError>
+    ensures { IfOk result (λ parts. map (λ part. part.now) parts.items ≡ slice_split (λ b. b == 10) text.now) }
+{
+    text.split('\n').collect(alloc)
+}
+
+/// The text without a byte order mark in front.
+fn without_mark(text: &str) -> &str
+    ensures { result.now ≡ without_mark text.now }
+{
+    match text.strip_prefix('\u{feff}') {
+        Some(rest) => rest,
+        None => text,
+    }
+}
+
+/// The line without a carriage return at its end.
+fn without_return(line: &str) -> &str
+    ensures { result.now ≡ without_return line.now }
+{
+    match line.strip_suffix('\r') {
+        Some(front) => front,
+        None => line,
+    }
+}
+
 fn refused(line: u32, fault: Fault) -> ScriptErr
     ensures { result ≡ told line fault }
 {
-    ScriptErr::Refused(Refused {
-        line,
-        code: fault.code(),
-        limit: fault.limit(),
-    })
+    let (code, limit) = fault.numbers();
+    ScriptErr::Refused(Refused { line, code, limit })
 }
 
 /// Reads the lines in turn.
@@ -40,9 +59,9 @@ fn read_each(stage: &[&str], reader: &mut Reader, lines: &[&str]) -> Result<(), 
     for (index, line) in lines.iter().enumerate() {
         let number = index as u32 + 1;
         match reader.read_line(stage, number, without_return(line)) {
-            Ok(()) => {}
-            Err(LineErr::Fault(fault)) => return Err(refused(number, fault)),
-            Err(LineErr::NoMemory) => return Err(ScriptErr::NoMemory),
+            Ok(None) => {}
+            Ok(Some(fault)) => return Err(refused(number, fault)),
+            Err(_) => return Err(ScriptErr::NoMemory),
         }
     }
     Ok(())
@@ -61,8 +80,8 @@ fn read_text(alloc: Global, stage: &[&str], text: &str) -> Result<Script, Script
         return Err(ScriptErr::NoMemory);
     };
     read_each(stage, &mut reader, &lines)?;
-    match reader.open_line() {
-        Some(line) => Err(refused(line, Fault::MissingEnd)),
+    match &reader.block {
+        Some(block) => Err(refused(block.line, Fault::MissingEnd)),
         None => match reader.finish() {
             Ok(script) => Ok(script),
             Err(_) => Err(ScriptErr::NoMemory),
@@ -93,7 +112,7 @@ fn read_at(alloc: Global, stage: &[&str], bytes: &[u8]) -> Result<Script, Script
 /// Reads a script of version 1, or finds its first fault.
 ///
 /// # Errors
-/// `Refused` where the bytes are no script, with the first fault. `NoMemory` is the want of memory: no clause says when it
+/// `Refused` where the bytes are no script, with the first fault. `NoMemory` where memory runs out: no clause says when it
 /// comes.
 pub fn read_script(alloc: Global, bytes: &[u8]) -> Result<Script, ScriptErr>
     requires { length bytes.now < 2 ^ 32 - 1 }

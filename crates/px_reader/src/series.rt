@@ -1,10 +1,8 @@
 //! What is written one after another to the end of a line: atoms, edits and bindings.
-ghost use Rattle.std.specs.Prelude.{◌≡◌, ◌≤◌, ◌<◌, drop, length, IfOk, IfSome};
-ghost use Rattle.std.specs.Option.{option_map};
-ghost use Rattle.px_script.proofs.Parsing.{all_of, atom_at, atom_after, sign_of, room_edit_at, room_edit_for, binding_at, open_of, parameter_of};
-ghost use Rattle.px_reader.specs.StatementViews.{lexemes_of, sign_view, signed_view, room_edit_view, binding_view, list_view, front_view};
+ghost use Rattle.std.specs.Prelude.{◌≡◌, ◌≤◌, ◌<◌, length, IfOk, IfSome};
+ghost use Rattle.px_reader.specs.Common.{option_map, all_of, atom_at, atom_after, sign_of, room_edit_at, room_edit_for, binding_at, open_of, parameter_of, lexemes_of, sign_view, signed_view, room_edit_view, binding_view, list_view, front_view};
 
-use crate::lists::arguments_at;
+use crate::lists::arguments;
 use crate::statement::{Sign, SignedAtom, WrittenBinding, WrittenRoomEdit};
 use crate::token::Token;
 use px_base::NoMemory;
@@ -31,17 +29,17 @@ fn atom_after<'a>(
     ensures found { IfOk result (λ found. front_view signed_view tokens.now found ≡ atom_after (sign_view sign) (lexemes_of tokens.now)) }
     ensures within { IfOk result (λ found. IfSome found (λ p. (0 < p.1) × (p.1 ≤ length tokens.now))) }
 {
-    let [Token::Name(predicate), ..] = tokens else {
+    let [Token::Name(predicate), after @ ..] = tokens else {
         return Ok(None);
     };
-    match arguments_at(alloc, tokens, 1)? {
+    match arguments(alloc, after)? {
         Some((arguments, count)) => Ok(Some((
             SignedAtom {
                 sign,
                 predicate,
                 arguments,
             },
-            count,
+            count + 1,
         ))),
         None => Ok(None),
     }
@@ -147,6 +145,8 @@ fn binding<'a>(tokens: &[Token<'a>]) -> Option<(WrittenBinding<'a>, usize)>
         _ => None,
     }
 }
+
+// Alike: the three functions below, one for each kind of thing, since each reads another type of things.
 
 /// The atoms that the tokens are, to the last.
 pub fn atoms<'a>(

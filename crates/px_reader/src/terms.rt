@@ -1,12 +1,6 @@
 //! Terms, atoms and edits by numbers.
-ghost use Rattle.std.specs.Prelude.{◌≡◌, ◌≤◌, ◌<◌, length, map, nat_lt, take, position, All, IfOk, IfSome, OnOk, if◌then◌else◌};
-ghost use Rattle.std.specs.Str.{bytes_eq};
-ghost use Rattle.px_names.specs.Lists.{has_name};
-ghost use Rattle.px_script.specs.Declarations.{parameters_here, number_in, term_of, atom_of, literal_of, atom_edit_of, room_edit_of, binding_of, variables_of};
-ghost use Rattle.px_reader.specs.CommandViews.{binding_pair};
-ghost use Rattle.px_reader.specs.Checks.{AreReadable, with_early_variable, early_variables};
-ghost use Rattle.px_reader.specs.Readers.{declared_of};
-ghost use Rattle.px_reader.specs.StatementViews.{argument_view, signed_view, room_edit_view, binding_view, text_of};
+ghost use Rattle.std.specs.Prelude.{◌≡◌, ◌≤◌, ◌<◌, length, map, nat_lt, fold, position, IfOk, IfSome, OnOk};
+ghost use Rattle.px_reader.specs.Common.{bytes_eq, has_name, parameters_here, number_in, term_of, atom_of, literal_of, atom_edit_of, room_edit_of, binding_of, variables_of, binding_pair, AreReadable, with_variable, declared_of, argument_view, signed_view, room_edit_view, binding_view, text_of};
 
 use crate::command::Binding;
 use crate::reader::Reader;
@@ -32,17 +26,13 @@ pub fn is_one_of(names: &[&str], name: &str) -> bool
     place_among(names, name).is_some()
 }
 
-/// Adds a variable that isn't there yet, where there are no more than twelve.
+/// Adds a variable that isn't there yet.
 fn add_variable<'a>(variables: &mut Vec<&'a str>, argument: &Argument<'a>) -> Result<(), NoMemory>
-    ensures { OnOk result (map text_of variables.new.items
-        ≡ with_early_variable (map text_of variables.old.items) (argument_view argument.now)) }
+    ensures { OnOk result (map text_of variables.new.items ≡ with_variable (map text_of variables.old.items) (argument_view argument.now)) }
 {
     let Argument::Variable(name) = argument else {
         return Ok(());
     };
-    if variables.len() > 12 {
-        return Ok(());
-    }
     if is_one_of(variables, name) {
         return Ok(());
     }
@@ -55,7 +45,7 @@ fn add_variables<'a>(
     arguments: &[Argument<'a>],
 ) -> Result<(), NoMemory>
     ensures { OnOk result (map text_of variables.new.items
-        ≡ early_variables (map text_of variables.old.items) (map argument_view arguments.now)) }
+        ≡ fold with_variable (map text_of variables.old.items) (map argument_view arguments.now)) }
 {
     for argument in arguments {
         add_variable(variables, argument)?;
@@ -63,9 +53,10 @@ fn add_variables<'a>(
     Ok(())
 }
 
-/// The different variables of the atoms, by first occurrence, and only the first thirteen where there are more.
-fn variables<'a>(alloc: Global, atoms: &[SignedAtom<'a>]) -> Result<Vec<&'a str>, NoMemory>
-    ensures { IfOk result (λ found. map text_of found.items ≡ take 13 (variables_of (map signed_view atoms.now))) }
+/// The different variables of the atoms, by first occurrence.
+pub fn variables<'a>(alloc: Global, atoms: &[SignedAtom<'a>]) -> Result<Vec<&'a str>, NoMemory>
+    ensures names { IfOk result (λ found. map text_of found.items ≡ variables_of (map signed_view atoms.now)) }
+    ensures few { IfOk result (λ found. length found.items ≡ length (variables_of (map signed_view atoms.now))) }
 {
     let mut variables = Vec::new(alloc);
     for atom in atoms {
@@ -74,21 +65,18 @@ fn variables<'a>(alloc: Global, atoms: &[SignedAtom<'a>]) -> Result<Vec<&'a str>
     Ok(variables)
 }
 
-/// The atoms have more than twelve different variables.
+/// The atoms, of which each has as many arguments as its predicate, have more than twelve different variables.
 pub fn has_many_variables(alloc: Global, atoms: &[SignedAtom<'_>]) -> Result<bool, NoMemory>
     ensures { IfOk result (λ many. many ≡ nat_lt 12 (length (variables_of (map signed_view atoms.now)))) }
 {
-    let variables = variables(alloc, atoms)?;
+    let mut variables = Vec::new(alloc);
+    for atom in atoms {
+        if variables.len() > 12 {
+            return Ok(true);
+        }
+        add_variables(&mut variables, &atom.arguments)?;
+    }
     Ok(variables.len() > 12)
-}
-
-/// The different variables of atoms that haven't more than twelve.
-pub fn few_variables<'a>(alloc: Global, atoms: &[SignedAtom<'a>]) -> Result<Vec<&'a str>, NoMemory>
-    requires { length (variables_of (map signed_view atoms.now)) ≤ 12 }
-    ensures names { IfOk result (λ found. map text_of found.items ≡ variables_of (map signed_view atoms.now)) }
-    ensures few { IfOk result (λ found. length found.items ≡ length (variables_of (map signed_view atoms.now))) }
-{
-    variables(alloc, atoms)
 }
 
 /// The number of a variable.
@@ -111,21 +99,12 @@ impl Reader {
             (map text_of variables.now) self.now.names.objects (argument_view argument.now) }
     {
         match argument {
-            Argument::Named(name) => self.named(name),
+            Argument::Named(name) => match self.parameter(name) {
+                Some(number) => Term::Var(number as u32),
+                None => Term::Obj(self.object(name)),
+            },
             Argument::Variable(name) => Term::Var(variable_number(variables, name)),
             Argument::Anything => Term::Any,
-        }
-    }
-
-    /// The parameter or the object of a name.
-    fn named(&self, name: &str) -> Term
-        requires { length (parameters_here (declared_of self.now)) ≤ 8 }
-        ensures { result ≡ (if has_name name.now (parameters_here (declared_of self.now)) then Term.Var
-            (number_in name.now (parameters_here (declared_of self.now))) else Term.Obj (number_in name.now self.now.names.objects)) }
-    {
-        match self.parameter(name) {
-            Some(number) => Term::Var(number as u32),
-            None => Term::Obj(self.number(Kind::Object, name)),
         }
     }
 
@@ -144,6 +123,7 @@ impl Reader {
         Atom::new(predicate, &terms[..atom.arguments.len()]).unwrap()
     }
 
+    // Alike: `literals`, which gives each atom its sign.
     pub fn atoms(&self, variables: &[&str], atoms: &[SignedAtom<'_>]) -> Result<Vec<Atom>, NoMemory>
         requires readable { AreReadable (declared_of self.now) atoms.now }
         requires few_variables { length variables.now ≤ 12 }

@@ -1,13 +1,13 @@
 //! The tokens of a line.
-ghost use Rattle.std.specs.Prelude.{◌≡◌, ◌<◌, true, length};
+ghost use Rattle.std.specs.Prelude.{◌≡◌, ◌<◌, ◌++◌, List, true, length, map, IfOk, MatchOption};
 ghost use Rattle.std.specs.Char.{is_ascii_digit};
-ghost use Rattle.std.specs.Str.{chars, all_ascii_digits};
-ghost use Rattle.px_script.specs.Lexemes.{is_sign, number_value, goes_on};
-ghost use Rattle.px_script.proofs.Scanning.{front_while, first, first_at, first_number, first_variable};
-ghost use Rattle.px_reader.specs.Views.{Scans, NameAt};
+ghost use Rattle.px_script.specs.Lexemes.{Lexeme, Lexes, is_sign, number_value, goes_on};
+ghost use Rattle.px_script.proofs.Scanning.{front_while, after_while, first, first_at, first_number, first_variable};
+ghost use Rattle.px_reader.specs.Common.{IsUtf8, chars, all_ascii_digits, lexeme_of, is_of, Skips, Scans, NameAt};
 
-use crate::class::{Class, split_while};
+use px_base::NoMemory;
 use px_names::{split_first, starts_name};
+use std::alloc::Global;
 
 #[derive(Clone, Copy)]
 pub enum Token<'a> {
@@ -18,10 +18,29 @@ pub enum Token<'a> {
 }
 
 #[derive(Clone, Copy)]
-pub struct BadToken;
+struct BadToken;
 
-/// The first token of a line, and what follows it.
-pub fn first_token(line: &str) -> Result<Option<(Token<'_>, &str)>, BadToken>
+/// The tokens of a line, or none where a character begins no token.
+pub fn tokens<'a>(alloc: Global, line: &'a str) -> Result<Option<Vec<Token<'a>>>, NoMemory>
+    ensures { IfOk result (λ found. MatchOption found ((all : List Lexeme) → ¬ Lexes (chars line.now) all)
+        (λ tokens. Lexes (chars line.now) (map lexeme_of tokens.items))) }
+{
+    let mut tokens = Vec::new(alloc);
+    let mut rest = line;
+    loop {
+        match first_token(rest) {
+            Ok(Some((token, after))) => {
+                tokens.push(token)?;
+                rest = after;
+            }
+            Ok(None) => return Ok(Some(tokens)),
+            Err(_) => return Ok(None),
+        }
+    }
+}
+
+// The first token of a line, and what follows it.
+fn first_token(line: &str) -> Result<Option<(Token<'_>, &str)>, BadToken>
     ensures { Scans result (first (chars line.now)) }
 {
     let (_, text) = split_while(line, Class::Blank);
@@ -109,4 +128,51 @@ fn number_value(digits: &str) -> u32
     ensures { result ≡ number_value (chars digits.now) }
 {
     digits.parse().unwrap_or(u32::MAX)
+}
+
+// A class of characters.
+#[derive(Clone, Copy)]
+enum Class {
+    Blank,
+    Continues,
+    Digit,
+}
+
+impl Class {
+    // Whether a character is of the class.
+    fn has(self, ch: char) -> bool
+        ensures { result ≡ is_of self ch }
+    {
+        match self {
+            Class::Blank => ch == ' ' || ch == '\t',
+            Class::Continues => unicode_ident::is_xid_continue(ch),
+            Class::Digit => ch.is_ascii_digit(),
+        }
+    }
+}
+
+// What follows the longest front that is of a class.
+fn skip_while(text: &str, class: Class) -> &str
+    ensures { Skips (is_of class) text.now result.now }
+{
+    let mut rest = text;
+    while let Some((first, after)) = split_first(rest) {
+        if !class.has(first) {
+            return rest;
+        }
+        rest = after;
+    }
+    rest
+}
+
+// The longest front of a text that is of a class, and what follows it.
+fn split_while(text: &str, class: Class) -> (&str, &str)
+    ensures whole { text.now ≡ result.0.now ++ result.1.now }
+    ensures front { chars result.0.now ≡ front_while (is_of class) (chars text.now) }
+    ensures front_text { IsUtf8 result.0.now }
+    ensures rest_text { IsUtf8 result.1.now }
+    ensures after { chars result.1.now ≡ after_while (is_of class) (chars text.now) }
+{
+    let rest = skip_while(text, class);
+    (&text[..text.len() - rest.len()], rest)
 }

@@ -30,5 +30,6 @@ is_object WildCard = false
 -- of the proofs
 abbrev pub fresh_variables : Table → ℕ
 fresh_variables table =
-    sum_by (λ (inst : OpInst). length inst.args) table.steps + sum_by (λ (atom : Atom). count_by is_object atom.args) table.goal + table.goal_vars
+    sum_by (λ (inst : OpInst). length inst.args) table.steps + sum_by (λ (atom : Atom). count_by is_object atom.args) table.goal +
+    table.goal_vars
     + sum_by (sum_by fresh_in) (rows_of table.proofs)

@@ -22,7 +22,8 @@ use Rattle.px_replay.specs.Replay.{opened, pairs_of}
 -- the steps with a fresh variable, from number `first` on, for each argument
 abbrev pub opened_steps : ℕ → List OpInst → List OpInst
 opened_steps first [] = []
-opened_steps first (inst ∷ steps) = record { op = inst.op; args = variables_from first (length inst.args) } ∷ opened_steps (first + length inst.args) steps
+opened_steps first (inst ∷ steps) = record { op = inst.op; args = variables_from first (length inst.args) } ∷ opened_steps
+    (first + length inst.args) steps
 
 -- terms with a fresh variable for each object; the goal's own variables become those from number `own` on
 abbrev pub opened_args : ℕ → ℕ → List Term → List Term
@@ -33,7 +34,8 @@ opened_args first own (WildCard ∷ ts) = WildCard ∷ opened_args first own ts
 
 abbrev pub opened_goal : ℕ → ℕ → List Atom → List Atom
 opened_goal first own [] = []
-opened_goal first own (atom ∷ goal) = record { pred = atom.pred; args = opened_args first own atom.args } ∷ opened_goal (first + count_by is_object atom.args) own goal
+opened_goal first own (atom ∷ goal) = record { pred = atom.pred; args = opened_args first own atom.args } ∷ opened_goal
+    (first + count_by is_object atom.args) own goal
 
 -- The goal with the terms of a list, from number `first` on, for its objects from left to right; its own variables become those from
 -- number `own` on.
@@ -50,7 +52,8 @@ named_args names own first (WildCard ∷ ts) = WildCard ∷ named_args names own
 
 abbrev pub named_goal : List Term → ℕ → ℕ → List Atom → List Atom
 named_goal names own first [] = []
-named_goal names own first (atom ∷ goal) = record { pred = atom.pred; args = named_args names own first atom.args } ∷ named_goal names own (first + count_by is_object atom.args) goal
+named_goal names own first (atom ∷ goal) = record { pred = atom.pred; args = named_args names own first atom.args } ∷ named_goal names own
+    (first + count_by is_object atom.args) goal
 
 abbrev pub opened_row : (ℕ → ℕ → Atom) → ℕ → List Derivation → List Derivation
 opened_row named first [] = []
@@ -110,7 +113,8 @@ row_pairs axioms (atom ∷ atoms) (d ∷ row) = pairs_of axioms [] (positive_of 
 abbrev pub rows_pairs : Problem → List OpInst → List Atom → List (List Derivation) → List (Atom × Atom)
 rows_pairs problem steps goal [] = []
 rows_pairs problem [] goal (row ∷ rows) = row_pairs problem.axioms goal row
-rows_pairs problem (inst ∷ steps) goal (row ∷ rows) = row_pairs problem.axioms (precondition problem inst) row ++ rows_pairs problem steps goal rows
+rows_pairs problem (inst ∷ steps) goal (row ∷ rows) = row_pairs problem.axioms (precondition problem inst) row ++ rows_pairs problem steps
+    goal rows
 
 -- all that the replay of the plan has to make equal
 abbrev pub replay_pairs : Problem → Table → List (Atom × Atom)

@@ -53,14 +53,16 @@ abbrev mutual
 
 -- the fact of the initial model with fresh variables, or the add that the leaf names
 abbrev pub opened_atom : (ℕ → ℕ → Atom) → ℕ → Leaf → Atom
-opened_atom named first leaf = if leaf.column == 0 then (record { pred = leaf.atom.pred; args = variables_from first (length leaf.atom.args) }) else named leaf.column leaf.index
+opened_atom named first leaf = if leaf.column == 0 then (record
+    { pred = leaf.atom.pred; args = variables_from first (length leaf.atom.args) }) else named leaf.column leaf.index
 
 -- the derivation with a fresh variable, from number `first` on, for all that its form leaves open
 abbrev mutual
   pub opened : (ℕ → ℕ → Atom) → ℕ → Derivation → Derivation
   opened named first (fact leaf) = fact (record { column = leaf.column; index = leaf.index; atom = opened_atom named first leaf })
   opened named first (ancestor i) = ancestor i
-  opened named first (step number theta place parts) = step number (variables_from first (length theta)) place (all_opened named (first + length theta) parts)
+  opened named first (step number theta place parts) = step number (variables_from first (length theta)) place
+      (all_opened named (first + length theta) parts)
   opened named first (gap atom) = gap atom
   opened named first open_place = open_place
 

@@ -55,7 +55,8 @@ PlanForms problem [] goal [] = ⊥
 PlanForms problem [] goal (row ∷ []) = RowForms problem.axioms goal row
 PlanForms problem [] goal (row ∷ second ∷ rows) = ⊥
 PlanForms problem (inst ∷ steps) goal [] = ⊥
-PlanForms problem (inst ∷ steps) goal (row ∷ rows) = RowForms problem.axioms (precondition problem inst) row × PlanForms problem steps goal rows
+PlanForms problem (inst ∷ steps) goal (row ∷ rows) = RowForms problem.axioms (precondition problem inst) row
+    × PlanForms problem steps goal rows
 
 pub record CanReplayRow (axioms : List Clause) (atoms : List Atom) (row : List Derivation) (changes : List Change) : Type 0 where
   pub forms : RowForms axioms atoms row
@@ -64,7 +65,8 @@ pub record CanReplayRow (axioms : List Clause) (atoms : List Atom) (row : List D
   pub solved : (sigma : List Term) × Fits sigma changes × MakesEachEqual (row_pairs axioms atoms row) sigma
   pub solvable : HasSolutions changes
 
-pub record CanReplayRows (problem : Problem) (steps : List OpInst) (goal : List Atom) (rows : List (List Derivation)) (changes : List Change) : Type 0 where
+pub record CanReplayRows (problem : Problem) (steps : List OpInst) (goal : List Atom) (rows : List (List Derivation))
+    (changes : List Change) : Type 0 where
   pub forms : PlanForms problem steps goal rows
   pub needs_below : All (λ inst. ArePlainAtoms (variables_of changes) (precondition problem inst)) steps
   pub goal_below : ArePlainAtoms (variables_of changes) goal

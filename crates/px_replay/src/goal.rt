@@ -96,7 +96,7 @@ fn name_of(names: &[Term], own: u32, next: u32, term: Term) -> Term
     }
 }
 
-/// 1 for an object, and 0 for what is none.
+/// 1 for an object, and 0 for any other term.
 fn object_count(term: Term) -> u32
     ensures { result ≡ cond (is_object term) 1 0 }
 {

@@ -165,7 +165,8 @@ fn open_each(
     requires problem { IsValid problem.now }
     requires schemas { All (HasSchema problem.now) steps.now }
     requires room { next.old + sum_by fresh_of proofs.now ≤ 1000000 }
-    ensures proofs { IfOk result (λ made. map derivation_of made.items ≡ opened_row (add_at problem.now steps.now) next.old (map derivation_of proofs.now)) }
+    ensures proofs { IfOk result (λ made. map derivation_of made.items ≡ opened_row (add_at problem.now steps.now) next.old
+        (map derivation_of proofs.now)) }
     ensures next { IfOk result (λ _. next.new ≡ next.old + sum_by fresh_of proofs.now) }
 {
     let mut made = Vec::new(alloc);

@@ -73,8 +73,10 @@ fn replay_step(
     theta: &[Term],
     place: u32,
 )
-    requires { CanReplay arena.now (literals_of path.now) lit.now (step clause theta.now place (derivations (map derivation_of subs.now))) bind.old }
-    ensures { IsReplayOf bind.old bind.new (pairs_of arena.now (literals_of path.now) lit.now (step clause theta.now place (derivations (map derivation_of subs.now)))) }
+    requires { CanReplay arena.now (literals_of path.now) lit.now (step clause theta.now place (derivations (map derivation_of subs.now)))
+        bind.old }
+    ensures { IsReplayOf bind.old bind.new (pairs_of arena.now (literals_of path.now) lit.now
+        (step clause theta.now place (derivations (map derivation_of subs.now)))) }
 {
     let lits = arena.lits(clause);
     make_equal(bind, &lit.atom, &apply(theta, &lits[place as usize].atom));
@@ -95,8 +97,10 @@ fn replay_each(
 )
     requires place { place < length lits.now }
     requires plain { ArePlainBelow (length theta.now) lits.now }
-    requires can { CanReplayEach arena.now (literals_of path.now) (parts_of lits.now theta.now place) (derivations (map derivation_of subs.now)) bind.old }
-    ensures { IsReplayOf bind.old bind.new (all_pairs_of arena.now (literals_of path.now) (parts_of lits.now theta.now place) (derivations (map derivation_of subs.now))) }
+    requires can { CanReplayEach arena.now (literals_of path.now) (parts_of lits.now theta.now place)
+        (derivations (map derivation_of subs.now)) bind.old }
+    ensures { IsReplayOf bind.old bind.new (all_pairs_of arena.now (literals_of path.now) (parts_of lits.now theta.now place)
+        (derivations (map derivation_of subs.now))) }
 {
     for (k, sub) in subs.iter().enumerate() {
         let part = part_at(lits, theta, place, k);

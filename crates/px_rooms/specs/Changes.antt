@@ -104,7 +104,8 @@ change_of_facts del add = record { op = 0; params = 0; pre = []; del = del; add 
 
 abbrev pub edit_schema : RoomEdit → Schema
 edit_schema (edit.Robot r) = change_of_facts (in_room robot WildCard ∷ next_to robot WildCard ∷ []) (in_room robot (Obj r) ∷ [])
-edit_schema (edit.Box b r) = change_of_facts (in_room (Obj b) WildCard ∷ next_to (Obj b) WildCard ∷ next_to robot (Obj b) ∷ []) (in_room (Obj b) (Obj r) ∷ [])
+edit_schema (edit.Box b r) = change_of_facts (in_room (Obj b) WildCard ∷ next_to (Obj b) WildCard ∷ next_to robot (Obj b) ∷ [])
+    (in_room (Obj b) (Obj r) ∷ [])
 edit_schema (edit.Door d true) = change_of_facts (closed (Obj d) ∷ []) (opened (Obj d) ∷ [])
 edit_schema (edit.Door d false) = change_of_facts (opened (Obj d) ∷ []) (closed (Obj d) ∷ [])
 

@@ -162,7 +162,8 @@ room_operators = go_to_box ∷ go_to_door ∷ open_door ∷ close_door ∷ go_th
 abbrev pub schemas_from : ℕ → List RoomOperator → List Schema
 schemas_from number [] = []
 schemas_from number (one ∷ operators) =
-    record { op = number; params = length one.parameters; pre = one.pre; del = one.del; add = one.add } ∷ schemas_from (number + 1) operators
+    record { op = number; params = length one.parameters; pre = one.pre; del = one.del; add = one.add } ∷ schemas_from (number + 1)
+    operators
 
 abbrev pub room_schemas : List Schema
 room_schemas = schemas_from 0 room_operators
@@ -183,5 +184,6 @@ building_problem objects height nodes shapes = record {
 
 -- it is valid where there is an object and the limits are those of a valid problem
 abbrev pub BuildingsAreValid : Type 0
-BuildingsAreValid = (objects height nodes shapes : ℕ) → 1 ≤ objects → (1 ≤ height) × (height ≤ 8) → (1 ≤ nodes) × (nodes ≤ 50000) → (2 ≤ shapes) × (shapes ≤ 70000)
+BuildingsAreValid = (objects height nodes shapes : ℕ) → 1 ≤ objects → (1 ≤ height) × (height ≤ 8) → (1 ≤ nodes) × (nodes ≤ 50000)
+    → (2 ≤ shapes) × (shapes ≤ 70000)
     → IsValid (building_problem objects height nodes shapes)

@@ -6,4 +6,5 @@ use Rattle.px_rooms.specs.States.{IsRoomState, RoomState, building_rules, render
 
 -- in every state
 abbrev pub FactsAreAtoms : Type 0
-FactsAreAtoms = (state : RoomState) → IsRoomState state → IsAtomSet (rendering state) × All (IsAtomOf (building_rules state) 0) (rendering state)
+FactsAreAtoms = (state : RoomState) → IsRoomState state → IsAtomSet (rendering state)
+    × All (IsAtomOf (building_rules state) 0) (rendering state)

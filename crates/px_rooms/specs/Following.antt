@@ -22,7 +22,8 @@ ActionsAreResults = (state : RoomState) (one : RoomAction) → IsRoomState state
 
 -- each instance of an operator over the building's objects is that of one action
 pub record InstancesAreActions : Type 0 where
-  pub each : (state : RoomState) (inst : OpInst) → IsInstanceOf (building_rules state) inst → (action : RoomAction) × (inst ≡ instance_of action)
+  pub each : (state : RoomState) (inst : OpInst) → IsInstanceOf (building_rules state) inst → (action : RoomAction)
+      × (inst ≡ instance_of action)
   pub once : (one other : RoomAction) → instance_of one ≡ instance_of other → one ≡ other
 
 -- an edit that is admitted leaves a state of the building, whose facts are those that the edit leaves
@@ -32,9 +33,11 @@ EditsAreEdits = (state : RoomState) (one : RoomEdit) → IsRoomState state → I
 
 -- where an atom of the precondition isn't a fact, a world may refuse the action: the axiom and the facts don't make it true
 abbrev pub RefusalsAreAllowed : Type 0
-RefusalsAreAllowed = (state : RoomState) (inst : OpInst) (atom : Atom) → IsRoomState state → IsInstanceOf (building_rules state) inst → Contains (precondition (building_rules state) inst) atom
+RefusalsAreAllowed = (state : RoomState) (inst : OpInst) (atom : Atom) → IsRoomState state → IsInstanceOf (building_rules state) inst
+    → Contains (precondition (building_rules state) inst) atom
     → ¬ Contains (rendering state) atom → IsRefused (building_rules state) (rendering state) inst
 
 -- each fact is ground, and there are at most four for each thing and two more
 abbrev pub FactsAreFew : Type 0
-FactsAreFew = (state : RoomState) → IsRoomState state → All IsGround (rendering state) × (length (rendering state) ≤ 4 * length state.things + 2)
+FactsAreFew = (state : RoomState) → IsRoomState state → All IsGround (rendering state)
+    × (length (rendering state) ≤ 4 * length state.things + 2)

@@ -90,7 +90,8 @@ door_atom d false = closed (Obj d)
 -- those of the thing of that number
 abbrev pub thing_atoms : ℕ → Standing → List Atom
 thing_atoms k a_room = is_room (Obj k) ∷ []
-thing_atoms k (a_door x y is_open) = is_door (Obj k) ∷ connects (Obj k) (Obj x) (Obj y) ∷ connects (Obj k) (Obj y) (Obj x) ∷ door_atom k is_open ∷ []
+thing_atoms k (a_door x y is_open) = is_door (Obj k) ∷ connects (Obj k) (Obj x) (Obj y) ∷ connects (Obj k) (Obj y) (Obj x) ∷ door_atom k
+    is_open ∷ []
 thing_atoms k (a_box r beside) = is_box (Obj k) ∷ in_room (Obj k) (Obj r) ∷ beside_atoms k beside
 
 -- those of the robot

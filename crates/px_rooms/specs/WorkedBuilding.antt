@@ -26,13 +26,19 @@ two_rooms = thing.Room ∷ thing.Room ∷ thing.Door 1 2 false ∷ thing.Box 1 �
 -- door. The rooms have the numbers 1 and 2, the door 3 and the box 4
 abbrev pub standing : ℕ → Option ℕ → Bool → ℕ → Option ℕ → RoomState
 standing robot_room robot_beside is_open box_room box_beside =
-    record { robot_room = robot_room; robot_beside = robot_beside; things = a_room ∷ a_room ∷ a_door 1 2 is_open ∷ a_box box_room box_beside ∷ [] }
+    record {
+      robot_room = robot_room;
+      robot_beside = robot_beside;
+      things =
+          a_room ∷ a_room ∷ a_door 1 2 is_open ∷ a_box box_room box_beside ∷ [];
+    }
 
 -- ---- what actions and edits give
 
 -- whether each atom of the action's precondition is a fact
 abbrev pub is_met : RoomState → RoomAction → Bool
-is_met state action = list_all (λ atom. list_any (atom_eq atom) (rendering state)) (precondition (building_rules state) (instance_of action))
+is_met state action = list_all (λ atom. list_any (atom_eq atom) (rendering state))
+    (precondition (building_rules state) (instance_of action))
 
 -- the precondition is met, the action leaves that state, and its facts are what the operator says
 pub record ActionGives (state : RoomState) (action : RoomAction) (next : RoomState) : Type 0 where
@@ -66,7 +72,8 @@ pub record StateFacts : Type 0 where
   pub first_facts : rendering (standing 1 None false 1 None) ≡
       in_room (Obj 0) (Obj 1) ∷ in_room (Obj 4) (Obj 1) ∷ ways_and_kinds (closed (Obj 3))
   pub later_facts : rendering (standing 1 (Some 4) true 1 (Some 3)) ≡
-      in_room (Obj 0) (Obj 1) ∷ in_room (Obj 4) (Obj 1) ∷ next_to (Obj 0) (Obj 4) ∷ next_to (Obj 4) (Obj 3) ∷ ways_and_kinds (opened (Obj 3))
+      in_room (Obj 0) (Obj 1) ∷ in_room (Obj 4) (Obj 1) ∷ next_to (Obj 0) (Obj 4) ∷ next_to (Obj 4) (Obj 3) ∷ ways_and_kinds
+      (opened (Obj 3))
 
 -- the things may stand in any order; what is no building
 pub record KindFacts : Type 0 where

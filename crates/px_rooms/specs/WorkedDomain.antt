@@ -25,7 +25,8 @@ term_text variables Any = codes "$"
 
 abbrev pub atom_text : List (List ℕ) → Atom → List ℕ
 atom_text variables atom =
-    slice_index_or (map (λ (p : RoomPredicate). p.name) room_predicates) atom.pred [] ++ (codes "(" ++ (joined (codes ",") (map (term_text variables) atom.args) ++ codes ")"))
+    slice_index_or (map (λ (p : RoomPredicate). p.name) room_predicates) atom.pred [] ++
+    (codes "(" ++ (joined (codes ",") (map (term_text variables) atom.args) ++ codes ")"))
 
 abbrev pub atoms_text : List (List ℕ) → List Atom → List ℕ
 atoms_text variables atoms = joined (codes " ") (map (atom_text variables) atoms)
@@ -35,7 +36,8 @@ sign_text true = []
 sign_text false = codes "~"
 
 abbrev pub axiom_line : List (List ℕ) → Clause → List ℕ
-axiom_line variables clause = codes "axiom " ++ joined (codes " ") (map (λ (lit : Lit). sign_text lit.positive ++ atom_text variables lit.atom) clause.lits)
+axiom_line variables clause = codes "axiom " ++ joined (codes " ")
+    (map (λ (lit : Lit). sign_text lit.positive ++ atom_text variables lit.atom) clause.lits)
 
 abbrev pub predicate_line : RoomPredicate → List ℕ
 predicate_line p = codes "predicate " ++ (p.name ++ (codes " " ++ digit_text p.arity))
@@ -60,7 +62,8 @@ pub record DomainFacts : Type 0 where
       ∷ codes "predicate DOOR 1"
       ∷ codes "predicate BOX 1"
       ∷ []
-  pub axioms : map (axiom_line (codes "?d" ∷ codes "?x" ∷ codes "?y" ∷ [])) room_axioms ≡ codes "axiom ~CONNECTS(?d,?x,?y) CONNECTS(?d,?y,?x)" ∷ []
+  pub axioms : map (axiom_line (codes "?d" ∷ codes "?x" ∷ codes "?y" ∷ [])) room_axioms ≡ codes
+      "axiom ~CONNECTS(?d,?x,?y) CONNECTS(?d,?y,?x)" ∷ []
   pub operators : flat_map operator_lines room_operators ≡
       codes "operator GOTOB(b,r)"
       ∷ codes "pre BOX(b) INROOM(b,r) INROOM(ROBOT,r)"

@@ -10,7 +10,8 @@ use std::rt::HostRuntime;
 /// How many lists of arguments each operator has over five objects.
 const INSTANCES: [u32; 7] = [25, 125, 5, 5, 125, 625, 625];
 
-/// A state of the building of two rooms, 1 and 2, with door 3 between them and box 4. The robot may be beside nothing, which is 0, the door or the box.
+/// A state of the building of two rooms, 1 and 2, with door 3 between them and box 4. The robot may be beside nothing, which is 0,
+/// the door or the box.
 #[derive(Clone, Copy)]
 struct Arranged {
     robot_room: u32,

@@ -46,7 +46,12 @@ impl std::marker::Model for RoomWorld {
 
     ghost view = { λ w. record { robot_room = w.robot_room; robot_beside = w.robot_beside; things = w.things.items } };
 
-    ghost invariant = { λ w. IsRoomWorld w.rules (record { robot_room = w.robot_room; robot_beside = w.robot_beside; things = w.things.items }) };
+    ghost invariant = { λ w. IsRoomWorld w.rules (record {
+      robot_room = w.robot_room;
+      robot_beside = w.robot_beside;
+      things =
+          w.things.items;
+    }) };
 }
 
 impl RoomWorld {

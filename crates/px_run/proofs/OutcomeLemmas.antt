@@ -60,7 +60,7 @@ run-refused source sink bytes refused status.Usage came fault right = elim right
 run-refused source sink bytes refused status.ReadFault came fault right = elim right [ ]
 run-refused source sink bytes refused status.TooLong came fault right = elim right [ ]
 
--- all that came from told bytes is these bytes
+-- all that came from a source of known bytes is these bytes
 told-all : (before after : Option (List ℕ)) (bytes came : List ℕ) → before ≡ Some bytes → Consumes before after came → IsAtEnd after
     → bytes ≡ came
 told-all None after bytes came told consumed at_end = cc
@@ -69,7 +69,7 @@ told-all (Some xs) (Some ys) bytes came told consumed at_end =
     let same : xs ≡ bytes = cc in
     sym same ∙ consumed ∙ ap (λ t. came ++ t) at_end ∙ append-nil came
 
--- no more came from told bytes than there were
+-- no more bytes came from a source of known bytes than it had
 told-length : (before after : Option (List ℕ)) (bytes came : List ℕ) → before ≡ Some bytes → Consumes before after came
     → length came ≤ length bytes
 told-length None after bytes came told consumed = cc

@@ -122,7 +122,7 @@ StatusRight None source sink result = UsageRight sink result
 StatusRight (Some Run) source sink result = RunRight source sink result
 StatusRight (Some (Demo rooms seed)) source sink result = DemoRight rooms seed sink result
 
--- A script of told bytes, and no count that rose, give the whole transcript, or memory ran out.
+-- A script whose bytes are known, and no count that rose, give the whole transcript, or memory ran out.
 abbrev pub Completes : SourceEnds → SinkEnds → Status → Type 0
 Completes source sink result =
     (bytes : List ℕ) (script : ScriptValue) → source.left ≡ Some bytes → length bytes ≤ limit → IsScript stage_now bytes script

@@ -7,7 +7,9 @@ use Rattle.px_script.specs.Causes.{is_known_argument, takes, varies, varies_too_
 use Rattle.px_script.specs.Content.{own_problem}
 use Rattle.px_script.specs.Ranges.{variable_in, first_occurrences, AreNumbered}
 use Rattle.px_script.proofs.Common.{◌≡◌, ℕ, suc, ◌+◌, ◌<◌, ◌≤◌, Bool, true, false, not, ◌&&◌, ◌||◌, ◌==◌, List, [], ◌∷◌, ◌++◌, map, length, refl, sym, ap, ◌∙◌, subst, arith, append_assoc, append-nil, eqb-true, length-append, nat_lt, All, fold, slice_index, list_any, flat_map, filter, filter_map, range_with_len, nat_tests, not-false, or_parts, length-map, map-append, All-cons, All-nil, list_any-append, both_answers, has_name, Term, Obj, Var, Any, HasArity, IsTermOf, IsPatternTermOf, IsAtomOf, IsPatternOf}
-use Rattle.px_script.proofs.Lists.{by_test, number-below, number-kept, number-new, known-still, known-last}
+use Rattle.std.proofs.lemmas.List.Elements.{filter_agree}
+use Rattle.std.proofs.lemmas.List.Folds.{list_any_none}
+use Rattle.px_script.proofs.Lists.{by_test, each-fails, number-below, number-kept, number-new, known-still, known-last}
 use Rattle.px_script.proofs.Faultless.{IsRight}
 use Rattle.px_script.proofs.States.{AreInRange}
 
@@ -23,18 +25,17 @@ abbrev is_other : ℕ → ℕ → Bool
 is_other m n = not (n == m)
 
 -- filters, one after the other
+filter-twice : (p q : ℕ → Bool) (ns : List ℕ) → filter p (filter q ns) ≡ filter (λ n. q n && p n) ns
+filter-twice p q [] = refl
+filter-twice p q (n ∷ ns) = by_test (q n) (λ e. rw (e, filter-twice p q ns) refl) (λ e. rw e (filter-twice p q ns))
 
 filter-below : (least m : ℕ) (ns : List ℕ) → m < least → filter (is_from least) (filter (is_other m) ns) ≡ filter (is_from least) ns
-filter-below least m [] below = refl
-filter-below least m (n ∷ ns) below = by_test (n == m)
-    (λ e. let out : is_from least n ≡ false = grind (arith, nat_tests, e, below) in rw (e, out) (filter-below least m ns below))
-    (λ e. rw e (rw (filter-below least m ns below) refl))
+filter-below least m ns below =
+    filter-twice (is_from least) (is_other m) ns ∙ filter_agree _ (is_from least) (λ n. grind (arith, nat_tests, below)) ns
 
 filter-next : (least : ℕ) (ns : List ℕ) → filter (is_from least) (filter (is_other least) ns) ≡ filter (is_from (least + 1)) ns
-filter-next least [] = refl
-filter-next least (n ∷ ns) = by_test (n == least)
-    (λ e. let out : is_from (least + 1) n ≡ false = grind (arith, nat_tests, e) in rw (e, out) (filter-next least ns))
-    (λ e. let same : is_from least n ≡ is_from (least + 1) n = grind (arith, nat_tests, e) in rw (e, same, filter-next least ns) refl)
+filter-next least ns =
+    filter-twice (is_from least) (is_other least) ns ∙ filter_agree _ (is_from (least + 1)) (λ n. grind (arith, nat_tests)) ns
 
 filter-whole : (ns : List ℕ) → filter (is_from 0) ns ≡ ns
 filter-whole [] = refl
@@ -46,9 +47,8 @@ first-number : (least m count k : ℕ) (ns : List ℕ) → least ≡ m → suc k
     → filter (is_from least) (m ∷ filter (is_other m) ns) ≡ range_with_len least count
 first-number least m count k ns same counts later =
     let P : ℕ → Type 0 = λ t. filter (is_from least) (t ∷ filter (is_other t) ns) ≡ range_with_len least count in
-    let Q : ℕ → Type 0 = λ t. filter (is_from least) (least ∷ filter (is_other least) ns) ≡ range_with_len least t in
     let on : is_from least least ≡ true = grind (arith, nat_tests) in
-    subst P same (subst Q counts (rw on (ap (λ t. least ∷ t) (filter-next least ns ∙ later))))
+    subst P same (rw (← counts, on) (ap (λ t. least ∷ t) (filter-next least ns ∙ later)))
 
 -- the variables of more arguments come after those that were seen
 variables-more : (arguments : List Argument) (seen : List (List ℕ))
@@ -150,7 +150,7 @@ variables-none (_ ∷ more) none = variables-none more none
 
 -- ---- atoms whose names are declared and whose arguments are of the right number and kind
 
--- the atom hasn't the arity of its predicate
+-- the atom's length isn't the arity of its predicate
 abbrev pub has_other_arity : Declared → SignedAtom → Bool
 has_other_arity d x = not (length x.atom.arguments == slice_index d.arities (number_in x.atom.predicate d.names.predicates))
 
@@ -208,18 +208,18 @@ module _ (d : Declared) (predicates : length d.arities ≡ length d.names.predic
   split p x more none = or_parts (list_any p x.atom.arguments) (list_any p (arguments_of more))
       (sym (list_any-append p x.atom.arguments (arguments_of more)) ∙ none)
 
-  atoms-are : (xs : List SignedAtom) → list_any (λ x. not (has_name x.atom.predicate d.names.predicates)) xs ≡ false
-      → list_any (λ x. not (is_known_argument d x)) (arguments_of xs) ≡ false → list_any (has_other_arity d) xs ≡ false
-      → list_any (λ x. not (accepts x)) (arguments_of xs) ≡ false
+  atoms-are : {manner : Manner} (xs : List SignedAtom) → AreRight d manner xs → list_any (λ x. not (accepts x)) (arguments_of xs) ≡ false
       → All (λ atom. HasArity (own_problem d) atom × All P atom.args) (map (atom_of d variables) xs)
-  atoms-are [] declared known arity right = All-nil _
-  atoms-are (x ∷ more) declared known arity right =
-      let n = or_parts (not (has_name x.atom.predicate d.names.predicates)) _ declared in
-      let k = split (λ y. not (is_known_argument d y)) x more known in
-      let r = or_parts (has_other_arity d x) (list_any (has_other_arity d) more) arity in
+  atoms-are [] are right = All-nil _
+  atoms-are (x ∷ more) are right =
+      let n = or_parts (not (has_name x.atom.predicate d.names.predicates)) _ are.declared in
+      let k = split (λ y. not (is_known_argument d y)) x more are.known in
+      let r = or_parts (has_other_arity d x) (list_any (has_other_arity d) more) are.arity in
+      let b = split (λ y. not (takes d _ y)) x more are.bound in
       let s = split (λ y. not (accepts y)) x more right in
       All-cons (λ atom. HasArity (own_problem d) atom × All P atom.args) _ _
-      (arity-is x (not-false _ n.0) r.0, terms-are x.atom.arguments k.0 s.0) (atoms-are more n.1 k.1 r.1 s.1)
+      (arity-is x (not-false _ n.0) r.0, terms-are x.atom.arguments k.0 s.0)
+      (atoms-are more (record { declared = n.1; known = k.1; arity = r.1; bound = b.1 }) s.1)
 
 -- ---- the atoms of a line
 
@@ -269,13 +269,13 @@ module _ (d : Declared) (r : AreInRange d) (xs : List SignedAtom) where
       → All (IsAtomOf (own_problem d) vars) (map (atom_of d []) xs)
   atoms-with manner wild variable vars parameters right =
       atoms-are d r.problem.predicates [] vars (takes d manner) (IsTermOf (own_problem d) vars) (search (none-few, both_answers))
-      xs right.declared right.known right.arity right.bound
+      xs right right.bound
 
   pub patterns-with : (vars : ℕ) → length (parameters_here d) ≤ vars → AreRight d patterns xs
       → All (IsPatternOf (own_problem d) vars) (map (atom_of d []) xs)
   patterns-with vars parameters right =
       atoms-are d r.problem.predicates [] vars (takes d patterns) (IsPatternTermOf (own_problem d) vars) (search none-few)
-      xs right.declared right.known right.arity right.bound
+      xs right right.bound
 
   -- atoms with variables, numbered as they occur, and without a wild card
   pub atoms-open : parameters_here d ≡ [] → (manner : Manner) → takes d manner anything ≡ false → AreRight d manner xs
@@ -289,13 +289,10 @@ module _ (d : Declared) (r : AreInRange d) (xs : List SignedAtom) where
         bound = λ v e. e;
         parameters = omega (arith, ap length none);
         few = omega arith;
-      }) xs right.declared right.known right.arity
-      (listed-in (arguments_of xs) [] (variables_of xs) refl (terms-only (arguments_of xs) right.bound))
+      }) xs right
+      (listed-in (arguments_of xs) [] (variables_of xs) refl (list_any_none _ (arguments_of xs)
+      (each-fails (λ a. not (takes d manner a)) (λ a. not (is_term a) ≡ false) term-only (arguments_of xs) right.bound)))
     where
-      terms-only : (arguments : List Argument) → list_any (λ a. not (takes d manner a)) arguments ≡ false
-          → list_any (λ a. not (is_term a)) arguments ≡ false
-      terms-only [] none = refl
-      terms-only (anything ∷ more) none = both_answers (takes d manner anything) wild
-          (not-false (takes d manner anything) (or_parts (not (takes d manner anything)) (list_any (λ a. not (takes d manner a)) more)
-          none).0)
-      terms-only (x ∷ more) none = terms-only more (or_parts (not (takes d manner x)) (list_any (λ a. not (takes d manner a)) more) none).1
+      term-only : (a : Argument) → not (takes d manner a) ≡ false → not (is_term a) ≡ false
+      term-only anything e = both_answers (takes d manner anything) wild (not-false (takes d manner anything) e)
+      term-only _ e = refl

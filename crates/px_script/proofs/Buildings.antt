@@ -1,12 +1,8 @@
 -- The things of a building by their numbers, where there is one thing more; and what a building is in the end: its things are a building.
 use Rattle.px_rooms.specs.States.{IsBuilding, IsDoorOrNone, thing_at}
 use Rattle.px_world.specs.declared.thing.Thing.TheVariants as thing
-use Rattle.px_script.specs.Causes.{is_robot}
-use Rattle.px_script.specs.Declarations.{Roles, number_in}
-use Rattle.px_script.specs.Ranges.{IsThingAfter}
-use Rattle.px_script.proofs.Common.{◌≡◌, ℕ, zero, suc, ◌+◌, ◌≤◌, true, false, ◌||◌, List, [], ◌∷◌, ◌++◌, length, refl, sym, ap, ◌∙◌, subst, arith, length-append, All, AllByRecursion, Option, None, Some, slice_get, slice_index_or, list_any, All-append, All-from_recursion, All-push, list_any-append, has_name, Standing, a_room, a_door, a_box, IsBoxAt, IsDoorAt, IsRoomAt, StandsRight, robot_rooms, standings, robots-more, standings-more, Thing}
-use Rattle.px_script.proofs.Lists.{by_test, number-kept, number-unknown, number-new}
-use Rattle.px_script.proofs.Commands.{each-more}
+use Rattle.px_script.proofs.Common.{◌≡◌, ℕ, zero, suc, ◌+◌, ◌≤◌, true, false, List, [], ◌∷◌, ◌++◌, length, refl, sym, ap, ◌∙◌, subst, arith, length-append, All, AllByRecursion, Option, None, Some, slice_get, slice_index_or, list_any, All-append, All-from_recursion, All-push, has_name, Standing, a_room, a_door, a_box, IsBoxAt, IsDoorAt, IsRoomAt, StandsRight, robot_rooms, standings, robots-more, standings-more, Thing, is_robot, Roles, number_in, IsThingAfter}
+use Rattle.px_script.proofs.Lists.{by_test, number-kept, number-unknown, number-new, each-more}
 use Rattle.px_script.proofs.States.{AreRolesOf, AreStanding}
 
 -- ---- a thing keeps its number where there are more
@@ -27,7 +23,7 @@ at-kept old more (suc k) one is = get-kept old more k one is
 -- what a number may be the number of
 pub record IsKind (P : List Standing → ℕ → Type 0) : Type 0 where
   pub kept : (old more : List Standing) (k : ℕ) → P old k → P (old ++ more) k
-  pub no_robot : (things : List Standing) → P things 0 → ⊥
+  pub no_robot : (things : List Standing) → ¬ P things 0
 
 pub rooms-kind : IsKind IsRoomAt
 rooms-kind = record { kept = λ old more k is. at-kept old more k a_room is; no_robot = λ things is. cc }
@@ -57,26 +53,29 @@ module _ (P : List Standing → ℕ → Type 0) (kind : IsKind P) where
       (λ e. e)
       (λ e. absurd (kind.no_robot things (subst (P things) (number-unknown n objects e) is)))
 
-  -- names keep their kind where there are more objects, and where there is one more thing
-  objects-kind : (objects more : List (List ℕ)) (things : List Thing) (names : List (List ℕ)) → AreOfKind P objects things names
-      → AreOfKind P (objects ++ more) things names
-  objects-kind objects more things names all = λ k d below.
-      let n = slice_index_or names k d in
-      let known = kind-known objects (standings things) n (all k d below) in
-      subst (P (standings things)) (sym (number-kept n objects more known)) (all k d below)
+  -- a name keeps its kind where there are more objects and things
+  name-kept : (objects more : List (List ℕ)) (things others : List Standing) (n : List ℕ) → P things (number_in n objects)
+      → P (things ++ others) (number_in n (objects ++ more))
+  name-kept objects more things others n is = subst (P (things ++ others))
+      (sym (number-kept n objects more (kind-known objects things n is))) (kind.kept things others (number_in n objects) is)
 
-  things-kind : (objects : List (List ℕ)) (things : List Thing) (t : Thing) (names : List (List ℕ)) → AreOfKind P objects things names
-      → AreOfKind P objects (things ++ t ∷ []) names
-  things-kind objects things t names all = λ k d below.
-      let m = number_in (slice_index_or names k d) objects in
-      subst (λ xs. P xs m) (sym (standings-more things t)) (kind.kept (standings things) (standings (t ∷ [])) m (all k d below))
+  pub kind-kept : (objects more new : List (List ℕ)) (things after : List Thing) (others : List Standing) (names : List (List ℕ))
+      → new ≡ objects ++ more → standings after ≡ standings things ++ others → AreOfKind P objects things names
+      → AreOfKind P new after names
+  kind-kept objects more new things after others names objects_are things_are all = λ k d below.
+      let n = slice_index_or names k d in
+      subst (λ o. P (standings after) (number_in n o)) (sym objects_are)
+      (subst (λ xs. P xs (number_in n (objects ++ more))) (sym things_are)
+      (name-kept objects more (standings things) others n (all k d below)))
 
   -- a new name is that of the new thing
   pub kind-more : (objects : List (List ℕ)) (n : List ℕ) (things : List Thing) (t : Thing) (one : Standing) (names : List (List ℕ))
       → standings (t ∷ []) ≡ one ∷ [] → ((xs : List Standing) (k : ℕ) → thing_at xs k ≡ Some one → P xs k) → has_name n objects ≡ false
-      → length objects ≡ length (standings things) + 1 → AreOfKind P (objects ++ n ∷ []) (things ++ t ∷ []) names
+      → length objects ≡ length (standings things) + 1 → AreOfKind P objects things names
       → AreOfKind P (objects ++ n ∷ []) (things ++ t ∷ []) (names ++ n ∷ [])
-  kind-more objects n things t one names stands is new counts all =
+  kind-more objects n things t one names stands is new counts old =
+      let all = kind-kept objects (n ∷ []) (objects ++ n ∷ []) things (things ++ t ∷ []) (standings (t ∷ [])) names refl
+      (standings-more things t) old in
       let after = standings-more things t ∙ ap (λ xs. standings things ++ xs) stands in
       let last = number-new n objects [] new in
       let number : suc (length (standings things)) ≡ number_in n (objects ++ n ∷ []) = omega (arith, last, counts) in
@@ -85,20 +84,13 @@ module _ (P : List Standing → ℕ → Type 0) (kind : IsKind P) where
       let Q : List ℕ → Type 0 = λ m. P (standings (things ++ t ∷ [])) (number_in m (objects ++ n ∷ [])) in
       All-push Q names n all (subst (P (standings (things ++ t ∷ []))) number (is _ _ place))
 
-pub roles-objects : (objects more : List (List ℕ)) (roles : Roles) (things : List Thing) → AreRolesOf objects roles things
-    → AreRolesOf (objects ++ more) roles things
-roles-objects objects more roles things r = record {
-  rooms = objects-kind IsRoomAt rooms-kind objects more things roles.rooms r.rooms;
-  doors = objects-kind IsDoorAt doors-kind objects more things roles.doors r.doors;
-  boxes = objects-kind IsBoxAt boxes-kind objects more things roles.boxes r.boxes;
-}
-
-pub roles-things : (objects : List (List ℕ)) (roles : Roles) (things : List Thing) (t : Thing) → AreRolesOf objects roles things
-    → AreRolesOf objects roles (things ++ t ∷ [])
-roles-things objects roles things t r = record {
-  rooms = things-kind IsRoomAt rooms-kind objects things t roles.rooms r.rooms;
-  doors = things-kind IsDoorAt doors-kind objects things t roles.doors r.doors;
-  boxes = things-kind IsBoxAt boxes-kind objects things t roles.boxes r.boxes;
+-- roles are kept where there are more objects and things
+pub roles-kept : (objects more new : List (List ℕ)) (things after : List Thing) (others : List Standing) (roles : Roles)
+    → new ≡ objects ++ more → standings after ≡ standings things ++ others → AreRolesOf objects roles things → AreRolesOf new roles after
+roles-kept objects more new things after others roles objects_are things_are r = record {
+  rooms = kind-kept IsRoomAt rooms-kind objects more new things after others roles.rooms objects_are things_are r.rooms;
+  doors = kind-kept IsDoorAt doors-kind objects more new things after others roles.doors objects_are things_are r.doors;
+  boxes = kind-kept IsBoxAt boxes-kind objects more new things after others roles.boxes objects_are things_are r.boxes;
 }
 
 -- ---- the things stand right
@@ -155,9 +147,6 @@ pub robots-some : (things : List Thing) → list_any is_robot things ≡ true �
 robots-some [] there = cc
 robots-some (thing.Robot r ∷ things) there = omega arith
 robots-some (_ ∷ things) there = robots-some things there
-
-pub still-robot : (things : List Thing) (t : Thing) → list_any is_robot things ≡ true → list_any is_robot (things ++ t ∷ []) ≡ true
-still-robot things t there = list_any-append is_robot things (t ∷ []) ∙ ap (λ b. b || list_any is_robot (t ∷ [])) there
 
 -- ---- in the end
 

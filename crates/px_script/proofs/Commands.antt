@@ -1,44 +1,20 @@
 -- One more command keeps commands in range, and so does another problem with the same objects.
-use Rattle.std.proofs.lemmas.List.{take-append-le}
 use Rattle.std.proofs.lemmas.List.FromFn.{map-range_with_len_more, length-range_with_len, get_or-range_with_len}
 use Rattle.std.proofs.lemmas.Grind.{flat_map-append}
-use Rattle.px_script.specs.Limits as limit
-use Rattle.px_script.specs.Limits.{greatest}
-use Rattle.px_script.specs.Commands.{Command, Plan, Learn, Show, DisturbAtoms, Run, Facts}
-use Rattle.px_script.specs.Ranges.{CommandsInRange, IsCommandOf, NamesEarlier, IsAmong, result_given, plan_given, disturbs_after, all_disturbs}
-use Rattle.px_script.proofs.Common.{◌≡◌, ℕ, ◌+◌, ◌<◌, ◌≤◌, true, false, ◌||◌, ◌==◌, List, [], ◌∷◌, ◌++◌, length, take, refl, sym, ap, ◌∙◌, subst, arith, inl, inr, length-append, append-nil, map-id, All, Option, Some, EachIndex, slice_index_or, fold, flat_map, list_any, range_with_len, scan, get_or-append, get_or-append_seam, take-append_seam, cases_lt, nat_tests, or_right, All-push, list_any-append, list_any_at, Problem, Thing}
+use Rattle.px_script.proofs.Common.{◌≡◌, ℕ, ◌+◌, ◌<◌, ◌≤◌, true, false, ◌||◌, ◌==◌, List, [], ◌∷◌, ◌++◌, refl, sym, ap, ◌∙◌, subst, arith, map-id, All, Option, Some, slice_index_or, fold, flat_map, list_any, range_with_len, scan, nat_tests, or_right, list_any-append, list_any_at, Problem, Thing, Command, Plan, Learn, Show, DisturbAtoms, Run, CommandsInRange, IsCommandOf, IsAmong, result_given, plan_given, disturbs_after}
 use Rattle.px_script.proofs.Problems.{Grows, atoms-kept}
-
--- what each item has after those before it, one more item too
-pub each-more : {A : Type 0} (P : List A → A → Type 0) (xs : List A) (x d : A) → EachIndex xs (λ k. P (take k xs) (slice_index_or xs k d))
-    → P xs x
-    → EachIndex (xs ++ x ∷ []) (λ k. P (take k (xs ++ x ∷ [])) (slice_index_or (xs ++ x ∷ []) k d))
-each-more {A = A} P xs x d each last = λ k below. elim (cases_lt k (length xs)) [
-  | inl earlier ↦ (
-      let Q : List A → Type 0 = λ t. P t (slice_index_or (xs ++ x ∷ []) k d) in
-      subst Q (sym (take-append-le k xs (x ∷ []) (omega (arith, earlier))))
-      (subst (P (take k xs)) (sym (get_or-append xs (x ∷ []) d k earlier)) (each k earlier)))
-  | inr later ↦ (
-      let T : ℕ → Type 0 = λ j. P (take j (xs ++ x ∷ [])) (slice_index_or (xs ++ x ∷ []) j d) in
-      let Q : List A → Type 0 = λ t. P t (slice_index_or (xs ++ x ∷ []) (length xs) d) in
-      subst T (omega (arith, below, later, length-append xs (x ∷ [])))
-      (subst Q (sym (take-append_seam xs (x ∷ []))) (subst (P xs) (sym (get_or-append_seam xs x [] d)) last)))
-]
 
 pub one-more-result : (old : ℕ) → range_with_len 0 old ++ old ∷ [] ≡ range_with_len 0 (old + 1)
 one-more-result n = sym (sym (map-id (range_with_len 0 (n + 1))) ∙ map-range_with_len_more (λ k. k) 0 n n (omega arith)
     ∙ ap (λ t. t ++ n ∷ []) (map-id (range_with_len 0 n)))
 
-pub no-more-result : (old : ℕ) → range_with_len 0 old ++ [] ≡ range_with_len 0 old
-no-more-result old = append-nil (range_with_len 0 old)
-
-scan-more : (n : ℕ) (commands : List Command) (c : Command)
+pub scan-more : (n : ℕ) (commands : List Command) (c : Command)
     → scan disturbs_after disturbs_after n (commands ++ c ∷ [])
     ≡ scan disturbs_after disturbs_after n commands ++ disturbs_after (fold disturbs_after n commands) c ∷ []
 scan-more n [] c = refl
 scan-more n (x ∷ xs) c = ap (λ t. disturbs_after n x ∷ t) (scan-more (disturbs_after n x) xs c)
 
-more-results : (version : ℕ) (problem : Problem) (building : Option (List Thing)) (old new : ℕ) → old ≤ new → (command : Command)
+pub more-results : (version : ℕ) (problem : Problem) (building : Option (List Thing)) (old new : ℕ) → old ≤ new → (command : Command)
     → IsCommandOf version problem building old command
     → IsCommandOf version problem building new command
 more-results version problem building old new le (Plan name goal vars) h = (omega (arith, h.0, le), h.1)
@@ -46,44 +22,6 @@ more-results version problem building old new le (Learn name source) h = (omega 
 more-results version problem building old new le (Show name) h = omega (arith, h, le)
 more-results version problem building old new le (Run name bindings) h = (omega (arith, h.0, le), h.1, h.2)
 more-results version problem building old new le _ h = h
-
--- What is asked of a command that follows others, where there are so many results after it.
-pub record IsNewCommand (version : ℕ) (problem : Problem) (building : Option (List Thing)) (old new : ℕ) (commands : List Command)
-    (c : Command) : Type 0 where
-  pub is_command : IsCommandOf version problem building new c
-  pub few : length commands + 1 ≤ greatest version limit.commands
-  pub disturbs : disturbs_after (fold disturbs_after 0 commands) c ≤ greatest version limit.disturbs
-  pub given : range_with_len 0 old ++ result_given c ≡ range_with_len 0 new
-  pub more : old ≤ new
-  pub earlier : NamesEarlier commands c
-
-pub commands-more : (version : ℕ) (problem : Problem) (building : Option (List Thing)) (old new : ℕ) (commands : List Command) (c : Command)
-    → CommandsInRange version problem building old commands → IsNewCommand version problem building old new commands c
-    → CommandsInRange version problem building new (commands ++ c ∷ [])
-commands-more version problem building old new commands c h is = record {
-  each = All-push (IsCommandOf version problem building new) commands c
-      (λ k d below. more-results version problem building old new is.more _ (h.each k d below)) is.is_command;
-  few = rw length-append is.few;
-  few_disturbs =
-      let P : ℕ → Type 0 = λ n. n ≤ greatest version limit.disturbs in
-      subst (All P) (sym (scan-more 0 commands c)) (All-push P (all_disturbs commands) _ h.few_disturbs is.disturbs);
-  given = flat_map-append result_given commands (c ∷ []) ∙ ap (λ t. flat_map result_given commands ++ t) (append-nil (result_given c))
-      ∙ ap (λ t. t ++ result_given c) h.given ∙ is.given;
-  earlier = each-more NamesEarlier commands c Facts h.earlier is.earlier;
-}
-
--- commands that are another problem's too
-commands-carried : (version : ℕ) (problem other : Problem) (building built : Option (List Thing)) (results : ℕ) (commands : List Command)
-    → CommandsInRange version problem building results commands → All (IsCommandOf version other built results) commands
-    → CommandsInRange version other built results commands
-commands-carried version problem other building built results commands h each = assumption
-
--- no command depends on nothing
-pub commands-none : (version : ℕ) (problem other : Problem) (building built : Option (List Thing)) (results : ℕ) (commands : List Command)
-    → length commands ≡ 0
-    → CommandsInRange version problem building results commands → CommandsInRange version other built results commands
-commands-none version problem other building built results commands none h =
-    commands-carried version problem other building built results commands h (λ k d below. absurd (omega (arith, below, none)))
 
 -- a result that is below the number of results is among those that were given
 pub among-given : (commands : List Command) (results k : ℕ) → flat_map result_given commands ≡ range_with_len 0 results → k < results
@@ -127,4 +65,4 @@ module _ (version : ℕ) (p q : Problem) (things : List Thing) (results : ℕ) (
   pub commands-moved : (commands : List Command) → CommandsInRange version p (Some things) results commands
       → CommandsInRange version q (Some things) results commands
   commands-moved commands h =
-      commands-carried version p q (Some things) (Some things) results commands h (λ k d below. command-moved _ (h.each k d below))
+      let each : All (IsCommandOf version q (Some things) results) commands = λ k d below. command-moved _ (h.each k d below) in assumption

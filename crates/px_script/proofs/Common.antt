@@ -1,18 +1,18 @@
--- What the proofs here and in px_reader cite of std and of the lower crates.
+-- What the proofs here and in px_reader cite of std, of the lower crates and of what a script is.
 pub use Rattle.std.proofs.Common.{◌≡◌, ◌≢◌, ◌⊎◌, ℕ, zero, suc, ◌+◌, ◌<◌, ◌≤◌, Bool, true, false, cond, not, ◌&&◌, ◌||◌, List, [], ◌∷◌, ◌++◌, map, length, get_or, take, drop, refl, sym, ap, ◌∙◌, subst, inl, inr, arith, append_assoc, append-nil, map-id, length-append, ltb-true, leb-true, eqb-true}
-pub use Rattle.std.specs.Prelude.{◌==◌, nat_lt, Option, None, Some, is_some, IfSome, unwrap_or, All, AllPairs, EachIndex, Contains, slice_get, slice_index, slice_index_or, fold, position, count_by, codes, encode_utf8_all, if◌then◌else◌}
-pub use Rattle.std.specs.List.{AllByRecursion, list_any, list_all, flat_map, filter, filter_map, range_with_len, scan, slice_split}
+pub use Rattle.std.specs.Prelude.{◌==◌, nat_lt, Option, None, Some, is_some, IfSome, unwrap_or, All, AllPairs, EachIndex, Contains, slice_get, slice_index, slice_index_or, fold, position, count_by, codes, if◌then◌else◌}
+pub use Rattle.std.specs.List.{AllByRecursion, list_any, list_all, flat_map, filter, filter_map, range_with_len, scan}
 pub use Rattle.std.specs.Option.{option_map, option_and_then}
-pub use Rattle.std.specs.Str.{IsUtf8, all_ascii_digits, all_scalars, bytes_eq, chars}
+pub use Rattle.std.specs.Str.{IsUtf8, all_ascii_digits, bytes_eq}
 pub use Rattle.std.specs.Str.Parse.{digits_value}
 pub use Rattle.std.specs.Char.{is_ascii_digit, is_ascii_alphabetic}
 pub use Rattle.std.proofs.Math.ListN.{get_or-append}
 pub use Rattle.std.proofs.Math.Seq.{get_or-append_seam, take-append_seam}
-pub use Rattle.std.proofs.lemmas.Bool.{and_parts, cases_lt, cond-true, not-false, not-true, or_cases, or_parts, or_right}
+pub use Rattle.std.proofs.lemmas.Bool.{and_parts, cases_lt, not-false, not-true, or_cases, or_parts, or_right}
 pub use Rattle.std.proofs.lemmas.Bool.Decides.{nat_tests}
 pub use Rattle.std.proofs.lemmas.List.{get_or-map, length-map, map-append}
 pub use Rattle.std.proofs.lemmas.List.Elements.{All-append, All-cons, All-from_recursion, All-map, All-nil, All-push, All-weaker}
-pub use Rattle.std.proofs.lemmas.List.Folds.{list_all-append, list_any-append, list_any_at}
+pub use Rattle.std.proofs.lemmas.List.Folds.{list_any-append, list_any_at}
 pub use Rattle.std.proofs.lemmas.Slice.Eq.{bytes_eq-Decides}
 pub use Rattle.unicode_ident.specs.Ident.{is_xid_continue}
 pub use Rattle.unicode_ident.proofs.IdentLemmas.{is_xid_start-ascii, is_xid_continue-ascii}
@@ -37,3 +37,18 @@ pub use Rattle.px_terms.specs.Order.{atom_cmp}
 pub use Rattle.px_terms.specs.OrderLaws.{atom_cmp-total, atom_cmp-same}
 pub use Rattle.px_terms.specs.Validity.{HasArity, IsTermOf, IsPatternTermOf, IsAtomOf, IsPatternOf, IsSchemaOf, IsAxiomOf}
 pub use Rattle.px_world.specs.declared.thing.Thing.{Thing}
+pub use Rattle.px_script.specs.Lexemes.{Lexeme}
+pub use Rattle.px_script.specs.Lines.{lines_of}
+pub use Rattle.px_script.specs.Items.{SignedAtom, is_empty, Named, Sign, WrittenRoomEdit, Binding, bare, robot_to, box_to, door_to, is_parameter_number, wanted_by_edit, an_object}
+pub use Rattle.px_script.specs.Statements.{Statement, Block, plain, inside, operator_block, building_block, line_of, script, object, predicate, «axiom», operator, pre, delete, add, building, room, door, box, robot, end, fact, height, nodes, shapes, plan, learn, show, disturb_atoms, disturb_rooms, run, facts, literals, goals, atom_changes, Line, Place}
+pub use Rattle.px_script.specs.Limits.{greatest, of_height, of_nodes, of_shapes, of_version, Bounds, of_turn}
+pub use Rattle.px_script.specs.Commands.{Command, Show, Facts, Plan, Learn, DisturbAtoms, DisturbRooms, Run}
+pub use Rattle.px_script.specs.Declarations.{Declared, Roles, OpenBlock, BlockKind, OpenOperator, of_operator, of_building, block_here, kind_of_block, number_in, atom_of, nothing_declared, after_line, predicate_names, predicate_arities, operator_names, operator_here, parameters_here, parameters_of, names_here, variables_of, literal_of, clause_of, atom_edit_of, edit_by, room_edit_of, binding_of, declared_by}
+pub use Rattle.px_script.specs.Content.{ScriptValue, own_problem, content_of}
+pub use Rattle.px_script.specs.Forms.{is_formed}
+pub use Rattle.px_script.specs.Stages.{Stage, whole_language, is_built, is_unbuilt}
+pub use Rattle.px_script.specs.Causes.{is_robot, may_stand, is_long, repeats, same_block, has_two_domains, stands_twice, is_out_of_order, declares_after_command, is_late, varies_too_early, lacks_robot, has_unknown_name, wanted_by, repeats_name, taken_here, has_wrong_arity, is_unbound, has_long_name, is_numbered}
+pub use Rattle.px_script.specs.Faults.{fault_at, disturbance_limits, causes_with, first_of, passed, own_limits, has_duplicate, repeats_itself, OnlyTakesAway}
+pub use Rattle.px_script.specs.Scripts.{PassesLexemes, PassAll, IsScript}
+pub use Rattle.px_script.specs.Ranges.{AreNamesOf, AreNumbered, HasShortLists, IsAmong, IsInRange, IsThingAfter, plan_given, AreRoomEditsOf, CommandsInRange, HasTurn, IsBindingOf, IsCommandOf, IsEditOf, IsWithin, NamesEarlier, disturbs_after, result_given, all_disturbs, NamesInRange, ProblemInRange, FactsInRange}
+pub use Rattle.px_script.specs.StageRanges.{IsBuiltCommand, IsOfStage}

@@ -1,12 +1,7 @@
 -- A line without a fault: what each cause says where it isn't there.
-use Rattle.px_script.specs.Statements.{Statement, Line, Place, Block, inside, operator_block, building_block, line_of, building}
-use Rattle.px_script.specs.Declarations.{Declared, OpenBlock, block_here, declared_by, names_here, kind_of_block}
-use Rattle.px_script.specs.Stages.{Stage, whole_language, is_unbuilt}
-use Rattle.px_script.specs.Causes.{is_out_of_order, declares_after_command, may_stand, is_late, has_two_domains, varies_too_early, lacks_robot, has_unknown_name, wanted_by, repeats, repeats_name, taken_here, has_wrong_arity, is_unbound, has_long_name, is_long, is_numbered}
-use Rattle.px_script.specs.Faults.{causes_with, fault_at, first_of, passed, own_limits, has_duplicate, repeats_itself, OnlyTakesAway}
 use Rattle.px_script.specs.Faults as faults
-use Rattle.px_script.proofs.Common.{◌≡◌, ℕ, Bool, true, false, not, ◌&&◌, List, [], ◌∷◌, map, refl, sym, ◌∙◌, inl, inr, Option, None, Some, AllByRecursion, list_any, option_map, not-false, or_parts, both_answers, has_name}
-use Rattle.px_script.proofs.Lists.{by_test, each-passes, passes-test}
+use Rattle.px_script.proofs.Common.{◌≡◌, ℕ, Bool, true, false, not, ◌&&◌, List, [], ◌∷◌, map, refl, sym, ◌∙◌, inl, inr, Option, None, Some, AllByRecursion, list_any, option_map, not-false, or_parts, both_answers, has_name, Statement, Line, Block, line_of, building, Declared, OpenBlock, block_here, declared_by, names_here, kind_of_block, Stage, whole_language, is_unbuilt, is_out_of_order, declares_after_command, may_stand, is_late, has_two_domains, varies_too_early, lacks_robot, has_unknown_name, wanted_by, repeats, repeats_name, taken_here, has_wrong_arity, is_unbound, has_long_name, is_long, is_numbered, causes_with, fault_at, first_of, passed, own_limits, has_duplicate, repeats_itself, OnlyTakesAway}
+use Rattle.px_script.proofs.Lists.{by_test, none-passes, passes-test}
 
 -- No cause to refuse the line is there but for limits and for what isn't built.
 pub record IsRight (d : Declared) (s : Statement) : Type 0 where
@@ -44,10 +39,6 @@ stands-right d l e =
     let g = or_parts (declares_after_command d l.place) (not (may_stand (block_here d) l.place)) f.0 in
     record { after = g.0; stands = not-false _ g.1; late = f.1; domains = c.1; early = b.1; robot = a.1 }
 
-none-passes : {A : Type 0} (p : A → Bool) (xs : List A) → list_any p xs ≡ false → AllByRecursion (λ x. p x ≡ false) xs
-none-passes p [] none = tt
-none-passes p (x ∷ xs) none = let both = or_parts (p x) (list_any p xs) none in (both.0, none-passes p xs both.1)
-
 none-passed : (limits : List (Bool × ℕ)) → first_of (map passed limits) ≡ None → AllByRecursion (λ test. test.0 ≡ false) limits
 none-passed [] none = tt
 none-passed (test ∷ more) none = let both = passes-test test.0 _ _ none in (both.0, none-passed more both.1)
@@ -82,10 +73,10 @@ no-fault stage d s e =
       record {
         right = r;
         order = stands-right d l r.order;
-        known = each-passes (λ w. has_name w.1 (names_here d w.0)) (wanted_by l) (or_parts _ _ r.known).1;
-        single = none-passes (λ group. repeats (taken_here d group.0) group.1) (declared_by l) twice.0;
+        known = none-passes (λ w. not (has_name w.1 (names_here d w.0))) _ (λ w e. not-false _ e) (wanted_by l) (or_parts _ _ r.known).1;
+        single = none-passes (λ group. repeats (taken_here d group.0) group.1) _ (λ group e. e) (declared_by l) twice.0;
         itself = twice.1;
-        short = none-passes (λ group. is_numbered group.0 && list_any (is_long d.version) group.1) (declared_by l) k.0;
+        short = none-passes (λ group. is_numbered group.0 && list_any (is_long d.version) group.1) _ (λ group e. e) (declared_by l) k.0;
         limits = none-passed (own_limits d s) k.1;
       },
     )
@@ -104,26 +95,10 @@ only-takes-away stage d s = by_test (is_unbuilt stage s)
 pub stage-takes-away : (stage : Stage) (d : Declared) (s : Statement) → fault_at stage d s ≡ None → fault_at whole_language d s ≡ None
 stage-takes-away stage d s e = elim (only-takes-away stage d s) [ inl same ↦ sym same ∙ e | inr unbuilt ↦ cc ]
 
--- where no block is open
-
-no-block : (o : Option OpenBlock) → option_map (λ block. kind_of_block block.kind) o ≡ None → o ≡ None
-no-block None e = refl
-no-block (Some block) e = cc
-
-outside : (o : Option Block) (place : Place) → ((b : Block) → may_stand (Some b) place ≡ false) → may_stand o place ≡ true → o ≡ None
-outside None place never stands = refl
-outside (Some b) place never stands = both_answers (may_stand (Some b) place) (never b) stands
-
 -- a line that may stand in no block
 pub at-top : (d : Declared) (l : Line) → StandsRight d l → ((b : Block) → may_stand (Some b) l.place ≡ false) → d.block ≡ None
-at-top d l right never = no-block d.block (outside (block_here d) l.place never right.stands)
-
--- lines that may stand in one block alone
-
-pub in-building : (o : Option Block) → may_stand o (inside building_block) ≡ true → o ≡ Some building_block
-in-building (Some building_block) stands = refl
-in-building _ stands = cc
-
-pub in-operator : (o : Option Block) → may_stand o (inside operator_block) ≡ true → o ≡ Some operator_block
-in-operator (Some operator_block) stands = refl
-in-operator _ stands = cc
+at-top d l right never = by_block d.block right.stands
+  where
+    by_block : (o : Option OpenBlock) → may_stand (option_map (λ block. kind_of_block block.kind) o) l.place ≡ true → o ≡ None
+    by_block None stands = refl
+    by_block (Some block) stands = both_answers (may_stand (Some (kind_of_block block.kind)) l.place) (never _) stands

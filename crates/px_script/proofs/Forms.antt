@@ -1,33 +1,36 @@
 -- The parser reads exactly the forms of lines: each spelling back, and nothing else.
 use Rattle.std.specs.Fmt.{decimal}
 use Rattle.std.proofs.lemmas.Fmt.{decimal_is_IsNumeral}
-use Rattle.std.proofs.lemmas.Option.{cond_some}
-use Rattle.px_base.specs.Answers.{some_same}
-use Rattle.px_script.specs.Lexemes.{Lexeme, name, variable, number, sign}
-use Rattle.px_script.specs.Items.{Argument, Sign, WrittenAtom, SignedAtom, WrittenRoomEdit, named, bare, negated, added, removed, robot_to, box_to, door_to, spell, spell_argument, spell_sign, spell_atom, spell_room_edit, spell_binding, is_filled, is_parameter_number, parameter_name, open_word, with_commas, in_parentheses}
-use Rattle.px_script.specs.Statements.{Statement, Line, line_of, script, object, predicate, «axiom», operator, pre, delete, add, building, room, door, box, robot, end, fact, height, nodes, shapes, plan, learn, show, disturb_atoms, disturb_rooms, run, facts, spelling, time_word}
+use Rattle.std.proofs.lemmas.Option.{IfSome_then}
+use Rattle.px_script.specs.Lexemes.{Lexeme, name, number, sign}
+use Rattle.px_script.specs.Items.{Argument, Sign, WrittenAtom, SignedAtom, WrittenRoomEdit, named, bare, robot_to, box_to, door_to, spell, spell_argument, spell_sign, spell_atom, spell_room_edit, spell_binding, is_filled, is_parameter_number, parameter_name, open_word, with_commas, in_parentheses}
+use Rattle.px_script.specs.Statements.{Statement, Line, line_of, object, operator, door, plan, learn, disturb_atoms, disturb_rooms, run, spelling, time_word}
 use Rattle.px_script.specs.Limits.{is_word}
 use Rattle.px_script.specs.Declarations.{Declared, has_building}
 use Rattle.px_script.specs.Forms as spec
 use Rattle.px_script.specs.Forms.{Forms, begins_with_word, is_formed, is_signed, is_of_script}
-use Rattle.px_script.proofs.Common.{◌≡◌, ℕ, zero, suc, ◌+◌, ◌<◌, ◌≤◌, Bool, true, false, cond, not, ◌==◌, List, [], ◌∷◌, ◌++◌, map, length, drop, refl, sym, ap, ◌∙◌, subst, inl, inr, arith, append_assoc, append-nil, eqb-true, length-append, ltb-true, nat_lt, Option, None, Some, codes, list_all, flat_map, option_map, option_and_then, bytes_eq, digits_value, if◌then◌else◌, and_parts, not-true, bytes_eq-Decides}
-use Rattle.px_script.proofs.Lists.{chosen}
+use Rattle.px_script.proofs.Common.{◌≡◌, ℕ, zero, suc, ◌<◌, ◌≤◌, Bool, true, false, cond, not, ◌==◌, List, [], ◌∷◌, ◌++◌, map, length, drop, refl, sym, ap, ◌∙◌, subst, arith, append_assoc, append-nil, eqb-true, length-append, ltb-true, nat_lt, Option, None, Some, codes, list_all, flat_map, option_map, option_and_then, IfSome, bytes_eq, digits_value, and_parts, not-true, bytes_eq-Decides}
 use Rattle.px_script.proofs.Parsing.{argument_of, items_after, items_at, all_within, all_of, atom_after, atom_at, sign_of, after_name, nothing_form, which, open_of, time_of, room_edit_at, parameter_of, binding_at, names_of, names_among, names_at, at_end, number_form, name_form, predicate_form, operator_form, plan_form, door_form, box_form, learn_form, run_form, edits_form, disturb_form, rest_form, formed_only, parse}
 
--- ---- answers that are there
+-- ---- what is said of an answer, if there is one
 
-pub and_then_some : {A B : Type 0} (f : A → Option B) (o : Option A) (y : B) → option_and_then f o ≡ Some y
-    → (x : A) × (o ≡ Some x) × (f x ≡ Some y)
-and_then_some f None y e = cc
-and_then_some f (Some x) y e = (x, refl, e)
+pub then-there : {A B : Type 0} {P : A → Type 0} (Q : B → Type 0) (f : A → Option B) (o : Option A) → IfSome o P
+    → ((a : A) → P a → IfSome (f a) Q) → IfSome (option_and_then f o) Q
+then-there Q f None is each = tt
+then-there Q f (Some a) is each = each a is
 
-pub map_some : {A B : Type 0} (f : A → B) (o : Option A) (y : B) → option_map f o ≡ Some y → (x : A) × (o ≡ Some x) × (y ≡ f x)
-map_some f None y e = cc
-map_some f (Some x) y e = (x, refl, cc)
+pub map-there : {A B : Type 0} {P : A → Type 0} (Q : B → Type 0) (f : A → B) (o : Option A) → IfSome o P → ((a : A) → P a → Q (f a))
+    → IfSome (option_map f o) Q
+map-there Q f None is each = tt
+map-there Q f (Some a) is each = each a is
 
-only-if : {A : Type 0} (b : Bool) (o : Option A) (y : A) → cond b o None ≡ Some y → (b ≡ true) × (o ≡ Some y)
-only-if true o y e = (refl, e)
-only-if false o y e = cc
+if-there : {A : Type 0} (P : A → Type 0) (x y : Option A) (b : Bool) → (b ≡ true → IfSome x P) → (b ≡ false → IfSome y P)
+    → IfSome (cond b x y) P
+if-there P x y true on_true on_false = on_true refl
+if-there P x y false on_true on_false = on_false refl
+
+pub there : {A : Type 0} (P : A → Type 0) (o : Option A) (a : A) → IfSome o P → o ≡ Some a → P a
+there P o a is e = subst (λ t. IfSome t P) e is
 
 same_word : (w v : List ℕ) → bytes_eq w v ≡ true → w ≡ v
 same_word w v e = (bytes_eq-Decides w v).0 e
@@ -57,48 +60,35 @@ module _ {A : Type 0} (good : A → Bool) (one : List Lexeme → Option (A × Li
   all-closed [] = refl
   all-closed (a ∷ more) = back.closed a (flat_map spell more)
 
-  all-within-again : (n : ℕ) (items : List A) → length items ≤ n → list_all good items ≡ true
+  all-within-again : (n : ℕ) (items : List A) → length (flat_map spell items) ≤ n → list_all good items ≡ true
       → all_within one n (flat_map spell items) ≡ Some items
   unfolding all_within
   all-within-again zero [] short all = refl
   all-within-again (suc n) [] short all = refl
-  all-within-again zero (a ∷ more) short all = absurd (omega (arith, short))
+  all-within-again zero (a ∷ more) short all = let first = back.long a in absurd (omega (arith, short, first, length-append {A = Lexeme}))
   all-within-again (suc n) (a ∷ more) short all =
       let both = and_parts (good a) (list_all good more) all in
       let rest = flat_map spell more in
       let first = back.long a in
       all-step n (spell a ++ rest) (a, rest) (rw length-append (omega (arith, first))) (back.again a rest both.0 (all-closed more))
-      ∙ ap (option_map (λ t. a ∷ t)) (all-within-again n more (omega (arith, short)) both.1)
-
-  all-long : (items : List A) → length items ≤ length (flat_map spell items)
-  all-long [] = omega arith
-  all-long (a ∷ more) = let first = back.long a in let rest = all-long more in rw length-append (omega (arith, first, rest))
+      ∙ ap (option_map (λ t. a ∷ t)) (all-within-again n more (omega (arith, short, first, length-append (spell a) rest)) both.1)
 
   -- they end the line
   all-again : (items : List A) → list_all good items ≡ true → all_of one (flat_map spell items ++ []) ≡ Some items
-  all-again items all = ap (all_of one) (append-nil (flat_map spell items))
-      ∙ all-within-again (length (flat_map spell items)) items (all-long items) all
+  all-again items all = rw append-nil (all-within-again (length (flat_map spell items)) items (omega arith) all)
 
 -- What a reader of one thing reads is spelled so.
 abbrev pub ReadsSpelled : {A : Type 0} → (List Lexeme → Option (A × List Lexeme)) → (A → List Lexeme) → Type 0
-ReadsSpelled {A = A} one spell = (lexemes : List Lexeme) (front : A × List Lexeme) → one lexemes ≡ Some front
-    → lexemes ≡ spell front.0 ++ front.1
+ReadsSpelled one spell = (lexemes : List Lexeme) → IfSome (one lexemes) (λ front. lexemes ≡ spell front.0 ++ front.1)
 
-module _ {A : Type 0} (one : List Lexeme → Option (A × List Lexeme)) (spell : A → List Lexeme) (sound : ReadsSpelled one spell) where
-  all-within-sound : (n : ℕ) (lexemes : List Lexeme) (items : List A) → all_within one n lexemes ≡ Some items
-      → lexemes ≡ flat_map spell items
-  unfolding all_within
-  all-within-sound zero [] items e = ap (flat_map spell) (some_same e)
-  all-within-sound zero (x ∷ xs) items e = cc
-  all-within-sound (suc n) [] items e = ap (flat_map spell) (some_same e)
-  all-within-sound (suc n) (x ∷ xs) items e =
-      let step = and_then_some _ (one (x ∷ xs)) items e in
-      let mapped = map_some _ (all_within one n step.0.1) items step.2 in
-      sound (x ∷ xs) step.0 step.1 ∙ ap (λ t. spell step.0.0 ++ t) (all-within-sound n step.0.1 mapped.0 mapped.1)
-      ∙ ap (flat_map spell) (sym mapped.2)
-
-  all-sound : (lexemes : List Lexeme) (items : List A) → all_of one lexemes ≡ Some items → lexemes ≡ flat_map spell items
-  all-sound lexemes items e = all-within-sound (length lexemes) lexemes items e
+all-sound : {A : Type 0} (one : List Lexeme → Option (A × List Lexeme)) (spell : A → List Lexeme) → ReadsSpelled one spell
+    → (n : ℕ) (lexemes : List Lexeme) → IfSome (all_within one n lexemes) (λ items. lexemes ≡ flat_map spell items)
+unfolding all_within
+all-sound one spell are zero [] = refl
+all-sound one spell are zero (x ∷ xs) = tt
+all-sound one spell are (suc n) [] = refl
+all-sound one spell are (suc n) (x ∷ xs) = then-there _ _ (one (x ∷ xs)) (are (x ∷ xs)) (λ front is.
+    map-there _ _ (all_within one n front.1) (all-sound one spell are n front.1) (λ more rest. is ∙ ap (λ t. spell front.0 ++ t) rest))
 
 -- ---- lists in parentheses
 
@@ -106,31 +96,10 @@ argument-again : (a : Argument) → argument_of (spell_argument a) ≡ Some a
 argument-again (named n) = refl
 argument-again _ = refl
 
-argument-sound : (x : Lexeme) (a : Argument) → argument_of x ≡ Some a → x ≡ spell_argument a
-argument-sound (name n) a e = ap spell_argument (some_same e)
-argument-sound (variable v) a e = ap spell_argument (some_same e)
-argument-sound (number n) a e = cc
-argument-sound (sign s) a e = let w = cond_some (s == 36) _ a e in ap sign (eqb-true s 36 w.0) ∙ ap spell_argument w.1
-
--- a read list has an item and is spelled so
-record ReadItems {A : Type 0} (spell : A → Lexeme) (lexemes : List Lexeme) (items : List A) (rest : List Lexeme) : Type 0 where
-  item : A
-  more : List A
-  some : items ≡ item ∷ more
-  spelled : lexemes ≡ with_commas (map spell (item ∷ more)) ++ sign 41 ∷ rest
-
-last-read : {A : Type 0} (spell : A → Lexeme) (x : Lexeme) (s : ℕ) (rest : List Lexeme) (a : A) → x ≡ spell a → s ≡ 41
-    → ReadItems spell (x ∷ sign s ∷ rest) (a ∷ []) rest
-last-read spell x s rest a is close = record { item = a; more = []; some = refl; spelled = rw (is, close) refl }
-
-more-read : {A : Type 0} (spell : A → Lexeme) (x : Lexeme) (s : ℕ) (rest : List Lexeme) (a : A) (items : List A) (after : List Lexeme)
-    → x ≡ spell a → s ≡ 44 → ReadItems spell rest items after → ReadItems spell (x ∷ sign s ∷ rest) (a ∷ items) after
-more-read spell x s rest a items after is comma read =
-    record { item = a; more = items; some = refl; spelled = rw (is, comma, read.some, read.spelled) refl }
-
-opened-read : {A : Type 0} (spell : A → Lexeme) (s : ℕ) (rest : List Lexeme) (items : List A) (after : List Lexeme) → s ≡ 40
-    → ReadItems spell rest items after → sign s ∷ rest ≡ in_parentheses (map spell items) ++ after
-opened-read spell s rest items after opened read = rw (opened, read.some, read.spelled, append_assoc) refl
+argument-sound : (x : Lexeme) → IfSome (argument_of x) (λ a. x ≡ spell_argument a)
+argument-sound (number n) = tt
+argument-sound (sign s) = if-there _ _ _ (s == 36) (λ e. ap sign (eqb-true s 36 e)) (λ e. tt)
+argument-sound _ = refl
 
 module _ {A : Type 0} (item : Lexeme → Option A) (spell : A → Lexeme) where
   -- a list with commas and its closing parenthesis
@@ -146,30 +115,38 @@ module _ {A : Type 0} (item : Lexeme → Option A) (spell : A → Lexeme) where
   items-at-again again [] _ closed = refl
   items-at-again again (a ∷ more) rest closed = rw append_assoc (items-again again a more rest)
 
-  items-sound : ((x : Lexeme) (a : A) → item x ≡ Some a → x ≡ spell a) → (lexemes : List Lexeme) (r : List A × List Lexeme)
-      → items_after item lexemes ≡ Some r → ReadItems spell lexemes r.0 r.1
+  -- there is an item, and they are spelled so
+  abbrev AreRead : List Lexeme → List A → List Lexeme → Type 0
+  AreRead lexemes [] rest = ⊥
+  AreRead lexemes (a ∷ more) rest = lexemes ≡ with_commas (map spell (a ∷ more)) ++ sign 41 ∷ rest
+
+  items-sound : ((x : Lexeme) → IfSome (item x) (λ a. x ≡ spell a)) → (lexemes : List Lexeme)
+      → IfSome (items_after item lexemes) (λ r. AreRead lexemes r.0 r.1)
   unfolding items_after
-  items-sound sound (x ∷ sign s ∷ rest) r e =
-      let step = and_then_some _ (item x) r e in
-      let is = sound x step.0 step.1 in
-      let P : List A × List Lexeme → Type 0 = λ q. ReadItems spell (x ∷ sign s ∷ rest) q.0 q.1 in
-      elim (chosen (s == 41) (Some (step.0 ∷ [], rest)) _ (Some r) step.2) [
-        | inl w ↦ subst P (some_same w.1) (last-read spell x s rest step.0 is (eqb-true s 41 w.0))
-        | inr w ↦ (let v = only-if (s == 44) (option_map (λ more. (step.0 ∷ more.0, more.1)) (items_after item rest)) r w.1 in
-            let mapped = map_some (λ more. (step.0 ∷ more.0, more.1)) (items_after item rest) r v.1 in
-            let read = items-sound sound rest mapped.0 mapped.1 in
-            subst P (sym mapped.2) (more-read spell x s rest step.0 mapped.0.0 mapped.0.1 is (eqb-true s 44 v.0) read))
-      ]
-  items-sound sound _ r e = cc
+  items-sound sound (x ∷ sign s ∷ rest) = then-there _ _ (item x) (sound x) (λ a is. if-there _ _ _ (s == 41)
+      (λ close. rw (is, eqb-true s 41 close) refl)
+      (λ e. if-there _ _ _ (s == 44)
+      (λ comma. map-there _ _ (items_after item rest) (items-sound sound rest) (λ r read. longer a is comma r.0 r.1 read))
+      (λ e. tt)))
+    where
+      longer : (a : A) → x ≡ spell a → (s == 44) ≡ true → (items : List A) (after : List Lexeme) → AreRead rest items after
+          → AreRead (x ∷ sign s ∷ rest) (a ∷ items) after
+      longer a is comma [] after read = absurd read
+      longer a is comma (b ∷ more) after read = rw (is, eqb-true s 44 comma, read) refl
+  items-sound sound _ = tt
 
   -- items in parentheses, or none
-  items-at-sound : ((x : Lexeme) (a : A) → item x ≡ Some a → x ≡ spell a) → (lexemes : List Lexeme) (r : List A × List Lexeme)
-      → items_at item lexemes ≡ Some r → lexemes ≡ in_parentheses (map spell r.0) ++ r.1
-  items-at-sound sound (sign s ∷ rest) r e = elim (chosen (s == 40) (items_after item rest) (Some ([], sign s ∷ rest)) (Some r) e) [
-    | inl w ↦ opened-read spell s rest r.0 r.1 (eqb-true s 40 w.0) (items-sound sound rest r w.1)
-    | inr w ↦ ap (λ (q : List A × List Lexeme). in_parentheses (map spell q.0) ++ q.1) (some_same w.1)
-  ]
-  items-at-sound sound _ r e = ap (λ (q : List A × List Lexeme). in_parentheses (map spell q.0) ++ q.1) (some_same e)
+  items-at-sound : ((x : Lexeme) → IfSome (item x) (λ a. x ≡ spell a)) → (lexemes : List Lexeme)
+      → IfSome (items_at item lexemes) (λ r. lexemes ≡ in_parentheses (map spell r.0) ++ r.1)
+  items-at-sound sound (sign s ∷ rest) = if-there _ _ _ (s == 40)
+      (λ e. IfSome_then (items_after item rest) (items-sound sound rest) (λ r read. opened e r.0 r.1 read))
+      (λ e. refl)
+    where
+      opened : (s == 40) ≡ true → (items : List A) (after : List Lexeme) → AreRead rest items after
+          → sign s ∷ rest ≡ in_parentheses (map spell items) ++ after
+      opened e [] after read = absurd read
+      opened e (b ∷ more) after read = rw (eqb-true s 40 e, read, append_assoc) refl
+  items-at-sound sound _ = refl
 
 names-spelled : (ns : List (List ℕ)) → map spell_argument (map named ns) ≡ map name ns
 names-spelled [] = refl
@@ -181,38 +158,26 @@ names-among-again (n ∷ ns) = rw (names-among-again ns) refl
 
 parameters-again : (ps : List (List ℕ)) → names_at (in_parentheses (map name ps) ++ []) ≡ Some (ps, [])
 parameters-again ps =
-    ap (λ t. names_at (in_parentheses t ++ [])) (sym (names-spelled ps))
-    ∙ ap (option_and_then (λ front. option_map (λ ns. (ns, front.1)) (names_among front.0)))
-    (items-at-again argument_of spell_argument argument-again (map named ps) [] refl)
-    ∙ ap (option_map (λ ns. (ns, []))) (names-among-again ps)
+    rw (← names-spelled ps, items-at-again argument_of spell_argument argument-again (map named ps) [] refl, names-among-again ps) refl
 
-names-among-sound : (arguments : List Argument) (ns : List (List ℕ)) → names_among arguments ≡ Some ns
-    → map spell_argument arguments ≡ map name ns
-names-among-sound [] ns e = ap (map name) (some_same e)
-names-among-sound (named n ∷ more) ns e =
-    let mapped = map_some _ (names_among more) ns e in
-    ap (λ t. name n ∷ t) (names-among-sound more mapped.0 mapped.1) ∙ ap (map name) (sym mapped.2)
-names-among-sound _ ns e = cc
+names-among-sound : (arguments : List Argument) → IfSome (names_among arguments) (λ ns. map spell_argument arguments ≡ map name ns)
+names-among-sound [] = refl
+names-among-sound (named n ∷ more) = map-there _ _ (names_among more) (names-among-sound more) (λ ns is. ap (λ t. name n ∷ t) is)
+names-among-sound _ = tt
 
-names-at-sound : (lexemes : List Lexeme) (r : List (List ℕ) × List Lexeme) → names_at lexemes ≡ Some r
-    → lexemes ≡ in_parentheses (map name r.0) ++ r.1
-names-at-sound lexemes r e =
-    let step = and_then_some _ (items_at argument_of lexemes) r e in
-    let mapped = map_some _ (names_among step.0.0) r step.2 in
-    let P : List (List ℕ) × List Lexeme → Type 0 = λ q. lexemes ≡ in_parentheses (map name q.0) ++ q.1 in
-    subst P (sym mapped.2) (items-at-sound argument_of spell_argument argument-sound lexemes step.0 step.1
-    ∙ ap (λ t. in_parentheses t ++ step.0.1) (names-among-sound step.0.0 mapped.0 mapped.1))
+names-at-sound : (lexemes : List Lexeme) → IfSome (names_at lexemes) (λ r. lexemes ≡ in_parentheses (map name r.0) ++ r.1)
+names-at-sound lexemes = then-there _ _ (items_at argument_of lexemes) (items-at-sound argument_of spell_argument argument-sound lexemes)
+    (λ front is. map-there _ _ (names_among front.0) (names-among-sound front.0)
+    (λ ns names. is ∙ ap (λ t. in_parentheses t ++ front.1) names))
 
 names-again : (ns : List (List ℕ)) → names_of (map name ns ++ []) ≡ Some ns
 names-again [] = refl
 names-again (n ∷ ns) = rw (names-again ns) refl
 
-names-sound : (lexemes : List Lexeme) (ns : List (List ℕ)) → names_of lexemes ≡ Some ns → lexemes ≡ map name ns
-names-sound [] ns e = ap (map name) (some_same e)
-names-sound (name n ∷ rest) ns e =
-    let mapped = map_some _ (names_of rest) ns e in
-    ap (λ t. name n ∷ t) (names-sound rest mapped.0 mapped.1) ∙ ap (map name) (sym mapped.2)
-names-sound _ ns e = cc
+names-sound : (lexemes : List Lexeme) → IfSome (names_of lexemes) (λ ns. lexemes ≡ map name ns)
+names-sound [] = refl
+names-sound (name n ∷ rest) = map-there _ _ (names_of rest) (names-sound rest) (λ ns is. ap (λ t. name n ∷ t) is)
+names-sound _ = tt
 
 -- ---- atoms, edits and bindings are read back
 
@@ -224,44 +189,35 @@ all-each [] = refl
 all-each (a ∷ more) = all-each more
 
 pub atoms-back : ReadsBack each atom_at spell_atom
-atoms-back =
-    record { again = λ x rest good shut. again x.sign x.atom rest shut; closed = λ x. closed x.sign x.atom; long = λ x. long x.sign x.atom }
+atoms-back = record {
+  again = λ x rest good shut. again x.sign x.atom rest shut;
+  closed = λ x rest. (begins x.sign x.atom rest).0;
+  long = λ x. (begins x.sign x.atom []).1;
+}
   where
     again : (before : Sign) (atom : WrittenAtom) (rest : List Lexeme) → not_open rest ≡ true
         → atom_at (spell_atom (record { sign = before; atom = atom }) ++ rest) ≡ Some (record { sign = before; atom = atom }, rest)
     again bare atom rest shut = rw (items-at-again argument_of spell_argument argument-again atom.arguments rest shut) refl
     again _ atom rest shut = rw (items-at-again argument_of spell_argument argument-again atom.arguments rest shut) refl
 
-    closed : (before : Sign) (atom : WrittenAtom) (rest : List Lexeme)
-        → not_open (spell_atom (record { sign = before; atom = atom }) ++ rest) ≡ true
-    closed bare atom rest = refl
-    closed _ atom rest = refl
-
-    long : (before : Sign) (atom : WrittenAtom) → 0 < length (spell_atom (record { sign = before; atom = atom }))
-    long bare atom = omega arith
-    long _ atom = omega arith
-
--- one of two words
-word-again : (of : List ℕ → Option Bool) (word : Bool → List ℕ) → of (word true) ≡ Some true → of (word false) ≡ Some false → (b : Bool)
-    → of (word b) ≡ Some b
-word-again of word one other true = one
-word-again of word one other false = other
+    begins : (before : Sign) (atom : WrittenAtom) (rest : List Lexeme) → let spelled = spell_atom (record { sign = before; atom = atom }) in
+        (not_open (spelled ++ rest) ≡ true) × (0 < length spelled)
+    begins bare atom rest = (refl, omega arith)
+    begins _ atom rest = (refl, omega arith)
 
 pub room-edits-back : ReadsBack each room_edit_at spell_room_edit
-room-edits-back = record { again = λ a rest good shut. again a rest; closed = closed; long = long }
+room-edits-back =
+    record { again = λ a rest good shut. again a rest; closed = λ a rest. (begins a rest).0; long = λ a. (begins a []).1 }
   where
     again : (edit : WrittenRoomEdit) (rest : List Lexeme) → room_edit_at (spell_room_edit edit ++ rest) ≡ Some (edit, rest)
     again (door_to d true) rest = refl
     again (door_to d false) rest = refl
     again _ rest = refl
 
-    closed : (edit : WrittenRoomEdit) (rest : List Lexeme) → not_open (spell_room_edit edit ++ rest) ≡ true
-    closed (robot_to r) rest = refl
-    closed _ rest = refl
-
-    long : (edit : WrittenRoomEdit) → 0 < length (spell_room_edit edit)
-    long (robot_to r) = omega arith
-    long _ = omega arith
+    begins : (edit : WrittenRoomEdit) (rest : List Lexeme)
+        → (not_open (spell_room_edit edit ++ rest) ≡ true) × (0 < length (spell_room_edit edit))
+    begins (robot_to r) rest = (refl, omega arith)
+    begins _ rest = (refl, omega arith)
 
 -- a parameter's name tells its number
 parameter-again : (k : ℕ) → is_parameter_number k ≡ true → parameter_of (parameter_name k) ≡ Some k
@@ -276,214 +232,171 @@ bindings-back =
 
 -- ---- what is read is spelled so
 
-which-sound : (word : Bool → List ℕ) (w : List ℕ) (b : Bool) → which (word true) (word false) w ≡ Some b → w ≡ word b
-which-sound word w b e = elim (chosen (bytes_eq w (word true)) (Some true) _ (Some b) e) [
-  | inl c ↦ same_word w (word true) c.0 ∙ ap word (some_same c.1)
-  | inr c ↦ (let v = cond_some (bytes_eq w (word false)) false b c.1 in same_word w (word false) v.0 ∙ ap word v.1)
-]
+which-sound : (word : Bool → List ℕ) (w : List ℕ) → IfSome (which (word true) (word false) w) (λ b. w ≡ word b)
+which-sound word w = if-there _ _ _ (bytes_eq w (word true)) (same_word w (word true))
+    (λ e. if-there _ _ _ (bytes_eq w (word false)) (same_word w (word false)) (λ e. tt))
 
-sign-sound : (s : ℕ) (before : Sign) → sign_of s ≡ Some before → sign s ∷ [] ≡ spell_sign before
-sign-sound s before e = elim (chosen (s == 126) (Some negated) _ (Some before) e) [
-  | inl w ↦ ap (λ t. sign t ∷ []) (eqb-true s 126 w.0) ∙ ap spell_sign (some_same w.1)
-  | inr w ↦ elim (chosen (s == 43) (Some added) _ (Some before) w.1) [
-    | inl v ↦ ap (λ t. sign t ∷ []) (eqb-true s 43 v.0) ∙ ap spell_sign (some_same v.1)
-    | inr v ↦ (let u = cond_some (s == 45) removed before v.1 in ap (λ t. sign t ∷ []) (eqb-true s 45 u.0) ∙ ap spell_sign u.1)
-  ]
-]
+sign-sound : (s : ℕ) → IfSome (sign_of s) (λ before. sign s ∷ [] ≡ spell_sign before)
+sign-sound s = if-there _ _ _ (s == 126) (is 126) (λ e. if-there _ _ _ (s == 43) (is 43) (λ e. if-there _ _ _ (s == 45) (is 45) (λ e. tt)))
+  where
+    is : (k : ℕ) → (s == k) ≡ true → sign s ∷ [] ≡ sign k ∷ []
+    is k e = ap (λ t. sign t ∷ []) (eqb-true s k e)
 
-atom-after-sound : (before : Sign) (lexemes : List Lexeme) (front : SignedAtom × List Lexeme) → atom_after before lexemes ≡ Some front
-    → spell_sign before ++ lexemes ≡ spell_atom front.0 ++ front.1
-atom-after-sound before (name p ∷ rest) front e =
-    let mapped = map_some _ (items_at argument_of rest) front e in
-    let items = items-at-sound argument_of spell_argument argument-sound rest mapped.0 mapped.1 in
-    let P : SignedAtom × List Lexeme → Type 0 = λ q. spell_sign before ++ name p ∷ rest ≡ spell_atom q.0 ++ q.1 in
-    subst P (sym mapped.2) (ap (λ t. spell_sign before ++ name p ∷ t) items
-    ∙ sym (append_assoc (spell_sign before) (name p ∷ in_parentheses (map spell_argument mapped.0.0)) mapped.0.1))
-atom-after-sound before _ front e = cc
+atom-after-sound : (before : Sign) (lexemes : List Lexeme)
+    → IfSome (atom_after before lexemes) (λ front. spell_sign before ++ lexemes ≡ spell_atom front.0 ++ front.1)
+atom-after-sound before (name p ∷ rest) = map-there _ _ (items_at argument_of rest)
+    (items-at-sound argument_of spell_argument argument-sound rest) (λ front is. rw (is, append_assoc) refl)
+atom-after-sound before _ = tt
 
 pub atom-sound : ReadsSpelled atom_at spell_atom
-atom-sound (sign s ∷ rest) front e =
-    let step = and_then_some _ (sign_of s) front e in
-    ap (λ t. t ++ rest) (sign-sound s step.0 step.1) ∙ atom-after-sound step.0 rest front step.2
-atom-sound lexemes front e = atom-after-sound bare lexemes front e
+atom-sound (sign s ∷ rest) = then-there _ _ (sign_of s) (sign-sound s)
+    (λ before is. IfSome_then (atom_after before rest) (atom-after-sound before rest) (λ front e. ap (λ t. t ++ rest) is ∙ e))
+atom-sound lexemes = atom-after-sound bare lexemes
 
--- a thing and what follows it
-abbrev with_rest : {A : Type 0} → (A → List Lexeme) → A × List Lexeme → List Lexeme
-with_rest spell front = spell front.0 ++ front.1
+-- what follows the name of a thing, in an edit of a box and in one of a door
+box-edit-sound : (thing : List ℕ) (rest : List Lexeme)
+    → IfSome {T = WrittenRoomEdit × List Lexeme} (after_name (λ r more. Some (box_to thing r, more)) rest)
+    (λ front. name (codes "box") ∷ name thing ∷ rest ≡ spell_room_edit front.0 ++ front.1)
+box-edit-sound thing (name r ∷ more) = refl
+box-edit-sound thing _ = tt
 
-box-edit-sound : (thing : List ℕ) (rest : List Lexeme) (front : WrittenRoomEdit × List Lexeme)
-    → after_name (λ r more. Some (box_to thing r, more)) rest ≡ Some front
-    → name (codes "box") ∷ name thing ∷ rest ≡ with_rest spell_room_edit front
-box-edit-sound thing (name r ∷ more) front e = ap (with_rest spell_room_edit) (some_same e)
-box-edit-sound thing _ front e = cc
-
-door-edit-sound : (thing : List ℕ) (rest : List Lexeme) (front : WrittenRoomEdit × List Lexeme)
-    → after_name (λ state more. option_map (λ is_open. (door_to thing is_open, more)) (open_of state)) rest ≡ Some front
-    → name (codes "door") ∷ name thing ∷ rest ≡ with_rest spell_room_edit front
-door-edit-sound thing (name state ∷ more) front e =
-    let mapped = map_some _ (open_of state) front e in
-    rw (which-sound open_word state mapped.0 mapped.1) (ap (with_rest spell_room_edit) (sym mapped.2))
-door-edit-sound thing _ front e = cc
+door-edit-sound : (thing : List ℕ) (rest : List Lexeme)
+    → IfSome {T = WrittenRoomEdit × List Lexeme}
+    (after_name (λ state more. option_map (λ is_open. (door_to thing is_open, more)) (open_of state)) rest)
+    (λ front. name (codes "door") ∷ name thing ∷ rest ≡ spell_room_edit front.0 ++ front.1)
+door-edit-sound thing (name state ∷ more) = map-there _ _ (open_of state) (which-sound open_word state) (λ is_open is. rw is refl)
+door-edit-sound thing _ = tt
 
 pub room-edit-sound : ReadsSpelled room_edit_at spell_room_edit
-room-edit-sound (name w ∷ name thing ∷ rest) front e = elim (chosen (bytes_eq w (codes "robot")) _ _ (Some front) e) [
-  | inl c ↦ rw (same_word w (codes "robot") c.0) (ap (with_rest spell_room_edit) (some_same c.1))
-  | inr c ↦ elim (chosen (bytes_eq w (codes "box")) _ _ (Some front) c.1) [
-    | inl b ↦ rw (same_word w (codes "box") b.0) (box-edit-sound thing rest front b.1)
-    | inr b ↦ (let d = only-if (bytes_eq w (codes "door")) _ front b.1 in
-        rw (same_word w (codes "door") d.0) (door-edit-sound thing rest front d.1))
-  ]
-]
-room-edit-sound _ front e = cc
+room-edit-sound (name w ∷ name thing ∷ rest) =
+    if-there _ _ _ (bytes_eq w (codes "robot")) (λ e. rw (same_word w (codes "robot") e) refl)
+    (λ e. if-there _ _ _ (bytes_eq w (codes "box")) (λ e. rw (same_word w (codes "box") e) (box-edit-sound thing rest))
+    (λ e. if-there _ _ _ (bytes_eq w (codes "door")) (λ e. rw (same_word w (codes "door") e) (door-edit-sound thing rest)) (λ e. tt)))
+room-edit-sound _ = tt
 
-parameter-sound : (w : List ℕ) (k : ℕ) → parameter_of w ≡ Some k → w ≡ parameter_name k
-parameter-sound w k e =
-    let n = digits_value 10 (drop 1 w) in
-    let one = only-if (bytes_eq w (parameter_name n)) (if is_parameter_number n then Some n else None) k e in
-    same_word w (parameter_name n) one.0 ∙ ap parameter_name (cond_some (is_parameter_number n) n k one.1).1
+parameter-sound : (w : List ℕ) → IfSome (parameter_of w) (λ k. w ≡ parameter_name k)
+parameter-sound w = let k = digits_value 10 (drop 1 w) in
+    if-there _ _ _ (bytes_eq w (parameter_name k))
+    (λ e. if-there _ _ _ (is_parameter_number k) (λ good. same_word w (parameter_name k) e) (λ bad. tt)) (λ e. tt)
 
 pub binding-sound : ReadsSpelled binding_at spell_binding
-binding-sound (name p ∷ sign s ∷ name o ∷ rest) front e =
-    let w = only-if (s == 61) _ front e in
-    let mapped = map_some _ (parameter_of p) front w.1 in
-    rw (eqb-true s 61 w.0, parameter-sound p mapped.0 mapped.1) (ap (with_rest spell_binding) (sym mapped.2))
-binding-sound (name p ∷ sign s ∷ rest) front e = let w = only-if (s == 61) _ front e in let no = w.1 in cc
-binding-sound _ front e = cc
+binding-sound (name p ∷ sign s ∷ name o ∷ rest) = if-there _ _ _ (s == 61)
+    (λ e. map-there _ _ (parameter_of p) (parameter-sound p) (λ k is. rw (is, eqb-true s 61 e) refl)) (λ e. tt)
+binding-sound (name p ∷ sign s ∷ rest) = if-there _ _ _ (s == 61) (λ e. tt) (λ e. tt)
+binding-sound _ = tt
 
 -- ---- the lines
 
--- what a form reads of the rest of a line after its word is spelled so
-abbrev IsSound : List ℕ → (List Lexeme → Option Statement) → Type 0
-IsSound w form = (rest : List Lexeme) (s : Statement) → form rest ≡ Some s → name w ∷ rest ≡ spelling s
+-- What was read of a line that begins with this word is spelled so.
+abbrev IsSpelled : List ℕ → List Lexeme → Option Statement → Type 0
+IsSpelled w rest read = IfSome read (λ s. name w ∷ rest ≡ spelling s)
 
-ended : (a : Statement) (rest : List Lexeme) (s : Statement) → nothing_form a rest ≡ Some s → (rest ≡ []) × (a ≡ s)
-ended a [] s e = (refl, some_same e)
-ended a (x ∷ more) s e = cc
+-- the end of a line, after what stands in front
+ended : (front : List Lexeme) (a : Statement) → front ++ [] ≡ spelling a → (rest : List Lexeme)
+    → IfSome (nothing_form a rest) (λ s. front ++ rest ≡ spelling s)
+ended front a spelled [] = spelled
+ended front a spelled _ = tt
 
-nothing-sound : (w : List ℕ) (a : Statement) → name w ∷ [] ≡ spelling a → IsSound w (nothing_form a)
-nothing-sound w a spelled rest s e = let at = ended a rest s e in rw at.0 (spelled ∙ ap spelling at.1)
+number-sound : (w : List ℕ) (f : ℕ → Statement) → ((n : ℕ) → name w ∷ number n ∷ [] ≡ spelling (f n)) → (rest : List Lexeme)
+    → IsSpelled w rest (number_form f rest)
+number-sound w f spelled (number n ∷ rest) = ended (name w ∷ number n ∷ []) (f n) (spelled n) rest
+number-sound w f spelled _ = tt
 
-number-sound : (w : List ℕ) (f : ℕ → Statement) → ((n : ℕ) → name w ∷ number n ∷ [] ≡ spelling (f n)) → IsSound w (number_form f)
-number-sound w f spelled (number n ∷ rest) s e = let at = ended (f n) rest s e in rw at.0 (spelled n ∙ ap spelling at.1)
-number-sound w f spelled _ s e = cc
-
-name-sound : (w : List ℕ) (f : List ℕ → Statement) → ((n : List ℕ) → name w ∷ name n ∷ [] ≡ spelling (f n)) → IsSound w (name_form f)
-name-sound w f spelled (name n ∷ rest) s e = let at = ended (f n) rest s e in rw at.0 (spelled n ∙ ap spelling at.1)
-name-sound w f spelled _ s e = cc
+name-sound : (w : List ℕ) (f : List ℕ → Statement) → ((n : List ℕ) → name w ∷ name n ∷ [] ≡ spelling (f n)) → (rest : List Lexeme)
+    → IsSpelled w rest (name_form f rest)
+name-sound w f spelled (name n ∷ rest) = ended (name w ∷ name n ∷ []) (f n) (spelled n) rest
+name-sound w f spelled _ = tt
 
 -- things of one kind up to the end of the line, after what stands in front
 list-sound : {A : Type 0} (one : List Lexeme → Option (A × List Lexeme)) (spell : A → List Lexeme) → ReadsSpelled one spell
     → (front : List Lexeme) (f : List A → Statement) → ((xs : List A) → front ++ (flat_map spell xs ++ []) ≡ spelling (f xs))
-    → (rest : List Lexeme) (s : Statement) → option_map f (all_of one rest) ≡ Some s → front ++ rest ≡ spelling s
-list-sound one spell sound front f spelled rest s e =
-    let mapped = map_some f (all_of one rest) s e in
-    ap (λ t. front ++ t) (all-sound one spell sound rest mapped.0 mapped.1 ∙ sym (append-nil (flat_map spell mapped.0)))
-    ∙ spelled mapped.0 ∙ ap spelling (sym mapped.2)
+    → (rest : List Lexeme) → IfSome (option_map f (all_of one rest)) (λ s. front ++ rest ≡ spelling s)
+list-sound one spell are front f spelled rest = map-there _ _ (all_of one rest) (all-sound one spell are (length rest) rest)
+    (λ xs is. ap (λ t. front ++ t) (is ∙ sym (append-nil (flat_map spell xs))) ∙ spelled xs)
 
 atoms-sound : (w : List ℕ) (f : List SignedAtom → Statement)
-    → ((xs : List SignedAtom) → name w ∷ (flat_map spell_atom xs ++ []) ≡ spelling (f xs))
-    → IsSound w (λ rest. option_map f (all_of atom_at rest))
+    → ((xs : List SignedAtom) → name w ∷ (flat_map spell_atom xs ++ []) ≡ spelling (f xs)) → (rest : List Lexeme)
+    → IsSpelled w rest (option_map f (all_of atom_at rest))
 atoms-sound w f spelled = list-sound atom_at spell_atom atom-sound (name w ∷ []) f spelled
 
-object-sound : IsSound (codes "object") (λ rest. option_map object (names_of rest))
-object-sound rest s e =
-    let mapped = map_some object (names_of rest) s e in
-    ap (λ t. name (codes "object") ∷ t) (names-sound rest mapped.0 mapped.1 ∙ sym (append-nil (map name mapped.0)))
-    ∙ ap spelling (sym mapped.2)
+object-sound : (rest : List Lexeme) → IsSpelled (codes "object") rest (option_map object (names_of rest))
+object-sound rest = map-there _ _ (names_of rest) (names-sound rest)
+    (λ ns is. ap (λ t. name (codes "object") ∷ t) (is ∙ sym (append-nil (map name ns))))
 
-predicate-sound : IsSound (codes "predicate") predicate_form
-predicate-sound (name n ∷ number arity ∷ rest) s e = let at = ended (predicate n arity) rest s e in rw at.0 (ap spelling at.1)
-predicate-sound _ s e = cc
+predicate-sound : (rest : List Lexeme) → IsSpelled (codes "predicate") rest (predicate_form rest)
+predicate-sound (name n ∷ number arity ∷ []) = refl
+predicate-sound _ = tt
 
-operator-sound : IsSound (codes "operator") operator_form
-operator-sound (name n ∷ rest) s e =
-    let step = and_then_some _ (names_at rest) s e in
-    let at = at-end-some (operator n step.0.0) step.0.1 s step.2 in
-    ap (λ t. name (codes "operator") ∷ name n ∷ t)
-    (names-at-sound rest step.0 step.1 ∙ ap (λ t. in_parentheses (map name step.0.0) ++ t) at.1) ∙ ap spelling at.0
+operator-sound : (rest : List Lexeme) → IsSpelled (codes "operator") rest (operator_form rest)
+operator-sound (name n ∷ rest) = then-there _ _ (names_at rest) (names-at-sound rest) (λ items is. at-end items.0 items.1 is)
   where
-    at-end-some : (a : Statement) (rest : List Lexeme) (y : Statement) → at_end (a, rest) ≡ Some y → (a ≡ y) × (rest ≡ [])
-    at-end-some a [] y e = (cc, refl)
-    at-end-some a (x ∷ xs) y e = cc
-operator-sound _ s e = cc
+    at-end : (ps : List (List ℕ)) (after : List Lexeme) → rest ≡ in_parentheses (map name ps) ++ after
+        → IsSpelled (codes "operator") (name n ∷ rest) (at_end (operator n ps, after))
+    at-end ps [] is = ap (λ t. name (codes "operator") ∷ name n ∷ t) is
+    at-end ps _ is = tt
+operator-sound _ = tt
 
-door-sound : IsSound (codes "door") door_form
-door-sound (name n ∷ name one ∷ name other ∷ name state ∷ rest) s e =
-    let step = and_then_some _ (open_of state) s e in
-    let at = ended (door n one other step.0) rest s step.2 in
-    let front : List ℕ → List Lexeme → List Lexeme = λ v t. name (codes "door") ∷ name n ∷ name one ∷ name other ∷ name v ∷ t in
-    ap (λ v. front v rest) (which-sound open_word state step.0 step.1) ∙ ap (front (open_word step.0)) at.0 ∙ ap spelling at.1
-door-sound _ s e = cc
+door-sound : (rest : List Lexeme) → IsSpelled (codes "door") rest (door_form rest)
+door-sound (name n ∷ name one ∷ name other ∷ name state ∷ rest) = then-there _ _ (open_of state) (which-sound open_word state)
+    (λ is_open is. let front = name (codes "door") ∷ name n ∷ name one ∷ name other ∷ name (open_word is_open) ∷ [] in
+    rw is (ended front (door n one other is_open) refl rest))
+door-sound _ = tt
 
-box-sound : IsSound (codes "box") box_form
-box-sound (name n ∷ name r ∷ rest) s e = let at = ended (box n r) rest s e in rw at.0 (ap spelling at.1)
-box-sound _ s e = cc
+box-sound : (rest : List Lexeme) → IsSpelled (codes "box") rest (box_form rest)
+box-sound (name n ∷ name r ∷ []) = refl
+box-sound _ = tt
 
-plan-sound : IsSound (codes "plan") plan_form
-plan-sound (name n ∷ rest) s e =
-    list-sound atom_at spell_atom atom-sound (name (codes "plan") ∷ name n ∷ []) (plan n) (λ xs. refl) rest s e
-plan-sound _ s e = cc
+plan-sound : (rest : List Lexeme) → IsSpelled (codes "plan") rest (plan_form rest)
+plan-sound (name n ∷ rest) = list-sound atom_at spell_atom atom-sound (name (codes "plan") ∷ name n ∷ []) (plan n) (λ xs. refl) rest
+plan-sound _ = tt
 
-learn-sound : IsSound (codes "learn") learn_form
-learn-sound (name n ∷ name v ∷ name source ∷ rest) s e =
-    let w = only-if (bytes_eq v (codes "from")) _ s e in
-    let at = ended (learn n source) rest s w.1 in
-    rw (same_word v (codes "from") w.0, at.0) (ap spelling at.1)
-learn-sound _ s e = cc
+learn-sound : (rest : List Lexeme) → IsSpelled (codes "learn") rest (learn_form rest)
+learn-sound (name n ∷ name v ∷ name source ∷ rest) = if-there _ _ _ (bytes_eq v (codes "from")) (λ e. rw (same_word v (codes "from") e)
+    (ended (name (codes "learn") ∷ name n ∷ name (codes "from") ∷ name source ∷ []) (learn n source) refl rest)) (λ e. tt)
+learn-sound _ = tt
 
-run-sound : IsSound (codes "run") run_form
-run-sound (name n ∷ rest) s e =
-    list-sound binding_at spell_binding binding-sound (name (codes "run") ∷ name n ∷ []) (run n) (λ bs. refl) rest s e
-run-sound _ s e = cc
+run-sound : (rest : List Lexeme) → IsSpelled (codes "run") rest (run_form rest)
+run-sound (name n ∷ rest) =
+    list-sound binding_at spell_binding binding-sound (name (codes "run") ∷ name n ∷ []) (run n) (λ bs. refl) rest
+run-sound _ = tt
 
-disturb-sound : (with_building : Bool) → IsSound (codes "disturb") (disturb_form with_building)
-disturb-sound with_building (number turn ∷ name v ∷ rest) s e =
-    let step = and_then_some _ (time_of v) s e in rw (which-sound time_word v step.0 step.1) (edits with_building step.0 step.2)
+disturb-sound : (with_building : Bool) (rest : List Lexeme) → IsSpelled (codes "disturb") rest (disturb_form with_building rest)
+disturb-sound with_building (number turn ∷ name v ∷ rest) =
+    then-there _ _ (time_of v) (which-sound time_word v) (λ between is. rw is (edits with_building between))
   where
-    edits : (with_building between : Bool) → edits_form with_building turn between rest ≡ Some s
-        → name (codes "disturb") ∷ number turn ∷ name (time_word between) ∷ rest ≡ spelling s
+    edits : (with_building between : Bool)
+        → IsSpelled (codes "disturb") (number turn ∷ name (time_word between) ∷ rest) (edits_form with_building turn between rest)
     edits true between = list-sound room_edit_at spell_room_edit room-edit-sound
-        (name (codes "disturb") ∷ number turn ∷ name (time_word between) ∷ []) (disturb_rooms turn between) (λ es. refl) rest s
+        (name (codes "disturb") ∷ number turn ∷ name (time_word between) ∷ []) (disturb_rooms turn between) (λ es. refl) rest
     edits false between = list-sound atom_at spell_atom atom-sound
-        (name (codes "disturb") ∷ number turn ∷ name (time_word between) ∷ []) (disturb_atoms turn between) (λ xs. refl) rest s
-disturb-sound with_building _ s e = cc
+        (name (codes "disturb") ∷ number turn ∷ name (time_word between) ∷ []) (disturb_atoms turn between) (λ xs. refl) rest
+disturb-sound with_building _ = tt
 
 -- this word, and else another
-is : (w : List ℕ) (rest : List Lexeme) (s : Statement) (v : List ℕ) (x y : Option Statement)
-    → (x ≡ Some s → name v ∷ rest ≡ spelling s) → (y ≡ Some s → name w ∷ rest ≡ spelling s)
-    → cond (bytes_eq w v) x y ≡ Some s → name w ∷ rest ≡ spelling s
-is w rest s v x y here more e = elim (chosen (bytes_eq w v) x y (Some s) e) [
-  | inl c ↦ ap (λ t. name t ∷ rest) (same_word w v c.0) ∙ here c.1
-  | inr c ↦ more c.1
-]
+is : (w v : List ℕ) (rest : List Lexeme) (x y : Option Statement) → IsSpelled v rest x → IsSpelled w rest y
+    → IsSpelled w rest (cond (bytes_eq w v) x y)
+is w v rest x y here more = if-there _ _ _ (bytes_eq w v) (λ e. rw (same_word w v e) here) (λ e. more)
 
-rest-sound : (with_building : Bool) (w : List ℕ) (rest : List Lexeme) (s : Statement) → rest_form with_building w rest ≡ Some s
-    → name w ∷ rest ≡ spelling s
-rest-sound with_building w rest s =
-    is w rest s (codes "script") _ _ (number-sound (codes "script") script (λ n. refl) rest s)
-    (is w rest s (codes "object") _ _ (object-sound rest s)
-    (is w rest s (codes "predicate") _ _ (predicate-sound rest s)
-    (is w rest s (codes "axiom") _ _ (atoms-sound (codes "axiom") «axiom» (λ xs. refl) rest s)
-    (is w rest s (codes "operator") _ _ (operator-sound rest s)
-    (is w rest s (codes "pre") _ _ (atoms-sound (codes "pre") pre (λ xs. refl) rest s)
-    (is w rest s (codes "delete") _ _ (atoms-sound (codes "delete") delete (λ xs. refl) rest s)
-    (is w rest s (codes "add") _ _ (atoms-sound (codes "add") add (λ xs. refl) rest s)
-    (is w rest s (codes "building") _ _ (nothing-sound (codes "building") building refl rest s)
-    (is w rest s (codes "room") _ _ (name-sound (codes "room") room (λ n. refl) rest s)
-    (is w rest s (codes "door") _ _ (door-sound rest s)
-    (is w rest s (codes "box") _ _ (box-sound rest s)
-    (is w rest s (codes "robot") _ _ (name-sound (codes "robot") robot (λ n. refl) rest s)
-    (is w rest s (codes "end") _ _ (nothing-sound (codes "end") end refl rest s)
-    (is w rest s (codes "fact") _ _ (atoms-sound (codes "fact") fact (λ xs. refl) rest s)
-    (is w rest s (codes "height") _ _ (number-sound (codes "height") height (λ n. refl) rest s)
-    (is w rest s (codes "nodes") _ _ (number-sound (codes "nodes") nodes (λ n. refl) rest s)
-    (is w rest s (codes "shapes") _ _ (number-sound (codes "shapes") shapes (λ n. refl) rest s)
-    (is w rest s (codes "plan") _ _ (plan-sound rest s)
-    (is w rest s (codes "learn") _ _ (learn-sound rest s)
-    (is w rest s (codes "show") _ _ (name-sound (codes "show") show (λ n. refl) rest s)
-    (is w rest s (codes "disturb") _ _ (disturb-sound with_building rest s)
-    (is w rest s (codes "run") _ _ (run-sound rest s)
-    (is w rest s (codes "facts") _ _ (nothing-sound (codes "facts") facts refl rest s) (λ e. cc))))))))))))))))))))))))
+nothing-sound : (w : List ℕ) (a : Statement) → name w ∷ [] ≡ spelling a → (rest : List Lexeme) → IsSpelled w rest (nothing_form a rest)
+nothing-sound w a = ended (name w ∷ []) a
+
+rest-sound : (with_building : Bool) (w : List ℕ) (rest : List Lexeme) → IsSpelled w rest (rest_form with_building w rest)
+rest-sound with_building w rest = search (
+  is,
+  nothing-sound,
+  number-sound,
+  name-sound,
+  atoms-sound,
+  object-sound,
+  predicate-sound,
+  operator-sound,
+  door-sound,
+  box-sound,
+  plan-sound,
+  learn-sound,
+  run-sound,
+  disturb-sound,
+) depth 60
 
 -- ---- the whole line
 
@@ -505,28 +418,24 @@ well-formed d l formed =
 pub forms-known : (d : Declared) (lexemes : List Lexeme) (s : Statement) → Forms d lexemes s → begins_with_word d lexemes ≡ true
 forms-known d lexemes s forms = rw forms.0 (well-formed d (line_of s) forms.1).word
 
+atoms-again : (xs : List SignedAtom) → all_of atom_at (flat_map spell_atom xs ++ []) ≡ Some xs
+atoms-again xs = all-again each atom_at spell_atom atoms-back xs (all-each xs)
+
+edits-again : (es : List WrittenRoomEdit) → all_of room_edit_at (flat_map spell_room_edit es ++ []) ≡ Some es
+edits-again es = all-again each room_edit_at spell_room_edit room-edits-back es (all-each es)
+
 -- what follows the word is read back
 rest-again : (d : Declared) (s : Statement) → IsWellFormed d (line_of s)
     → rest_form (has_building d) (line_of s).word (flat_map spell (line_of s).items) ≡ Some s
-rest-again d (object ns) formed = ap (option_map object) (names-again ns)
-rest-again d («axiom» xs) formed = ap (option_map «axiom») (all-again each atom_at spell_atom atoms-back xs (all-each xs))
-rest-again d (operator n ps) formed = rw (parameters-again ps) refl
-rest-again d (pre xs) formed = ap (option_map pre) (all-again each atom_at spell_atom atoms-back xs (all-each xs))
-rest-again d (delete xs) formed = ap (option_map delete) (all-again each atom_at spell_atom atoms-back xs (all-each xs))
-rest-again d (add xs) formed = ap (option_map add) (all-again each atom_at spell_atom atoms-back xs (all-each xs))
 rest-again d (door n one other true) formed = refl
 rest-again d (door n one other false) formed = refl
-rest-again d (fact xs) formed = ap (option_map fact) (all-again each atom_at spell_atom atoms-back xs (all-each xs))
-rest-again d (plan n xs) formed = ap (option_map (plan n)) (all-again each atom_at spell_atom atoms-back xs (all-each xs))
-rest-again d (disturb_atoms turn between xs) formed =
-    rw (word-again time_of time_word refl refl between, not-true (has_building d) formed.of_script)
-    (ap (option_map (disturb_atoms turn between)) (all-again each atom_at spell_atom atoms-back xs (all-each xs)))
-rest-again d (disturb_rooms turn between es) formed =
-    rw (word-again time_of time_word refl refl between, formed.of_script)
-    (ap (option_map (disturb_rooms turn between)) (all-again each room_edit_at spell_room_edit room-edits-back es (all-each es)))
+rest-again d (disturb_atoms turn true xs) formed = rw (not-true (has_building d) formed.of_script, atoms-again xs) refl
+rest-again d (disturb_atoms turn false xs) formed = rw (not-true (has_building d) formed.of_script, atoms-again xs) refl
+rest-again d (disturb_rooms turn true es) formed = rw (formed.of_script, edits-again es) refl
+rest-again d (disturb_rooms turn false es) formed = rw (formed.of_script, edits-again es) refl
 rest-again d (run n bs) formed = ap (option_map (run n))
     (all-again (λ b. is_parameter_number b.parameter) binding_at spell_binding bindings-back bs (and_parts _ true formed.filled).0)
-rest-again d _ formed = refl
+rest-again d _ formed = search (names-again, atoms-again, parameters-again)
 
 pub parse-complete : (d : Declared) (lexemes : List Lexeme) (s : Statement) → Forms d lexemes s → parse d lexemes ≡ Some s
 parse-complete d lexemes s forms =
@@ -534,7 +443,7 @@ parse-complete d lexemes s forms =
 
 pub parse-sound : (d : Declared) (lexemes : List Lexeme) (s : Statement) → parse d lexemes ≡ Some s → Forms d lexemes s
 parse-sound d (name w ∷ rest) s e =
-    let step = and_then_some (formed_only d) (rest_form (has_building d) w rest) s e in
-    let formed = cond_some (is_formed d (line_of step.0)) step.0 s step.2 in
-    subst (Forms d (name w ∷ rest)) formed.1 (rest-sound (has_building d) w rest step.0 step.1, formed.0)
+    let P : Statement → Type 0 = Forms d (name w ∷ rest) in
+    there P (parse d (name w ∷ rest)) s (then-there P _ (rest_form (has_building d) w rest) (rest-sound (has_building d) w rest)
+    (λ a is. if-there P _ _ (is_formed d (line_of a)) (λ formed. (is, formed)) (λ e. tt))) e
 parse-sound d _ s e = cc

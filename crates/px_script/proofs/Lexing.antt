@@ -1,9 +1,10 @@
 -- The scan finds the first lexeme exactly where the line begins with one; and a line has at most one reading as lexemes.
+use Rattle.unicode_ident.proofs.Computing.{unicode_ident}
 use Rattle.unicode_ident.proofs.IdentLemmas.{is_xid_start-is_xid_continue}
-use Rattle.px_script.specs.Lexemes.{Lexeme, name, variable, number, sign, is_blank, is_sign, goes_on, is_comment, IsLexeme, ends_before, Begins, IsIgnored, Lexes}
-use Rattle.px_script.proofs.Common.{◌≡◌, ℕ, ◌+◌, ◌<◌, ◌≤◌, Bool, true, false, ◌&&◌, ◌||◌, ◌==◌, List, [], ◌∷◌, ◌++◌, length, refl, sym, ap, ◌∙◌, subst, inl, inr, arith, eqb-true, leb-true, length-append, encode_utf8_all, list_any, list_all, AllByRecursion, all_ascii_digits, is_ascii_digit, is_ascii_alphabetic, and_parts, cond-true, not-true, or_cases, is_xid_continue, is_xid_start-ascii, is_xid_continue-ascii, both_answers, starts_name}
+use Rattle.px_script.specs.Lexemes.{Lexeme, name, variable, number, sign, is_blank, is_sign, goes_on, is_comment, IsLexeme, ends_before, Begins, IsIgnored}
+use Rattle.px_script.proofs.Common.{◌≡◌, ℕ, ◌<◌, ◌≤◌, Bool, true, false, not, ◌&&◌, ◌||◌, ◌==◌, List, [], ◌∷◌, ◌++◌, length, refl, sym, ap, ◌∙◌, subst, inl, inr, arith, eqb-true, leb-true, length-append, list_any, list_all, AllByRecursion, all_ascii_digits, is_ascii_digit, is_ascii_alphabetic, and_parts, cond, not-true, or_cases, is_xid_continue, is_xid_start-ascii, is_xid_continue-ascii, both_answers, starts_name}
 use Rattle.px_script.proofs.Lists.{by_test}
-use Rattle.px_script.proofs.Scanning.{First, found, ignored, bad, front_while, after_while, first_number, first_variable, first_sign, first_at, first, stops}
+use Rattle.px_script.proofs.Scanning.{First, found, ignored, bad, front_while, after_while, first_number, first_variable, first_at, first, stops}
 
 -- ---- the longest front of a list that passes a test
 
@@ -33,10 +34,6 @@ module _ (p : ℕ → Bool) where
 
 -- ---- the first characters of lexemes
 
--- an ASCII character begins a name only where it is a letter or an underscore
-starts-ascii : (c : ℕ) → c < 128 → starts_name c ≡ ((c == 95) || is_ascii_alphabetic c)
-starts-ascii c small = ap (λ b. (c == 95) || b) (is_xid_start-ascii c small)
-
 -- what holds of each code of a list holds of one that is among them
 at-codes : (P : ℕ → Type 0) (c : ℕ) (codes : List ℕ) → AllByRecursion P codes → list_any (λ s. c == s) codes ≡ true → P c
 at-codes P c [] all is = cc
@@ -51,29 +48,31 @@ at_code P c k same holds = subst P (sym (eqb-true c k same)) holds
 pub digit-range : (c : ℕ) → is_ascii_digit c ≡ true → (48 ≤ c) × (c ≤ 57)
 digit-range c digit = let both = and_parts _ _ digit in (leb-true 48 c both.0, leb-true c 57 both.1)
 
+-- a digit begins no name
+digit-starts : (c : ℕ) → is_ascii_digit c ≡ true → starts_name c ≡ false
+digit-starts c digit =
+    let range = digit-range c digit in
+    let letter : ((c == 95) || is_ascii_alphabetic c) ≡ false = grind (arith, range.0, range.1) in
+    ap (λ b. (c == 95) || b) (is_xid_start-ascii c (omega (arith, range.1))) ∙ letter
+
 -- what starts a name may go on one
 pub starts-continues : (c : ℕ) → starts_name c ≡ true → is_xid_continue c ≡ true
+unfolding unicode_ident
 starts-continues c starts = elim (or_cases _ _ starts) [
-  | inl underscore ↦ at_code (λ x. is_xid_continue x ≡ true) c 95 underscore (is_xid_continue-ascii 95 (omega arith))
+  | inl underscore ↦ at_code (λ x. is_xid_continue x ≡ true) c 95 underscore refl
   | inr letter ↦ is_xid_start-is_xid_continue c letter
 ]
 
 -- no lexeme and no comment begins with a blank
 blank-bad : (c : ℕ) (cs : List ℕ) → is_blank c ≡ true → first_at (c ∷ cs) ≡ bad
-blank-bad c cs blank =
-    let P : ℕ → Type 0 = λ x. first_at (x ∷ cs) ≡ bad in
-    elim (or_cases _ _ blank) [
-      | inl space ↦ at_code P c 32 space (rw (starts-ascii 32 (omega arith)) refl)
-      | inr tab ↦ at_code P c 9 tab (rw (starts-ascii 9 (omega arith)) refl)
-    ]
+unfolding unicode_ident
+blank-bad c cs blank = let P : ℕ → Type 0 = λ x. first_at (x ∷ cs) ≡ bad in
+    elim (or_cases _ _ blank) [ inl space ↦ at_code P c 32 space refl | inr tab ↦ at_code P c 9 tab refl ]
 
-goes_on-stops : (cs : List ℕ) → goes_on cs ≡ false → stops is_xid_continue cs ≡ true
-goes_on-stops [] h = refl
-goes_on-stops (c ∷ cs) h = rw h refl
-
-stops-goes_on : (cs : List ℕ) → stops is_xid_continue cs ≡ true → goes_on cs ≡ false
-stops-goes_on [] h = refl
-stops-goes_on (c ∷ cs) h = not-true (is_xid_continue c) h
+-- what goes on no name stops it
+stops-name : (cs : List ℕ) → stops is_xid_continue cs ≡ not (goes_on cs)
+stops-name [] = refl
+stops-name (c ∷ cs) = refl
 
 stops-digit : (cs : List ℕ) → goes_on cs ≡ false → stops is_ascii_digit cs ≡ true
 stops-digit [] h = refl
@@ -87,68 +86,34 @@ digits-all (c ∷ cs) = ap (λ b. is_ascii_digit c && b) (digits-all cs)
 
 -- a sign is none of the codes that are tested before
 sign-first : (c : ℕ) (cs : List ℕ) → is_sign c ≡ true → first_at (c ∷ cs) ≡ found (sign c) cs
-sign-first c cs is = at-codes (λ x. first_at (x ∷ cs) ≡ found (sign x) cs) c (40 ∷ 41 ∷ 44 ∷ 126 ∷ 36 ∷ 43 ∷ 45 ∷ 61 ∷ []) (
-  rw (starts-ascii 40 (omega arith)) refl,
-  (
-    rw (starts-ascii 41 (omega arith)) refl,
-    (
-      rw (starts-ascii 44 (omega arith)) refl,
-      (
-        rw (starts-ascii 126 (omega arith)) refl,
-        (
-          rw (starts-ascii 36 (omega arith)) refl,
-          (
-            rw (starts-ascii 43 (omega arith)) refl,
-            (rw (starts-ascii 45 (omega arith)) refl, (rw (starts-ascii 61 (omega arith)) refl, tt)),
-          ),
-        ),
-      ),
-    ),
-  ),
-) is
+unfolding unicode_ident
+sign-first c cs is = at-codes (λ x. first_at (x ∷ cs) ≡ found (sign x) cs) c (40 ∷ 41 ∷ 44 ∷ 126 ∷ 36 ∷ 43 ∷ 45 ∷ 61 ∷ [])
+    (refl, (refl, (refl, (refl, (refl, (refl, (refl, (refl, tt)))))))) is
 
 -- ---- what begins with a lexeme is scanned as it
 
 at-lexeme : (l : Lexeme) (text rest : List ℕ) → IsLexeme l text → ends_before l rest → first_at (text ++ rest) ≡ found l rest
+unfolding unicode_ident
 at-lexeme (name n) [] rest is ends = let no = is.0 in cc
 at-lexeme (name n) (c ∷ cs) rest is ends =
     let both = and_parts (starts_name c) (list_all is_xid_continue cs) is.0 in
-    let stop = goes_on-stops rest ends in
+    let stop = stops-name rest ∙ ap not ends in
     rw (both.0, front-is is_xid_continue cs rest both.1 stop, after-is is_xid_continue cs rest both.1 stop, is.1) refl
-at-lexeme (variable n) [] rest is ends = elim is [ ]
+at-lexeme (variable n) [] rest is ends = absurd is
 at-lexeme (variable n) (m ∷ []) rest is ends = let no = is.1 in cc
 at-lexeme (variable n) (m ∷ c ∷ cs) rest is ends =
     let both = and_parts (starts_name c) (list_all is_xid_continue cs) is.1 in
-    let stop = goes_on-stops rest ends in
-    rw (
-      is.0,
-      starts-ascii 63 (omega arith),
-      both.0,
-      front-is is_xid_continue cs rest both.1 stop,
-      after-is is_xid_continue cs rest both.1
-          stop,
-      is.2,
-    ) refl
+    let stop = stops-name rest ∙ ap not ends in
+    rw (is.0, both.0, front-is is_xid_continue cs rest both.1 stop, after-is is_xid_continue cs rest both.1 stop, is.2) refl
 at-lexeme (number n) [] rest is ends = absurd (omega (arith, is.0))
 at-lexeme (number n) (c ∷ cs) rest is ends =
-    let all : list_all is_ascii_digit (c ∷ cs) ≡ true = sym (digits-all (c ∷ cs)) ∙ is.1 in
-    let both = and_parts (is_ascii_digit c) (list_all is_ascii_digit cs) all in
+    let both = and_parts (is_ascii_digit c) (list_all is_ascii_digit cs) (sym (digits-all (c ∷ cs)) ∙ is.1) in
     let range = digit-range c both.0 in
-    let letter : ((c == 95) || is_ascii_alphabetic c) ≡ false = grind (arith, range.0, range.1) in
     let hash : (c == 35) ≡ false = grind (arith, range.0) in
     let mark : (c == 63) ≡ false = grind (arith, range.1) in
     let stop = stops-digit rest ends in
-    rw (
-      starts-ascii c (omega (arith, range.1)),
-      letter,
-      hash,
-      mark,
-      both.0,
-      front-is is_ascii_digit cs rest both.1 stop,
-      after-is is_ascii_digit cs rest both.1 stop,
-      ends,
-      is.2,
-    ) refl
+    let whole = front-is is_ascii_digit cs rest both.1 stop in
+    rw (digit-starts c both.0, hash, mark, both.0, whole, after-is is_ascii_digit cs rest both.1 stop, ends, is.2) refl
 at-lexeme (sign s) text rest is ends = rw is.1 (sign-first s rest is.0)
 
 not-bad-stops : (cs : List ℕ) → ¬ (first_at cs ≡ bad) → stops is_blank cs ≡ true
@@ -162,8 +127,9 @@ begins-found line l rest begins =
     rw (begins.whole, after-is is_blank begins.blanks (begins.text ++ rest) begins.blank stop) here
 
 comment-ignored : (cs : List ℕ) → is_comment cs ≡ true → first_at cs ≡ ignored
+unfolding unicode_ident
 comment-ignored [] h = refl
-comment-ignored (c ∷ cs) h = at_code (λ x. first_at (x ∷ cs) ≡ ignored) c 35 h (rw (starts-ascii 35 (omega arith)) refl)
+comment-ignored (c ∷ cs) h = at_code (λ x. first_at (x ∷ cs) ≡ ignored) c 35 h refl
 
 pub ignored-scanned : (line : List ℕ) → IsIgnored line → first line ≡ ignored
 ignored-scanned line is =
@@ -171,108 +137,63 @@ ignored-scanned line is =
     let stop = not-bad-stops is.rest (λ e. cc) in
     rw (is.whole, after-is is_blank is.blanks is.rest is.blank stop) here
 
--- ---- what a scan at no blank says of the characters
+-- ---- what a scan says of the characters after blanks
 
-record Scanned (cs : List ℕ) (l : Lexeme) (rest : List ℕ) : Type 0 where
-  text : List ℕ
-  whole : cs ≡ text ++ rest
-  is_lexeme : IsLexeme l text
-  ends : ends_before l rest
+module _ (blanks : List ℕ) (blank : list_all is_blank blanks ≡ true) where
+  abbrev FirstSays : List ℕ → First → Type 0
+  FirstSays cs (found l rest) = Begins (blanks ++ cs) l rest
+  FirstSays cs ignored = is_comment cs ≡ true
+  FirstSays cs bad = Unit {0}
 
-found-same : (l m : Lexeme) (rest more : List ℕ) → found l rest ≡ found m more → (l ≡ m) × (rest ≡ more)
-found-same l m rest more e = (cc, cc)
+  either : (cs : List ℕ) (x y : First) (b : Bool) → (b ≡ true → FirstSays cs x) → (b ≡ false → FirstSays cs y) → FirstSays cs (cond b x y)
+  either cs x y true on_true on_false = on_true refl
+  either cs x y false on_true on_false = on_false refl
 
--- the lexeme that was found is scanned so
-scanned-as : (cs : List ℕ) (l m : Lexeme) (rest more : List ℕ) → found m more ≡ found l rest → Scanned cs m more → Scanned cs l rest
-scanned-as cs l m rest more e here = let same = found-same m l more rest e in rw (← same.0, ← same.1) here
+  begins : (l : Lexeme) (text rest cs : List ℕ) → text ++ rest ≡ cs → IsLexeme l text → ends_before l rest → Begins (blanks ++ cs) l rest
+  begins l text rest cs whole is ends = record {
+    blanks = blanks;
+    text = text;
+    whole = ap (λ t. blanks ++ t) (sym whole);
+    blank = blank;
+    is_lexeme = is;
+    ends = ends;
+  }
 
-scanned-name : (c : ℕ) (cs : List ℕ) (l : Lexeme) (rest : List ℕ) → starts_name c ≡ true
-    → found (name (encode_utf8_all (c ∷ front_while is_xid_continue cs))) (after_while is_xid_continue cs) ≡ found l rest
-    → Scanned (c ∷ cs) l rest
-scanned-name c cs l rest starts e = scanned-as (c ∷ cs) l _ rest _ e (record {
-  text = c ∷ front_while is_xid_continue cs;
-  whole = ap (λ t. c ∷ t) (sym (front-after is_xid_continue cs));
-  is_lexeme = (rw starts (front-all is_xid_continue cs), refl);
-  ends = stops-goes_on (after_while is_xid_continue cs) (after-stops is_xid_continue cs);
-})
+  -- the characters that go on a name are taken
+  name-ends : (cs : List ℕ) → goes_on (after_while is_xid_continue cs) ≡ false
+  name-ends cs = let rest = after_while is_xid_continue cs in
+      not-true (goes_on rest) (sym (stops-name rest) ∙ after-stops is_xid_continue cs)
 
-scanned-variable : (cs : List ℕ) (l : Lexeme) (rest : List ℕ) → first_variable cs ≡ found l rest → Scanned (63 ∷ cs) l rest
-scanned-variable [] l rest e = cc
-scanned-variable (c ∷ cs) l rest e = by_test (starts_name c)
-    (λ starts. scanned-as (63 ∷ c ∷ cs) l _ rest _ (rw starts at e) (record {
-      text = 63 ∷ c ∷ front_while is_xid_continue cs;
-      whole = ap (λ t. 63 ∷ c ∷ t) (sym (front-after is_xid_continue cs));
-      is_lexeme = (refl, rw starts (front-all is_xid_continue cs), refl);
-      ends = stops-goes_on (after_while is_xid_continue cs) (after-stops is_xid_continue cs);
-    }))
-    (λ starts. let chosen = rw starts at e in cc)
+  variable-says : (cs : List ℕ) → FirstSays (63 ∷ cs) (first_variable cs)
+  variable-says [] = tt
+  variable-says (c ∷ cs) = either (63 ∷ c ∷ cs) _ _ (starts_name c)
+      (λ starts. begins (variable _) (63 ∷ c ∷ front_while is_xid_continue cs) (after_while is_xid_continue cs) (63 ∷ c ∷ cs)
+      (ap (λ t. 63 ∷ c ∷ t) (front-after is_xid_continue cs)) (refl, rw starts (front-all is_xid_continue cs), refl) (name-ends cs))
+      (λ e. tt)
 
-scanned-number : (c : ℕ) (cs : List ℕ) (l : Lexeme) (rest : List ℕ) → is_ascii_digit c ≡ true → first_number (c ∷ cs) ≡ found l rest
-    → Scanned (c ∷ cs) l rest
-scanned-number c cs l rest digit e = by_test (goes_on (after_while is_ascii_digit (c ∷ cs)))
-    (λ more. let chosen = rw more at e in cc)
-    (λ ends. scanned-as (c ∷ cs) l _ rest _ (rw ends at e) (record {
-      text = front_while is_ascii_digit (c ∷ cs);
-      whole = sym (front-after is_ascii_digit (c ∷ cs));
-      is_lexeme = (rw digit (omega arith), digits-all (front_while is_ascii_digit (c ∷ cs)) ∙ front-all is_ascii_digit (c ∷ cs), refl);
-      ends = ends;
-    }))
+  number-says : (c : ℕ) (cs : List ℕ) → is_ascii_digit c ≡ true → FirstSays (c ∷ cs) (first_number (c ∷ cs))
+  number-says c cs digit = either (c ∷ cs) _ _ (goes_on (after_while is_ascii_digit (c ∷ cs))) (λ e. tt)
+      (begins (number _) (front_while is_ascii_digit (c ∷ cs)) (after_while is_ascii_digit (c ∷ cs)) (c ∷ cs)
+      (front-after is_ascii_digit (c ∷ cs))
+      (rw digit (omega arith), digits-all (front_while is_ascii_digit (c ∷ cs)) ∙ front-all is_ascii_digit (c ∷ cs), refl))
 
-scanned-sign : (c : ℕ) (cs : List ℕ) (l : Lexeme) (rest : List ℕ) → first_sign c cs ≡ found l rest → Scanned (c ∷ cs) l rest
-scanned-sign c cs l rest e = by_test (is_sign c)
-    (λ is. scanned-as (c ∷ cs) l _ rest _ (rw is at e) (record { text = c ∷ []; whole = refl; is_lexeme = (is, refl); ends = tt }))
-    (λ is. let chosen = rw is at e in cc)
+  first-says : (cs : List ℕ) → FirstSays cs (first_at cs)
+  first-says [] = refl
+  first-says (c ∷ cs) = either (c ∷ cs) _ _ (starts_name c)
+      (λ starts. begins (name _) (c ∷ front_while is_xid_continue cs) (after_while is_xid_continue cs) (c ∷ cs)
+      (ap (λ t. c ∷ t) (front-after is_xid_continue cs)) (rw starts (front-all is_xid_continue cs), refl) (name-ends cs))
+      (λ e. either (c ∷ cs) _ _ (c == 35) (λ hash. hash)
+      (λ e. either (c ∷ cs) _ _ (c == 63)
+      (λ mark. let P : ℕ → Type 0 = λ x. FirstSays (x ∷ cs) (first_variable cs) in at_code P c 63 mark (variable-says cs))
+      (λ e. either (c ∷ cs) _ _ (is_ascii_digit c) (number-says c cs)
+      (λ e. either (c ∷ cs) _ _ (is_sign c) (λ is. begins (sign c) (c ∷ []) cs (c ∷ cs) refl (is, refl) tt) (λ e. tt)))))
 
--- what is found, by the first character
-first-cases : (P : First → Type 0) (c : ℕ) (cs : List ℕ)
-    → (starts_name c ≡ true → P (found (name (encode_utf8_all (c ∷ front_while is_xid_continue cs))) (after_while is_xid_continue cs)))
-    → ((c == 35) ≡ true → P ignored) → ((c == 63) ≡ true → P (first_variable cs))
-    → (is_ascii_digit c ≡ true → P (first_number (c ∷ cs))) → P (first_sign c cs) → P (first_at (c ∷ cs))
-first-cases P c cs a_name a_comment a_variable a_number a_sign = by_test (starts_name c)
-    (λ starts. rw starts (a_name starts))
-    (λ starts. by_test (c == 35) (λ hash. rw (starts, hash) (a_comment hash)) (λ hash. by_test (c == 63)
-    (λ mark. rw (starts, hash, mark) (a_variable mark))
-    (λ mark. by_test (is_ascii_digit c)
-    (λ digit. rw (starts, hash, mark) (subst P (sym (cond-true (is_ascii_digit c) (first_number (c ∷ cs)) (first_sign c cs) digit))
-    (a_number digit)))
-    (λ digit. rw (starts, hash, mark, digit) a_sign))))
-
-scanned-at : (cs : List ℕ) (l : Lexeme) (rest : List ℕ) → first_at cs ≡ found l rest → Scanned cs l rest
-scanned-at [] l rest e = cc
-scanned-at (c ∷ cs) l rest e = first-cases (λ f. f ≡ found l rest → Scanned (c ∷ cs) l rest) c cs
-    (λ starts. scanned-name c cs l rest starts)
-    (λ hash e. cc)
-    (λ mark e. let P : ℕ → Type 0 = λ x. Scanned (x ∷ cs) l rest in at_code P c 63 mark (scanned-variable cs l rest e))
-    (λ digit. scanned-number c cs l rest digit)
-    (scanned-sign c cs l rest) e
+  said : (cs : List ℕ) (f : First) → first_at cs ≡ f → FirstSays cs f
+  said cs f e = subst (FirstSays cs) e (first-says cs)
 
 pub found-begins : (line : List ℕ) (l : Lexeme) (rest : List ℕ) → first line ≡ found l rest → Begins line l rest
-found-begins line l rest e =
-    let at = scanned-at (after_while is_blank line) l rest e in
-    record {
-      blanks = front_while is_blank line;
-      text = at.text;
-      whole = sym (front-after is_blank line) ∙ ap (λ t. front_while is_blank line ++ t) at.whole;
-      blank = front-all is_blank line;
-      is_lexeme = at.is_lexeme;
-      ends = at.ends;
-    }
-
-ignored-at : (cs : List ℕ) → first_at cs ≡ ignored → is_comment cs ≡ true
-ignored-at [] e = refl
-ignored-at (c ∷ cs) e = first-cases (λ f. f ≡ ignored → is_comment (c ∷ cs) ≡ true) c cs (λ starts e. cc) (λ hash e. hash)
-    (λ mark e. absurd (variable-no cs e)) (λ digit e. absurd (number-no (c ∷ cs) e)) (λ e. absurd (sign-no c cs e)) e
-  where
-    variable-no : (cs : List ℕ) → ¬ (first_variable cs ≡ ignored)
-    variable-no [] e = cc
-    variable-no (c ∷ cs) e = by_test (starts_name c) (λ starts. let e1 = rw starts at e in cc) (λ starts. let e1 = rw starts at e in cc)
-
-    number-no : (cs : List ℕ) → ¬ (first_number cs ≡ ignored)
-    number-no cs e =
-        by_test (goes_on (after_while is_ascii_digit cs)) (λ more. let e1 = rw more at e in cc) (λ more. let e1 = rw more at e in cc)
-
-    sign-no : (c : ℕ) (cs : List ℕ) → ¬ (first_sign c cs ≡ ignored)
-    sign-no c cs e = by_test (is_sign c) (λ is. let e1 = rw is at e in cc) (λ is. let e1 = rw is at e in cc)
+found-begins line l rest e = subst (λ t. Begins t l rest) (front-after is_blank line)
+    (said (front_while is_blank line) (front-all is_blank line) (after_while is_blank line) (found l rest) e)
 
 pub scanned-ignored : (line : List ℕ) → first line ≡ ignored → IsIgnored line
 scanned-ignored line e = record {
@@ -280,34 +201,25 @@ scanned-ignored line e = record {
   rest = after_while is_blank line;
   whole = sym (front-after is_blank line);
   blank = front-all is_blank line;
-  comment = ignored-at (after_while is_blank line) e;
+  comment = said [] refl (after_while is_blank line) ignored e;
 }
 
 -- ---- one reading
 
 -- two lexemes at the front of a line are one
 pub Begins-same : (line : List ℕ) (l m : Lexeme) (rest more : List ℕ) → Begins line l rest → Begins line m more → (l ≡ m) × (rest ≡ more)
-Begins-same line l m rest more a b = found-same l m rest more (sym (begins-found line l rest a) ∙ begins-found line m more b)
+Begins-same line l m rest more a b = let e = begins-found line l rest a in let f = begins-found line m more b in (cc, cc)
 
 pub Begins-not-ignored : {A : Type 0} (line : List ℕ) (l : Lexeme) (rest : List ℕ) → Begins line l rest → IsIgnored line → A
 Begins-not-ignored line l rest a b = let e = begins-found line l rest a in let f = ignored-scanned line b in cc
 
-pub Lexes-same : (xs ys : List Lexeme) (line : List ℕ) → Lexes line xs → Lexes line ys → xs ≡ ys
-Lexes-same [] [] line a b = refl
-Lexes-same [] (y ∷ ys) line a b = Begins-not-ignored line y b.0 b.1 a
-Lexes-same (x ∷ xs) [] line a b = Begins-not-ignored line x a.0 a.1 b
-Lexes-same (x ∷ xs) (y ∷ ys) line a b =
-    let same = Begins-same line x y a.0 b.0 a.1 b.1 in
-    rw same.0 (ap (λ t. y ∷ t) (Lexes-same xs ys a.0 a.2 (subst (λ rest. Lexes rest ys) (sym same.1) b.2)))
-
 -- a lexeme has a character
 lexeme-long : (l : Lexeme) (text : List ℕ) → IsLexeme l text → 0 < length text
+lexeme-long l (c ∷ cs) is = omega arith
 lexeme-long (name n) [] is = let e = is.0 in cc
-lexeme-long (name n) (c ∷ cs) is = omega arith
-lexeme-long (variable n) [] is = elim is [ ]
-lexeme-long (variable n) (c ∷ cs) is = omega arith
-lexeme-long (number n) text is = is.0
-lexeme-long (sign s) text is = rw is.1 (omega arith)
+lexeme-long (variable n) [] is = absurd is
+lexeme-long (number n) [] is = is.0
+lexeme-long (sign s) [] is = let e = is.1 in cc
 
 pub Begins-shorter : (line : List ℕ) (l : Lexeme) (rest : List ℕ) → Begins line l rest → length rest < length line
 Begins-shorter line l rest begins =

@@ -20,5 +20,4 @@ pub mod Kept
 -- the law of one reading
 pub mod Law
 -- worked lines and texts
-pub mod Plain
 pub mod Computed

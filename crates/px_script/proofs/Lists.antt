@@ -1,12 +1,12 @@
 -- Lists of names: tests of them, the numbers of names, names that stand twice, and names that stay distinct where a line adds new ones.
 use Rattle.std.specs.List.{prefix_len, position_or_len}
 use Rattle.std.proofs.lemmas.List.Elements.{All-head, All-tail}
-use Rattle.std.proofs.lemmas.List.Quantifiers.{all_pairs_push, position-Some}
+use Rattle.std.proofs.lemmas.List.Quantifiers.{all_pairs_push}
+use Rattle.std.proofs.lemmas.List.Sums.{passes_at_first}
+use Rattle.std.proofs.lemmas.List.{take-append-le}
 use Rattle.px_names.specs.Lists.{AreDistinct}
 use Rattle.px_names.specs.NameLaws.{has_name-decides}
-use Rattle.px_script.specs.Causes.{stands_twice, repeats}
-use Rattle.px_script.specs.Declarations.{number_in}
-use Rattle.px_script.proofs.Common.{◌≡◌, ◌≢◌, ◌⊎◌, ℕ, suc, ◌+◌, ◌<◌, ◌≤◌, Bool, true, false, cond, not, ◌||◌, List, [], ◌∷◌, ◌++◌, length, get_or, refl, sym, ap, ◌∙◌, subst, inl, inr, arith, append_assoc, append-nil, nat_lt, Option, None, Some, is_some, All, AllByRecursion, Contains, slice_index_or, position, list_any, flat_map, filter, bytes_eq, if◌then◌else◌, nat_tests, not-false, or_parts, or_right, All-cons, All-nil, list_any-append, list_any_at, bytes_eq-Decides, both_answers, All-each, has_name, bytes_eq-itself}
+use Rattle.px_script.proofs.Common.{◌≡◌, ◌≢◌, ◌⊎◌, ℕ, suc, ◌+◌, ◌<◌, ◌≤◌, Bool, true, false, cond, not, ◌||◌, List, [], ◌∷◌, ◌++◌, length, get_or, refl, sym, ap, ◌∙◌, subst, inl, inr, arith, append_assoc, append-nil, nat_lt, Option, None, Some, is_some, All, AllByRecursion, Contains, slice_index_or, position, list_any, flat_map, filter, bytes_eq, if◌then◌else◌, nat_tests, or_parts, or_right, list_any-append, list_any_at, bytes_eq-Decides, both_answers, All-each, has_name, bytes_eq-itself, EachIndex, cases_lt, take, get_or-append, take-append_seam, length-append, get_or-append_seam, stands_twice, repeats, number_in, All-from_recursion}
 
 -- one case for each answer of a test
 pub by_test : {A : Type 0} (b : Bool) → (b ≡ true → A) → (b ≡ false → A) → A
@@ -29,23 +29,44 @@ at-most greatest n e = grind (arith, nat_tests)
 pub not-below : (n least : ℕ) → nat_lt n least ≡ false → least ≤ n
 not-below n least e = grind (arith, nat_tests)
 
--- none of the items passes the test
+-- what items have that don't pass a test, where none passes it
+pub none-passes : {A : Type 0} (p : A → Bool) (P : A → Type 0) → ((x : A) → p x ≡ false → P x) → (xs : List A) → list_any p xs ≡ false
+    → AllByRecursion P xs
+none-passes p P f [] none = tt
+none-passes p P f (x ∷ xs) none = let both = or_parts (p x) (list_any p xs) none in (f x both.0, none-passes p P f xs both.1)
+
 pub each-fails : {A : Type 0} (p : A → Bool) (P : A → Type 0) → ((x : A) → p x ≡ false → P x) → (xs : List A) → list_any p xs ≡ false
     → All P xs
-each-fails p P f [] none = All-nil P
-each-fails p P f (x ∷ xs) none = let both = or_parts (p x) (list_any p xs) none in All-cons P x xs (f x both.0) (each-fails p P f xs both.1)
+each-fails p P f xs none = All-from_recursion P xs (none-passes p P f xs none)
 
--- the same for each item in turn
-pub each-passes : {A : Type 0} (p : A → Bool) (xs : List A) → list_any (λ x. not (p x)) xs ≡ false → AllByRecursion (λ x. p x ≡ true) xs
-each-passes p [] none = tt
-each-passes p (x ∷ xs) none =
-    let both = or_parts (not (p x)) (list_any (λ y. not (p y)) xs) none in (not-false (p x) both.0, each-passes p xs both.1)
+-- what all of two lists have
+pub all-parts : {A : Type 0} (P : A → Type 0) (xs ys : List A) → AllByRecursion P (xs ++ ys) → AllByRecursion P xs × AllByRecursion P ys
+all-parts P [] ys all = (tt, all)
+all-parts P (x ∷ xs) ys all = let more = all-parts P xs ys all.1 in ((all.0, more.0), more.1)
 
 -- a test of all that stands in the lists of items
 pub list_any_flat : {A B : Type 0} (p : B → Bool) (f : A → List B) (xs : List A)
     → list_any p (flat_map f xs) ≡ list_any (λ x. list_any p (f x)) xs
 list_any_flat p f [] = refl
 list_any_flat p f (x ∷ xs) = list_any-append p (f x) (flat_map f xs) ∙ ap (λ b. list_any p (f x) || b) (list_any_flat p f xs)
+
+-- ---- one item more
+
+-- what each item has at its place, one item more too
+pub each-pushed : {A : Type 0} (P : ℕ → A → Type 0) (xs : List A) (x d : A) → EachIndex xs (λ k. P k (slice_index_or xs k d))
+    → P (length xs) x → EachIndex (xs ++ x ∷ []) (λ k. P k (slice_index_or (xs ++ x ∷ []) k d))
+each-pushed P xs x d each last = λ k below. elim (cases_lt k (length xs)) [
+  | inl earlier ↦ subst (P k) (sym (get_or-append xs (x ∷ []) d k earlier)) (each k earlier)
+  | inr later ↦ subst (λ j. P j (slice_index_or (xs ++ x ∷ []) j d)) (omega (arith, below, later, length-append xs (x ∷ [])))
+      (subst (P (length xs)) (sym (get_or-append_seam xs x [] d)) last)
+]
+
+-- the same of what each item has after those before it
+pub each-more : {A : Type 0} (P : List A → A → Type 0) (xs : List A) (x d : A) → EachIndex xs (λ k. P (take k xs) (slice_index_or xs k d))
+    → P xs x → EachIndex (xs ++ x ∷ []) (λ k. P (take k (xs ++ x ∷ [])) (slice_index_or (xs ++ x ∷ []) k d))
+each-more P xs x d each last = each-pushed (λ k y. P (take k (xs ++ x ∷ [])) y) xs x d
+    (λ k below. subst (λ t. P t (slice_index_or xs k d)) (sym (take-append-le k xs (x ∷ []) (omega (arith, below)))) (each k below))
+    (subst (λ t. P t x) (sym (take-append_seam xs (x ∷ []))) last)
 
 -- ---- places
 
@@ -59,23 +80,11 @@ within p (x ∷ xs) = by_test (p x)
     later m n = grind (arith, nat_tests)
 
 pub some-position : {A : Type 0} (p : A → Bool) (xs : List A) → is_some (position p xs) ≡ list_any p xs
-some-position p xs = some-if (nat_lt (prefix_len (λ x. not (p x)) xs) (length xs)) _ ∙ within p xs
-  where
-    some-if : (b : Bool) (k : ℕ) → is_some (if b then Some k else None) ≡ b
-    some-if true k = refl
-    some-if false k = refl
+some-position p xs = by_test (list_any p xs) (λ e. rw (within p xs, e) refl) (λ e. rw (within p xs, e) refl)
 
 module _ {A : Type 0} (p : A → Bool) where
   place-below : (xs : List A) → list_any p xs ≡ true → position_or_len p xs < length xs
-  place-below [] some = cc
-  place-below (x ∷ xs) some = by_test (p x)
-      (λ e. rw e (omega arith))
-      (λ e. let more : list_any p xs ≡ true = rw e at some in let below = place-below xs more in rw e (omega (arith, below)))
-
-  place-passes : (xs : List A) (d : A) → list_any p xs ≡ true → p (slice_index_or xs (position_or_len p xs) d) ≡ true
-  place-passes xs d some =
-      let there : position p xs ≡ Some (position_or_len p xs) = rw (within p xs, some) refl in
-      (position-Some p xs (position_or_len p xs) d there).1
+  place-below xs some = let there : nat_lt (position_or_len p xs) (length xs) ≡ true = within p xs ∙ some in grind (arith, nat_tests, there)
 
   place-front : (xs ys : List A) → list_any p xs ≡ true → position_or_len p (xs ++ ys) ≡ position_or_len p xs
   place-front [] ys some = cc
@@ -100,7 +109,8 @@ number-below n names known = rw (number-known n names known) (place-below (bytes
 
 pub name-at : (n : List ℕ) (names : List (List ℕ)) (d : List ℕ) → has_name n names ≡ true → slice_index_or names (number_in n names) d ≡ n
 name-at n names d known = rw (number-known n names known)
-    (sym ((bytes_eq-Decides n (slice_index_or names (position_or_len (bytes_eq n) names) d)).0 (place-passes (bytes_eq n) names d known)))
+    (sym ((bytes_eq-Decides n (slice_index_or names (position_or_len (bytes_eq n) names) d)).0
+    (passes_at_first (bytes_eq n) names d (place-below (bytes_eq n) names known))))
 
 pub known-still : (n : List ℕ) (names more : List (List ℕ)) → has_name n names ≡ true → has_name n (names ++ more) ≡ true
 known-still n names more known = list_any-append (bytes_eq n) names more ∙ ap (λ b. b || has_name n more) known
@@ -146,6 +156,9 @@ more_any p q (x ∷ xs) implied some = by_test (p x)
 some_filtered : {A : Type 0} (p : A → Bool) (xs : List A) → nat_lt 0 (length (filter p xs)) ≡ list_any p xs
 some_filtered p [] = refl
 some_filtered p (x ∷ xs) = by_test (p x) (λ e. rw e (grind (arith, nat_tests))) (λ e. rw e (some_filtered p xs))
+
+pub none-filtered : {A : Type 0} (p : A → Bool) (xs : List A) → length (filter p xs) ≤ 0 → list_any p xs ≡ false
+none-filtered p xs few = sym (some_filtered p xs) ∙ grind (arith, nat_tests, few)
 
 one-longer : (n : ℕ) → nat_lt 1 (suc n) ≡ nat_lt 0 n
 one-longer n = grind (arith, nat_tests)
@@ -204,7 +217,7 @@ is-new names n none = (repeats-none names n [] none).0
 
 -- ---- names that are distinct
 
--- a name that the list hasn't is none of its names
+-- a name that isn't in the list is none of its names
 others-differ : (names : List (List ℕ)) (name : List ℕ) → has_name name names ≡ false → All (λ earlier. earlier ≢ name) names
 others-differ names name new =
     All-each (λ earlier. earlier ≢ name) names

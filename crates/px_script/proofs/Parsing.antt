@@ -39,7 +39,7 @@ abbrev pub items_at : {A : Type 0} → (Lexeme → Option A) → List Lexeme →
 items_at item (sign s ∷ rest) = if s == 40 then items_after item rest else Some ([], sign s ∷ rest)
 items_at item rest = Some ([], rest)
 
--- things of one kind up to the end, at most so many
+-- things of one kind up to the end, at most the given number of them
 unfoldable pub all_within : {A : Type 0} → (List Lexeme → Option (A × List Lexeme)) → ℕ → List Lexeme → Option (List A)
 all_within one zero [] = Some []
 all_within one zero (x ∷ xs) = None

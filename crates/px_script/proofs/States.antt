@@ -1,19 +1,8 @@
 -- What the lines so far keep: that what they have declared is in range. No part of what a script is, but of how that is shown.
-use Rattle.std.specs.Prelude.{◌≡◌, ◌≤◌, ◌+◌, ℕ, true, false, List, [], length, take, Option, None, Some, All, IfSome, EachIndex, is_some, fold, slice_index_or, unwrap_or}
-use Rattle.std.specs.List.{flat_map, list_any}
-use Rattle.px_names.specs.Lists.{NameLists, has_name}
+use Rattle.px_script.specs.Limits as limit
+use Rattle.px_script.proofs.Common.{greatest, ◌≡◌, ◌≤◌, ◌+◌, ℕ, true, false, List, [], length, take, Option, None, Some, All, IfSome, EachIndex, is_some, fold, slice_index_or, unwrap_or, flat_map, list_any, NameLists, has_name, IsBoxAt, IsDoorAt, IsRoomAt, StandsRight, robot_rooms, standings, IsSchemaOf, Problem, Thing, Command, Declared, OpenOperator, Roles, operator_here, number_in, block_here, predicate_names, predicate_arities, operator_names, Block, building_block, is_robot, own_problem, NamesInRange, ProblemInRange, FactsInRange, CommandsInRange, HasShortLists, IsAmong, IsThingAfter, plan_given, disturbs_after}
 use Rattle.px_rooms.specs.Domain.{robot_name}
-use Rattle.px_rooms.specs.States.{IsBoxAt, IsDoorAt, IsRoomAt, StandsRight, robot_rooms, standings}
-use Rattle.px_terms.specs.Validity.{IsSchemaOf}
-use Rattle.px_terms.specs.declared.problem.Problem.{Problem}
-use Rattle.px_world.specs.declared.thing.Thing.{Thing}
 use Rattle.px_world.specs.declared.thing.Thing.TheVariants.{Room}
-use Rattle.px_script.specs.Commands.{Command}
-use Rattle.px_script.specs.Declarations.{Declared, OpenOperator, Roles, operator_here, number_in, block_here, predicate_names, predicate_arities, operator_names}
-use Rattle.px_script.specs.Statements.{building_block}
-use Rattle.px_script.specs.Causes.{is_robot}
-use Rattle.px_script.specs.Content.{own_problem}
-use Rattle.px_script.specs.Ranges.{NamesInRange, ProblemInRange, FactsInRange, CommandsInRange, HasShortLists, IsAmong, IsThingAfter, plan_given, disturbs_after}
 
 -- The operator is in range, and has the number that its schema will have.
 pub record IsOperatorInRange (version : ℕ) (names : NameLists) (problem : Problem) (o : OpenOperator) : Type 0 where
@@ -25,8 +14,9 @@ pub record IsOperatorInRange (version : ℕ) (names : NameLists) (problem : Prob
 
 -- The operator whose block is open, or none; then each operator has its schema. Those of a building have theirs in the end.
 abbrev pub OperatorsInRange : ℕ → NameLists → Problem → Option (List Thing) → Option OpenOperator → Type 0
-OperatorsInRange version names problem things None = things ≡ None → length names.operators ≡ length problem.schemas
 OperatorsInRange version names problem things (Some o) = IsOperatorInRange version names problem o
+OperatorsInRange version names problem None None = length names.operators ≡ length problem.schemas
+OperatorsInRange version names problem (Some things) None = Unit {0}
 
 -- The rooms, doors and boxes are those of the building.
 pub record AreRolesOf (objects : List (List ℕ)) (roles : Roles) (things : List Thing) : Type 0 where
@@ -65,6 +55,11 @@ pub record HasNoDomain (names : NameLists) (all_arities : List ℕ) : Type 0 whe
   pub operators : names.operators ≡ []
   pub arities : all_arities ≡ []
 
+-- In a building's block there is a building, and a building whose block is closed has its robot.
+abbrev pub SuitsBlock : Option Block → Option (List Thing) → Type 0
+SuitsBlock (Some building_block) things = is_some things ≡ true
+SuitsBlock _ things = IfSome things (λ things. list_any is_robot things ≡ true)
+
 pub record AreInRange (d : Declared) : Type 0 where
   pub version : d.version ≡ 1
   pub names : NamesInRange d.version d.names
@@ -73,9 +68,8 @@ pub record AreInRange (d : Declared) : Type 0 where
   pub facts : FactsInRange d.version (own_problem d) d.things d.facts
   pub building : IfSome d.things (IsBegun d.names.objects d.names.predicates d.names.operators d.arities)
   pub roles : AreRolesOf d.names.objects d.roles (unwrap_or d.things [])
-  pub in_building : block_here d ≡ Some building_block → is_some d.things ≡ true
-  -- a building whose block is closed has its robot
-  pub robot : (block_here d ≡ Some building_block → ⊥) → IfSome d.things (λ things. list_any is_robot things ≡ true)
+  pub block : SuitsBlock (block_here d) d.things
   pub own_domain : d.own_domain ≡ false → d.things ≡ None → HasNoDomain d.names d.arities
   pub commands : CommandsInRange d.version (own_problem d) d.things (length d.names.results) d.commands
   pub results : ResultsInRange d.names.results d.roles d.commands d.disturbs
+  pub few_disturbs : d.disturbs ≤ greatest d.version limit.disturbs

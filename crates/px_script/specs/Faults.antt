@@ -42,7 +42,7 @@ abbrev pub grown : Option OpenOperator → (Schema → ℕ) → List SignedAtom 
 grown None count xs = 0
 grown (Some o) count xs = count o.schema + length xs
 
--- a limit that so many pass, or a number that a script gives; with the number of the limit
+-- a limit that the count is above, or a number that a script gives; with the number of the limit
 abbrev pub over : Declared → Limit → ℕ → Bool × ℕ
 over d limit n = (nat_lt (greatest d.version limit) n, number_of limit)
 

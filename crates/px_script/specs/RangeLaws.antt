@@ -57,17 +57,9 @@ IsEditOf-prop problem (atom_edit.Remove atom) = IsAtomOf-prop problem 0 atom
 Standing-set : IsSet (Option Standing)
 Standing-set = Prim.hlevel sums
 
-one-door : (here : Option Standing) (x y a b : ℕ) (is_open other : Bool) → here ≡ Some (a_door x y is_open) → here ≡ Some (a_door a b other)
-    → (x ≡ a) × (y ≡ b) × (is_open ≡ other)
-one-door here x y a b is_open other one two = (cc, cc, cc)
-
-one-box : (here : Option Standing) (r a : ℕ) (beside other : Option ℕ) → here ≡ Some (a_box r beside) → here ≡ Some (a_box a other)
-    → (r ≡ a) × (beside ≡ other)
-one-box here r a beside other one two = (cc, cc)
-
 IsDoorAt-prop : (things : List Standing) (k : ℕ) → IsProp (IsDoorAt things k)
 IsDoorAt-prop things k (x, y, is_open, one) (a, b, other, two) =
-    let same = one-door (thing_at things k) x y a b is_open other one two in
+    let same : (x ≡ a) × (y ≡ b) × (is_open ≡ other) = (cc, cc, cc) in
     let At : ℕ → ℕ → Bool → Type 0 = λ x y o. thing_at things k ≡ Some (a_door x y o) in
     let is : (x y : ℕ) (o : Bool) → At x y o → IsDoorAt things k = λ x y o e. (x, y, o, e) in
     let P : ℕ → Type 0 = λ a. (two : At a b other) → is x y is_open one ≡ is a b other two in
@@ -77,7 +69,7 @@ IsDoorAt-prop things k (x, y, is_open, one) (a, b, other, two) =
 
 IsBoxAt-prop : (things : List Standing) (k : ℕ) → IsProp (IsBoxAt things k)
 IsBoxAt-prop things k (r, beside, one) (a, other, two) =
-    let same = one-box (thing_at things k) r a beside other one two in
+    let same : (r ≡ a) × (beside ≡ other) = (cc, cc) in
     let At : ℕ → Option ℕ → Type 0 = λ r beside. thing_at things k ≡ Some (a_box r beside) in
     let is : (r : ℕ) (beside : Option ℕ) → At r beside → IsBoxAt things k = λ r beside e. (r, beside, e) in
     let P : ℕ → Type 0 = λ a. (two : At a other) → is r beside one ≡ is a other two in

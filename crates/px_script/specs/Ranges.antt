@@ -130,8 +130,8 @@ pub record IsGoalOf (version : ℕ) (problem : Problem) (goal : List Atom) (vars
 abbrev pub IsBindingOf : Problem → ℕ × ℕ → Type 0
 IsBindingOf problem binding = (1 ≤ binding.0) × (binding.0 ≤ last_parameter) × (binding.1 < problem.objects)
 
--- The command's atoms and objects are the problem's, and its names are among so many results. With a building its edits are of rooms,
--- and without one of atoms. No parameter is bound twice.
+-- The command's atoms and objects are the problem's, and its names are among the given number of results. With a building its
+-- edits are of rooms, and without one of atoms. No parameter is bound twice.
 abbrev pub IsCommandOf : ℕ → Problem → Option (List Thing) → ℕ → Command → Type 0
 IsCommandOf version problem building results (Plan name goal vars) = (name < results) × IsGoalOf version problem goal vars
 IsCommandOf version problem building results (Learn name source) = (name < results) × (source < results)

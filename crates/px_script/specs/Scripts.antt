@@ -30,11 +30,11 @@ abbrev pub FailsLexemes : Stage → Declared → List Lexeme → Refusal → Typ
 FailsLexemes stage d [] refusal = ⊥
 FailsLexemes stage d (lexeme ∷ lexemes) refusal = let line = lexeme ∷ lexemes in
     ((begins_with_word d line ≡ false) × (refusal ≡ coded 3))
-    ⊎ ((begins_with_word d line ≡ true) × ((s : Statement) → Forms d line s → ⊥) × (refusal ≡ coded 2))
+    ⊎ ((begins_with_word d line ≡ true) × ((s : Statement) → ¬ Forms d line s) × (refusal ≡ coded 2))
     ⊎ ((s : Statement) × Forms d line s × (fault_at stage d s ≡ Some refusal))
 
 abbrev pub Fails : Stage → Declared → List ℕ → Refusal → Type 0
-Fails stage d line refusal = (((lexemes : List Lexeme) → Lexes line lexemes → ⊥) × (refusal ≡ coded 2))
+Fails stage d line refusal = (((lexemes : List Lexeme) → ¬ Lexes line lexemes) × (refusal ≡ coded 2))
     ⊎ ((lexemes : List Lexeme) × Lexes line lexemes × FailsLexemes stage d lexemes refusal)
 
 -- the first of the lines from number n on that has a fault
@@ -58,13 +58,13 @@ pub record IsScript (stage : Stage) (bytes : List ℕ) (script : ScriptValue) : 
 -- the first fault of the bytes
 abbrev pub FirstFault : Stage → List ℕ → ℕ → Refusal → Type 0
 FirstFault stage bytes line refusal =
-    ((IsUtf8 bytes → ⊥) × (line ≡ 1 + count_by (λ b. b == 10) (take (utf8_valid_len bytes) bytes)) × (refusal ≡ coded 1))
+    ((¬ IsUtf8 bytes) × (line ≡ 1 + count_by (λ b. b == 10) (take (utf8_valid_len bytes) bytes)) × (refusal ≡ coded 1))
     ⊎ (IsUtf8 bytes × FailsIn stage 1 nothing_declared (lines_of bytes) line refusal)
 
 -- For all bytes exactly one of the two holds, and it determines what it names.
 pub record ReadsOneWay (stage : Stage) (bytes : List ℕ) : Type 0 where
   pub one : ((script : Declared) × Spells stage bytes script) ⊎ ((line : ℕ) × (refusal : Refusal) × FirstFault stage bytes line refusal)
-  pub not_both : (script : Declared) (line : ℕ) (refusal : Refusal) → Spells stage bytes script → FirstFault stage bytes line refusal → ⊥
+  pub not_both : (script : Declared) (line : ℕ) (refusal : Refusal) → Spells stage bytes script → ¬ FirstFault stage bytes line refusal
   pub one_script : (a b : Declared) → Spells stage bytes a → Spells stage bytes b → a ≡ b
   pub one_content : (a b : ScriptValue) → IsScript stage bytes a → IsScript stage bytes b → a ≡ b
   pub one_fault : (k m : ℕ) (a b : Refusal) → FirstFault stage bytes k a → FirstFault stage bytes m b → (k ≡ m) × (a ≡ b)

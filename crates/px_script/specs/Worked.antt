@@ -1,6 +1,7 @@
 -- Small texts, and what the definitions say of them.
 use Rattle.std.specs.Prelude.{ℕ, false, List, [], ◌∷◌, ◌++◌, codes, None, Some}
 use Rattle.std.specs.List.{AllByRecursion}
+use Rattle.px_names.specs.Lists.{no_names}
 use Rattle.px_rooms.specs.Domain.{building_problem, closed, connects, in_room, is_box, is_door, is_room}
 use Rattle.px_terms.specs.declared.atom.Atom.{Atom}
 use Rattle.px_terms.specs.declared.term.Term.{Term}
@@ -23,6 +24,17 @@ IsRefused bytes line code limit = FirstFault stage_now bytes line (record { code
 abbrev pub of_one : ℕ → Term → Atom
 of_one p x = record { pred = p; args = x ∷ [] }
 
+-- what a script that declares nothing is about
+abbrev pub nothing : ScriptValue
+nothing = record {
+  version = 1;
+  names = no_names;
+  problem = record { objects = 0; arities = []; axioms = []; schemas = []; height = 4; nodes = 10000; shapes = 10000 };
+  facts = [];
+  building = None;
+  commands = [];
+}
+
 -- two objects, two operators, the second of which needs what the first may delete, two facts, and two commands
 abbrev pub danger_text : List ℕ
 danger_text = codes "object a b\npredicate P 1\npredicate Q 1\npredicate R 1\npredicate G 1\n"
@@ -30,28 +42,22 @@ danger_text = codes "object a b\npredicate P 1\npredicate Q 1\npredicate R 1\npr
     ++ codes "fact P(a) Q(b)\nplan N G(a)\nfacts\n"
 
 abbrev pub danger : ScriptValue
-danger = record {
-  version = 1;
+danger = record nothing {
   names = record {
     objects = codes "a" ∷ codes "b" ∷ [];
     predicates = codes "P" ∷ codes "Q" ∷ codes "R" ∷ codes "G" ∷ [];
     operators = codes "A" ∷ codes "B" ∷ [];
     results = codes "N" ∷ [];
   };
-  problem = record {
+  problem = record nothing.problem {
     objects = 2;
     arities = 1 ∷ 1 ∷ 1 ∷ 1 ∷ [];
-    axioms = [];
     schemas =
         record { op = 0; params = 1; pre = of_one 0 (Var 0) ∷ []; del = of_one 1 (Var 0) ∷ []; add = of_one 2 (Var 0) ∷ [] }
         ∷ record { op = 1; params = 2; pre = of_one 2 (Var 0) ∷ of_one 1 (Var 1) ∷ []; del = []; add = of_one 3 (Var 0) ∷ [] }
         ∷ [];
-    height = 4;
-    nodes = 10000;
-    shapes = 10000;
   };
   facts = of_one 0 (Obj 0) ∷ of_one 1 (Obj 1) ∷ [];
-  building = None;
   commands = Plan 0 (of_one 3 (Obj 0) ∷ []) 0 ∷ Facts ∷ [];
 }
 
@@ -60,13 +66,10 @@ abbrev pub blanks_text : List ℕ
 blanks_text = codes "script 1\r\n\r\n# object c\nobject\ta b#c\npredicate P 01\nfact P(b)P( a )\nfact P (a)\nnodes 007\r"
 
 abbrev pub blanks : ScriptValue
-blanks = record {
-  version = 1;
-  names = record { objects = codes "a" ∷ codes "b" ∷ []; predicates = codes "P" ∷ []; operators = []; results = [] };
-  problem = record { objects = 2; arities = 1 ∷ []; axioms = []; schemas = []; height = 4; nodes = 7; shapes = 10000 };
+blanks = record nothing {
+  names = record no_names { objects = codes "a" ∷ codes "b" ∷ []; predicates = codes "P" ∷ [] };
+  problem = record nothing.problem { objects = 2; arities = 1 ∷ []; nodes = 7 };
   facts = of_one 0 (Obj 0) ∷ of_one 0 (Obj 1) ∷ [];
-  building = None;
-  commands = [];
 }
 
 -- a byte order mark in front
@@ -74,12 +77,9 @@ abbrev pub marked_text : List ℕ
 marked_text = mark ++ codes "object a\nfacts\n"
 
 abbrev pub marked : ScriptValue
-marked = record {
-  version = 1;
-  names = record { objects = codes "a" ∷ []; predicates = []; operators = []; results = [] };
-  problem = record { objects = 1; arities = []; axioms = []; schemas = []; height = 4; nodes = 10000; shapes = 10000 };
-  facts = [];
-  building = None;
+marked = record nothing {
+  names = record no_names { objects = codes "a" ∷ [] };
+  problem = record nothing.problem { objects = 1 };
   commands = Facts ∷ [];
 }
 
@@ -91,20 +91,16 @@ abbrev pub of_two : Term → Term → Atom
 of_two x y = record { pred = 0; args = x ∷ y ∷ [] }
 
 abbrev pub shown : ScriptValue
-shown = record {
-  version = 1;
-  names = record { objects = codes "a" ∷ codes "b" ∷ []; predicates = codes "P" ∷ []; operators = []; results = codes "N" ∷ [] };
-  problem = record {
+shown = record nothing {
+  names = record no_names { objects = codes "a" ∷ codes "b" ∷ []; predicates = codes "P" ∷ []; results = codes "N" ∷ [] };
+  problem = record nothing.problem {
     objects = 2;
     arities = 2 ∷ [];
     axioms = record { vars = 2; lits = denied (of_two (Var 0) (Var 1)) ∷ asserted (of_two (Var 1) (Var 0)) ∷ [] } ∷ [];
-    schemas = [];
     height = 3;
-    nodes = 10000;
     shapes = 900;
   };
   facts = of_two (Obj 0) (Obj 1) ∷ [];
-  building = None;
   commands = Plan 0 (of_two (Var 0) (Obj 0) ∷ []) 1 ∷ Show 0 ∷ [];
 }
 

@@ -4,7 +4,7 @@ use Rattle.std.specs.Fmt.{decimal}
 use Rattle.std.specs.List.{AllByRecursion, flat_map}
 use Rattle.px_script.specs.Lexemes.{name, variable, number, sign}
 use Rattle.px_script.specs.Items.{Item, Argument, SignedAtom, named, open_variable, anything, bare, the, amount, amounts, new, declared, known, wanted, atoms, arguments, terms, pairs, an_object, an_operator, a_parameter, a_result, a_sort, a_plan, a_table}
-use Rattle.px_script.specs.Statements.{Line, line, line_of, spelling_of, opens, inside, domain, command, plain, goals, table_terms, table_goals, operator_block, table_steps, table_rows, end, facts}
+use Rattle.px_script.specs.Statements.{Line, line, line_of, spelling_of, opens, inside, domain, command, plain, goals, table_terms, table_goals, operator_block, table_steps, table_rows, end}
 use Rattle.px_script.specs.Limits as limit
 use Rattle.px_script.specs.Limits.{greatest}
 use Rattle.px_script.specs.Declarations.{Declared, nothing_declared, with_all_names, declared_by, open_block, of_table_steps, of_table_rows}
@@ -29,7 +29,7 @@ abbrev goal : List SignedAtom → Line
 goal xs = line (codes "goal") (inside table_steps) table_goals (atoms xs ∷ [])
 
 -- What a proof begins with: a fact with its column and its index, an ancestor by its number, or a step of an axiom at a place, with its
--- terms, which so many proofs follow.
+-- terms, which this many proofs follow.
 pub data Part : Type 0 where
   a_fact : ℕ → ℕ → SignedAtom → Part
   an_ancestor : ℕ → Part
@@ -44,7 +44,7 @@ items_of (an_axiom k place proofs ts) = the (codes "s") ∷ amounts (k ∷ place
 abbrev proof : List Part → Line
 proof parts = line (codes "proof") (inside table_rows) table_terms (flat_map items_of parts)
 
--- how many proofs are still to come after the part, of so many
+-- how many proofs are still to come after the part, where `n` were before it
 abbrev owed : ℕ → Part → ℕ
 owed n (an_axiom k place proofs ts) = n - 1 + proofs
 owed n _ = n - 1

@@ -39,27 +39,24 @@ Leave text part value = After text (λ d. part d ≡ value)
 abbrev pub LeaveBoth : {A B : Type 0} → List ℕ → (Declared → A) → A → (Declared → B) → B → Type 0
 LeaveBoth text one value other other_value = After text (λ d. (one d ≡ value) × (other d ≡ other_value))
 
--- After lines that have no fault, and with what they leave changed, each of these lines has no fault.
-pub record Fit (before : List ℕ) (change : Declared → Declared) (cases : List (List ℕ)) : Type 0 where
-  pub left : Declared
-  pub passes : Pass before left
-  pub each : AllByRecursion (λ line. (next : Declared) × Passes whole_language 1 (change left) line next) cases
+-- After lines that have no fault, and with what they leave changed, each line of the other text has no fault.
+pub record Fit (before : List ℕ) (change : Declared → Declared) (cases : List ℕ) : Type 0 where
+  pub fit : After before (λ d. AllByRecursion (λ line. (next : Declared) × Passes whole_language 1 (change d) line next) (lines cases))
 
 -- The same, where each of them has this code, and passes this limit, or 0.
-pub record RefuseWhere (before : List ℕ) (change : Declared → Declared) (code limit : ℕ) (cases : List (List ℕ)) : Type 0 where
-  pub left : Declared
-  pub passes : Pass before left
-  pub each : AllByRecursion (λ line. Fails whole_language (change left) line (record { code = code; limit = limit })) cases
+pub record RefuseWhere (before : List ℕ) (change : Declared → Declared) (code limit : ℕ) (cases : List ℕ) : Type 0 where
+  pub refuse : After before (λ d. AllByRecursion (λ line. Fails whole_language (change d) line (record { code = code; limit = limit }))
+      (lines cases))
 
--- Nothing is changed, and no limit is passed.
-abbrev pub Refuse : List ℕ → ℕ → List (List ℕ) → Type 0
-Refuse before code cases = RefuseWhere before (λ d. d) code 0 cases
+-- After each of the first texts each line of the second has this code, and passes no limit.
+abbrev pub Refuse : ℕ → List (List ℕ × List ℕ) → Type 0
+Refuse code texts = AllByRecursion (λ t. RefuseWhere t.0 (λ d. d) code 0 t.1) texts
 
--- nothing is changed, and this limit is passed
-abbrev pub Exceed : List ℕ → ℕ → List (List ℕ) → Type 0
-Exceed before limit cases = RefuseWhere before (λ d. d) 8 limit cases
+-- it passes this limit
+abbrev pub Exceed : List (ℕ × List ℕ × List ℕ) → Type 0
+Exceed texts = AllByRecursion (λ t. RefuseWhere t.1 (λ d. d) 8 t.0 t.2) texts
 
--- the text so many times
+-- the text, the given number of times
 abbrev pub times : ℕ → List ℕ → List ℕ
 times n text = flat_map (λ k. text) (range_with_len 0 n)
 
@@ -139,43 +136,32 @@ pub record WorkedDomains : Type 0 where
   pub settings : LeaveBoth (codes "height 8\nnodes 50000") (λ d. d.height) (Some 8) (λ d. d.nodes) (Some 50000)
   pub last_setting : Leave (codes "shapes 70000") (λ d. d.shapes) (Some 70000)
   -- no such form
-  pub no_object : Refuse [] 2 (codes "object" ∷ [])
-  pub no_literal : Refuse small 2 (codes "axiom" ∷ codes "axiom +Q" ∷ [])
-  pub no_precondition : Refuse in_operator 2 (codes "pre" ∷ codes "pre ~Q" ∷ [])
+  pub no_form : Refuse 2 (([], codes "object") ∷ (small, codes "axiom\naxiom +Q") ∷ (in_operator, codes "pre\npre ~Q") ∷ [])
   -- unknown names
-  pub unknown : Refuse small 4 (codes "axiom R" ∷ codes "axiom P(x)" ∷ codes "fact P(x)" ∷ [])
-  pub unknown_argument : Refuse in_operator 4 (codes "pre P(y)" ∷ [])
+  pub unknown : Refuse 4 ((small, codes "axiom R\naxiom P(x)\nfact P(x)") ∷ (in_operator, codes "pre P(y)") ∷ [])
   -- duplicates
-  pub object_twice : Refuse [] 5 (codes "object a a" ∷ [])
-  pub known_object : Refuse (codes "object a") 5 (codes "object x a" ∷ [])
-  pub known_predicate : Refuse small 5 (codes "predicate P 0" ∷ [])
-  pub known_operator : Refuse whole_operator 5 (codes "operator O" ∷ [])
-  pub known_parameter : Refuse small 5 (codes "operator a(x,x)" ∷ codes "operator x(a)" ∷ [])
-  pub second_setting : Refuse (codes "height 4\nnodes 4\nshapes 4") 5 (codes "height 9" ∷ codes "nodes 0" ∷ codes "shapes 1" ∷ [])
+  pub duplicates : Refuse 5 (([], codes "object a a") ∷ (codes "object a", codes "object x a")
+      ∷ (small, codes "predicate P 0\noperator a(x,x)\noperator x(a)") ∷ (whole_operator, codes "operator O")
+      ∷ (codes "height 4\nnodes 4\nshapes 4", codes "height 9\nnodes 0\nshapes 1") ∷ [])
   -- arities, and arguments that may not stand there
-  pub arity : Refuse small 6 (codes "axiom Q(a)" ∷ codes "fact P(a,a)" ∷ [])
-  pub unbound : Refuse small 7 (codes "axiom P($)" ∷ codes "fact P(?x)" ∷ codes "fact P($)" ∷ [])
-  pub unbound_in_lists : Refuse in_operator 7
-      (codes "pre P(?x)" ∷ codes "pre P($)" ∷ codes "delete P(?x)" ∷ codes "add P(?x)" ∷ codes "add P($)" ∷ [])
+  pub arity : Refuse 6 ((small, codes "axiom Q(a)\nfact P(a,a)") ∷ [])
+  pub unbound : Refuse 7 ((small, codes "axiom P($)\nfact P(?x)\nfact P($)")
+      ∷ (in_operator, codes "pre P(?x)\npre P($)\ndelete P(?x)\nadd P(?x)\nadd P($)") ∷ [])
   -- lines out of order
-  pub late_version : Refuse (codes "object a") 9 (codes "script 1" ∷ [])
-  pub late : Refuse (codes "facts") 9 (codes "object a" ∷ codes "nodes 5" ∷ [])
-  pub in_block : Refuse in_operator 9 (codes "object c" ∷ codes "operator a" ∷ codes "fact Q" ∷ codes "facts" ∷ codes "nodes 5" ∷ [])
-  pub beside_building : Refuse closed_building 9
-      (codes "object a" ∷ codes "predicate a 0" ∷ codes "axiom BOX(ROBOT)" ∷ codes "operator a" ∷ codes "fact BOX(ROBOT)" ∷ [])
-  pub early_variable : Refuse (codes "predicate P 1") 9 (codes "axiom P(?x)" ∷ codes "operator a(x)" ∷ [])
-  pub no_block : Refuse small 9 (codes "pre Q" ∷ codes "delete Q" ∷ codes "add Q" ∷ codes "end" ∷ [])
+  pub out_of_order : Refuse 9 ((codes "object a", codes "script 1") ∷ (codes "facts", codes "object a\nnodes 5")
+      ∷ (in_operator, codes "object c\noperator a\nfact Q\nfacts\nnodes 5")
+      ∷ (closed_building, codes "object a\npredicate a 0\naxiom BOX(ROBOT)\noperator a\nfact BOX(ROBOT)")
+      ∷ (codes "predicate P 1", codes "axiom P(?x)\noperator a(x)") ∷ (small, codes "pre Q\ndelete Q\nadd Q\nend") ∷ [])
   -- limits
-  pub long_names : Exceed [] 1
-      ((codes "object " ++ long_name) ∷ (codes "predicate " ++ long_name ++ codes " 0") ∷ (codes "operator " ++ long_name) ∷ [])
-  pub wide_predicate : Exceed [] 4 (codes "predicate a 7" ∷ [])
-  pub seven_literals : Exceed small 6 (codes "axiom Q Q Q Q Q Q Q" ∷ [])
-  pub thirteen_variables : Exceed of_six 7 ((codes "axiom" ++ thirteen) ∷ [])
-  pub nine_parameters : Exceed small 9 (codes "operator a(ya,yb,yc,yd,ye,yf,yg,yh,yi)" ∷ [])
-  pub long_lists : Exceed (in_operator ++ times 10 (codes "\npre Q\ndelete Q\nadd Q")) 10
-      (codes "pre Q Q Q Q Q Q Q" ∷ codes "delete Q Q Q Q Q Q Q" ∷ codes "add Q Q Q Q Q Q Q" ∷ [])
-  pub numbers : Exceed [] 16 (codes "script 2" ∷ codes "script 0" ∷ codes "height 0" ∷ codes "height 9" ∷ codes "nodes 0"
-      ∷ codes "nodes 50001" ∷ codes "shapes 1" ∷ codes "shapes 70001" ∷ [])
+  pub limits : Exceed ((1, [], codes "object " ++ long_name ++ codes "\npredicate " ++ long_name ++ codes " 0\noperator " ++ long_name)
+      ∷ (4, [], codes "predicate a 7") ∷ (6, small, codes "axiom Q Q Q Q Q Q Q") ∷ (7, of_six, codes "axiom" ++ thirteen)
+      ∷ (9, small, codes "operator a(ya,yb,yc,yd,ye,yf,yg,yh,yi)")
+      ∷ (
+        10,
+        in_operator ++ times 10 (codes "\npre Q\ndelete Q\nadd Q"),
+        codes "pre Q Q Q Q Q Q Q\ndelete Q Q Q Q Q Q Q\nadd Q Q Q Q Q Q Q",
+      )
+      ∷ (16, [], codes "script 2\nscript 0\nheight 0\nheight 9\nnodes 0\nnodes 50001\nshapes 1\nshapes 70001") ∷ [])
 
 -- ---- lines of a building
 
@@ -197,35 +183,25 @@ pub record WorkedBuildings : Type 0 where
   pub roles : LeaveBoth closed_building (λ d. d.roles.doors) (codes "D1" ∷ []) (λ d. d.roles.boxes) (codes "B1" ∷ [])
   -- what the names of a building are good for afterwards
   pub goal : Leave (closed_building ++ codes "\nplan N INROOM(B1,R1)") (λ d. d.names.results) (codes "N" ∷ [])
-  pub goal_arity : Refuse closed_building 6 (codes "plan N INROOM(B1)" ∷ [])
-  pub goal_unknown : Refuse closed_building 4 (codes "plan N AT(B1)" ∷ [])
+  pub goal_arity : Refuse 6 ((closed_building, codes "plan N INROOM(B1)") ∷ [])
+  pub goal_unknown : Refuse 4 ((closed_building, codes "plan N AT(B1)") ∷ [])
   -- unknown rooms
-  pub nowhere : Refuse (codes "building") 4 (codes "box B R" ∷ codes "robot R" ∷ [])
-  pub door_to_the_robot : Refuse one_room 4 (codes "door D ROBOT R open" ∷ [])
-  pub in_a_box : Refuse (one_room ++ codes "\nbox B R") 4 (codes "door D R B open" ∷ codes "robot B" ∷ [])
+  pub unknown : Refuse 4 ((codes "building", codes "box B R\nrobot R") ∷ (one_room, codes "door D ROBOT R open")
+      ∷ (one_room ++ codes "\nbox B R", codes "door D R B open\nrobot B") ∷ [])
   -- duplicates
-  pub second_building : Refuse closed_building 5 (codes "building" ∷ [])
-  pub room_like_the_robot : Refuse (codes "building") 5 (codes "room ROBOT" ∷ [])
-  pub door_to_its_room : Refuse one_room 5 (codes "door D R R open" ∷ [])
-  pub known_thing : Refuse open_building 5 (codes "door R1 R1 R2 open" ∷ codes "box D1 R1" ∷ codes "robot R2" ∷ [])
+  pub duplicates : Refuse 5 ((closed_building, codes "building") ∷ (codes "building", codes "room ROBOT")
+      ∷ (one_room, codes "door D R R open") ∷ (open_building, codes "door R1 R1 R2 open\nbox D1 R1\nrobot R2") ∷ [])
   -- lines out of order
-  pub beside_object : Refuse (codes "object R") 9 (codes "building" ∷ [])
-  pub beside_predicate : Refuse (codes "predicate R 0") 9 (codes "building" ∷ [])
-  pub late_building : Refuse (codes "facts") 9 (codes "building" ∷ [])
-  pub in_block : Refuse open_building 9 (codes "building" ∷ codes "facts" ∷ [])
-  pub no_block : Refuse [] 9 (codes "room R" ∷ codes "door D R R open" ∷ codes "box B R" ∷ codes "robot R" ∷ [])
-  pub late_room : Refuse closed_building 9 (codes "room R" ∷ [])
-  pub no_robot : Refuse one_room 9 (codes "end" ∷ [])
+  pub out_of_order : Refuse 9 ((codes "object R", codes "building") ∷ (codes "predicate R 0", codes "building")
+      ∷ (codes "facts", codes "building") ∷ (open_building, codes "building\nfacts")
+      ∷ ([], codes "room R\ndoor D R R open\nbox B R\nrobot R") ∷ (closed_building, codes "room R") ∷ (one_room, codes "end") ∷ [])
   -- limits
-  pub long_names : Exceed open_building 1 ((codes "room " ++ long_name) ∷ (codes "door " ++ long_name ++ codes " R1 R2 open")
-      ∷ (codes "box " ++ long_name ++ codes " R1") ∷ [])
-  pub many_things : RefuseWhere (codes "building\nroom R\nroom S")
-      (λ d. record d { names = record d.names { objects = replicate 256 (codes "x") } }) 8 2
-      (codes "room a" ∷ codes "door a R S open" ∷ codes "box a R" ∷ [])
+  pub long_names : Exceed ((1, open_building, codes "room " ++ long_name ++ codes "\nbox " ++ long_name ++ codes " R1")
+      ∷ (1, open_building, codes "door " ++ long_name ++ codes " R1 R2 open") ∷ [])
 
 -- ---- lines at the limits: the greatest that may be, and the least limit of those that are passed
 
--- so many objects, predicates, operators, axioms, facts of which P(a) is one, commands, disturbances
+-- these numbers of objects, predicates, operators, axioms, facts of which P(a) is one, commands, disturbances
 abbrev objects : ℕ → Declared → Declared
 objects n d = record d { names = record d.names { objects = replicate n (codes "x") } }
 
@@ -257,36 +233,36 @@ edits = codes "disturb 0 before" ++ times 17 (codes "+Q")
 pub record WorkedLimits : Type 0 where
   -- the greatest that may be, and the least of numbers
   pub long_enough : Leave (codes "object " ++ replicate 64 97) (λ d. d.names.objects) (replicate 64 97 ∷ [])
-  pub last_object : Fit [] (objects 255) (codes "object a" ∷ [])
-  pub last_predicate : Fit [] (predicates 63) (codes "predicate a 6" ∷ [])
-  pub last_axiom : Fit small (axioms 63) (codes "axiom Q Q Q Q Q Q" ∷ [])
-  pub variables : Fit of_six (λ d. d) ((codes "axiom" ++ twelve) ∷ (codes "plan a" ++ twelve) ∷ [])
-  pub last_operator : Fit (codes "object o") (operators 31) (codes "operator a(xa,xb,xc,xd,xe,xf,xg,xh)" ∷ [])
-  pub long_lists : Fit in_bare_operator (λ d. d) ((codes "pre" ++ times 16 (codes " Q")) ∷ (codes "delete" ++ times 16 (codes " Q")) ∷ [])
-  pub long_adds : Fit (in_bare_operator ++ codes "\nadd" ++ times 10 (codes " Q")) (λ d. d) (codes "add Q Q Q Q Q Q" ∷ [])
+  pub last_object : Fit [] (objects 255) (codes "object a")
+  pub last_predicate : Fit [] (predicates 63) (codes "predicate a 6")
+  pub last_axiom : Fit small (axioms 63) (codes "axiom Q Q Q Q Q Q")
+  pub variables : Fit of_six (λ d. d) (codes "axiom" ++ twelve ++ codes "\nplan a" ++ twelve)
+  pub last_operator : Fit (codes "object o") (operators 31) (codes "operator a(xa,xb,xc,xd,xe,xf,xg,xh)")
+  pub long_lists : Fit in_bare_operator (λ d. d) (codes "pre" ++ times 16 (codes " Q") ++ codes "\ndelete" ++ times 16 (codes " Q"))
+  pub long_adds : Fit (in_bare_operator ++ codes "\nadd" ++ times 10 (codes " Q")) (λ d. d) (codes "add Q Q Q Q Q Q")
   -- facts are counted once
-  pub last_fact : Fit small (facts 511) (codes "fact Q" ∷ codes "fact Q P(a) Q" ∷ [])
-  pub fact_that_is_there : Fit small (facts 512) (codes "fact P(a)" ∷ [])
-  pub long_goal : Fit small (λ d. d) ((codes "plan a" ++ times 16 (codes " Q")) ∷ [])
-  pub last_command : Fit [] (commands 511) (codes "facts" ∷ [])
-  pub last_disturbance : Fit small (disturbs 63) ((codes "disturb 9999 before" ++ times 16 (codes "+Q")) ∷ [])
-  pub last_room_edits : Fit closed_building (disturbs 63) ((codes "disturb 1 between" ++ times 16 (codes " robot R1")) ∷ [])
+  pub last_fact : Fit small (facts 511) (codes "fact Q\nfact Q P(a) Q")
+  pub fact_that_is_there : Fit small (facts 512) (codes "fact P(a)")
+  pub long_goal : Fit small (λ d. d) (codes "plan a" ++ times 16 (codes " Q"))
+  pub last_command : Fit [] (commands 511) (codes "facts")
+  pub last_disturbance : Fit small (disturbs 63) (codes "disturb 9999 before" ++ times 16 (codes "+Q"))
+  pub last_room_edits : Fit closed_building (disturbs 63) (codes "disturb 1 between" ++ times 16 (codes " robot R1"))
   pub least_numbers : LeaveBoth (codes "height 1\nnodes 1\nshapes 2") (λ d. d.height) (Some 1) (λ d. d.shapes) (Some 2)
-  -- so many are too many
-  pub many_objects : RefuseWhere [] (objects 256) 8 2 (codes "object a" ∷ [])
-  pub many_axioms : RefuseWhere small (axioms 64) 8 5 (codes "axiom Q" ∷ codes "axiom Q Q Q Q Q Q Q" ∷ [])
-  pub many_predicates : RefuseWhere [] (predicates 64) 8 3 (codes "predicate a 0" ∷ codes "predicate a 7" ∷ [])
-  pub many_operators : RefuseWhere (codes "object o") (operators 32) 8 8
-      (codes "operator a" ∷ codes "operator a(xa,xb,xc,xd,xe,xf,xg,xh,xi)" ∷ [])
-  pub many_facts : RefuseWhere small (facts 512) 8 11 (codes "fact Q" ∷ [])
+  -- that is one too many
+  pub many_objects : RefuseWhere [] (objects 256) 8 2 (codes "object a")
+  pub many_things : RefuseWhere (codes "building\nroom R\nroom S") (objects 256) 8 2
+      (codes "room a\ndoor a R S open\nbox a R")
+  pub many_axioms : RefuseWhere small (axioms 64) 8 5 (codes "axiom Q\naxiom Q Q Q Q Q Q Q")
+  pub many_predicates : RefuseWhere [] (predicates 64) 8 3 (codes "predicate a 0\npredicate a 7")
+  pub many_operators : RefuseWhere (codes "object o") (operators 32) 8 8 (codes "operator a\noperator a(xa,xb,xc,xd,xe,xf,xg,xh,xi)")
+  pub many_facts : RefuseWhere small (facts 512) 8 11 (codes "fact Q")
   -- the least limit of those that are passed
-  pub literals_first : Exceed of_six 6 ((codes "axiom" ++ thirteen ++ thirteen ++ thirteen) ∷ [])
-  pub name_first : Exceed small 1 ((codes "plan " ++ long_name ++ times 17 (codes " Q")) ∷ [])
-  pub variables_first : Exceed of_six 7 ((codes "plan a" ++ times 15 (codes " P(?y,?y,?y,?y,?y,?y)") ++ thirteen) ∷ [])
-  pub atoms_first : RefuseWhere small (commands 512) 8 12 ((codes "plan a" ++ times 17 (codes " Q")) ∷ [])
-  pub commands_first : RefuseWhere small (λ d. commands 512 (disturbs 64 d)) 8 13 (edits ∷ [])
-  pub disturbs_first : RefuseWhere small (disturbs 64) 8 14 (edits ∷ [])
-  pub edits_first : Exceed small 15 (edits ∷ [])
+  pub least_first : Exceed ((6, of_six, codes "axiom" ++ thirteen ++ thirteen ++ thirteen)
+      ∷ (1, small, codes "plan " ++ long_name ++ times 17 (codes " Q"))
+      ∷ (7, of_six, codes "plan a" ++ times 15 (codes " P(?y,?y,?y,?y,?y,?y)") ++ thirteen) ∷ (15, small, edits) ∷ [])
+  pub atoms_first : RefuseWhere small (commands 512) 8 12 (codes "plan a" ++ times 17 (codes " Q"))
+  pub commands_first : RefuseWhere small (λ d. commands 512 (disturbs 64 d)) 8 13 edits
+  pub disturbs_first : RefuseWhere small (disturbs 64) 8 14 edits
 
 -- ---- commands
 
@@ -314,37 +290,31 @@ pub record WorkedCommands : Type 0 where
   pub last_parameter : Leave (learned ++ codes "\nrun M p9999=a") (λ d. d.disturbs) 0
   pub tells_facts : Leave (codes "facts") (λ d. d.commands) (Facts ∷ [])
   -- no such form
-  pub no_form : Refuse small 2 (codes "plan N" ∷ codes "plan N ~Q" ∷ codes "disturb 1 before" ∷ codes "disturb 1 before Q"
-      ∷ codes "disturb 1 before robot a" ∷ [])
-  pub atoms_in_a_building : Refuse closed_building 2 (codes "disturb 1 before +BOX(B1)" ∷ codes "disturb 1 before" ∷ [])
-  pub no_parameter : Refuse learned 2 (codes "run M p0=a" ∷ codes "run M p10000=a" ∷ [])
+  pub no_form : Refuse 2 ((small, codes "plan N\nplan N ~Q\ndisturb 1 before\ndisturb 1 before Q\ndisturb 1 before robot a")
+      ∷ (closed_building, codes "disturb 1 before +BOX(B1)\ndisturb 1 before") ∷ (learned, codes "run M p0=a\nrun M p10000=a") ∷ [])
   -- unknown names
-  pub unknown : Refuse small 4 (codes "plan N P(c)" ∷ codes "learn M from N" ∷ codes "disturb 1 before +R" ∷ [])
-  pub unknown_result : Refuse learned 4 (codes "learn L from M" ∷ codes "learn L from L" ∷ codes "show L" ∷ codes "run L"
-      ∷ codes "run M p1=c" ∷ [])
-  pub of_other_kinds : Refuse closed_building 4 (codes "disturb 1 before robot B1" ∷ codes "disturb 1 before box ROBOT R1"
-      ∷ codes "disturb 1 before box B1 D1" ∷ codes "disturb 1 before door R1 open" ∷ [])
+  pub unknown : Refuse 4 ((small, codes "plan N P(c)\nlearn M from N\ndisturb 1 before +R")
+      ∷ (learned, codes "learn L from M\nlearn L from L\nshow L\nrun L\nrun M p1=c")
+      ∷ (closed_building, codes "disturb 1 before robot B1\ndisturb 1 before box ROBOT R1\ndisturb 1 before box B1 D1")
+      ∷ (closed_building, codes "disturb 1 before door R1 open") ∷ [])
   -- duplicates
-  pub known_result : Refuse learned 5 (codes "plan M Q" ∷ codes "learn M from N" ∷ codes "run M p1=a p1=b" ∷ [])
+  pub known_result : Refuse 5 ((learned, codes "plan M Q\nlearn M from N\nrun M p1=a p1=b") ∷ [])
   -- arities, and arguments that may not stand there
-  pub arity : Refuse small 6 (codes "plan N Q(a)" ∷ codes "disturb 1 before +P" ∷ [])
-  pub unbound : Refuse small 7 (codes "plan N P($)" ∷ codes "disturb 1 before +P(?x)" ∷ codes "disturb 1 before -P($)" ∷ [])
+  pub arity : Refuse 6 ((small, codes "plan N Q(a)\ndisturb 1 before +P") ∷ [])
+  pub unbound : Refuse 7 ((small, codes "plan N P($)\ndisturb 1 before +P(?x)\ndisturb 1 before -P($)") ∷ [])
   -- lines out of order
-  pub early_variable : Refuse (codes "predicate P 1") 9 (codes "plan N P(?x)" ∷ [])
-  pub early_parameter : Refuse (codes "predicate Q 0\nplan N Q") 9 (codes "run N p1=a" ∷ [])
+  pub out_of_order : Refuse 9 ((codes "predicate P 1", codes "plan N P(?x)") ∷ (codes "predicate Q 0\nplan N Q", codes "run N p1=a") ∷ [])
   -- limits
-  pub long_names : Exceed learned 1 ((codes "plan " ++ long_name ++ codes " Q") ∷ (codes "learn " ++ long_name ++ codes " from N") ∷ [])
-  pub thirteen_variables : Exceed of_six 7 ((codes "plan N" ++ thirteen) ∷ [])
-  pub seventeen_atoms : Exceed small 12 ((codes "plan N" ++ times 17 (codes " Q")) ∷ [])
-  pub many_commands : RefuseWhere learned (commands 512) 8 13 (codes "plan L Q" ∷ codes "learn L from N" ∷ codes "show N" ∷ codes "run N"
-      ∷ codes "disturb 1 before +Q" ∷ codes "facts" ∷ [])
-  pub many_disturbing_rooms : RefuseWhere closed_building (commands 512) 8 13 (codes "disturb 1 before robot R1" ∷ [])
-  pub many_disturbs : Exceed (small ++ times 64 (codes "\ndisturb 1 before +Q")) 14 (codes "disturb 1 before +Q" ∷ [])
-  pub many_disturbed_rooms : RefuseWhere closed_building (λ d. record d { disturbs = 64 }) 8 14 (codes "disturb 1 before robot R1" ∷ [])
-  pub seventeen_edits : Exceed small 15 ((codes "disturb 1 before" ++ times 17 (codes "+Q")) ∷ [])
-  pub seventeen_room_edits : Exceed closed_building 15 ((codes "disturb 1 before" ++ times 17 (codes " robot R1")) ∷ [])
-  pub turns : Exceed small 16 (codes "disturb 0 before +Q" ∷ codes "disturb 10000 before +Q" ∷ [])
-  pub room_turn_too_late : Exceed closed_building 16 (codes "disturb 10000 before robot R1" ∷ [])
+  pub many_commands : RefuseWhere learned (commands 512) 8 13 (codes "plan L Q\nlearn L from N\nshow N\nrun N\ndisturb 1 before +Q\nfacts")
+  pub many_disturbing_rooms : RefuseWhere closed_building (commands 512) 8 13 (codes "disturb 1 before robot R1")
+  pub many_disturbed_rooms : RefuseWhere closed_building (λ d. record d { disturbs = 64 }) 8 14 (codes "disturb 1 before robot R1")
+  pub limits : Exceed ((1, learned, codes "plan " ++ long_name ++ codes " Q\nlearn " ++ long_name ++ codes " from N")
+      ∷ (7, of_six, codes "plan N" ++ thirteen) ∷ (12, small, codes "plan N" ++ times 17 (codes " Q"))
+      ∷ (14, small ++ times 64 (codes "\ndisturb 1 before +Q"), codes "disturb 1 before +Q")
+      ∷ (15, small, codes "disturb 1 before" ++ times 17 (codes "+Q"))
+      ∷ (15, closed_building, codes "disturb 1 before" ++ times 17 (codes " robot R1"))
+      ∷ (16, small, codes "disturb 0 before +Q\ndisturb 10000 before +Q")
+      ∷ (16, closed_building, codes "disturb 10000 before robot R1") ∷ [])
 
 -- ---- how lines are written, from their characters
 

@@ -26,7 +26,7 @@ use Rattle.px_numbers.specs.Numbers.{Kept}
 use Rattle.px_numbers.specs.NumberLaws.{one_model}
 use Rattle.px_ends.specs.Tasks.{Task, needs_with}
 use Rattle.px_search.specs.Going.{IsBegunOn}
-use Rattle.px_search.specs.Offers.{AreFirst, AreWhole, IsAlike, IsOffered, IsOfferedWhole, IsOfferAt, IsPartAt}
+use Rattle.px_search.specs.Offers.{AreFirstOffers, AreWhole, IsAlike, IsOffered, IsOfferedWhole, IsOfferAt, IsPartAt}
 use Rattle.px_search.specs.Steps.{AreStepsOf, IsStepOf, is_push_on, unstruck}
 use Rattle.px_search.specs.declared.notes.Offer.{Offer}
 use Rattle.px_search.specs.declared.notes.Want.{Want}
@@ -95,7 +95,7 @@ offered-here task kept want facts offer p (part, part_at, each) =
 
 module _ (task : Task) (facts wanted : List Atom) where
   pub whole-first : (entries : List Entry) (is_all : Bool) → ((entry : Entry) → Contains entries entry ↔ IsPushable task.problem task.tables wanted [] facts entry) → IsStrictlySortedBy order_of entries
-      → AreFirst task facts wanted entries is_all
+      → AreFirstOffers task facts wanted entries is_all
   whole-first entries is_all exact ordered = record {
     sound = λ entry has. (exact entry).0 has;
     ordered = ordered;
@@ -103,7 +103,7 @@ module _ (task : Task) (facts wanted : List Atom) where
     every = λ all entry pushable. (exact entry).1 pushable;
   }
 
-  pub first-whole : (entries : List Entry) → AreFirst task facts wanted entries true → AreUnlimitedOver task.problem task.tables wanted facts [] → AreWhole task facts wanted entries
+  pub first-whole : (entries : List Entry) → AreFirstOffers task facts wanted entries true → AreUnlimitedOver task.problem task.tables wanted facts [] → AreWhole task facts wanted entries
   first-whole entries first unlimited = record { exact = λ entry. (λ has. first.sound entry has, λ pushable. first.every refl entry pushable); unlimited = unlimited }
 
   pub offered-whole : (kept : Kept) (steps : List Step) → IsOffered task kept facts wanted steps true ↔ IsOfferedWhole task kept facts wanted steps
@@ -115,7 +115,7 @@ module _ (task : Task) (facts wanted : List Atom) where
   -- the first of them, where each of the others comes after all that are had
   pub some-first : (entries : List Entry) (is_all : Bool) → ((entry : Entry) → Contains entries entry → IsPushable task.problem task.tables wanted [] facts entry) → IsStrictlySortedBy order_of entries
       → (is_all ≡ true → (entry : Entry) → IsPushable task.problem task.tables wanted [] facts entry → Contains entries entry)
-      → ((entry : Entry) → IsPushable task.problem task.tables wanted [] facts entry → Contains entries entry ⊎ All (λ first. order_of first entry ≡ Less) entries) → AreFirst task facts wanted entries is_all
+      → ((entry : Entry) → IsPushable task.problem task.tables wanted [] facts entry → Contains entries entry ⊎ All (λ first. order_of first entry ≡ Less) entries) → AreFirstOffers task facts wanted entries is_all
   some-first entries is_all sound ordered every others = record {
     sound = sound;
     ordered = ordered;

@@ -30,7 +30,8 @@ pub record AreMovesOf (task : Task) (node : Node) (moves : List Move) : Type 0 w
 
 -- no question of the node meets the limit
 abbrev pub IsUnlimitedAt : Task → Node → Type 0
-IsUnlimitedAt task node = (question : Question) → AsksAt task node question → (formula : List Atom) (shapes : List (List Tick)) → ¬ MeetsLimit task.problem question formula shapes
+IsUnlimitedAt task node = (question : Question) → AsksAt task node question → (formula : List Atom) (shapes : List (List Tick))
+    → ¬ MeetsLimit task.problem question formula shapes
 
 -- the steps are the moves of the node, in order, and none of its questions meets the limit
 pub record IsGoneOn (task : Task) (kept : Kept) (node : Node) (steps : List Step) : Type 0 where

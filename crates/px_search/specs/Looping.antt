@@ -36,8 +36,10 @@ pub record Searching (task : Task) (found : List (List Move)) (next : ℕ) (trie
   pub known : Frontier (IsAllowed task) (after task) IsBefore (initial_node task) order same_move found next tried
   pub room : length found ≤ task.problem.nodes
   pub unsolved : NoneSolved task found
-  pub tested : (moves : List Move) → Contains found moves → (node_of task moves).stack ≡ [] → IsUnmet task (goal_question task (node_of task moves))
-  pub gone_through : (i : ℕ) (p : List Move) (q : Question) → i < next → slice_get found i ≡ Some p → AsksAt task (node_of task p) q → IsUnmet task q
+  pub tested : (moves : List Move) → Contains found moves → (node_of task moves).stack ≡ []
+      → IsUnmet task (goal_question task (node_of task moves))
+  pub gone_through : (i : ℕ) (p : List Move) (q : Question) → i < next → slice_get found i ≡ Some p → AsksAt task (node_of task p) q
+      → IsUnmet task q
 
 -- the nodes in the order in which they were found are those of the found lists
 pub record Walking (task : Task) (found : List (List Move)) (nodes : List Node) (next : ℕ) (tried : List Move) : Type 0 where
@@ -55,7 +57,8 @@ pub record Going (task : Task) (kept : Kept) (keys : List NodeKey) (origins : Li
   pub one_more : length keys ≡ length origins + 1
 
 -- `i` of these steps, which are the first moves of the node after those gone through, were tried
-pub record Trying (task : Task) (kept : Kept) (keys : List NodeKey) (origins : List Origin) (next : ℕ) (steps : List Step) (is_all : Bool) (i : ℕ) : Type 0 where
+pub record Trying (task : Task) (kept : Kept) (keys : List NodeKey) (origins : List Origin) (next : ℕ) (steps : List Step) (is_all : Bool)
+    (i : ℕ) : Type 0 where
   pub key : NodeKey
   pub key_at : slice_get keys next ≡ Some key
   pub node : Node
@@ -74,7 +77,8 @@ IsEnd task NoMemory = Unit {0}
 pub record IsReached (task : Task) (kept : Kept) (origins : List Origin) : Type 0 where
   pub earlier : AreEarlier origins
   pub traced : (found : List (List Move)) × Trace kept origins found
-  pub found : (moves : List Move) → ((found : List (List Move)) → Trace kept origins found → slice_get found (length origins) ≡ Some moves) → IsFound task moves
+  pub found : (moves : List Move) → ((found : List (List Move)) → Trace kept origins found → slice_get found (length origins) ≡ Some moves)
+      → IsFound task moves
 
 -- There is no room for the last of the nodes, which this number of moves reaches: the ones before it are those of the limit.
 pub record IsFull (task : Task) (kept : Kept) (keys : List NodeKey) (moves : ℕ) : Type 0 where

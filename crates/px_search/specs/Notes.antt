@@ -33,12 +33,14 @@ pub record IsTopAt (kept : Kept) (place : Place) (below : ℕ) (model : List Ato
 -- the entry of the place is one of the problem's, in the model of the place
 abbrev pub IsEntryAt : Task → Kept → Place → Type 0
 IsEntryAt task kept place =
-    (model : List Atom) × (entry : Entry) × IsModelAt kept place.model model × (slice_get kept.entries place.entry ≡ Some entry) × IsEntry task.problem task.tables entry
+    (model : List Atom) × (entry : Entry) × IsModelAt kept place.model model × (slice_get kept.entries place.entry ≡ Some entry)
+    × IsEntry task.problem task.tables entry
 
 -- applying the entry of the place in its model leaves the model of the number
 abbrev pub IsResultAt : Task → Kept → Place → ℕ → Type 0
 IsResultAt task kept place number =
-    (model : List Atom) × (entry : Entry) × IsModelAt kept place.model model × (slice_get kept.entries place.entry ≡ Some entry) × IsModelAt kept number (results_of task.problem model (effect_of task.tables entry))
+    (model : List Atom) × (entry : Entry) × IsModelAt kept place.model model × (slice_get kept.entries place.entry ≡ Some entry)
+    × IsModelAt kept number (results_of task.problem model (effect_of task.tables entry))
 
 -- each key has a value of which the fact is true
 module _ {K V : Type 0} (P : K → V → Type 0) where

@@ -21,18 +21,19 @@ use Rattle.px_search.specs.declared.notes.Want.{Want}
 use Rattle.px_search.specs.declared.step.Step.{Step}
 
 -- The entries are the first, in order, of those that may be pushed for one of the wanted atoms where the stack is empty: each other one
--- comes after all of them. They are all of them where that is said. (`AreFirstOf` is for moves, whose order is by all pairs; `AreFirst` of
--- `px_diff` is for its requests.)
-pub record AreFirst (task : Task) (facts wanted : List Atom) (entries : List Entry) (is_all : Bool) : Type 0 where
+-- comes after all of them. They are all of them where that is said. (`AreFirstOf` is for moves, whose order is by all pairs;
+-- `AreFirstEntries` of `px_diff` is for its requests.)
+pub record AreFirstOffers (task : Task) (facts wanted : List Atom) (entries : List Entry) (is_all : Bool) : Type 0 where
   pub sound : (entry : Entry) → Contains entries entry → IsPushable task.problem task.tables wanted [] facts entry
   pub ordered : IsStrictlySortedBy order_of entries
-  pub others : (entry : Entry) → IsPushable task.problem task.tables wanted [] facts entry → Contains entries entry ⊎ ((first : Entry) → Contains entries first → order_of first entry ≡ Less)
+  pub others : (entry : Entry) → IsPushable task.problem task.tables wanted [] facts entry → Contains entries entry
+      ⊎ ((first : Entry) → Contains entries first → order_of first entry ≡ Less)
   pub every : is_all ≡ true → (entry : Entry) → IsPushable task.problem task.tables wanted [] facts entry → Contains entries entry
 
 -- the steps are the pushes of such entries, and no question about an entry that is relevant for one of the wanted atoms meets the limit
 pub record IsOffered (task : Task) (kept : Kept) (facts wanted : List Atom) (steps : List Step) (is_all : Bool) : Type 0 where
   pub entries : List Entry
-  pub first : AreFirst task facts wanted entries is_all
+  pub first : AreFirstOffers task facts wanted entries is_all
   pub steps_are : AreStepsOf kept steps (map move.Push entries)
   pub unlimited : AreUnlimitedOver task.problem task.tables wanted facts []
 
@@ -64,7 +65,8 @@ pub record IsPartAt (task : Task) (kept : Kept) (number : ℕ) (facts : List Ato
 abbrev pub IsOfferAt : Task → Kept → Want → Offer → Type 0
 IsOfferAt task kept want offer =
     (part : List Atom) × IsModelAt kept want.part part
-    × ((facts : List Atom) → IsAtomSet facts → IsAlike task.problem task.tables facts part → IsOffered task kept facts (want.atom ∷ []) offer.steps offer.is_all)
+    × ((facts : List Atom) → IsAtomSet facts → IsAlike task.problem task.tables facts part
+    → IsOffered task kept facts (want.atom ∷ []) offer.steps offer.is_all)
 
 -- the steps are the pushes of these entries, which are in order
 pub record ArePushes (kept : Kept) (entries : List Entry) (steps : List Step) : Type 0 where

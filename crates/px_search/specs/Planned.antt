@@ -9,7 +9,8 @@ use Rattle.px_ends.specs.Made.{MovesRows}
 use Rattle.px_ends.specs.Tasks.{Task, initial_node, steps_of}
 use Rattle.px_search.specs.declared.ends.Found.{Found}
 
--- the moves lead to the first solved node; these are the steps that they take, and the rows of their table, which carry the steps to the goal
+-- the moves lead to the first solved node; these are the steps that they take, and the rows of their table, which carry the steps
+-- to the goal
 pub record IsPlanned (task : Task) (plan : Found) : Type 0 where
   pub found : IsFound task plan.moves
   pub steps : plan.steps ≡ steps_of task.tables [] plan.moves

@@ -41,5 +41,6 @@ AreEarlier origins = (k : ℕ) (origin : Origin) → slice_get origins k ≡ Som
 -- the first list is empty, and each other one is that of the node that it was found from, and the move
 pub record Trace (kept : Kept) (origins : List Origin) (found : List (List Move)) : Type 0 where
   pub first : slice_get found 0 ≡ Some []
-  pub later : (k : ℕ) (origin : Origin) → slice_get origins k ≡ Some origin → (parent : List Move) × (m : Move) × (slice_get found origin.parent ≡ Some parent) × IsStepOf kept origin.last m
+  pub later : (k : ℕ) (origin : Origin) → slice_get origins k ≡ Some origin → (parent : List Move) × (m : Move)
+      × (slice_get found origin.parent ≡ Some parent) × IsStepOf kept origin.last m
       × (slice_get found (suc k) ≡ Some (parent ++ m ∷ []))

@@ -21,7 +21,9 @@ use px_terms::NoMemory;
 fn pushed(numbers: &mut Numbers, key: NodeKey, entry: u32) -> Result<NodeKey, NoMemory>
     requires node { (node : Node) × IsKeyOf numbers.old key node }
     ensures keeps { KeepsAll numbers.old numbers.new }
-    ensures there { IfOk result (λ there. (node : Node) (top : Entry) → IsKeyOf numbers.old key node → slice_get numbers.old.entries entry ≡ Some top → IsKeyOf numbers.new there (record { model = node.model; stack = top ∷ node.stack })) }
+    ensures there { IfOk result (λ there. (node : Node) (top : Entry) → IsKeyOf numbers.old key node
+        → slice_get numbers.old.entries entry ≡ Some top → IsKeyOf numbers.new there
+        (record { model = node.model; stack = top ∷ node.stack })) }
 {
     let stack = numbers.pushed(entry, key.stack)?;
     Ok(NodeKey {
@@ -35,9 +37,11 @@ impl Notes {
     fn applied(&mut self, asked: &Asked, key: NodeKey) -> Result<NodeKey, NoMemory>
         requires asked { IsAskable asked.now }
         requires notes { AreRight (task_for asked.now) self.old }
-        requires node { (node : Node) × IsKeyOf self.old.numbers key node × All (IsEntry asked.now.problem.now asked.now.tables.now) node.stack }
+        requires node { (node : Node) × IsKeyOf self.old.numbers key node
+            × All (IsEntry asked.now.problem.now asked.now.tables.now) node.stack }
         ensures notes { OnOk result (HaveGrown (task_for asked.now) self.old self.new) }
-        ensures there { IfOk result (λ there. (node : Node) → IsKeyOf self.old.numbers key node → IsKeyOf self.new.numbers there (after (task_for asked.now) node Apply)) }
+        ensures there { IfOk result (λ there. (node : Node) → IsKeyOf self.old.numbers key node
+            → IsKeyOf self.new.numbers there (after (task_for asked.now) node Apply)) }
     {
         let Some(frame) = self.numbers.top(key.stack) else {
             return Ok(key);
@@ -57,9 +61,11 @@ impl Notes {
     pub fn after(&mut self, asked: &Asked, key: NodeKey, step: Step) -> Result<NodeKey, NoMemory>
         requires asked { IsAskable asked.now }
         requires notes { AreRight (task_for asked.now) self.old }
-        requires node { (node : Node) × IsKeyOf self.old.numbers key node × All (IsEntry asked.now.problem.now asked.now.tables.now) node.stack }
+        requires node { (node : Node) × IsKeyOf self.old.numbers key node
+            × All (IsEntry asked.now.problem.now asked.now.tables.now) node.stack }
         ensures notes { OnOk result (HaveGrown (task_for asked.now) self.old self.new) }
-        ensures there { IfOk result (λ there. (node : Node) (m : Move) → IsKeyOf self.old.numbers key node → IsStepOf self.old.numbers step m → IsKeyOf self.new.numbers there (after (task_for asked.now) node m)) }
+        ensures there { IfOk result (λ there. (node : Node) (m : Move) → IsKeyOf self.old.numbers key node
+            → IsStepOf self.old.numbers step m → IsKeyOf self.new.numbers there (after (task_for asked.now) node m)) }
     {
         match step {
             Step::Apply => self.applied(asked, key),

@@ -44,7 +44,8 @@ pub fn pushes(
     requires asked { IsAskable asked.now }
     requires gaps { IsOpenWith asked.now.problem.now (needs_with (task_for asked.now) model.now.atoms stack.now) gaps.now }
     ensures keeps { KeepsAll numbers.old numbers.new }
-    ensures steps { IfOk result (λ steps. IsGoneOn (task_for asked.now) numbers.new (record { model = model.now.atoms; stack = stack.now }) steps.items) }
+    ensures steps { IfOk result (λ steps. IsGoneOn (task_for asked.now) numbers.new (record { model = model.now.atoms; stack = stack.now })
+        steps.items) }
     ensures limited { IfLimit result (LimitsNode (task_for asked.now) (record { model = model.now.atoms; stack = stack.now })) }
 {
     match relevant(asked.alloc, asked.problem, gaps, stack, model, asked.tables) {
@@ -62,7 +63,8 @@ impl Notes {
         requires asked { IsAskable asked.now }
         requires notes { AreRight (task_for asked.now) self.now }
         requires entry { IsEntry asked.now.problem.now asked.now.tables.now entry.now }
-        ensures { IfOk result (IsKnownOf asked.now.problem.now (obligations_of asked.now.problem.now asked.now.tables.now model.now.atoms entry.now)) }
+        ensures { IfOk result (IsKnownOf asked.now.problem.now
+            (obligations_of asked.now.problem.now asked.now.tables.now model.now.atoms entry.now)) }
     {
         if self.is_never_limited {
             return known_below(asked.alloc, asked.problem, asked.tables, entry, model);
@@ -76,7 +78,8 @@ impl Notes {
         requires notes { AreRight (task_for asked.now) self.now }
         requires node { IsAskedAt (task_for asked.now) self.now.numbers key }
         requires model { IsModelAt self.now.numbers key.model model.now.atoms }
-        ensures { IfOk result (λ known. (node : Node) → IsKeyOf self.now.numbers key node → IsKnownOf asked.now.problem.now (needs_at (task_for asked.now) node) known) }
+        ensures { IfOk result (λ known. (node : Node) → IsKeyOf self.now.numbers key node
+            → IsKnownOf asked.now.problem.now (needs_at (task_for asked.now) node) known) }
     {
         match self.numbers.top(key.stack) {
             None => known_formula(asked.alloc, asked.problem, asked.goal, asked.vars, model),
@@ -93,7 +96,8 @@ impl Notes {
         requires notes { AreRight (task_for asked.now) self.old }
         requires node { IsAskedAt (task_for asked.now) self.old.numbers key }
         ensures notes { OnAnswer result (HaveGrown (task_for asked.now) self.old self.new) }
-        ensures steps { IfOk result (λ steps. (node : Node) → IsKeyOf self.old.numbers key node → IsGoneOn (task_for asked.now) self.new.numbers node steps.items) }
+        ensures steps { IfOk result (λ steps. (node : Node) → IsKeyOf self.old.numbers key node
+            → IsGoneOn (task_for asked.now) self.new.numbers node steps.items) }
         ensures limited { IfLimit result (LimitsAt (task_for asked.now) self.old.numbers key) }
     {
         let model = self.numbers.model(asked.alloc, key.model)?;

@@ -36,7 +36,8 @@ fn limit_at(
     shapes: Sequence<Shape>,
 ) -> SearchErr
     requires { (node : Node) × IsKeyOf numbers.now key node }
-    ensures { (node : Node) → IsKeyOf numbers.now key node → IsShapeLimit (task_for asked.now) node formula shapes → IsEnd (task_for asked.now) result }
+    ensures { (node : Node) → IsKeyOf numbers.now key node → IsShapeLimit (task_for asked.now) node formula shapes
+        → IsEnd (task_for asked.now) result }
 {
     match node_at(asked.alloc, numbers, key) {
         Ok(node) => SearchErr::ShapeLimit {
@@ -73,7 +74,8 @@ fn path_to(
 ) -> Result<Sequence<Move>, NoMemory>
     requires earlier { AreEarlier origins.now.items }
     requires traced { (found : List (List Move)) × Trace numbers.now origins.now.items found }
-    ensures trace { IfOk result (λ path. (found : List (List Move)) → Trace numbers.now origins.now.items found → slice_get found (length origins.now.items) ≡ Some path) }
+    ensures trace { IfOk result (λ path. (found : List (List Move)) → Trace numbers.now origins.now.items found
+        → slice_get found (length origins.now.items) ≡ Some path) }
     ensures few { IfOk result (λ path. length path ≤ length origins.now.items) }
 {
     let moves = moves_to(alloc, numbers, origins, origins.len())?;
@@ -85,7 +87,9 @@ fn count_to(alloc: Global, numbers: &Numbers, origins: &Vec<Origin>) -> Result<u
     requires earlier { AreEarlier origins.now.items }
     requires traced { (found : List (List Move)) × Trace numbers.now origins.now.items found }
     requires few { length origins.now.items < 2 ^ 32 }
-    ensures { IfOk result (λ count. (moves : List Move) × (count ≡ length moves) × ((found : List (List Move)) → Trace numbers.now origins.now.items found → slice_get found (length origins.now.items) ≡ Some moves)) }
+    ensures { IfOk result (λ count. (moves : List Move) × (count ≡ length moves)
+        × ((found : List (List Move)) → Trace numbers.now origins.now.items found
+        → slice_get found (length origins.now.items) ≡ Some moves)) }
 {
     let path = path_to(alloc, numbers, origins)?;
     Ok(path.len() as u32)
@@ -108,9 +112,12 @@ impl Explored {
     fn make_move(&mut self, asked: &Asked, next: usize, step: Step) -> Result<Progress, SearchErr>
         requires asked { IsAskable asked.now }
         requires explored { IsExploring (task_for asked.now) self.old }
-        requires trying { (steps : List Step) × (is_all : Bool) × (i : ℕ) × TriesAt (task_for asked.now) self.old next steps is_all i × (slice_get steps i ≡ Some step) }
+        requires trying { (steps : List Step) × (is_all : Bool) × (i : ℕ) × TriesAt (task_for asked.now) self.old next steps is_all i
+            × (slice_get steps i ≡ Some step) }
         ensures explored { OnOk result (IsExploring (task_for asked.now) self.new) }
-        ensures made { IfOk result (ComesTo (task_for asked.now) self.new ((steps : List Step) (is_all : Bool) (i : ℕ) → TriesAt (task_for asked.now) self.old next steps is_all i → slice_get steps i ≡ Some step → TriesAt (task_for asked.now) self.new next steps is_all (i + 1))) }
+        ensures made { IfOk result (ComesTo (task_for asked.now) self.new
+            ((steps : List Step) (is_all : Bool) (i : ℕ) → TriesAt (task_for asked.now) self.old next steps is_all i
+            → slice_get steps i ≡ Some step → TriesAt (task_for asked.now) self.new next steps is_all (i + 1))) }
         ensures ends { IfErr result (IsEnd (task_for asked.now)) }
     {
         let key = self.nodes.node(next);
@@ -153,7 +160,9 @@ impl Explored {
         requires trying { (is_all : Bool) × TriesAt (task_for asked.now) self.old next steps.now.items is_all from }
         requires from { from ≤ length steps.now.items }
         ensures explored { OnOk result (IsExploring (task_for asked.now) self.new) }
-        ensures made { IfOk result (ComesTo (task_for asked.now) self.new ((is_all : Bool) → TriesAt (task_for asked.now) self.old next steps.now.items is_all from → TriesAt (task_for asked.now) self.new next steps.now.items is_all (length steps.now.items))) }
+        ensures made { IfOk result (ComesTo (task_for asked.now) self.new
+            ((is_all : Bool) → TriesAt (task_for asked.now) self.old next steps.now.items is_all from
+            → TriesAt (task_for asked.now) self.new next steps.now.items is_all (length steps.now.items))) }
         ensures ends { IfErr result (IsEnd (task_for asked.now)) }
     {
         for turn in from..steps.len() {
@@ -179,7 +188,8 @@ impl Explored {
     ) -> Result<Progress, SearchErr>
         requires asked { IsAskable asked.now }
         requires explored { IsExploring (task_for asked.now) self.old }
-        requires trying { (steps : List Step) × (is_all : Bool) × (from ≡ length steps) × TriesAt (task_for asked.now) self.old next steps is_all from }
+        requires trying { (steps : List Step) × (is_all : Bool) × (from ≡ length steps)
+            × TriesAt (task_for asked.now) self.old next steps is_all from }
         ensures explored { OnOk result (IsExploring (task_for asked.now) self.new) }
         ensures gone { IfOk result (ComesTo (task_for asked.now) self.new (GoesOn (task_for asked.now) self.new (next + 1))) }
         ensures ends { IfErr result (IsEnd (task_for asked.now)) }
@@ -322,8 +332,8 @@ fn node_limit(asked: &Asked, explored: Explored, moves: u32) -> SearchErr
     }
 }
 
-/// Searches for a plan, breadth first: the moves to the first solved node. `is_never_limited` is whether it is known that no question about
-/// an entry meets the limit of shapes, whatever the facts are.
+/// Searches for a plan, breadth first: the moves to the first solved node. `is_never_limited` is whether it is known that no question
+/// about an entry meets the limit of shapes, whatever the facts are.
 ///
 /// # Errors
 /// Those of `SearchErr`.

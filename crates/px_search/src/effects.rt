@@ -77,7 +77,8 @@ fn result_of_steps(
 pub fn result_of(asked: &Asked, model: &Model, entry: &Entry) -> Result<Model, NoMemory>
     requires asked { IsAskable asked.now }
     requires entry { IsEntry asked.now.problem.now asked.now.tables.now entry.now }
-    ensures { IfOk result (λ after. after.atoms ≡ results_of asked.now.problem.now model.now.atoms (effect_of asked.now.tables.now entry.now)) }
+    ensures { IfOk result (λ after. after.atoms ≡ results_of asked.now.problem.now model.now.atoms
+        (effect_of asked.now.tables.now entry.now)) }
 {
     let steps = effect(asked, entry)?;
     result_of_steps(asked.alloc, asked.problem, model, steps.as_slice())

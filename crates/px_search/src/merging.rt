@@ -29,7 +29,8 @@ fn pushed(numbers: &Numbers, step: Step) -> &Entry
 fn compared(numbers: &Numbers, one: Step, other: Step) -> Ordering
     requires one { (entry : Entry) × IsStepOf numbers.now one (move.Push entry) }
     requires other { (entry : Entry) × IsStepOf numbers.now other (move.Push entry) }
-    ensures { (first second : Entry) → IsStepOf numbers.now one (move.Push first) → IsStepOf numbers.now other (move.Push second) → result ≡ order_of first second }
+    ensures { (first second : Entry) → IsStepOf numbers.now one (move.Push first) → IsStepOf numbers.now other (move.Push second)
+        → result ≡ order_of first second }
 {
     pushed(numbers, one).cmp(pushed(numbers, other))
 }
@@ -43,7 +44,8 @@ pub fn merged(
 ) -> Result<Vec<Step>, NoMemory>
     requires first { (entries : List Entry) × ArePushes numbers.now entries first.now }
     requires second { (entries : List Entry) × ArePushes numbers.now entries second.now }
-    ensures { IfOk result (λ merged. (firsts seconds : List Entry) → ArePushes numbers.now firsts first.now → ArePushes numbers.now seconds second.now → AreJoined numbers.now firsts seconds merged.items) }
+    ensures { IfOk result (λ merged. (firsts seconds : List Entry) → ArePushes numbers.now firsts first.now
+        → ArePushes numbers.now seconds second.now → AreJoined numbers.now firsts seconds merged.items) }
 {
     let mut merged = Vec::new(alloc);
     let mut here = 0;

@@ -48,7 +48,8 @@ fn all_pushes(
     requires asked { IsAskable asked.now }
     requires gaps { IsOpenWith asked.now.problem.now (needs_with (task_for asked.now) model.now.atoms stack.now) gaps.now }
     ensures keeps { KeepsAll numbers.old numbers.new }
-    ensures steps { IfOk result (λ begun. IsBegunOn (task_for asked.now) numbers.new (record { model = model.now.atoms; stack = stack.now }) begun.steps.items begun.is_all) }
+    ensures steps { IfOk result (λ begun. IsBegunOn (task_for asked.now) numbers.new (record { model = model.now.atoms; stack = stack.now })
+        begun.steps.items begun.is_all) }
     ensures limited { IfLimit result (LimitsNode (task_for asked.now) (record { model = model.now.atoms; stack = stack.now })) }
 {
     match pushes(asked, numbers, model, stack, gaps) {
@@ -135,7 +136,8 @@ impl Notes {
         requires asked { IsAskable asked.now }
         requires notes { AreRight (task_for asked.now) self.old }
         requires scene { IsSceneAt (task_for asked.now) self.old.numbers key.model scene.now }
-        requires node { (node : Node) × IsKeyOf self.old.numbers key node × (node.stack ≡ []) × IsTriedAt (task_for asked.now) node Unanswered }
+        requires node { (node : Node) × IsKeyOf self.old.numbers key node × (node.stack ≡ [])
+            × IsTriedAt (task_for asked.now) node Unanswered }
         ensures notes { OnAnswer result (HaveGrown (task_for asked.now) self.old self.new) }
         ensures steps { IfOk result (BeginsAt (task_for asked.now) self.old.numbers self.new.numbers key) }
         ensures limited { IfLimit result (LimitsAt (task_for asked.now) self.old.numbers key) }
@@ -169,7 +171,8 @@ impl Notes {
         requires asked { IsAskable asked.now }
         requires notes { AreRight (task_for asked.now) self.old }
         requires scene { IsSceneAt (task_for asked.now) self.old.numbers key.model scene.now }
-        requires node { (node : Node) × IsKeyOf self.old.numbers key node × All (IsEntry asked.now.problem.now asked.now.tables.now) node.stack × IsTopOf self.old.numbers node.stack (Some frame) }
+        requires node { (node : Node) × IsKeyOf self.old.numbers key node
+            × All (IsEntry asked.now.problem.now asked.now.tables.now) node.stack × IsTopOf self.old.numbers node.stack (Some frame) }
         ensures notes { OnAnswer result (HaveGrown (task_for asked.now) self.old self.new) }
         ensures steps { IfOk result (BeginsAt (task_for asked.now) self.old.numbers self.new.numbers key) }
         ensures limited { IfLimit result (LimitsAt (task_for asked.now) self.old.numbers key) }
@@ -215,7 +218,8 @@ impl Notes {
         requires here { IsHere (task_for asked.now) self.old.numbers here.now }
         requires alone { IsBegunOn (task_for asked.now) self.old.numbers (alone_here here.now) alone.items is_all }
         ensures notes { OnOk result (HaveGrown (task_for asked.now) self.old self.new) }
-        ensures steps { IfOk result (λ begun. IsBegunOn (task_for asked.now) self.new.numbers (node_here here.now) begun.steps.items begun.is_all) }
+        ensures steps { IfOk result (λ begun. IsBegunOn (task_for asked.now) self.new.numbers (node_here here.now) begun.steps.items
+            begun.is_all) }
     {
         let kept = Sequence::from_vec(alone);
         let steps = struck(asked.alloc, &self.numbers, here.below, kept.as_slice())?;
@@ -239,7 +243,8 @@ impl Notes {
         requires part { IsPartAt (task_for asked.now) self.old.numbers scene.now.part scene.now.model.atoms }
         requires gaps { IsOpenWith asked.now.problem.now (needs_with (task_for asked.now) scene.now.model.atoms []) gaps.now }
         ensures notes { OnAnswer result (HaveGrown (task_for asked.now) self.old self.new) }
-        ensures steps { IfOk result (λ begun. IsBegunOn (task_for asked.now) self.new.numbers (record { model = scene.now.model.atoms; stack = [] }) begun.steps.items begun.is_all) }
+        ensures steps { IfOk result (λ begun. IsBegunOn (task_for asked.now) self.new.numbers
+            (record { model = scene.now.model.atoms; stack = [] }) begun.steps.items begun.is_all) }
         ensures limited { IfLimit result (LimitsNode (task_for asked.now) (record { model = scene.now.model.atoms; stack = [] })) }
     {
         match self.pushes_offered(asked, scene, 0, gaps) {
@@ -259,7 +264,8 @@ impl Notes {
         requires here { IsHere (task_for asked.now) self.old.numbers here.now }
         requires gaps { IsOpenWith asked.now.problem.now (needs_at (task_for asked.now) (node_here here.now)) gaps.now }
         ensures notes { OnAnswer result (HaveGrown (task_for asked.now) self.old self.new) }
-        ensures steps { IfOk result (λ begun. IsBegunOn (task_for asked.now) self.new.numbers (node_here here.now) begun.steps.items begun.is_all) }
+        ensures steps { IfOk result (λ begun. IsBegunOn (task_for asked.now) self.new.numbers (node_here here.now) begun.steps.items
+            begun.is_all) }
         ensures limited { IfLimit result (LimitsNode (task_for asked.now) (node_here here.now)) }
     {
         let alone = self.numbers.pushed(here.place.entry, 0)?;

@@ -9,7 +9,7 @@ ghost use Rattle.px_ends.specs.Tasks.{needs_with};
 ghost use Rattle.px_support.specs.Asking.{IsAskable, task_for};
 ghost use Rattle.px_search.specs.Going.{IsBegunOn};
 ghost use Rattle.px_search.specs.Notes.{AreRight, HaveGrown, OnAnswer};
-ghost use Rattle.px_search.specs.Offers.{AreFirst, IsOffered, IsOfferedWhole, IsPartAt};
+ghost use Rattle.px_search.specs.Offers.{AreFirstOffers, IsOffered, IsOfferedWhole, IsPartAt};
 
 use crate::begun::Begun;
 use crate::merging::merged;
@@ -40,7 +40,7 @@ fn copy_of(alloc: Global, offer: &Offer) -> Result<Begun, NoMemory>
 /// All entries that may be pushed for one of the atoms over the empty stack, in order.
 fn all_entries_for(asked: &Asked, model: &Model, wanted: &[Atom]) -> Result<First, AskErr>
     requires asked { IsAskable asked.now }
-    ensures first { IfOk result (λ first. AreFirst (task_for asked.now) model.now.atoms wanted.now first.entries.items first.is_all) }
+    ensures first { IfOk result (λ first. AreFirstOffers (task_for asked.now) model.now.atoms wanted.now first.entries.items first.is_all) }
     ensures unlimited { IfOk result (λ first. AreUnlimitedOver asked.now.problem.now asked.now.tables.now wanted.now model.now.atoms []) }
 {
     match relevant(asked.alloc, asked.problem, wanted, &[], model, asked.tables) {
@@ -59,8 +59,10 @@ impl Notes {
         requires asked { IsAskable asked.now }
         requires notes { AreRight (task_for asked.now) self.now }
         requires model { IsAtomSet model.now.atoms }
-        ensures first { IfOk result (λ first. AreFirst (task_for asked.now) model.now.atoms wanted.now first.entries.items first.is_all) }
-        ensures unlimited { IfOk result (λ first. AreUnlimitedOver asked.now.problem.now asked.now.tables.now wanted.now model.now.atoms []) }
+        ensures first { IfOk result (λ first. AreFirstOffers (task_for asked.now) model.now.atoms wanted.now first.entries.items
+            first.is_all) }
+        ensures unlimited { IfOk result (λ first. AreUnlimitedOver asked.now.problem.now asked.now.tables.now wanted.now model.now.atoms
+            []) }
     {
         if self.is_never_limited {
             let enough = asked.problem.nodes as usize;
@@ -88,7 +90,8 @@ impl Notes {
         requires notes { AreRight (task_for asked.now) self.old }
         requires model { IsAtomSet model.now.atoms }
         ensures notes { OnAnswer result (HaveGrown (task_for asked.now) self.old self.new) }
-        ensures steps { IfOk result (λ begun. IsOffered (task_for asked.now) self.new.numbers model.now.atoms wanted.now begun.steps.items begun.is_all) }
+        ensures steps { IfOk result (λ begun. IsOffered (task_for asked.now) self.new.numbers model.now.atoms wanted.now begun.steps.items
+            begun.is_all) }
     {
         let first = match self.entries_for(asked, model, wanted) {
             Ok(first) => first,
@@ -106,7 +109,8 @@ impl Notes {
         requires notes { AreRight (task_for asked.now) self.old }
         requires part { IsPartAt (task_for asked.now) self.old.numbers want.now.part scene.now.model.atoms }
         ensures notes { OnAnswer result (HaveGrown (task_for asked.now) self.old self.new) }
-        ensures steps { IfOk result (λ begun. IsOffered (task_for asked.now) self.new.numbers scene.now.model.atoms (want.now.atom ∷ []) begun.steps.items begun.is_all) }
+        ensures steps { IfOk result (λ begun. IsOffered (task_for asked.now) self.new.numbers scene.now.model.atoms (want.now.atom ∷ [])
+            begun.steps.items begun.is_all) }
     {
         let begun = match self.offered_anew(asked, &scene.model, &[want.atom]) {
             Ok(begun) => begun,
@@ -130,7 +134,8 @@ impl Notes {
         requires notes { AreRight (task_for asked.now) self.old }
         requires part { IsPartAt (task_for asked.now) self.old.numbers want.now.part scene.now.model.atoms }
         ensures notes { OnAnswer result (HaveGrown (task_for asked.now) self.old self.new) }
-        ensures steps { IfOk result (λ begun. IsOffered (task_for asked.now) self.new.numbers scene.now.model.atoms (want.now.atom ∷ []) begun.steps.items begun.is_all) }
+        ensures steps { IfOk result (λ begun. IsOffered (task_for asked.now) self.new.numbers scene.now.model.atoms (want.now.atom ∷ [])
+            begun.steps.items begun.is_all) }
     {
         match self.wants.get(want) {
             Some(offer) => {
@@ -153,7 +158,8 @@ impl Notes {
         requires notes { AreRight (task_for asked.now) self.old }
         requires part { IsPartAt (task_for asked.now) self.old.numbers scene.now.part scene.now.model.atoms }
         ensures notes { OnAnswer result (HaveGrown (task_for asked.now) self.old self.new) }
-        ensures whole { IfOk result (λ whole. IfSome whole (λ steps. IsOfferedWhole (task_for asked.now) self.new.numbers scene.now.model.atoms gaps.now steps.items)) }
+        ensures whole { IfOk result (λ whole. IfSome whole (λ steps. IsOfferedWhole (task_for asked.now) self.new.numbers
+            scene.now.model.atoms gaps.now steps.items)) }
     {
         let mut steps = Vec::new(asked.alloc);
         for place in 0..gaps.len() {
@@ -178,7 +184,8 @@ impl Notes {
         requires notes { AreRight (task_for asked.now) self.old }
         requires part { IsPartAt (task_for asked.now) self.old.numbers scene.now.part scene.now.model.atoms }
         ensures notes { OnAnswer result (HaveGrown (task_for asked.now) self.old self.new) }
-        ensures steps { IfOk result (λ begun. IsOffered (task_for asked.now) self.new.numbers scene.now.model.atoms gaps.now begun.steps.items begun.is_all) }
+        ensures steps { IfOk result (λ begun. IsOffered (task_for asked.now) self.new.numbers scene.now.model.atoms gaps.now
+            begun.steps.items begun.is_all) }
     {
         if gaps.len() == 1 {
             let want = Want {
@@ -217,7 +224,10 @@ impl Notes {
         requires part { IsPartAt (task_for asked.now) self.old.numbers scene.now.part scene.now.model.atoms }
         requires stack { (entries : List Entry) × IsStackAt self.old.numbers stack entries }
         ensures notes { OnAnswer result (HaveGrown (task_for asked.now) self.old self.new) }
-        ensures begun { IfOk result (λ begun. (entries : List Entry) → IsStackAt self.old.numbers stack entries → IsOpenWith asked.now.problem.now (needs_with (task_for asked.now) scene.now.model.atoms entries) gaps.now → IsBegunOn (task_for asked.now) self.new.numbers (record { model = scene.now.model.atoms; stack = entries }) begun.steps.items begun.is_all) }
+        ensures begun { IfOk result (λ begun. (entries : List Entry) → IsStackAt self.old.numbers stack entries
+            → IsOpenWith asked.now.problem.now (needs_with (task_for asked.now) scene.now.model.atoms entries) gaps.now
+            → IsBegunOn (task_for asked.now) self.new.numbers (record { model = scene.now.model.atoms; stack = entries }) begun.steps.items
+            begun.is_all) }
     {
         let begun = match self.offered(asked, scene, gaps) {
             Ok(begun) => begun,

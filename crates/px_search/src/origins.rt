@@ -38,7 +38,8 @@ pub fn moves_to(
     requires place { place ≤ length origins.now }
     requires earlier { AreEarlier origins.now }
     requires traced { (found : List (List Move)) × Trace numbers.now origins.now found }
-    ensures trace { IfOk result (λ moves. (found : List (List Move)) → Trace numbers.now origins.now found → slice_get found place ≡ Some moves.items) }
+    ensures trace { IfOk result (λ moves. (found : List (List Move)) → Trace numbers.now origins.now found
+        → slice_get found place ≡ Some moves.items) }
     ensures few { IfOk result (λ moves. length moves.items ≤ place) }
 {
     let mut moves = Vec::new(alloc);

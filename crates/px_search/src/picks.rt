@@ -42,7 +42,8 @@ pub fn step_at(steps: &[Step], place: usize) -> Step
 /// Is it the push of an entry on the stack?
 fn is_struck(numbers: &Numbers, stack: u32, step: Step) -> bool
     requires { (entries : List Entry) × IsStackAt numbers.now stack entries }
-    ensures { (entries : List Entry) (m : Move) → IsStackAt numbers.now stack entries → IsStepOf numbers.now step m → result ≡ is_push_on entries m }
+    ensures { (entries : List Entry) (m : Move) → IsStackAt numbers.now stack entries → IsStepOf numbers.now step m
+        → result ≡ is_push_on entries m }
 {
     match step {
         Step::Apply => false,
@@ -69,7 +70,8 @@ pub fn struck(
     steps: &[Step],
 ) -> Result<Vec<Step>, NoMemory>
     requires { (entries : List Entry) × IsStackAt numbers.now stack entries }
-    ensures { IfOk result (λ left. (entries : List Entry) (moves : List Move) → IsStackAt numbers.now stack entries → AreStepsOf numbers.now steps.now moves → AreStepsOf numbers.now left.items (unstruck entries moves)) }
+    ensures { IfOk result (λ left. (entries : List Entry) (moves : List Move) → IsStackAt numbers.now stack entries
+        → AreStepsOf numbers.now steps.now moves → AreStepsOf numbers.now left.items (unstruck entries moves)) }
 {
     let mut left = Vec::new(alloc);
     for place in 0..steps.len() {

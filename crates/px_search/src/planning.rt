@@ -75,19 +75,30 @@ pub fn search(
     ensures found { IfOk result (λ plan. IsFound (task_of problem.now tables.now initial.now.atoms goal.now vars) plan.moves) }
     ensures few { IfOk result (λ plan. length plan.moves < problem.now.nodes) }
     ensures steps { IfOk result (λ plan. plan.steps ≡ steps_of tables.now [] plan.moves) }
-    ensures rows { IfOk result (λ plan. MovesRows (task_of problem.now tables.now initial.now.atoms goal.now vars) (initial_node (task_of problem.now tables.now initial.now.atoms goal.now vars)) [] plan.moves (rows_of plan.support.items)) }
+    ensures rows { IfOk result (λ plan. MovesRows (task_of problem.now tables.now initial.now.atoms goal.now vars)
+        (initial_node (task_of problem.now tables.now initial.now.atoms goal.now vars)) [] plan.moves (rows_of plan.support.items)) }
     ensures supports { IfOk result (λ plan. Supports problem.now initial.now.atoms plan.steps goal.now vars (rows_of plan.support.items)) }
     ensures of_problem { IfOk result (λ plan. AreOfProblem problem.now (rows_of plan.support.items)) }
     ensures instances { IfOk result (λ plan. All (IsInstanceOf problem.now) plan.steps) }
     ensures carries { IfOk result (λ plan. Carries problem.now initial.now.atoms plan.steps vars goal.now) }
     ensures short { IfOk result (λ plan. length plan.steps < 4294967295) }
     ensures exhausted { IsErrOf result SearchErr.Exhausted → IsExhausted (task_of problem.now tables.now initial.now.atoms goal.now vars) }
-    ensures node_limit { (nodes : List Node) (moves : ℕ) → IsErrOf result (SearchErr.NodeLimit nodes moves) → IsNodeLimit (task_of problem.now tables.now initial.now.atoms goal.now vars) nodes moves }
-    ensures shape_limit { (node : Node) (formula : List Atom) (shapes : List (List Tick)) → IsErrOf result (SearchErr.ShapeLimit node formula shapes) → IsShapeLimit (task_of problem.now tables.now initial.now.atoms goal.now vars) node formula shapes }
-    ensures always_found { (moves : List Move) → IsFound (task_of problem.now tables.now initial.now.atoms goal.now vars) moves → IfOk result (λ plan. plan.moves ≡ moves) × IfErr result (λ e. e ≡ SearchErr.NoMemory) }
-    ensures always_exhausted { IsExhausted (task_of problem.now tables.now initial.now.atoms goal.now vars) → IsErrOf result SearchErr.Exhausted ⊎ IsErrOf result SearchErr.NoMemory }
-    ensures always_node_limit { (nodes : List Node) (moves : ℕ) → IsNodeLimit (task_of problem.now tables.now initial.now.atoms goal.now vars) nodes moves → IsErrOf result (SearchErr.NodeLimit nodes moves) ⊎ IsErrOf result SearchErr.NoMemory }
-    ensures always_shape_limit { (node : Node) (formula : List Atom) (shapes : List (List Tick)) → IsShapeLimit (task_of problem.now tables.now initial.now.atoms goal.now vars) node formula shapes → ((there : Node) × (kept : List Atom) × (first : List (List Tick)) × IsErrOf result (SearchErr.ShapeLimit there kept first)) ⊎ IsErrOf result SearchErr.NoMemory }
+    ensures node_limit { (nodes : List Node) (moves : ℕ) → IsErrOf result (SearchErr.NodeLimit nodes moves)
+        → IsNodeLimit (task_of problem.now tables.now initial.now.atoms goal.now vars) nodes moves }
+    ensures shape_limit { (node : Node) (formula : List Atom) (shapes : List (List Tick))
+        → IsErrOf result (SearchErr.ShapeLimit node formula shapes)
+        → IsShapeLimit (task_of problem.now tables.now initial.now.atoms goal.now vars) node formula shapes }
+    ensures always_found { (moves : List Move) → IsFound (task_of problem.now tables.now initial.now.atoms goal.now vars) moves
+        → IfOk result (λ plan. plan.moves ≡ moves) × IfErr result (λ e. e ≡ SearchErr.NoMemory) }
+    ensures always_exhausted { IsExhausted (task_of problem.now tables.now initial.now.atoms goal.now vars)
+        → IsErrOf result SearchErr.Exhausted ⊎ IsErrOf result SearchErr.NoMemory }
+    ensures always_node_limit { (nodes : List Node) (moves : ℕ)
+        → IsNodeLimit (task_of problem.now tables.now initial.now.atoms goal.now vars) nodes moves
+        → IsErrOf result (SearchErr.NodeLimit nodes moves) ⊎ IsErrOf result SearchErr.NoMemory }
+    ensures always_shape_limit { (node : Node) (formula : List Atom) (shapes : List (List Tick))
+        → IsShapeLimit (task_of problem.now tables.now initial.now.atoms goal.now vars) node formula shapes
+        → ((there : Node) × (kept : List Atom) × (first : List (List Tick)) × IsErrOf result (SearchErr.ShapeLimit there kept first))
+        ⊎ IsErrOf result SearchErr.NoMemory }
 {
     let asked = Asked {
         alloc,

@@ -1,15 +1,12 @@
 //! What is answered where a box is to be in room 1.
 ghost use Rattle.px_terms.specs.Validity.{IsValid};
 
-use crate::example::{
-    box_in_first, learned, marks_there_and_back, opening, robot_is_box, rooms, there_and_back,
-};
-use crate::samples::sequence_of;
+use crate::samples::{learned, rooms_within, there_and_back};
 use px_entries::are_learned;
-use px_ops::Model;
+use px_samples::{ROBOT, box_in_first_room, is_box, opening};
 use px_search::{Found, SearchErr, search};
-use px_table::{Entry, Move, Row, Table, marks};
-use px_terms::{Atom, Problem, are_atoms_of};
+use px_table::{Entry, Move, Table, marks};
+use px_terms::{Atom, Problem, Sequence, are_atoms_of};
 use std::alloc::Global;
 use std::process::Abort;
 use std::rt::HostRuntime;
@@ -24,41 +21,36 @@ fn answer(
 ) -> Result<Found, SearchErr>
     requires { IsValid problem.now }
 {
-    let initial = opening(alloc, rt);
+    let initial = opening(alloc).expect(rt, "memory");
     assert!(rt; are_atoms_of(problem, 1, goal));
     assert!(rt; are_learned(problem, tables));
     assert!(rt; problem.objects > 0);
     search(alloc, problem, &initial, goal, 1, tables)
 }
 
-/// Do the rows rest on the marks that the two steps rest on?
-fn rest_on_those_marks(alloc: Global, rt: &impl Abort, rows: &[Row]) -> bool {
-    assert!(rt; rows.len() <= 66);
-    let found = marks(alloc, rows).expect(rt, "memory");
-    found.as_slice() == marks_there_and_back(rt).as_slice()
-}
-
-/// Going there and pushing the box back is planned, with the right rows.
+/// Going there and pushing the box back is planned, with rows that rest on what those of the table rest on.
 fn is_there_and_back(alloc: Global, rt: &impl Abort, plan: &Found) -> bool {
-    plan.steps.as_slice() == there_and_back(rt).as_slice()
-        && rest_on_those_marks(alloc, rt, &plan.support)
+    let wanted = there_and_back(alloc, rt);
+    assert!(rt; plan.support.len() <= 66);
+    let found = marks(alloc, &plan.support).expect(rt, "memory");
+    plan.steps.as_slice() == wanted.steps.as_slice() && found == wanted.marks
 }
 
 /// What is answered in the rooms within these limits, without tables.
 fn answer_within(
     alloc: Global,
     rt: &impl Abort,
-    (nodes, shapes): (u32, u32),
+    limits: (u32, u32),
     goal: &[Atom],
 ) -> Result<Found, SearchErr> {
-    let problem = rooms(alloc, rt, nodes, shapes);
+    let problem = rooms_within(alloc, rt, limits);
     answer(alloc, rt, &problem, goal, &[])
 }
 
 #[test]
 fn a_box_is_pushed_back(rt: HostRuntime) {
     let alloc = rt.alloc();
-    let found = answer_within(alloc, &rt, (89, 10000), &box_in_first(&rt));
+    let found = answer_within(alloc, &rt, (89, 10000), &box_in_first_room());
     assert!(&rt;
         matches!(&found, Ok(plan) if plan.moves.len() == 4 && is_there_and_back(alloc, &rt, plan))
     );
@@ -78,14 +70,14 @@ fn facts_of_last(alloc: Global, rt: &impl Abort, found: &Result<Found, SearchErr
 #[test]
 fn eighty_eight_nodes_are_too_few(rt: HostRuntime) {
     let alloc = rt.alloc();
-    let found = answer_within(alloc, &rt, (88, 10000), &box_in_first(&rt));
+    let found = answer_within(alloc, &rt, (88, 10000), &box_in_first_room());
     let facts = facts_of_last(alloc, &rt, &found);
     assert!(&rt; facts == 5);
 }
 
 #[test]
 fn two_shapes_are_too_few(rt: HostRuntime) {
-    let found = answer_within(rt.alloc(), &rt, (89, 2), &box_in_first(&rt));
+    let found = answer_within(rt.alloc(), &rt, (89, 2), &box_in_first_room());
     assert!(&rt;
         matches!(&found, Err(SearchErr::ShapeLimit { node: _, formula: _, shapes }) if shapes.len() == 2)
     );
@@ -93,7 +85,7 @@ fn two_shapes_are_too_few(rt: HostRuntime) {
 
 #[test]
 fn the_robot_is_no_box(rt: HostRuntime) {
-    let found = answer_within(rt.alloc(), &rt, (1, 10000), &robot_is_box(&rt));
+    let found = answer_within(rt.alloc(), &rt, (1, 10000), &[is_box(ROBOT)]);
     assert!(&rt; matches!(&found, Err(SearchErr::Exhausted)));
 }
 
@@ -108,16 +100,16 @@ fn push_both(alloc: Global, rt: &impl Abort, objects: &[u32]) -> Move {
     Move::Push(Entry::Macro {
         number: 0,
         prefix: 2,
-        sigma: sequence_of(alloc, rt, objects),
+        sigma: Sequence::from_slice(alloc, objects).expect(rt, "memory"),
     })
 }
 
 #[test]
 fn a_learned_table_is_taken_as_one_operator(rt: HostRuntime) {
     let alloc = rt.alloc();
-    let problem = rooms(alloc, &rt, 100, 10000);
+    let problem = rooms_within(alloc, &rt, (100, 10000));
     let tables = [learned(alloc, &rt)];
-    let found = answer(alloc, &rt, &problem, &box_in_first(&rt), &tables);
+    let found = answer(alloc, &rt, &problem, &box_in_first_room(), &tables);
     let moves = [push_both(alloc, &rt, &[1, 4, 2, 6, 4, 1]), Move::Apply];
     assert!(&rt;
         matches!(&found, Ok(plan) if plan.moves.as_slice() == moves.as_slice()

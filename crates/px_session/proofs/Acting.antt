@@ -23,25 +23,27 @@ module _ (planex : PlanexValue) (recorded : List (Recorded Edit)) (number : ℕ)
       → turn_told (record { kernel = kernel; op = op; end = end }) ≡ record { kernel = kernel; op = step; end = end_told other }
   turn-is kernel op step end other same_op same_end = λ i. record { kernel = kernel; op = same_op i; end = end_told (same_end i) }
 
+  happened-by : (atoms mid after : List Atom) (memory : Memory) (answer same : Outcome)
+      → mid ≡ after_edits leaves_edit (edits_at recorded number true) atoms → answer ≡ same
+      → Happened (running mid planex.memory) answer (running after memory)
+      → Happened (running (after_edits leaves_edit (edits_at recorded number true) atoms) planex.memory) same (running after memory)
+  happened-by atoms mid after memory answer same mid_is is happens =
+      subst (λ (o : Outcome). Happened (running (after_edits leaves_edit (edits_at recorded number true) atoms) planex.memory) o (running after memory)) is
+      (subst (λ (m : List Atom). Happened (running m planex.memory) answer (running after memory)) mid_is happens)
+
   pub act-ends : (kernel : ℕ) (atoms mid after : List Atom) (memory : Memory) (op : Option OpInst) (end : TurnEnd) (answer : Outcome)
       → mid ≡ after_edits leaves_edit (edits_at recorded number true) atoms → op ≡ remembered_step planex.table planex.memory
       → Happened (running mid planex.memory) answer (running after memory)
       → ((answer ≡ outcome.Acted) × (end ≡ told.Acted)) ⊎ ((answer ≡ outcome.Slipped) × (end ≡ told.Slipped))
       → EndsSensed planex recorded number kernel atoms (record { kernel = kernel; op = op; end = end }) after memory
-  act-ends kernel atoms mid after memory op end answer mid_is op_is happens (inl (is, told_as)) =
-      inl (
-        turn-is kernel op (remembered_step planex.table planex.memory) end told.Acted op_is told_as,
-        subst (λ (o : Outcome). Happened (running (after_edits leaves_edit (edits_at recorded number true) atoms) planex.memory) o
-            (running after memory)) is
-            (subst (λ (m : List Atom). Happened (running m planex.memory) answer (running after memory)) mid_is happens),
-      )
-  act-ends kernel atoms mid after memory op end answer mid_is op_is happens (inr (is, told_as)) =
-      inr (
-        turn-is kernel op (remembered_step planex.table planex.memory) end told.Slipped op_is told_as,
-        subst (λ (o : Outcome). Happened (running (after_edits leaves_edit (edits_at recorded number true) atoms) planex.memory) o
-            (running after memory)) is
-            (subst (λ (m : List Atom). Happened (running m planex.memory) answer (running after memory)) mid_is happens),
-      )
+  act-ends kernel atoms mid after memory op end answer mid_is op_is happens (inl (is, told_as)) = inl (
+    turn-is kernel op (remembered_step planex.table planex.memory) end told.Acted op_is told_as,
+    happened-by atoms mid after memory answer outcome.Acted mid_is is happens,
+  )
+  act-ends kernel atoms mid after memory op end answer mid_is op_is happens (inr (is, told_as)) = inr (
+    turn-is kernel op (remembered_step planex.table planex.memory) end told.Slipped op_is told_as,
+    happened-by atoms mid after memory answer outcome.Slipped mid_is is happens,
+  )
 
   abbrev Senses : List Atom → Outcome → Running → Type 0
   Senses atoms answer new = Happens leaves_edit planex.problem planex.table planex.bound (running atoms planex.memory) Sense answer new

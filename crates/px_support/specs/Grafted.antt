@@ -30,7 +30,8 @@ pub record AreFirsts (graft : Graft) (firsts : List Proof) : Type 0 where
 -- the part is the proof that stands where the atom does, with leaves that name where their atoms come from
 abbrev pub IsPartFor : Graft → List Derivation → Atom → Derivation → Type 0
 IsPartFor graft firsts atom part =
-    (place : ℕ) × (first : Derivation) × (slice_get graft.formula.now place ≡ Some atom) × (slice_get firsts place ≡ Some first) × IsSourced graft.problem.now graft.steps.now first part
+    (place : ℕ) × (first : Derivation) × (slice_get graft.formula.now place ≡ Some atom) × (slice_get firsts place ≡ Some first)
+    × IsSourced graft.problem.now graft.steps.now first part
 
 abbrev pub AreParts : Graft → List Derivation → List Leaf → List Derivation → Type 0
 AreParts graft firsts = AllZip (λ (leaf : Leaf) (part : Derivation). IsPartFor graft firsts leaf.atom part)
@@ -46,4 +47,5 @@ IsGraftableBy graft = IsGraftable graft.formula.now graft.terms.now graft.shift
 
 -- the new proof is the old one with such parts in the places of its leaves in column 0
 abbrev pub IsGraftBy : Graft → List Derivation → Derivation → Derivation → Type 0
-IsGraftBy graft firsts d new = (parts : List Derivation) × AreParts graft firsts (first_leaves (leaves_of d)) parts × (new ≡ grafted graft.shift parts d)
+IsGraftBy graft firsts d new = (parts : List Derivation) × AreParts graft firsts (first_leaves (leaves_of d)) parts
+    × (new ≡ grafted graft.shift parts d)

@@ -40,7 +40,8 @@ pub record IsStepTaken (problem : Problem) (learned : Learned) (place : ℕ) (ol
   pub row : List Derivation
   pub row_at : slice_get (rows_of learned.table.now.proofs) place ≡ Some row
   pub first : List Derivation
-  pub made : AllZip (IsGraft problem learned.shift old.walk.steps.items old.facts.atoms) (map (derivation_under (map Obj learned.sigma.now)) row) first
+  pub made : AllZip (IsGraft problem learned.shift old.walk.steps.items old.facts.atoms)
+      (map (derivation_under (map Obj learned.sigma.now)) row) first
   pub rows : rows_of new.walk.rows.items ≡ rows_of old.walk.rows.items ++ first ∷ []
   pub steps : new.walk.steps.items ≡ old.walk.steps.items ++ inst ∷ []
   pub model : new.walk.model.atoms ≡ result_of problem old.walk.model.atoms inst
@@ -53,5 +54,6 @@ pub record IsMacroApplied (problem : Problem) (learned : Learned) (old new : Wal
   pub stack : new.stack.items ≡ old.stack.items
   pub steps : new.steps.items ≡ old.steps.items ++ steps_in learned
   pub first : List (List Derivation)
-  pub made : MacroRows problem learned.sigma.now learned.shift old.steps.items old.model.atoms (rows_of learned.table.now.proofs) (steps_in learned) first
+  pub made : MacroRows problem learned.sigma.now learned.shift old.steps.items old.model.atoms (rows_of learned.table.now.proofs)
+      (steps_in learned) first
   pub rows : rows_of new.rows.items ≡ rows_of old.rows.items ++ first

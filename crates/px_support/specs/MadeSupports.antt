@@ -21,5 +21,7 @@ pub record AreSupport (task : Task) (moves : List Move) (rows : List (List Deriv
 -- Where moves can be made, their rows are a support of their steps and the goal, over the problem's numbers. So the steps lead from the
 -- initial model to the goal in each run.
 abbrev pub MovesSupport : Type 0
-MovesSupport = (task : Task) (moves : List Move) (rows : List (List Derivation)) → IsValid task.problem → All (IsAtomOf task.problem task.vars) task.goal
-    → AreLearned task.problem task.tables → AreMoves task moves → MovesRows task (initial_node task) [] moves rows → AreSupport task moves rows
+MovesSupport = (task : Task) (moves : List Move) (rows : List (List Derivation)) → IsValid task.problem
+    → All (IsAtomOf task.problem task.vars) task.goal
+    → AreLearned task.problem task.tables → AreMoves task moves → MovesRows task (initial_node task) [] moves rows
+    → AreSupport task moves rows

@@ -15,7 +15,8 @@ pub record IsFirstPlace (atoms : List Atom) (atom : Atom) (place : ℕ) : Type 0
 -- the parts are leaves of the same atoms that name where these come from
 abbrev pub AreSources : Problem → List OpInst → List Leaf → List Derivation → Type 0
 AreSources problem made old parts =
-    (leaves : List Leaf) × (leaf_atoms leaves ≡ leaf_atoms old) × All (IsSource problem made) leaves × (parts ≡ map (λ leaf. fact leaf) leaves)
+    (leaves : List Leaf) × (leaf_atoms leaves ≡ leaf_atoms old) × All (IsSource problem made) leaves
+    × (parts ≡ map (λ leaf. fact leaf) leaves)
 
 -- the leaves are all in column 0, as those of an answer of the prover are
 abbrev pub HasFirstLeaves : Derivation → Type 0

@@ -96,7 +96,8 @@ fn grafted_proof(graft: &Graft, firsts: &[Proof], proof: &Proof) -> Result<Proof
     requires graft { IsReady graft.now }
     requires firsts { AreFirsts graft.now firsts.now }
     requires proof { IsGraftableBy graft.now (derivation_of proof.now) }
-    ensures { IfOk result (λ new. IsGraftBy graft.now (map derivation_of firsts.now) (derivation_under graft.now.terms.now (derivation_of proof.now)) (derivation_of new)) }
+    ensures { IfOk result (λ new. IsGraftBy graft.now (map derivation_of firsts.now)
+        (derivation_under graft.now.terms.now (derivation_of proof.now)) (derivation_of new)) }
 {
     let under = substitute(graft.alloc, proof, graft.terms)?;
     let mut given = leaves(graft.alloc, &under)?;
@@ -110,7 +111,8 @@ fn grafted_row(graft: &Graft, firsts: &[Proof], proofs: &[Proof]) -> Result<Row,
     requires graft { IsReady graft.now }
     requires firsts { AreFirsts graft.now firsts.now }
     requires proofs { All (IsGraftableBy graft.now) (map derivation_of proofs.now) }
-    ensures { IfOk result (λ row. AllZip (IsGraftBy graft.now (map derivation_of firsts.now)) (map (derivation_under graft.now.terms.now) (map derivation_of proofs.now)) (map derivation_of row)) }
+    ensures { IfOk result (λ row. AllZip (IsGraftBy graft.now (map derivation_of firsts.now))
+        (map (derivation_under graft.now.terms.now) (map derivation_of proofs.now)) (map derivation_of row)) }
 {
     let mut made = Vec::new(graft.alloc);
     for proof in proofs {
@@ -125,7 +127,8 @@ pub fn learned_row(graft: &Graft, facts: &Model, proofs: &[Proof]) -> Result<Row
     requires graft { IsReady graft.now }
     requires proofs { All (IsGraftableBy graft.now) (map derivation_of proofs.now) }
     requires findable { IsFindable graft.now.problem.now (record { formula = graft.now.formula.now; vars = 0; facts = facts.now.atoms }) }
-    ensures { IfOk result (λ row. AllZip (IsGraft graft.now.problem.now graft.now.shift graft.now.steps.now facts.now.atoms) (map (derivation_under graft.now.terms.now) (map derivation_of proofs.now)) (map derivation_of row)) }
+    ensures { IfOk result (λ row. AllZip (IsGraft graft.now.problem.now graft.now.shift graft.now.steps.now facts.now.atoms)
+        (map (derivation_under graft.now.terms.now) (map derivation_of proofs.now)) (map derivation_of row)) }
 {
     match prove(graft.alloc, graft.problem, graft.formula, 0, facts) {
         Ok(answer) => grafted_row(graft, answer.proofs.as_slice(), proofs),

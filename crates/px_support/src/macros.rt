@@ -57,7 +57,8 @@ fn take_step(
     requires asked { IsAskable asked.now }
     requires learned { IsLearnedOf asked.now.problem.now learned.now }
     requires place { place < learned.now.prefix }
-    requires findable { IsFindable asked.now.problem.now (record { formula = initial_atoms learned.now.table.now learned.now.sigma.now (place + 1); vars = 0; facts = within.facts.atoms }) }
+    requires findable { IsFindable asked.now.problem.now (record
+        { formula = initial_atoms learned.now.table.now learned.now.sigma.now (place + 1); vars = 0; facts = within.facts.atoms }) }
     requires steps { All (IsGroundInstanceOf asked.now.problem.now) within.walk.steps.items }
     requires short { length within.walk.steps.items ≤ 4294967295 }
     ensures { IfOk result (IsStepTaken asked.now.problem.now learned.now place within) }
@@ -109,7 +110,8 @@ pub fn apply_macro(
 ) -> Result<Walk, NoMemory>
     requires asked { IsAskable asked.now }
     requires entry { IsEntry asked.now.problem.now asked.now.tables.now (Entry.Macro number prefix sigma.now) }
-    requires findable { All (IsFindable asked.now.problem.now) (obligations_of asked.now.problem.now asked.now.tables.now walk.model.atoms (Entry.Macro number prefix sigma.now)) }
+    requires findable { All (IsFindable asked.now.problem.now)
+        (obligations_of asked.now.problem.now asked.now.tables.now walk.model.atoms (Entry.Macro number prefix sigma.now)) }
     requires room { HasRoom asked.now.problem.now walk }
     ensures { IfOk result (IsEntryApplied asked.now.problem.now asked.now.tables.now (Entry.Macro number prefix sigma.now) walk) }
 {

@@ -33,7 +33,8 @@ fn with_goal(asked: &Asked, walk: Walk, moves: &[Move]) -> Result<Support, NoMem
     requires taken { AreTaken (task_for asked.now) moves.now walk }
     requires short { 64 * length moves.now < 4294967295 }
     ensures steps { IfOk result (λ support. support.steps ≡ steps_of asked.now.tables.now [] moves.now) }
-    ensures rows { IfOk result (λ support. MovesRows (task_for asked.now) (initial_node (task_for asked.now)) [] moves.now (rows_of support.rows.items)) }
+    ensures rows { IfOk result (λ support. MovesRows (task_for asked.now) (initial_node (task_for asked.now)) [] moves.now
+        (rows_of support.rows.items)) }
     ensures short { IfOk result (λ support. length support.steps < 4294967295) }
 {
     let Walk {
@@ -68,11 +69,14 @@ pub fn support_of(asked: &Asked, moves: &[Move]) -> Result<Support, NoMemory>
     requires asked { IsAskable asked.now }
     requires found { IsFound (task_for asked.now) moves.now }
     ensures steps { IfOk result (λ support. support.steps ≡ steps_of asked.now.tables.now [] moves.now) }
-    ensures rows { IfOk result (λ support. MovesRows (task_for asked.now) (initial_node (task_for asked.now)) [] moves.now (rows_of support.rows.items)) }
-    ensures supports { IfOk result (λ support. Supports asked.now.problem.now asked.now.initial.now.atoms support.steps asked.now.goal.now asked.now.vars (rows_of support.rows.items)) }
+    ensures rows { IfOk result (λ support. MovesRows (task_for asked.now) (initial_node (task_for asked.now)) [] moves.now
+        (rows_of support.rows.items)) }
+    ensures supports { IfOk result (λ support. Supports asked.now.problem.now asked.now.initial.now.atoms support.steps asked.now.goal.now
+        asked.now.vars (rows_of support.rows.items)) }
     ensures of_problem { IfOk result (λ support. AreOfProblem asked.now.problem.now (rows_of support.rows.items)) }
     ensures instances { IfOk result (λ support. All (IsInstanceOf asked.now.problem.now) support.steps) }
-    ensures carries { IfOk result (λ support. Carries asked.now.problem.now asked.now.initial.now.atoms support.steps asked.now.vars asked.now.goal.now) }
+    ensures carries { IfOk result (λ support. Carries asked.now.problem.now asked.now.initial.now.atoms support.steps asked.now.vars
+        asked.now.goal.now) }
     ensures short { IfOk result (λ support. length support.steps < 4294967295) }
 {
     moves_have_supports();

@@ -51,7 +51,8 @@ impl Walk {
 fn apply_instance(asked: &Asked, mut walk: Walk, inst: &OpInst) -> Result<Walk, NoMemory>
     requires asked { IsAskable asked.now }
     requires inst { IsInstanceOf asked.now.problem.now inst.now }
-    requires findable { IsFindable asked.now.problem.now (record { formula = precondition asked.now.problem.now inst.now; vars = 0; facts = walk.model.atoms }) }
+    requires findable { IsFindable asked.now.problem.now (record
+        { formula = precondition asked.now.problem.now inst.now; vars = 0; facts = walk.model.atoms }) }
     requires room { HasRoom asked.now.problem.now walk }
     ensures { IfOk result (IsEntryApplied asked.now.problem.now asked.now.tables.now (Entry.Op inst.now) walk) }
 {
@@ -75,7 +76,8 @@ fn apply_instance(asked: &Asked, mut walk: Walk, inst: &OpInst) -> Result<Walk, 
 fn apply_entry(asked: &Asked, walk: Walk, entry: &Entry) -> Result<Walk, NoMemory>
     requires asked { IsAskable asked.now }
     requires entry { IsEntry asked.now.problem.now asked.now.tables.now entry.now }
-    requires findable { All (IsFindable asked.now.problem.now) (obligations_of asked.now.problem.now asked.now.tables.now walk.model.atoms entry.now) }
+    requires findable { All (IsFindable asked.now.problem.now)
+        (obligations_of asked.now.problem.now asked.now.tables.now walk.model.atoms entry.now) }
     requires room { HasRoom asked.now.problem.now walk }
     ensures { IfOk result (IsEntryApplied asked.now.problem.now asked.now.tables.now entry.now walk) }
 {

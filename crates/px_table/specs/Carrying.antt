@@ -17,7 +17,8 @@ below_or_at : (a b : ℕ) → a < suc b → (a < b) ⊎ (a ≡ b)
 below_or_at a b h = grind arith
 
 -- where the list from a place on begins with an item, the item stands at that place
-pub first_of_rest : {A : Type 0} (k : ℕ) (xs : List A) (y : A) (ys : List A) → drop k xs ≡ y ∷ ys → (slice_get xs k ≡ Some y) × (drop (suc k) xs ≡ ys)
+pub first_of_rest : {A : Type 0} (k : ℕ) (xs : List A) (y : A) (ys : List A) → drop k xs ≡ y ∷ ys → (slice_get xs k ≡ Some y)
+    × (drop (suc k) xs ≡ ys)
 first_of_rest zero [] y ys e = absurd (cc)
 first_of_rest zero (x ∷ xs) y ys e = (cc, cc)
 first_of_rest (suc k) [] y ys e = absurd (cc)
@@ -53,10 +54,13 @@ KernelHolds marks state i = (mark : Mark) → Contains marks mark → i ≤ mark
 pub record IsCarried (problem : Problem) (steps : List OpInst) (vars : ℕ) (goal : List Atom) (marks : List Mark) : Type 0 where
   pub named : All (IsNamed problem steps) marks
   pub atoms : All (λ mark. IsAtomOf problem 0 mark.atom) marks
-  pub rows : (row : ℕ) (inst : OpInst) (state : State) → step_at steps row ≡ Some inst → IsState state → AxiomsHold problem state → RowHolds marks state row → All (Holds state) (precondition problem inst)
-  pub last : (state : State) → IsState state → AxiomsHold problem state → RowHolds marks state (suc (length steps)) → GoalHolds state vars goal
+  pub rows : (row : ℕ) (inst : OpInst) (state : State) → step_at steps row ≡ Some inst → IsState state → AxiomsHold problem state
+      → RowHolds marks state row → All (Holds state) (precondition problem inst)
+  pub last : (state : State) → IsState state → AxiomsHold problem state → RowHolds marks state (suc (length steps))
+      → GoalHolds state vars goal
 
-module _ (problem : Problem) (steps : List OpInst) (vars : ℕ) (goal : List Atom) (marks : List Mark) (carried : IsCarried problem steps vars goal marks) where
+module _ (problem : Problem) (steps : List OpInst) (vars : ℕ) (goal : List Atom) (marks : List Mark)
+    (carried : IsCarried problem steps vars goal marks) where
   kernel-row : (state : State) (i : ℕ) → KernelHolds marks state i → RowHolds marks state i
   kernel-row state i kernel mark has row =
       let named = All-at (IsNamed problem steps) marks mark carried.named has in
@@ -67,22 +71,27 @@ module _ (problem : Problem) (steps : List OpInst) (vars : ℕ) (goal : List Ato
   KeptFrom i = (mark : Mark) → Contains marks mark → IsKept problem steps i mark
 
   -- where kernel k + 1 holds before step k + 1, the next one holds after it
-  kernel-next : (k : ℕ) (inst : OpInst) (before after : State) → step_at steps (suc k) ≡ Some inst → IsState before → AxiomsHold problem before → Described problem inst before after
+  kernel-next : (k : ℕ) (inst : OpInst) (before after : State) → step_at steps (suc k) ≡ Some inst → IsState before
+      → AxiomsHold problem before → Described problem inst before after
       → KeptFrom (suc k) → KernelHolds marks before (suc k) → KernelHolds marks after (suc (suc k))
   kernel-next k inst before after at is axioms described kept kernel mark has row column =
       let named = All-at (IsNamed problem steps) marks mark carried.named has in
       let met = carried.rows (suc k) inst before at is axioms (kernel-row before (suc k) kernel) in
       elim (below_or_at mark.column (suc k) column) [
-        | inl earlier ↦ described.kept met mark.atom (All-at (λ (m : Mark). IsAtomOf problem 0 m.atom) marks mark carried.atoms has) (kernel mark has (omega arith) earlier)
+        | inl earlier ↦ described.kept met mark.atom (All-at (λ (m : Mark). IsAtomOf problem 0 m.atom) marks mark carried.atoms has)
+            (kernel mark has (omega arith) earlier)
             (kept mark has (suc k) inst (omega arith) earlier row at)
         | inr here ↦
             let add = named.added (omega arith) in
             let same : add.0 ≡ inst = let e = ap (step_at steps) here in cc (e, add.1, at) in
-            let has_add : slice_get (adds problem inst) mark.index ≡ Some mark.atom = subst (λ (x : OpInst). slice_get (adds problem x) mark.index ≡ Some mark.atom) same add.2 in
-            All-at (Holds after) (adds problem inst) mark.atom (described.added met) (contains_at (adds problem inst) mark.index mark.atom has_add)
+            let has_add : slice_get (adds problem inst) mark.index ≡ Some mark.atom =
+            subst (λ (x : OpInst). slice_get (adds problem x) mark.index ≡ Some mark.atom) same add.2 in
+            All-at (Holds after) (adds problem inst) mark.atom (described.added met)
+            (contains_at (adds problem inst) mark.index mark.atom has_add)
       ]
 
-  pub carry_meets : (rest : List OpInst) (later : List State) (k : ℕ) (state : State) → drop k steps ≡ rest → KernelHolds marks state (suc k) → KeptFrom (suc k)
+  pub carry_meets : (rest : List OpInst) (later : List State) (k : ℕ) (state : State) → drop k steps ≡ rest
+      → KernelHolds marks state (suc k) → KeptFrom (suc k)
       → IsRun problem (state ∷ later) rest → MeetsEach problem (state ∷ later) rest
   carry_meets [] [] k state e kernel kept run = tt
   carry_meets [] (next ∷ later) k state e kernel kept run = tt
@@ -95,7 +104,8 @@ module _ (problem : Problem) (steps : List OpInst) (vars : ℕ) (goal : List Ato
             (λ mark has j q low. kept mark has j q (omega arith)) run.2,
       )
 
-  pub carry_ends : (rest : List OpInst) (later : List State) (k : ℕ) (state : State) → k ≤ length steps → drop k steps ≡ rest → KernelHolds marks state (suc k) → KeptFrom (suc k)
+  pub carry_ends : (rest : List OpInst) (later : List State) (k : ℕ) (state : State) → k ≤ length steps → drop k steps ≡ rest
+      → KernelHolds marks state (suc k) → KeptFrom (suc k)
       → IsRun problem (state ∷ later) rest → length later ≡ length rest → GoalHolds (last_of state later) vars goal
   carry_ends [] [] k state within e kernel kept run long =
       carried.last state run.0 run.1 (kernel-row state (suc (length steps)) (rw (← no_rest k steps within e) kernel))

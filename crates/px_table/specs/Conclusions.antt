@@ -8,7 +8,7 @@ use Rattle.px_proof.specs.ProofTerm.{derivation_of}
 use Rattle.px_proof.specs.Proves.{IsName}
 use Rattle.px_table.specs.Supports.{IsProofOf}
 
--- the proof proves the atom, over so many objects and parameters
+-- the proof proves the atom, over these numbers of objects and parameters
 abbrev pub ProvesOver : List Clause → ℕ → ℕ → Atom → Proof → Type 0
 ProvesOver axioms objects params atom proof = IsProofOf (IsName objects params) axioms atom (derivation_of proof)
 

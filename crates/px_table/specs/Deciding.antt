@@ -35,14 +35,17 @@ is_term_of problem vars (Var v) = nat_lt v vars
 is_term_of problem vars Any = false
 
 abbrev pub is_atom_of : Problem → ℕ → Atom → Bool
-is_atom_of problem vars atom = (nat_lt atom.pred (length problem.arities) && (length atom.args == slice_index problem.arities atom.pred)) && list_all (is_term_of problem vars) atom.args
+is_atom_of problem vars atom = (nat_lt atom.pred (length problem.arities) && (length atom.args == slice_index problem.arities atom.pred)) &&
+    list_all (is_term_of problem vars) atom.args
 
 abbrev pub is_step_of : Problem → ℕ → OpInst → Bool
-is_step_of problem params inst = nat_lt inst.op (length problem.schemas) && ((length inst.args == (schema_of problem inst).params) && list_all (is_term_of problem params) inst.args)
+is_step_of problem params inst = nat_lt inst.op (length problem.schemas) &&
+    ((length inst.args == (schema_of problem inst).params) && list_all (is_term_of problem params) inst.args)
 
 abbrev pub is_in_range : Problem → Table → Bool
 is_in_range problem table =
-    nat_lt (length table.steps) 4294967295 && (list_all (is_step_of problem table.params) table.steps && list_all (is_atom_of problem (table.params + table.goal_vars)) table.goal)
+    nat_lt (length table.steps) 4294967295 && (list_all (is_step_of problem table.params) table.steps && list_all
+    (is_atom_of problem (table.params + table.goal_vars)) table.goal)
 
 -- ---- proofs
 
@@ -75,11 +78,13 @@ module _ (objects params : ℕ) (axioms : List Clause) where
   -- the derivation proves the literal under the path from the atoms
   abbrev mutual
     pub proves : List Atom → List Lit → Lit → Derivation → Bool
-    proves atoms path lit (fact leaf) = lit_eq lit (positive_of leaf.atom) && (list_any (atom_eq leaf.atom) atoms && list_all (is_name objects params) leaf.atom.args)
+    proves atoms path lit (fact leaf) = lit_eq lit (positive_of leaf.atom) &&
+        (list_any (atom_eq leaf.atom) atoms && list_all (is_name objects params) leaf.atom.args)
     proves atoms path lit (ancestor i) = is_there lit_eq (slice_get path i) (complement_of lit)
     proves atoms path lit (step number theta place parts) =
         nat_lt number (length axioms) && ((length theta == (clause_at axioms number).vars) && (list_all (is_name objects params) theta
-        && (is_there lit_eq (slice_get (instance_of (clause_at axioms number).lits theta) place) lit && proves_all atoms (lit ∷ path) (parts_of (clause_at axioms number).lits theta place) parts)))
+        && (is_there lit_eq (slice_get (instance_of (clause_at axioms number).lits theta) place) lit && proves_all atoms (lit ∷ path)
+        (parts_of (clause_at axioms number).lits theta place) parts)))
     proves atoms path lit (gap atom) = false
     proves atoms path lit open_place = false
 
@@ -104,7 +109,8 @@ module _ (objects params : ℕ) (axioms : List Clause) where
   -- the row proves what the goal becomes with the terms that stand for its variables in what is proved
   abbrev pub proves_goal : List Atom → List Derivation → Bool
   proves_goal goal row =
-      proves_each_of (map (conclusion_of axioms) row) row && pointwise atom_eq (map (atom_by params goal (map (conclusion_of axioms) row)) goal) (map (conclusion_of axioms) row)
+      proves_each_of (map (conclusion_of axioms) row) row && pointwise atom_eq
+      (map (atom_by params goal (map (conclusion_of axioms) row)) goal) (map (conclusion_of axioms) row)
 
   abbrev pub rows_prove : Problem → List OpInst → List Atom → List (List Derivation) → Bool
   rows_prove problem [] goal [] = false
@@ -132,8 +138,10 @@ is_named problem steps mark = nat_lt mark.column mark.row && is_source problem s
 
 abbrev pub is_table : Problem → Table → Bool
 is_table problem table =
-    is_in_range problem table && (rows_prove problem.objects table.params problem.axioms problem table.steps table.goal (rows_of table.proofs)
-    && (pointwise mark_eq table.marks (marks_from 1 (rows_of table.proofs)) && (list_all (λ mark. is_atom_of problem table.params mark.atom) table.marks && list_all (is_named problem table.steps) table.marks)))
+    is_in_range problem table && (rows_prove problem.objects table.params problem.axioms problem table.steps table.goal
+    (rows_of table.proofs)
+    && (pointwise mark_eq table.marks (marks_from 1 (rows_of table.proofs)) &&
+    (list_all (λ mark. is_atom_of problem table.params mark.atom) table.marks && list_all (is_named problem table.steps) table.marks)))
 
 -- the test is true of tables alone, and of each
 abbrev pub TablesAreDecided : Type 0

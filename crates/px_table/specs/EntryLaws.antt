@@ -41,7 +41,8 @@ order_of-total = record {
 
 -- two that the order doesn't tell apart are the same
 pub order_of-same : (first second : Entry) → order_of first second ≡ Equal → first ≡ second
-order_of-same first second e = (entry_eq-decides first second).0 (entry_order.matches_eq-law first second ∙ (Equal-is (entry_cmp first second)).1 (entry_cmp-is first second ∙ e))
+order_of-same first second e = (entry_eq-decides first second).0
+    (entry_order.matches_eq-law first second ∙ (Equal-is (entry_cmp first second)).1 (entry_cmp-is first second ∙ e))
 
 pub moves_are_compared : MovesAreCompared
 moves_are_compared (Push a) (Push b) = Decides-like _ (λ e. ap Push e) (λ e. cc) (entry_eq-decides a b)

@@ -61,20 +61,25 @@ IsProper problem table sigma i = All (λ mark. IsKept problem (steps_under table
 
 -- the instance of kernel `i` carries the steps from `i` on to the goal
 abbrev pub TailCarries : Problem → Table → List ℕ → ℕ → Type 0
-TailCarries problem table sigma i = Carries problem (kernel_under table sigma i) (drop (i - 1) (steps_under table sigma)) table.goal_vars (goal_under table sigma)
+TailCarries problem table sigma i = Carries problem (kernel_under table sigma i) (drop (i - 1) (steps_under table sigma)) table.goal_vars
+    (goal_under table sigma)
 
 -- each proper instance of each kernel carries the steps that are left to the goal
 pub record KernelsCarry (problem : Problem) (table : Table) : Type 0 where
-  pub carry : (sigma : List ℕ) → IsInstantiation problem table sigma → (i : ℕ) → 1 ≤ i → i ≤ length table.steps + 1 → IsProper problem table sigma i → TailCarries problem table sigma i
+  pub carry : (sigma : List ℕ) → IsInstantiation problem table sigma → (i : ℕ) → 1 ≤ i → i ≤ length table.steps + 1
+      → IsProper problem table sigma i → TailCarries problem table sigma i
 
 -- the atom is in kernel `i` just where some mark of row `i` or later, with column before `i`, has it
 abbrev pub KernelsAreMarks : Type 0
 KernelsAreMarks = (table : Table) (i : ℕ) (atom : Atom)
-    → Contains (kernel_of table i) atom ↔ ((mark : Mark) × Contains table.marks mark × (mark.atom ≡ atom) × (i ≤ mark.row) × (mark.column < i))
+    → Contains (kernel_of table i) atom ↔ ((mark : Mark) × Contains table.marks mark × (mark.atom ≡ atom) × (i ≤ mark.row)
+    × (mark.column < i))
 
 -- Where the instances of all marks of a step's row hold in a state in which the axioms hold, so does the precondition of the step's
 -- instance.
 abbrev pub RowsMeetPreconditions : Type 0
 RowsMeetPreconditions = (problem : Problem) (table : Table) (sigma : List ℕ) (row : ℕ) (inst : OpInst) (state : State)
-    → IsTable problem table → IsInstantiation problem table sigma → step_at (steps_under table sigma) row ≡ Some inst → IsState state → AxiomsHold problem state
-    → ((mark : Mark) → Contains table.marks mark → mark.row ≡ row → Holds state (atom_under sigma mark.atom)) → All (Holds state) (precondition problem inst)
+    → IsTable problem table → IsInstantiation problem table sigma → step_at (steps_under table sigma) row ≡ Some inst → IsState state
+    → AxiomsHold problem state
+    → ((mark : Mark) → Contains table.marks mark → mark.row ≡ row → Holds state (atom_under sigma mark.atom))
+    → All (Holds state) (precondition problem inst)

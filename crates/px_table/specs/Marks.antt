@@ -15,7 +15,8 @@ use Rattle.px_table.specs.Once.{each_once}
 
 -- whether two marks have the same atom, row, column and index
 abbrev pub mark_eq : Mark → Mark → Bool
-mark_eq first second = atom_eq first.atom second.atom && (first.row == second.row && (first.column == second.column && first.index == second.index))
+mark_eq first second = atom_eq first.atom second.atom && (first.row == second.row &&
+    (first.column == second.column && first.index == second.index))
 
 -- `==` of marks computes this, and it is equality
 pub record MarksAreCompared : Type 0 where
@@ -49,9 +50,11 @@ step_at steps (suc k) = slice_get steps k
 pub record IsNamed (problem : Problem) (steps : List OpInst) (mark : Mark) : Type 0 where
   pub earlier : mark.column < mark.row
   pub initial : mark.column ≡ 0 → mark.index ≡ 0
-  pub added : 0 < mark.column → (inst : OpInst) × (step_at steps mark.column ≡ Some inst) × (slice_get (adds problem inst) mark.index ≡ Some mark.atom)
+  pub added : 0 < mark.column → (inst : OpInst) × (step_at steps mark.column ≡ Some inst)
+      × (slice_get (adds problem inst) mark.index ≡ Some mark.atom)
 
 -- no step numbered `first` or higher that comes after the mark's column and before its row deletes its atom
 abbrev pub IsKept : Problem → List OpInst → ℕ → Mark → Type 0
 IsKept problem steps first mark =
-    (k : ℕ) (inst : OpInst) → first ≤ k → mark.column < k → k < mark.row → step_at steps k ≡ Some inst → ¬ IsDeleted (schema_of problem inst) inst mark.atom
+    (k : ℕ) (inst : OpInst) → first ≤ k → mark.column < k → k < mark.row → step_at steps k ≡ Some inst
+    → ¬ IsDeleted (schema_of problem inst) inst mark.atom

@@ -10,7 +10,8 @@ use Rattle.px_table.specs.Nodes.{node_eq, node_hash_input, NodesAreCompared}
 pub node_eq-decides : NodesAreCompared
 node_eq-decides first second =
     Decides-like _ (λ e i. record { model = e.1 i; stack = e.0 i }) (λ e. ((λ i. (e i).stack), (λ i. (e i).model)))
-    (Decides-and _ _ (pointwise_decides entry_eq-decides first.stack second.stack) (pointwise_decides atom_eq-decides first.model second.model))
+    (Decides-and _ _ (pointwise_decides entry_eq-decides first.stack second.stack)
+    (pointwise_decides atom_eq-decides first.model second.model))
 
 pub node_eq-equivalence : IsEquivalence node_eq
 node_eq-equivalence = decides_equiv node_eq node_eq-decides

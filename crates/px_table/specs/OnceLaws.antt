@@ -9,7 +9,8 @@ use Rattle.std.proofs.Common.{get_or}
 use Rattle.px_base.specs.ListLaws.{Contains-first, Contains-later, Contains-cases, Contains-filter}
 use Rattle.px_table.specs.Once.{each_once, put_once, put_each}
 
-pub put_each-append : {A : Type 0} (same : A → A → Bool) (xs ys zs : List A) → put_each same xs (ys ++ zs) ≡ put_each same (put_each same xs ys) zs
+pub put_each-append : {A : Type 0} (same : A → A → Bool) (xs ys zs : List A)
+    → put_each same xs (ys ++ zs) ≡ put_each same (put_each same xs ys) zs
 put_each-append same xs [] zs = refl
 put_each-append same xs (y ∷ ys) zs = put_each-append same (put_once same xs y) ys zs
 
@@ -31,21 +32,28 @@ put_each-front same xs (y ∷ ys) =
 pub put_each-more : {A B : Type 0} (same : A → A → Bool) (xs : List A) (f : B → A) (ys : List B) (k : ℕ) (d : B) → k < length ys
     → put_each same xs (map f (take (k + 1) ys)) ≡ put_once same (put_each same xs (map f (take k ys))) (f (get_or ys k d))
 put_each-more same xs f ys k d below =
-    ap (λ l. put_each same xs (map f l)) (take_more ys k d below) ∙ ap (put_each same xs) (map-append f (take k ys) (get_or ys k d ∷ [])) ∙ put_each-append same xs (map f (take k ys)) (f (get_or ys k d) ∷ [])
+    ap (λ l. put_each same xs (map f l)) (take_more ys k d below) ∙ ap (put_each same xs) (map-append f (take k ys) (get_or ys k d ∷ [])) ∙
+    put_each-append same xs (map f (take k ys)) (f (get_or ys k d) ∷ [])
 
 module _ {A : Type 0} (same : A → A → Bool) (decides : (x y : A) → Decides (same x y) (x ≡ y)) where
   -- leaving out what is another item doesn't change whether the item is there
-  still_there : (x y : A) (xs : List A) → same x y ≡ false → list_any (λ z. same z y) (filter (λ z. not (same x z)) xs) ≡ list_any (λ z. same z y) xs
+  still_there : (x y : A) (xs : List A) → same x y ≡ false → list_any (λ z. same z y) (filter (λ z. not (same x z)) xs) ≡ list_any
+      (λ z. same z y) xs
   still_there x y [] other = refl
   still_there x y (z ∷ xs) other =
-      elim (same x z) as (λ b. same x z ≡ b → list_any (λ w. same w y) (cond (not b) (z ∷ filter (λ w. not (same x w)) xs) (filter (λ w. not (same x w)) xs)) ≡ (same z y || list_any (λ w. same w y) xs)) [
+      elim (same x z) as (λ b. same x z ≡ b → list_any (λ w. same w y)
+      (cond (not b) (z ∷ filter (λ w. not (same x w)) xs) (filter (λ w. not (same x w)) xs)) ≡
+      (same z y || list_any (λ w. same w y) xs)) [
         | true ↦ λ is. rw (sym (ap (λ w. same w y) ((decides x z).0 is)) ∙ other) (still_there x y xs other)
         | false ↦ λ _. ap (λ b. same z y || b) (still_there x y xs other)
       ] refl
 
-  put_behind : (x y : A) (xs : List A) → x ∷ filter (λ z. not (same x z)) (put_once same xs y) ≡ put_once same (x ∷ filter (λ z. not (same x z)) xs) y
+  put_behind : (x y : A) (xs : List A) → x ∷ filter (λ z. not (same x z)) (put_once same xs y) ≡ put_once same
+      (x ∷ filter (λ z. not (same x z)) xs) y
   put_behind x y xs =
-      elim (same x y) as (λ b. same x y ≡ b → x ∷ filter (λ z. not (same x z)) (put_once same xs y) ≡ cond (b || list_any (λ z. same z y) (filter (λ z. not (same x z)) xs)) (x ∷ filter (λ z. not (same x z)) xs) (x ∷ (filter (λ z. not (same x z)) xs ++ y ∷ []))) [
+      elim (same x y) as (λ b. same x y ≡ b → x ∷ filter (λ z. not (same x z)) (put_once same xs y) ≡ cond
+      (b || list_any (λ z. same z y) (filter (λ z. not (same x z)) xs)) (x ∷ filter (λ z. not (same x z)) xs)
+      (x ∷ (filter (λ z. not (same x z)) xs ++ y ∷ []))) [
         | true ↦ λ is. ap (λ l. x ∷ l) (dropped is (list_any (λ z. same z y) xs))
         | false ↦ λ other. rw (still_there x y xs other) (kept other (list_any (λ z. same z y) xs))
       ] refl
@@ -54,7 +62,8 @@ module _ {A : Type 0} (same : A → A → Bool) (decides : (x y : A) → Decides
       dropped is true = refl
       dropped is false = filter-append (λ z. not (same x z)) xs (y ∷ []) ∙ rw is (append-nil (filter (λ z. not (same x z)) xs))
 
-      kept : same x y ≡ false → (b : Bool) → x ∷ filter (λ z. not (same x z)) (cond b xs (xs ++ y ∷ [])) ≡ cond b (x ∷ filter (λ z. not (same x z)) xs) (x ∷ (filter (λ z. not (same x z)) xs ++ y ∷ []))
+      kept : same x y ≡ false → (b : Bool) → x ∷ filter (λ z. not (same x z)) (cond b xs (xs ++ y ∷ [])) ≡ cond b
+          (x ∷ filter (λ z. not (same x z)) xs) (x ∷ (filter (λ z. not (same x z)) xs ++ y ∷ []))
       kept other true = refl
       kept other false = ap (λ l. x ∷ l) (filter-append (λ z. not (same x z)) xs (y ∷ []) ∙ rw other refl)
 
@@ -66,7 +75,8 @@ module _ {A : Type 0} (same : A → A → Bool) (decides : (x y : A) → Decides
   pub put_each-each_once : (xs ys : List A) → put_each same (each_once same xs) ys ≡ each_once same (xs ++ ys)
   put_each-each_once xs [] = ap (each_once same) (sym (append-nil xs))
   put_each-each_once xs (y ∷ ys) =
-      ap (λ l. put_each same l ys) (sym (each_once-push xs y)) ∙ put_each-each_once (xs ++ y ∷ []) ys ∙ ap (each_once same) (append_assoc xs (y ∷ []) ys)
+      ap (λ l. put_each same l ys) (sym (each_once-push xs y)) ∙ put_each-each_once (xs ++ y ∷ []) ys ∙ ap (each_once same)
+      (append_assoc xs (y ∷ []) ys)
 
   -- what is in the list is in the one with each once
   pub Contains-each_once : (xs : List A) (y : A) → Contains xs y → Contains (each_once same xs) y
@@ -76,7 +86,8 @@ module _ {A : Type 0} (same : A → A → Bool) (decides : (x y : A) → Decides
         | true ↦ λ is. subst (Contains (x ∷ filter (λ z. not (same x z)) (each_once same xs))) ((decides x y).0 is) (Contains-first x _)
         | false ↦ λ other. elim (Contains-cases x xs y has) [
           | inl is ↦ subst (Contains (x ∷ filter (λ z. not (same x z)) (each_once same xs))) is (Contains-first x _)
-          | inr later ↦ Contains-later x _ y ((Contains-filter (λ z. not (same x z)) (each_once same xs) y).1 (Contains-each_once xs y later, ap not other))
+          | inr later ↦ Contains-later x _ y ((Contains-filter (λ z. not (same x z)) (each_once same xs) y).1
+              (Contains-each_once xs y later, ap not other))
         ]
       ] refl
 

@@ -12,11 +12,13 @@ use Rattle.px_table.specs.Marks.{IsKept}
 -- the parameter occurs in the first steps or in the marks of their rows
 abbrev pub IsUsed : Table → ℕ → ℕ → Type 0
 IsUsed table prefix v =
-    Any (λ (inst : OpInst). Contains inst.args (Var v)) (take prefix table.steps) ⊎ Any (λ (mark : Mark). (mark.row ≤ prefix) × Contains mark.atom.args (Var v)) table.marks
+    Any (λ (inst : OpInst). Contains inst.args (Var v)) (take prefix table.steps)
+    ⊎ Any (λ (mark : Mark). (mark.row ≤ prefix) × Contains mark.atom.args (Var v)) table.marks
 
 -- no step deletes the instance of a mark of the first rows whose column it comes after and whose row it comes before
 abbrev pub IsProperPrefix : Problem → Table → ℕ → List ℕ → Type 0
-IsProperPrefix problem table prefix sigma = All (λ mark. mark.row ≤ prefix → IsKept problem (steps_under table sigma) 1 (mark_under sigma mark)) table.marks
+IsProperPrefix problem table prefix sigma = All (λ mark. mark.row ≤ prefix
+    → IsKept problem (steps_under table sigma) 1 (mark_under sigma mark)) table.marks
 
 -- the number is the object of a parameter: one of the problem's where the first steps use the parameter, and 0 where they don't
 abbrev pub IsPlaced : Problem → Table → ℕ → ℕ → ℕ → Type 0

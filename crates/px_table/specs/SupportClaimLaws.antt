@@ -23,8 +23,10 @@ use Rattle.px_table.specs.Tables.{AreOfProblem}
 -- ---- over any objects
 
 module _ (problem : Problem) (count : ℕ) where
-  rows_wider : (IsTerm : Term → Type 0) (params : ℕ) (goal : List Atom) (goal_vars : ℕ) (steps : List OpInst) (rows : List (List Derivation))
-      → RowsProve IsTerm problem params steps goal goal_vars rows → RowsProve IsTerm (with_objects problem count) params steps goal goal_vars rows
+  rows_wider : (IsTerm : Term → Type 0) (params : ℕ) (goal : List Atom) (goal_vars : ℕ) (steps : List OpInst)
+      (rows : List (List Derivation))
+      → RowsProve IsTerm problem params steps goal goal_vars rows
+      → RowsProve IsTerm (with_objects problem count) params steps goal goal_vars rows
   rows_wider IsTerm params goal goal_vars [] [] h = h
   rows_wider IsTerm params goal goal_vars [] (row ∷ []) h = h
   rows_wider IsTerm params goal goal_vars [] (row ∷ second ∷ rows) h = h
@@ -42,33 +44,42 @@ module _ (problem : Problem) (count : ℕ) where
     kept = s.kept;
   }
 
-module _ (problem : Problem) (atoms : List Atom) (steps : List OpInst) (goal : List Atom) (goal_vars : ℕ) (rows : List (List Derivation)) (supports : Supports problem atoms steps goal goal_vars rows) where
-  over_objects : (count : ℕ) → AreOfProblem (with_objects problem count) rows → Carries (with_objects problem count) atoms steps goal_vars goal
-  over_objects count are = support_carries (with_objects problem count) atoms steps goal goal_vars rows are (support_wider problem count atoms steps goal goal_vars rows supports)
+module _ (problem : Problem) (atoms : List Atom) (steps : List OpInst) (goal : List Atom) (goal_vars : ℕ) (rows : List (List Derivation))
+    (supports : Supports problem atoms steps goal goal_vars rows) where
+  over_objects : (count : ℕ) → AreOfProblem (with_objects problem count) rows
+      → Carries (with_objects problem count) atoms steps goal_vars goal
+  over_objects count are = support_carries (with_objects problem count) atoms steps goal goal_vars rows are
+      (support_wider problem count atoms steps goal goal_vars rows supports)
 
   -- the rows are the problem's, with enough objects
   rows_from : HaveArities problem rows → FromSome (λ count. AreOfProblem (with_objects problem count) rows)
   rows_from arities =
       from_each (λ count (row : List Derivation). All (IsDerivationOf count) row) rows (λ k row below.
       from_each IsDerivationOf _ (λ j d inner.
-      (let from = terms_from problem (slice_index_or (slice_index_or rows k row) j d) (rows_objects problem goal goal_vars steps rows supports.prove k row below j d inner) in
+      (let from = terms_from problem (slice_index_or (slice_index_or rows k row) j d)
+      (rows_objects problem goal goal_vars steps rows supports.prove k row below j d inner) in
       (from.0, λ count enough. (from.1 count enough, arities k row below j d inner)))))
     where
       IsDerivationOf : ℕ → Derivation → Type 0
-      IsDerivationOf count d = All (IsTermOf (with_objects problem count) 0) (terms_of d) × All (HasArity problem) (leaf_atoms (leaves_of d))
+      IsDerivationOf count d = All (IsTermOf (with_objects problem count) 0) (terms_of d)
+          × All (HasArity problem) (leaf_atoms (leaves_of d))
 
-  enough_objects : HaveArities problem rows → (least : ℕ) × ((count : ℕ) → least ≤ count → Carries (with_objects problem count) atoms steps goal_vars goal)
+  enough_objects : HaveArities problem rows → (least : ℕ) × ((count : ℕ) → least ≤ count
+      → Carries (with_objects problem count) atoms steps goal_vars goal)
   enough_objects arities = let from = rows_from arities in (from.0, λ count enough. over_objects count (from.1 count enough))
 
 pub supports_carry : SupportsCarry
 supports_carry = record {
-  over = λ problem count atoms steps goal goal_vars rows supports are. over_objects problem atoms steps goal goal_vars rows supports count are;
-  enough = λ problem atoms steps goal goal_vars rows supports arities. enough_objects problem atoms steps goal goal_vars rows supports arities;
+  over = λ problem count atoms steps goal goal_vars rows supports are. over_objects problem atoms steps goal goal_vars rows supports count
+      are;
+  enough = λ problem atoms steps goal goal_vars rows supports arities. enough_objects problem atoms steps goal goal_vars rows supports
+      arities;
 }
 
 -- ---- what no support has
 
-module _ (problem : Problem) (atoms : List Atom) (steps : List OpInst) (goal : List Atom) (goal_vars : ℕ) (rows : List (List Derivation)) (row : ℕ) (leaf : Leaf) (is : IsLeafOf rows row leaf)
+module _ (problem : Problem) (atoms : List Atom) (steps : List OpInst) (goal : List Atom) (goal_vars : ℕ) (rows : List (List Derivation))
+    (row : ℕ) (leaf : Leaf) (is : IsLeafOf rows row leaf)
     (supports : Supports problem atoms steps goal goal_vars rows) where
   leaf_mark : Contains (marks_from 1 rows) (mark_of row leaf)
   leaf_mark = leaf_marked 1 is.place row rows is.proofs leaf (omega (arith, is.number)) is.row_at is.is_leaf
@@ -85,7 +96,8 @@ module _ (problem : Problem) (atoms : List Atom) (steps : List OpInst) (goal : L
   leaf_added : (inst : OpInst) → step_at steps leaf.column ≡ Some inst → slice_get (adds problem inst) leaf.index ≡ Some leaf.atom
   leaf_added inst at = added_at steps leaf.column leaf_named.added at
     where
-      added_at : (steps : List OpInst) (column : ℕ) → (0 < column → (add : OpInst) × (step_at steps column ≡ Some add) × (slice_get (adds problem add) leaf.index ≡ Some leaf.atom))
+      added_at : (steps : List OpInst) (column : ℕ) → (0 < column → (add : OpInst) × (step_at steps column ≡ Some add)
+          × (slice_get (adds problem add) leaf.index ≡ Some leaf.atom))
           → step_at steps column ≡ Some inst → slice_get (adds problem inst) leaf.index ≡ Some leaf.atom
       added_at steps zero added at = absurd (cc)
       added_at steps (suc k) added at =
@@ -102,5 +114,6 @@ supports_refuse problem atoms steps goal goal_vars rows row leaf is = record {
   other_index = λ start other supports. other ((leaf_named problem atoms steps goal goal_vars rows row leaf is supports).initial start);
   not_given = λ start absent supports. absent (leaf_given problem atoms steps goal goal_vars rows row leaf is supports start);
   not_added = λ inst at other supports. other (leaf_added problem atoms steps goal goal_vars rows row leaf is supports inst at);
-  deleted_since = λ k inst after before at deleted supports. leaf_kept problem atoms steps goal goal_vars rows row leaf is supports k inst (omega (arith, after)) after before at deleted;
+  deleted_since = λ k inst after before at deleted supports. leaf_kept problem atoms steps goal goal_vars rows row leaf is supports k inst
+      (omega (arith, after)) after before at deleted;
 }

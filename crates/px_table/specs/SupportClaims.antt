@@ -12,7 +12,7 @@ use Rattle.px_table.specs.Marks.{row_leaves, step_at}
 use Rattle.px_table.specs.Supports.{Supports}
 use Rattle.px_table.specs.Tables.{AreOfProblem}
 
--- the problem, but with so many objects
+-- the problem, with another number of objects
 abbrev pub with_objects : Problem → ℕ → Problem
 with_objects problem count = record problem { objects = count }
 
@@ -23,9 +23,12 @@ HaveArities problem rows = All (All (λ d. All (HasArity problem) (leaf_atoms (l
 -- A support carries its steps to its goal, over whatever objects: of the problem with as many objects as its rows are over. There is
 -- always a number that is enough.
 pub record SupportsCarry : Type 0 where
-  pub over : (problem : Problem) (count : ℕ) (atoms : List Atom) (steps : List OpInst) (goal : List Atom) (goal_vars : ℕ) (rows : List (List Derivation))
-      → Supports problem atoms steps goal goal_vars rows → AreOfProblem (with_objects problem count) rows → Carries (with_objects problem count) atoms steps goal_vars goal
-  pub enough : (problem : Problem) (atoms : List Atom) (steps : List OpInst) (goal : List Atom) (goal_vars : ℕ) (rows : List (List Derivation))
+  pub over : (problem : Problem) (count : ℕ) (atoms : List Atom) (steps : List OpInst) (goal : List Atom) (goal_vars : ℕ)
+      (rows : List (List Derivation))
+      → Supports problem atoms steps goal goal_vars rows → AreOfProblem (with_objects problem count) rows
+      → Carries (with_objects problem count) atoms steps goal_vars goal
+  pub enough : (problem : Problem) (atoms : List Atom) (steps : List OpInst) (goal : List Atom) (goal_vars : ℕ)
+      (rows : List (List Derivation))
       → Supports problem atoms steps goal goal_vars rows → HaveArities problem rows
       → (least : ℕ) × ((count : ℕ) → least ≤ count → Carries (with_objects problem count) atoms steps goal_vars goal)
 
@@ -40,14 +43,18 @@ pub record IsLeafOf (rows : List (List Derivation)) (row : ℕ) (leaf : Leaf) : 
 -- No support has these rows with this leaf, where the leaf names its own row or a later one, where it names the initial model but has
 -- another index than 0 or isn't given, where the step that it names doesn't add its atom at the index, or where a step after that one and
 -- before the row deletes the atom.
-pub record RefusesLeaf (problem : Problem) (atoms : List Atom) (steps : List OpInst) (goal : List Atom) (goal_vars : ℕ) (rows : List (List Derivation)) (row : ℕ) (leaf : Leaf) : Type 0 where
+pub record RefusesLeaf (problem : Problem) (atoms : List Atom) (steps : List OpInst) (goal : List Atom) (goal_vars : ℕ)
+    (rows : List (List Derivation)) (row : ℕ) (leaf : Leaf) : Type 0 where
   pub own_column : row ≤ leaf.column → ¬ Supports problem atoms steps goal goal_vars rows
   pub other_index : leaf.column ≡ 0 → leaf.index ≢ 0 → ¬ Supports problem atoms steps goal goal_vars rows
   pub not_given : leaf.column ≡ 0 → ¬ Contains atoms leaf.atom → ¬ Supports problem atoms steps goal goal_vars rows
-  pub not_added : (inst : OpInst) → step_at steps leaf.column ≡ Some inst → slice_get (adds problem inst) leaf.index ≢ Some leaf.atom → ¬ Supports problem atoms steps goal goal_vars rows
-  pub deleted_since : (k : ℕ) (inst : OpInst) → leaf.column < k → k < row → step_at steps k ≡ Some inst → IsDeleted (schema_of problem inst) inst leaf.atom
+  pub not_added : (inst : OpInst) → step_at steps leaf.column ≡ Some inst → slice_get (adds problem inst) leaf.index ≢ Some leaf.atom
+      → ¬ Supports problem atoms steps goal goal_vars rows
+  pub deleted_since : (k : ℕ) (inst : OpInst) → leaf.column < k → k < row → step_at steps k ≡ Some inst
+      → IsDeleted (schema_of problem inst) inst leaf.atom
       → ¬ Supports problem atoms steps goal goal_vars rows
 
 abbrev pub SupportsRefuse : Type 0
-SupportsRefuse = (problem : Problem) (atoms : List Atom) (steps : List OpInst) (goal : List Atom) (goal_vars : ℕ) (rows : List (List Derivation)) (row : ℕ) (leaf : Leaf)
+SupportsRefuse = (problem : Problem) (atoms : List Atom) (steps : List OpInst) (goal : List Atom) (goal_vars : ℕ)
+    (rows : List (List Derivation)) (row : ℕ) (leaf : Leaf)
     → IsLeafOf rows row leaf → RefusesLeaf problem atoms steps goal goal_vars rows row leaf

@@ -17,7 +17,7 @@ use Rattle.px_proof.specs.Literals.{positive_of}
 use Rattle.px_proof.specs.Proves.{Proves, from_atoms}
 use Rattle.px_table.specs.Marks.{IsNamed, IsKept, marks_from}
 
--- so many variables, from number `first` on
+-- the variables from number `first` on, of the given count
 abbrev pub variables_from : ℕ → ℕ → List Term
 variables_from first zero = []
 variables_from first (suc count) = Var first ∷ variables_from (suc first) count
@@ -39,7 +39,8 @@ ProvesEachOf IsTerm axioms atoms row = AllZip (IsProofOf IsTerm axioms) atoms ro
 -- a proof for each atom of the goal under some terms for its own variables, which follow the parameters
 abbrev pub ProvesGoal : (Term → Type 0) → List Clause → ℕ → List Atom → ℕ → List Derivation → Type 0
 ProvesGoal IsTerm axioms params goal goal_vars row =
-    (chosen : List Term) × (length chosen ≡ goal_vars) × ProvesEachOf IsTerm axioms (map (substitute_atom (variables params ++ chosen)) goal) row
+    (chosen : List Term) × (length chosen ≡ goal_vars) × ProvesEachOf IsTerm axioms
+    (map (substitute_atom (variables params ++ chosen)) goal) row
 
 -- row by row, the proofs of each step's precondition, and at the end those of the goal
 abbrev pub RowsProve : (Term → Type 0) → Problem → ℕ → List OpInst → List Atom → ℕ → List (List Derivation) → Type 0
@@ -53,7 +54,8 @@ RowsProve IsTerm problem params (inst ∷ steps) goal goal_vars (row ∷ rows) =
 -- The rows support the steps and the goal from the atoms. The steps are instances of the problem's operators, over any
 -- objects. The rows prove each precondition and the goal, over objects. Each fact that they rest on is one of the atoms,
 -- or an add of a step before its row that the leaf names, and no step in between deletes it.
-pub record Supports (problem : Problem) (atoms : List Atom) (steps : List OpInst) (goal : List Atom) (goal_vars : ℕ) (rows : List (List Derivation)) : Type 0 where
+pub record Supports (problem : Problem) (atoms : List Atom) (steps : List OpInst) (goal : List Atom) (goal_vars : ℕ)
+    (rows : List (List Derivation)) : Type 0 where
   pub instances : All (IsGroundInstanceOf problem) steps
   pub prove : RowsProve IsObject problem 0 steps goal goal_vars rows
   pub named : All (IsNamed problem steps) (marks_from 1 rows)

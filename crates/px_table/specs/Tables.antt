@@ -33,7 +33,8 @@ pub record IsInRange (problem : Problem) (table : Table) : Type 0 where
 -- the problem that names where it comes from.
 pub record IsTable (problem : Problem) (table : Table) : Type 0 where
   pub in_range : IsInRange problem table
-  pub prove : RowsProve (IsName problem.objects table.params) problem table.params table.steps table.goal table.goal_vars (rows_of table.proofs)
+  pub prove : RowsProve (IsName problem.objects table.params) problem table.params table.steps table.goal table.goal_vars
+      (rows_of table.proofs)
   pub marks : table.marks ≡ marks_from 1 (rows_of table.proofs)
   pub atoms : All (λ mark. IsAtomOf problem table.params mark.atom) table.marks
   pub named : All (IsNamed problem table.steps) table.marks

@@ -38,8 +38,17 @@ pub fn build(
     requires short { length steps.now < 4294967295 }
     ensures table { IfOk result (λ table. IsTable problem.now table) }
     ensures kernels { IfOk result (λ table. KernelsCarry problem.now table) }
-    ensures value { IfOk result (λ table. table ≡ record { params = 0; steps = steps.now; goal = goal.now; goal_vars = goal_vars; marks = marks_from 1 (rows_of support.items); proofs = support.items }) }
-    ensures carries { (atoms : List _) → Supports problem.now atoms steps.now goal.now goal_vars (rows_of support.items) → Carries problem.now atoms steps.now goal_vars goal.now }
+    ensures value { IfOk result (λ table. table ≡ record {
+      params = 0;
+      steps = steps.now;
+      goal = goal.now;
+      goal_vars = goal_vars;
+      marks =
+          marks_from 1 (rows_of support.items);
+      proofs = support.items;
+    }) }
+    ensures carries { (atoms : List _) → Supports problem.now atoms steps.now goal.now goal_vars (rows_of support.items)
+        → Carries problem.now atoms steps.now goal_vars goal.now }
 {
     let table_marks = marks(alloc, &support)?;
     let table_steps = Sequence::from_slice(alloc, steps)?;

@@ -37,7 +37,8 @@ pub fn conclusion(axioms: &ClauseArena, proof: &Proof) -> Option<Atom>
 
 /// The atom of the clause's literal at that place under `theta`.
 fn atom_at(axioms: &ClauseArena, clause: u32, theta: &[Term], place: u32) -> Option<Atom>
-    ensures { (objects params : ℕ) (atom : Atom) (used : Clause) → UsesClause (IsName objects params) axioms.now (positive_of atom) clause theta.now place used → result ≡ Some atom }
+    ensures { (objects params : ℕ) (atom : Atom) (used : Clause)
+        → UsesClause (IsName objects params) axioms.now (positive_of atom) clause theta.now place used → result ≡ Some atom }
 {
     if clause >= axioms.count() || theta.len() != axioms.vars(clause) as usize {
         return None;

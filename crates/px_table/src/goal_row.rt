@@ -87,7 +87,8 @@ fn are_chosen(
     patterns: &[Term],
     terms: &[Term],
 ) -> bool
-    ensures { (atoms : List Atom) → AreConclusions axioms.now atoms row.now → IsTrue result ↔ (map (term_by params goal.now atoms) patterns.now ≡ terms.now) }
+    ensures { (atoms : List Atom) → AreConclusions axioms.now atoms row.now → IsTrue result
+        ↔ (map (term_by params goal.now atoms) patterns.now ≡ terms.now) }
 {
     if patterns.len() != terms.len() {
         return false;
@@ -109,7 +110,8 @@ fn concludes(
     pattern: &Atom,
     proof: &Proof,
 ) -> bool
-    ensures { (atoms : List Atom) (atom : Atom) → AreConclusions axioms.now atoms row.now → IsConclusion axioms.now atom proof.now → IsTrue result ↔ (atom_by params goal.now atoms pattern.now ≡ atom) }
+    ensures { (atoms : List Atom) (atom : Atom) → AreConclusions axioms.now atoms row.now → IsConclusion axioms.now atom proof.now
+        → IsTrue result ↔ (atom_by params goal.now atoms pattern.now ≡ atom) }
 {
     match conclusion(axioms, proof) {
         Some(atom) => {
@@ -122,7 +124,8 @@ fn concludes(
 
 /// Are the conclusions of the row the goal with the choices?
 fn row_concludes(axioms: &ClauseArena, params: u32, goal: &[Atom], row: &[Proof]) -> bool
-    ensures { (atoms : List Atom) → AreConclusions axioms.now atoms row.now → IsTrue result ↔ (map (atom_by params goal.now atoms) goal.now ≡ atoms) }
+    ensures { (atoms : List Atom) → AreConclusions axioms.now atoms row.now → IsTrue result
+        ↔ (map (atom_by params goal.now atoms) goal.now ≡ atoms) }
 {
     if goal.len() != row.len() {
         return false;
@@ -144,7 +147,8 @@ pub fn goal_is_proved(
     row: &[Proof],
 ) -> bool
     requires { All (IsAtomOf problem.now (params + goal_vars)) goal.now }
-    ensures { IsTrue result ↔ ProvesGoal (IsName problem.now.objects params) problem.now.axioms params goal.now goal_vars (map derivation_of row.now) }
+    ensures { IsTrue result ↔ ProvesGoal (IsName problem.now.objects params) problem.now.axioms params goal.now goal_vars
+        (map derivation_of row.now) }
 {
     each_proves_some(&problem.axioms, problem.objects, params, row)
         && row_concludes(&problem.axioms, params, goal, row)

@@ -30,7 +30,8 @@ pub fn kernel(alloc: Global, table: &Table, i: u32) -> Result<Vec<Atom>, NoMemor
 
 /// Puts the mark's atom last, where kernel `i` rests on the mark, and unless the atom is there.
 fn put_atom_of(atoms: &mut Vec<Atom>, mark: &Mark, i: u32) -> Result<(), NoMemory>
-    ensures { IfOk result (λ _. atoms.new.items ≡ cond (nat_le i mark.now.row && nat_lt mark.now.column i) (put_once atom_eq atoms.old.items mark.now.atom) atoms.old.items) }
+    ensures { IfOk result (λ _. atoms.new.items ≡ cond (nat_le i mark.now.row && nat_lt mark.now.column i)
+        (put_once atom_eq atoms.old.items mark.now.atom) atoms.old.items) }
 {
     if i <= mark.row && mark.column < i {
         return put_atom(atoms, mark.atom);

@@ -43,7 +43,8 @@ fn after_proof(marks: &[Mark], count: usize, row: u32, proof: &Proof) -> Option<
 #[cycle(walks)]
 fn after_proofs(marks: &[Mark], count: usize, row: u32, proofs: &[Proof]) -> Option<usize>
     requires { count ≤ length marks.now }
-    ensures { IsFront marks.now (put_each mark_eq (take count marks.now) (map (mark_of row) (all_leaves_of (derivations (map derivation_of proofs.now))))) result }
+    ensures { IsFront marks.now (put_each mark_eq (take count marks.now)
+        (map (mark_of row) (all_leaves_of (derivations (map derivation_of proofs.now))))) result }
 {
     let mut at = count;
     for proof in proofs {

@@ -49,7 +49,8 @@ fn is_kept_within(problem: &Problem, table: &Table, prefix: u32, sigma: &[u32], 
     requires steps { All (IsStepOf problem.now table.now.params) table.now.steps }
     requires sigma { length sigma.now ≡ table.now.params }
     requires mark { IsAtomOf problem.now table.now.params mark.now.atom }
-    ensures { IsTrue result ↔ (mark.now.row ≤ prefix → IsKept problem.now (steps_under table.now sigma.now) 1 (mark_under sigma.now mark.now)) }
+    ensures { IsTrue result ↔ (mark.now.row ≤ prefix → IsKept problem.now (steps_under table.now sigma.now) 1
+        (mark_under sigma.now mark.now)) }
 {
     if mark.row > prefix {
         return true;

@@ -86,7 +86,8 @@ fn step_deletes(problem: &Problem, table: &Table, sigma: &[u32], step: &OpInst, 
     requires step { IsStepOf problem.now table.now.params step.now }
     requires sigma { length sigma.now ≡ table.now.params }
     requires is_ground { IsGround atom.now }
-    ensures { IsTrue result ↔ IsDeleted (spec_schema_of problem.now (instance_under sigma.now step.now)) (instance_under sigma.now step.now) atom.now }
+    ensures { IsTrue result ↔ IsDeleted (spec_schema_of problem.now (instance_under sigma.now step.now)) (instance_under sigma.now step.now)
+        atom.now }
 {
     if !may_delete(schema_of(problem, step), atom.pred()) {
         return false;

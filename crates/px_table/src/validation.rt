@@ -49,7 +49,8 @@ fn is_table(problem: &Problem, table: &Table) -> bool
 pub fn row_proves(problem: &Problem, params: u32, inst: &OpInst, row: &[Proof]) -> bool
     requires problem { IsValid problem.now }
     requires inst { IsStepOf problem.now params inst.now }
-    ensures { IsTrue result ↔ ProvesEachOf (IsName problem.now.objects params) problem.now.axioms (precondition problem.now inst.now) (map derivation_of row.now) }
+    ensures { IsTrue result ↔ ProvesEachOf (IsName problem.now.objects params) problem.now.axioms (precondition problem.now inst.now)
+        (map derivation_of row.now) }
 {
     let schema = schema_of(problem, inst);
     if row.len() != schema.pre.len() {
@@ -68,7 +69,8 @@ pub fn row_proves(problem: &Problem, params: u32, inst: &OpInst, row: &[Proof]) 
 fn rows_prove(problem: &Problem, table: &Table) -> bool
     requires problem { IsValid problem.now }
     requires table { IsInRange problem.now table.now }
-    ensures { IsTrue result ↔ RowsProve (IsName problem.now.objects table.now.params) problem.now table.now.params table.now.steps table.now.goal table.now.goal_vars (rows_of table.now.proofs) }
+    ensures { IsTrue result ↔ RowsProve (IsName problem.now.objects table.now.params) problem.now table.now.params table.now.steps
+        table.now.goal table.now.goal_vars (rows_of table.now.proofs) }
 {
     let rows = table.proofs.as_slice();
     let count = table.steps.len();
@@ -121,7 +123,8 @@ fn is_named(problem: &Problem, table: &Table, mark: &Mark) -> bool
 fn are_marks_of(problem: &Problem, table: &Table) -> bool
     requires problem { IsValid problem.now }
     requires table { IsInRange problem.now table.now }
-    ensures { IsTrue result ↔ (All (λ mark. IsAtomOf problem.now table.now.params mark.atom) table.now.marks × All (IsNamed problem.now table.now.steps) table.now.marks) }
+    ensures { IsTrue result ↔ (All (λ mark. IsAtomOf problem.now table.now.params mark.atom) table.now.marks
+        × All (IsNamed problem.now table.now.steps) table.now.marks) }
 {
     for mark in table.marks.as_slice() {
         if !is_atom_of(problem, u64::from(table.params), &mark.atom) {

@@ -1,11 +1,12 @@
 //! The laws are calls; and an executor of a small table senses and is disturbed.
-use crate::samples::{atom, model_of, problem_of, table_of_facts};
+use crate::samples::{table_of_facts, valid};
 use px_general::{general_is_one, worked_general};
 use px_match::{danger_kernels, danger_sensed, sensed_is_one};
 use px_planex::{
     Event, Outcome, Planex, acts_and_goes_on, danger_runs, events_take_places, goal_is_reached,
     guard_never, runs_are_one, runs_are_traces, traces_are_one, traces_exist, turns_are_few,
 };
+use px_samples::{atom, model_of, problem_of};
 use px_table::{
     check_table, entries_are_ordered, kernels_are_marks, marks_are_compared, moves_are_compared,
     nodes_are_compared, rows_meet_preconditions, supports_carry, supports_refuse,
@@ -46,13 +47,13 @@ fn laws_are_calls(_rt: HostRuntime) {
 #[test]
 fn the_goal_is_sensed_and_lost(rt: HostRuntime) {
     let alloc = rt.alloc();
-    let (axioms, schemas) = (ClauseArena::new(alloc), Vec::new(alloc));
-    let problem = problem_of(alloc, &rt, 0, &[0], axioms, schemas);
-    let goal = atom(&rt, 0, &[]);
+    let axioms = ClauseArena::new(alloc);
+    let problem = valid(&rt, problem_of(alloc, 0, &[0], axioms, []));
+    let goal = atom(0, &[]);
     assert!(&rt; is_ground(&goal));
     let table = table_of_facts(alloc, &rt, 0, &[goal]);
     assert!(&rt; check_table(&problem, &table));
-    let facts = model_of(alloc, &rt, &[goal]);
+    let facts = model_of(alloc, &[goal]).expect(&rt, "memory");
     assert!(&rt; facts.atoms().len() == 1);
     let mut world = AtomWorld::new(alloc, &problem, &facts, 4).expect(&rt, "memory");
     let mut planex = Planex::begin(alloc, &problem, &table, &[], 2).expect(&rt, "memory");

@@ -13,8 +13,6 @@ mod plain_check;
 #[cfg(test)]
 mod plain_plans;
 #[cfg(test)]
-mod rooms;
-#[cfg(test)]
 mod samples;
 #[cfg(test)]
 mod search_values;

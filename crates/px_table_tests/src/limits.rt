@@ -3,11 +3,12 @@ ghost use Rattle.std.specs.Prelude.{◌≡◌};
 ghost use Rattle.px_terms.specs.Validity.{IsValid};
 ghost use Rattle.px_table.specs.Tables.{IsTable};
 
-use crate::samples::{atom, by_axiom, fact, instance, plan_of, problem_of, row, schema};
+use crate::samples::{plan_of, put_row, valid};
 use px_general::{GeneralErr, generalise};
 use px_proof::Proof;
+use px_samples::{add_axiom, atom, by_axiom, fact, instance, no, problem_of, schema, v, yes};
 use px_table::{Row, Table, check_table};
-use px_terms::{Atom, ClauseArena, Lit, OpInst, Problem, Term, are_plain_below};
+use px_terms::{Atom, ClauseArena, OpInst, Problem, Term};
 use std::alloc::Global;
 use std::process::Abort;
 use std::rt::HostRuntime;
@@ -17,31 +18,21 @@ fn ticking(alloc: Global, rt: &impl Abort, arity: u8, axioms: ClauseArena) -> Pr
     ensures { IsValid result }
 {
     let things = vec![in alloc; Term::Obj(0); arity as usize].expect(rt, "memory");
-    let tick = schema(alloc, rt, (0, 0), &[], &[], &[atom(rt, 0, &things)]);
-    let mut schemas = Vec::new(alloc);
-    schemas.push(tick).expect(rt, "memory");
-    problem_of(alloc, rt, 1, &[arity], axioms, schemas)
+    let added = Atom::new(0, &things).expect(rt, "at most six arguments");
+    let tick = schema(alloc, (0, 0), &[], &[], &[added]).expect(rt, "memory");
+    valid(rt, problem_of(alloc, 1, &[arity], axioms, [tick]))
 }
 
 /// The axiom that has the atom once and its complement that many times.
 fn repeating(alloc: Global, rt: &impl Abort, atom: Atom, times: u32) -> ClauseArena {
     let mut lits = Vec::new(alloc);
-    let goal = Lit {
-        positive: true,
-        atom,
-    };
-    lits.push(goal).expect(rt, "memory");
+    lits.push(yes(atom)).expect(rt, "memory");
     for _ in 0..times {
-        let need = Lit {
-            positive: false,
-            atom,
-        };
-        lits.push(need).expect(rt, "memory");
+        lits.push(no(atom)).expect(rt, "memory");
     }
     let vars = atom.args().len() as u32;
-    assert!(rt; are_plain_below(vars, &lits));
     let mut axioms = ClauseArena::new(alloc);
-    axioms.push(vars, &lits).expect(rt, "memory");
+    add_axiom(&mut axioms, vars, &lits).expect(rt, "an axiom");
     axioms
 }
 
@@ -69,16 +60,14 @@ fn ticks(alloc: Global, rt: &impl Abort, problem: &Problem, count: u32) -> Table
     ensures table { IsTable problem.now result }
     ensures no_params { result.params ≡ 0 }
 {
-    let goal = atom(rt, 0, &[]);
+    let goal = atom(0, &[]);
     let mut steps = Vec::new(alloc);
     let mut rows = Vec::new(alloc);
     for _ in 0..count {
-        steps.push(instance(rt, 0, &[])).expect(rt, "memory");
-        rows.push(row(alloc, rt, [None, None, None]))
-            .expect(rt, "memory");
+        steps.push(instance(0, &[])).expect(rt, "memory");
+        put_row(alloc, rt, &mut rows, []);
     }
-    rows.push(row(alloc, rt, [Some(fact(count, 0, goal)), None, None]))
-        .expect(rt, "memory");
+    put_row(alloc, rt, &mut rows, [fact(count, 0, goal)]);
     plan(alloc, rt, problem, &steps, &[goal], rows)
 }
 
@@ -89,18 +78,15 @@ fn proved(alloc: Global, rt: &impl Abort, problem: &Problem, goal: Atom, proof: 
     ensures no_params { result.params ≡ 0 }
 {
     let mut rows = Vec::new(alloc);
-    rows.push(row(alloc, rt, [Some(proof), None, None]))
-        .expect(rt, "memory");
+    put_row(alloc, rt, &mut rows, [proof]);
     plan(alloc, rt, problem, &[], &[goal], rows)
 }
 
 /// That many steps of the axiom, one below the other, over a fact.
 fn chain(alloc: Global, rt: &impl Abort, steps: u32) -> Proof {
-    let mut proof = fact(0, 0, atom(rt, 0, &[]));
+    let mut proof = fact(0, 0, atom(0, &[]));
     for _ in 0..steps {
-        let mut subs = Vec::new(alloc);
-        subs.push(proof).expect(rt, "memory");
-        proof = by_axiom(alloc, rt, (0, 0), &[], subs);
+        proof = by_axiom(alloc, (0, 0), &[], [proof]).expect(rt, "memory");
     }
     proof
 }
@@ -111,13 +97,10 @@ const THINGS: [Term; 6] = [THING, THING, THING, THING, THING, THING];
 
 /// A tree of that height: steps of the axiom, each over two proofs, and facts.
 fn tree(alloc: Global, rt: &impl Abort, height: u32) -> Proof {
-    let mut proof = fact(0, 0, atom(rt, 0, &THINGS));
+    let mut proof = fact(0, 0, atom(0, &THINGS));
     for _ in 1..height {
-        let mut subs = Vec::new(alloc);
-        subs.push(proof.try_copy().expect(rt, "memory"))
-            .expect(rt, "memory");
-        subs.push(proof).expect(rt, "memory");
-        proof = by_axiom(alloc, rt, (0, 0), &THINGS, subs);
+        let copy = proof.try_copy().expect(rt, "memory");
+        proof = by_axiom(alloc, (0, 0), &THINGS, [copy, proof]).expect(rt, "memory");
     }
     proof
 }
@@ -138,7 +121,7 @@ fn sixty_four_steps(rt: HostRuntime) {
 
 #[test]
 fn proofs_of_height_56(rt: HostRuntime) {
-    let goal = atom(&rt, 0, &[]);
+    let goal = atom(0, &[]);
     let axioms = repeating(rt.alloc(), &rt, goal, 1);
     let problem = ticking(rt.alloc(), &rt, 0, axioms);
     let high = chain(rt.alloc(), &rt, 55);
@@ -156,16 +139,9 @@ fn proofs_of_height_56(rt: HostRuntime) {
 /// 786,432 fresh variables, of which six parameters are left, and 1,572,864.
 #[test]
 fn a_million_fresh_variables(rt: HostRuntime) {
-    let wide = [
-        Term::Var(0),
-        Term::Var(1),
-        Term::Var(2),
-        Term::Var(3),
-        Term::Var(4),
-        Term::Var(5),
-    ];
-    let open = atom(&rt, 0, &wide);
-    let goal = atom(&rt, 0, &THINGS);
+    let wide = [v(0), v(1), v(2), v(3), v(4), v(5)];
+    let open = atom(0, &wide);
+    let goal = atom(0, &THINGS);
     let axioms = repeating(rt.alloc(), &rt, open, 2);
     let problem = ticking(rt.alloc(), &rt, 6, axioms);
     let full = tree(rt.alloc(), &rt, 17);

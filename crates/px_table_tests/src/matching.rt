@@ -1,10 +1,13 @@
 //! Kernels that are sensed: of the plan of 1972, and of twelve pairs.
-use crate::rooms::{ROBOT, connects, is_box, is_in, moving, parameters, rooms};
-use crate::samples::{atom, model_of, problem_of, table_of_facts};
+use crate::samples::{table_of_facts, valid};
 use px_match::Matcher;
 use px_ops::Model;
+use px_samples::{
+    ROBOT, atom, connects, is_box, is_in, model_of, moving, o, opening, parameters, problem_of,
+    rooms, v,
+};
 use px_table::check_table;
-use px_terms::{ClauseArena, Term, is_ground};
+use px_terms::{ClauseArena, is_ground};
 use std::alloc::Global;
 use std::process::Abort;
 use std::rt::HostRuntime;
@@ -12,16 +15,17 @@ use std::rt::HostRuntime;
 #[test]
 fn a_box_is_where_it_shall_be(rt: HostRuntime) {
     let alloc = rt.alloc();
-    let problem = rooms(alloc, &rt);
-    let table = moving(alloc, &rt, 6, parameters());
+    let problem = valid(&rt, rooms(alloc));
+    let table = moving(alloc, 6, parameters()).expect(&rt, "memory");
     assert!(&rt; check_table(&problem, &table));
-    let robot = is_in(&rt, ROBOT, Term::Obj(1));
-    let first = connects(&rt, Term::Obj(4), Term::Obj(1), Term::Obj(2));
-    let second = connects(&rt, Term::Obj(5), Term::Obj(2), Term::Obj(3));
-    let cargo = is_box(&rt, Term::Obj(6));
-    let there = is_in(&rt, Term::Obj(6), Term::Obj(2));
-    let whole = model_of(alloc, &rt, &[robot, first, second, cargo, there]);
-    let less = model_of(alloc, &rt, &[robot, first, second, cargo]);
+    let whole = opening(alloc).expect(&rt, "memory");
+    let without_box_there = [
+        is_in(ROBOT, o(1)),
+        connects(o(4), o(1), o(2)),
+        connects(o(5), o(2), o(3)),
+        is_box(o(6)),
+    ];
+    let less = model_of(alloc, &without_box_there).expect(&rt, "memory");
     assert!(&rt; whole.atoms().len() == 5);
     assert!(&rt; less.atoms().len() == 4);
     let mut matcher = Matcher::reserve(alloc, &problem, &table, &[], 5).expect(&rt, "memory");
@@ -37,7 +41,7 @@ fn a_box_is_where_it_shall_be(rt: HostRuntime) {
 fn chain(alloc: Global, rt: &impl Abort) -> Model {
     let mut model = Model::new(alloc);
     for at in 0..255u32 {
-        let link = atom(rt, 0, &[Term::Obj(at), Term::Obj(at + 1)]);
+        let link = atom(0, &[o(at), o(at + 1)]);
         assert!(rt; is_ground(&link));
         model.insert(link).expect(rt, "memory");
     }
@@ -47,13 +51,13 @@ fn chain(alloc: Global, rt: &impl Abort) -> Model {
 #[test]
 fn twelve_pairs_have_the_first_objects(rt: HostRuntime) {
     let alloc = rt.alloc();
-    let (axioms, schemas) = (ClauseArena::new(alloc), Vec::new(alloc));
-    let problem = problem_of(alloc, &rt, 256, &[2], axioms, schemas);
+    let axioms = ClauseArena::new(alloc);
+    let problem = valid(&rt, problem_of(alloc, 256, &[2], axioms, []));
     let mut pairs = Vec::new(alloc);
     let mut first = Vec::new(alloc);
     for at in 0..12u32 {
         pairs
-            .push(atom(&rt, 0, &[Term::Var(2 * at), Term::Var(2 * at + 1)]))
+            .push(atom(0, &[v(2 * at), v(2 * at + 1)]))
             .expect(&rt, "memory");
         first.extend_from_slice(&[0u32, 1]).expect(&rt, "memory");
     }

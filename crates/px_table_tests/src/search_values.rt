@@ -1,16 +1,12 @@
 //! The order of entries, and the equality of nodes.
 use px_base::{NoMemory, Sequence};
-use px_ops::Model;
+use px_samples::{atom, instance, model_of, o};
 use px_table::{Entry, Move, Node};
-use px_terms::{Atom, OpInst, Term};
 use std::alloc::Global;
 use std::rt::HostRuntime;
 
 fn operator(number: u32, object: u32) -> Entry {
-    match OpInst::new(number, &[Term::Obj(object)]) {
-        Some(inst) => Entry::Op(inst),
-        None => unreachable!(),
-    }
+    Entry::Op(instance(number, &[o(object)]))
 }
 
 fn table(alloc: Global, prefix: u32, object: u32) -> Result<Entry, NoMemory> {
@@ -41,9 +37,8 @@ fn entries_come_in_the_order_of_the_search(rt: HostRuntime) -> Result<(), NoMemo
 
 #[test]
 fn nodes_are_their_atoms_and_stack(rt: HostRuntime) -> Result<(), NoMemory> {
-    let atom = Atom::new(0, &[Term::Obj(1)]).expect(&rt, "one argument");
-    let mut model = Model::new(rt.alloc());
-    model.insert(atom)?;
+    let atom = atom(0, &[o(1)]);
+    let model = model_of(rt.alloc(), &[atom]).expect(&rt, "memory");
     let mut stack = Vec::new(rt.alloc());
     stack.push(operator(0, 1))?;
     stack.push(operator(0, 2))?;

@@ -6,12 +6,12 @@ ghost use Rattle.px_planex.specs.Executors.{places_of};
 ghost use Rattle.px_world.specs.Worlds.{HaveSameRules, IsGroundEdit};
 ghost use Rattle.px_world.specs.declared.edits.AtomEdit.{AtomEdit};
 
-use crate::samples::atom;
 use crate::small_tables::{chain_problem, chain_table, choice_problem, choice_table};
 use px_ops::Model;
 use px_planex::{Event, Outcome, Planex};
+use px_samples::{atom, o};
 use px_table::{Table, check_table};
-use px_terms::{Atom, Problem, Term, is_ground};
+use px_terms::{Atom, Problem, is_ground};
 use px_world::{AtomEdit, AtomWorld, World};
 use std::alloc::Global;
 use std::process::Abort;
@@ -309,12 +309,7 @@ fn a_plain_executor_agrees_where_a_row_needs_less_than_its_kernel(rt: HostRuntim
         fitting(1, None, 1, 8, 2),
     ];
     let case = Case {
-        facts: [
-            atom(&rt, 0, &[]),
-            atom(&rt, 1, &[]),
-            atom(&rt, 2, &[]),
-            atom(&rt, 3, &[]),
-        ],
+        facts: [atom(0, &[]), atom(1, &[]), atom(2, &[]), atom(3, &[])],
         instances: Vec::from_array(alloc, instances).expect(&rt, "memory"),
         bound: None,
         holds: 1 | 8,
@@ -328,10 +323,10 @@ fn a_plain_executor_agrees_where_an_object_is_chosen(rt: HostRuntime) {
     let problem = choice_problem(alloc, &rt);
     let table = choice_table(alloc, &rt);
     let facts = [
-        atom(&rt, 0, &[Term::Obj(0)]),
-        atom(&rt, 0, &[Term::Obj(1)]),
-        atom(&rt, 1, &[Term::Obj(0)]),
-        atom(&rt, 1, &[Term::Obj(1)]),
+        atom(0, &[o(0)]),
+        atom(0, &[o(1)]),
+        atom(1, &[o(0)]),
+        atom(1, &[o(1)]),
     ];
     let first = [fitting(2, Some(0), 4, 0, 0), fitting(1, Some(0), 1, 0, 4)];
     let second = [fitting(2, Some(1), 8, 0, 0), fitting(1, Some(1), 2, 0, 8)];

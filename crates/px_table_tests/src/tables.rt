@@ -2,12 +2,12 @@
 ghost use Rattle.std.specs.Prelude.{◌≡◌, ◌∷◌, []};
 ghost use Rattle.px_terms.specs.Validity.{IsAtomOf, IsValid};
 
-use crate::rooms::{ROBOT, connects, is_box, is_in, moving, objects, parameters, rooms};
-use crate::samples::{is_instantiation, mark};
+use crate::samples::{is_instantiation, valid};
 use px_general::generalise;
 use px_proof::{Leaf, Proof};
+use px_samples::{ROBOT, connects, is_box, is_in, mark, moving, o, objects, parameters, rooms};
 use px_table::{Row, Table, build, check_table, kernel, marks, proper};
-use px_terms::{Atom, Problem, Term, is_atom_of};
+use px_terms::{Atom, Problem, is_atom_of};
 use std::alloc::Global;
 use std::process::Abort;
 use std::rt::HostRuntime;
@@ -19,33 +19,32 @@ fn has_kernel(alloc: Global, rt: &impl Abort, table: &Table, i: u32, atoms: &[At
 #[test]
 fn kernels_of_the_general_table(rt: HostRuntime) {
     let scene = parameters();
-    let table = moving(rt.alloc(), &rt, 6, scene)
-        .try_copy()
-        .expect(&rt, "memory");
+    let table = moving(rt.alloc(), 6, scene).expect(&rt, "memory");
+    let table = table.try_copy().expect(&rt, "memory");
     assert!(&rt; table.proofs.len() == 3);
     let made = marks(rt.alloc(), table.proofs.as_slice()).expect(&rt, "memory");
     assert!(&rt; made == table.marks);
-    let door = connects(&rt, scene.door, scene.here, scene.there);
-    let back = connects(&rt, scene.back, scene.end, scene.there);
-    let cargo = is_box(&rt, scene.cargo);
-    let waits = is_in(&rt, scene.cargo, scene.there);
-    let first = [is_in(&rt, ROBOT, scene.here), door, waits, back, cargo];
+    let door = connects(scene.door, scene.here, scene.there);
+    let back = connects(scene.back, scene.end, scene.there);
+    let cargo = is_box(scene.cargo);
+    let waits = is_in(scene.cargo, scene.there);
+    let first = [is_in(ROBOT, scene.here), door, waits, back, cargo];
     assert!(&rt; has_kernel(rt.alloc(), &rt, &table, 1, &first));
-    let second = [waits, is_in(&rt, ROBOT, scene.there), back, cargo];
+    let second = [waits, is_in(ROBOT, scene.there), back, cargo];
     assert!(&rt; has_kernel(rt.alloc(), &rt, &table, 2, &second));
-    let third = [cargo, is_in(&rt, scene.cargo, scene.end)];
+    let third = [cargo, is_in(scene.cargo, scene.end)];
     assert!(&rt; has_kernel(rt.alloc(), &rt, &table, 3, &third));
 }
 
 /// The box may come through another door and from a third room, but the robot stays.
 #[test]
 fn the_plan_is_generalised(rt: HostRuntime) {
-    let problem = rooms(rt.alloc(), &rt);
-    let plan = moving(rt.alloc(), &rt, 0, objects());
+    let problem = valid(&rt, rooms(rt.alloc()));
+    let plan = moving(rt.alloc(), 0, objects()).expect(&rt, "memory");
     assert!(&rt; check_table(&problem, &plan));
     assert!(&rt; plan.params == 0);
     let general = generalise(rt.alloc(), &problem, &plan).expect(&rt, "memory");
-    let wanted = moving(rt.alloc(), &rt, 6, parameters());
+    let wanted = moving(rt.alloc(), 6, parameters()).expect(&rt, "memory");
     assert!(&rt; general.params == 6 && general.goal_vars == 1);
     assert!(&rt; general.steps == wanted.steps);
     assert!(&rt; general.goal == wanted.goal);
@@ -54,8 +53,8 @@ fn the_plan_is_generalised(rt: HostRuntime) {
 
 #[test]
 fn the_robot_is_no_box(rt: HostRuntime) {
-    let problem = rooms(rt.alloc(), &rt);
-    let table = moving(rt.alloc(), &rt, 6, parameters());
+    let problem = valid(&rt, rooms(rt.alloc()));
+    let table = moving(rt.alloc(), 6, parameters()).expect(&rt, "memory");
     assert!(&rt; check_table(&problem, &table));
     assert!(&rt; table.steps.len() == 2);
     let robot_as_box = [1u32, 4, 2, 0, 4, 1];
@@ -99,8 +98,8 @@ fn given_table(alloc: Global, rt: &impl Abort, problem: &Problem, atom: Atom) ->
 
 #[test]
 fn a_support_makes_a_table(rt: HostRuntime) {
-    let problem = rooms(rt.alloc(), &rt);
-    let here = is_in(&rt, ROBOT, Term::Obj(1));
+    let problem = valid(&rt, rooms(rt.alloc()));
+    let here = is_in(ROBOT, o(1));
     assert!(&rt; is_atom_of(&problem, 0, &here));
     let table = given_table(rt.alloc(), &rt, &problem, here);
     assert!(&rt; table.marks.as_slice() == [mark(1, 0, 0, here)].as_slice());

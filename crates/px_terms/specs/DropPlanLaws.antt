@@ -35,20 +35,23 @@ steps = one (IsInstanceOf two_names) drop_first instance
 carried : Carries two_names (at (Obj 0) ∷ []) (drop_first ∷ []) 0 []
 carried =
     let needed = one (Contains (at (Obj 0) ∷ [])) (at (Obj 0)) (Contains-first (at (Obj 0)) []) in
-    achieves_carries two_names (at (Obj 0) ∷ []) (drop_first ∷ []) [] valid steps (nothing (IsAtomOf two_names 0)) (needed, nothing (Contains (result_of two_names (at (Obj 0) ∷ []) drop_first)))
+    achieves_carries two_names (at (Obj 0) ∷ []) (drop_first ∷ []) [] valid steps (nothing (IsAtomOf two_names 0))
+    (needed, nothing (Contains (result_of two_names (at (Obj 0) ∷ []) drop_first)))
 
 -- AT is true of both objects
 abbrev both : List Atom
 both = at (Obj 0) ∷ at (Obj 1) ∷ []
 
 second_is_left : Contains (result_of two_names both drop_first) (at (Obj 1))
-second_is_left = (result_by-members drop_schema both drop_first (at (Obj 1))).1 (inl (Contains-later (at (Obj 0)) (at (Obj 1) ∷ []) (at (Obj 1)) (Contains-first (at (Obj 1)) []), refl))
+second_is_left = (result_by-members drop_schema both drop_first (at (Obj 1))).1
+    (inl (Contains-later (at (Obj 0)) (at (Obj 1) ∷ []) (at (Obj 1)) (Contains-first (at (Obj 1)) []), refl))
 
 spared : Carries two_names both (drop_first ∷ []) 0 (at (Obj 1) ∷ [])
 spared =
     let needed = one (Contains both) (at (Obj 0)) (Contains-first (at (Obj 0)) (at (Obj 1) ∷ [])) in
     let there = one (Contains (result_of two_names both drop_first)) (at (Obj 1)) second_is_left in
-    achieves_carries two_names both (drop_first ∷ []) (at (Obj 1) ∷ []) valid steps (one (IsAtomOf two_names 0) (at (Obj 1)) second) (needed, there)
+    achieves_carries two_names both (drop_first ∷ []) (at (Obj 1) ∷ []) valid steps (one (IsAtomOf two_names 0) (at (Obj 1)) second)
+    (needed, there)
 
 pub drop_plan : DropPlanFact
 drop_plan = record { run = run; unmet = unmet; lost = lost; carried = carried; spared = spared }

@@ -26,7 +26,11 @@ abbrev pub on_or_off : Clause
 on_or_off = record { vars = 1; lits = record { positive = true; atom = on (Var 0) } ∷ record { positive = true; atom = off (Var 0) } ∷ [] }
 
 abbrev pub on_shines : Clause
-on_shines = record { vars = 1; lits = record { positive = false; atom = on (Var 0) } ∷ record { positive = true; atom = shines (Var 0) } ∷ [] }
+on_shines = record {
+  vars = 1;
+  lits = record { positive = false; atom = on (Var 0) } ∷ record { positive = true; atom = shines (Var 0) } ∷
+      [];
+}
 
 -- SWITCH_ON(x) needs OFF(x), deletes it and adds ON(x)
 abbrev pub switch_schema : Schema
@@ -34,7 +38,16 @@ switch_schema = record { op = 0; params = 1; pre = off (Var 0) ∷ []; del = off
 
 -- one object, the lamp, with these axioms
 abbrev pub lamp_with : List Clause → Problem
-lamp_with axioms = record { objects = 1; arities = 1 ∷ 1 ∷ 1 ∷ []; axioms = axioms; schemas = switch_schema ∷ []; height = 1; nodes = 1; shapes = 2 }
+lamp_with axioms = record {
+  objects = 1;
+  arities = 1 ∷ 1 ∷ 1 ∷ [];
+  axioms = axioms;
+  schemas = switch_schema ∷ [];
+  height = 1;
+  nodes =
+      1;
+  shapes = 2;
+}
 
 abbrev pub lamp : Problem
 lamp = lamp_with (on_or_off ∷ on_shines ∷ [])

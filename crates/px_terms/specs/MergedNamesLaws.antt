@@ -94,7 +94,8 @@ pub second : IsAtomOf two_names 0 (at (Obj 1))
 second = ((omega arith, refl), one (IsTermOf two_names 0) (Obj 1) (omega arith))
 
 second_stays : ¬ IsDeleted drop_schema drop_first (at (Obj 1))
-second_stays = deletes-false two_names drop_first (at (Obj 1)) valid (instance-is_ground two_names drop_first instance) (atom_of-is_ground two_names (at (Obj 1)) second) refl
+second_stays = deletes-false two_names drop_first (at (Obj 1)) valid (instance-is_ground two_names drop_first instance)
+    (atom_of-is_ground two_names (at (Obj 1)) second) refl
 
 kept : (after : State) → Described two_names drop_first merged after → Holds after (at (Obj 1))
 kept after described = described.kept met_merged (at (Obj 1)) second (0, omega arith, refl) second_stays
@@ -113,7 +114,8 @@ first_of_tuple [] = 7
 first_of_tuple (n ∷ ns) = n
 
 -- an atom of the problem that is true in the state of two elements is the first object's
-is_first : (pred : ℕ) (args : List Term) → IsAtomOf two_names 0 (record { pred = pred; args = args }) → Holds apart (record { pred = pred; args = args })
+is_first : (pred : ℕ) (args : List Term) → IsAtomOf two_names 0 (record { pred = pred; args = args })
+    → Holds apart (record { pred = pred; args = args })
     → deletes two_names drop_first (record { pred = pred; args = args }) ≡ true
 unfolding first_of_tuple
 is_first (suc k) args of holds = absurd (omega (arith, of.0.0))
@@ -131,10 +133,15 @@ is_first zero (Obj (suc zero) ∷ t ∷ rest) of holds = absurd (omega (arith, o
 
 deleted : (atom : Atom) → IsAtomOf two_names 0 atom → Holds apart atom → IsDeleted drop_schema drop_first atom
 deleted atom of holds =
-    deletes-true two_names drop_first atom valid (instance-is_ground two_names drop_first instance) (atom_of-is_ground two_names atom of) (is_first atom.pred atom.args of holds)
+    deletes-true two_names drop_first atom valid (instance-is_ground two_names drop_first instance) (atom_of-is_ground two_names atom of)
+    (is_first atom.pred atom.args of holds)
 
 pub natural : Described two_names drop_first apart apart_after
-natural = record { kept = λ _ atom of holds stays. absurd (stays (deleted atom of holds)); added = λ _ k d below. absurd (omega (arith, below)) }
+natural = record {
+  kept = λ _ atom of holds stays. absurd (stays (deleted atom of holds));
+  added =
+      λ _ k d below. absurd (omega (arith, below));
+}
 
 pub merged_names : MergedNamesFact
 merged_names = record {

@@ -26,14 +26,20 @@ not-true true h = sym h
 not-true false h = refl
 
 pub result_by-members : (schema : Schema) (atoms : List Atom) (inst : OpInst) (q : Atom)
-    → Contains (result_by schema atoms inst) q ↔ ((Contains atoms q × (is_deleted schema inst q ≡ false)) ⊎ Contains (atoms_of schema.add inst) q)
+    → Contains (result_by schema atoms inst) q ↔ ((Contains atoms q × (is_deleted schema inst q ≡ false))
+    ⊎ Contains (atoms_of schema.add inst) q)
 result_by-members schema atoms inst q =
     let kept = filter (λ atom. not (is_deleted schema inst atom)) atoms in
     let added = atoms_of schema.add inst in
     let members = set_of-members atom_cmp atom_cmp-total atom_cmp-same (kept ++ added) q in
     let passing = Contains-filter (λ atom. not (is_deleted schema inst atom)) atoms q in (
-      λ h. elim (Contains-append_cases kept added q (members.0 h)) [ inl left ↦ inl ((passing.0 left).0, not-true _ (passing.0 left).1) | inr right ↦ inr right ],
-      λ h. members.1 (elim h [ inl left ↦ Contains-append_left kept added q (passing.1 (left.0, ap not left.1)) | inr right ↦ Contains-append_right kept added q right ]),
+      λ h. elim (Contains-append_cases kept added q (members.0 h))
+          [ inl left ↦ inl ((passing.0 left).0, not-true _ (passing.0 left).1) | inr right ↦ inr right ],
+      λ h. members.1 (elim h [
+        | inl left ↦ Contains-append_left kept added q (passing.1 (left.0, ap not left.1))
+        | inr right ↦
+            Contains-append_right kept added q right
+      ]),
     )
 
 -- an object stays below any number of variables
@@ -43,22 +49,28 @@ object_plain (Var v) h = absurd h
 object_plain WildCard h = tt
 
 -- a term of an instance's pattern is no variable
-no_variable : (args : List Term) → All IsObject args → (term : Term) → IsVariableBelow (length args) term → IsVariableBelow 0 (substitute args term)
+no_variable : (args : List Term) → All IsObject args → (term : Term) → IsVariableBelow (length args) term
+    → IsVariableBelow 0 (substitute args term)
 no_variable args objects (Obj n) v = tt
 no_variable args objects (Var n) v = object_plain _ (objects n WildCard v)
 no_variable args objects WildCard v = tt
 
-pub no_variables : (args : List Term) → All IsObject args → (terms : List Term) → All (IsVariableBelow (length args)) terms → All (IsVariableBelow 0) (map (substitute args) terms)
+pub no_variables : (args : List Term) → All IsObject args → (terms : List Term) → All (IsVariableBelow (length args)) terms
+    → All (IsVariableBelow 0) (map (substitute args) terms)
 no_variables args objects [] v = λ k d h. absurd (omega (arith, h))
 no_variables args objects (t ∷ ts) v =
-    All-cons (IsVariableBelow 0) (substitute args t) (map (substitute args) ts) (no_variable args objects t (All-head (IsVariableBelow (length args)) t ts v)) (no_variables args objects ts (All-tail (IsVariableBelow (length args)) t ts v))
+    All-cons (IsVariableBelow 0) (substitute args t) (map (substitute args) ts)
+    (no_variable args objects t (All-head (IsVariableBelow (length args)) t ts v))
+    (no_variables args objects ts (All-tail (IsVariableBelow (length args)) t ts v))
 
 -- the test of a deletion decides it
 pub is_deleted-decides : (schema : Schema) (inst : OpInst) (atom : Atom) → IsGround atom → All IsObject inst.args
-    → All (λ pattern. All (IsVariableBelow (length inst.args)) pattern.args) schema.del → Decides (is_deleted schema inst atom) (IsDeleted schema inst atom)
+    → All (λ pattern. All (IsVariableBelow (length inst.args)) pattern.args) schema.del
+    → Decides (is_deleted schema inst atom) (IsDeleted schema inst atom)
 is_deleted-decides schema inst atom is_ground objects variables =
     let test : Atom → Bool = λ pattern. is_instance atom (substitute_atom inst.args pattern) in
-    let decides : (k : ℕ) (pattern : Atom) → k < length schema.del → slice_index_or schema.del k pattern ≡ pattern → Decides (test pattern) (IsInstance atom (substitute_atom inst.args pattern))
+    let decides : (k : ℕ) (pattern : Atom) → k < length schema.del → slice_index_or schema.del k pattern ≡ pattern
+    → Decides (test pattern) (IsInstance atom (substitute_atom inst.args pattern))
     = λ k pattern below is.
     let v = subst (λ (p : Atom). All (IsVariableBelow (length inst.args)) p.args) is (variables k pattern below) in
     is_instance-decides atom (substitute_atom inst.args pattern) is_ground (no_variables inst.args objects pattern.args v) in (
@@ -67,7 +79,8 @@ is_deleted-decides schema inst atom is_ground objects variables =
     )
 
 -- a result has no more atoms than there were, and one for each that is added
-pub result_by-length : (schema : Schema) (atoms : List Atom) (inst : OpInst) → length (result_by schema atoms inst) ≤ length atoms + length (atoms_of schema.add inst)
+pub result_by-length : (schema : Schema) (atoms : List Atom) (inst : OpInst)
+    → length (result_by schema atoms inst) ≤ length atoms + length (atoms_of schema.add inst)
 result_by-length schema atoms inst =
     let kept = filter (λ atom. not (is_deleted schema inst atom)) atoms in
     let added = atoms_of schema.add inst in
@@ -75,5 +88,6 @@ result_by-length schema atoms inst =
     let fewer : length kept ≤ length atoms = rw length-filter (count_by-le-length (λ atom. not (is_deleted schema inst atom)) atoms) in
     omega (arith, all, fewer, length-append kept added)
 
-pub result_of-length : (problem : Problem) (atoms : List Atom) (inst : OpInst) → length (result_of problem atoms inst) ≤ length atoms + length (adds problem inst)
+pub result_of-length : (problem : Problem) (atoms : List Atom) (inst : OpInst)
+    → length (result_of problem atoms inst) ≤ length atoms + length (adds problem inst)
 result_of-length problem atoms inst = result_by-length (schema_of problem inst) atoms inst

@@ -57,7 +57,8 @@ results_of problem atoms (inst ∷ insts) = results_of problem (result_of proble
 -- the ground atoms afterwards are those from before that the instance doesn't delete, and those that it adds
 abbrev pub IsResult : Problem → OpInst → List Atom → List Atom → Type 0
 IsResult problem inst before after =
-    (atom : Atom) → IsGround atom → Contains after atom ↔ ((Contains before atom × ¬ IsDeleted (schema_of problem inst) inst atom) ⊎ Contains (adds problem inst) atom)
+    (atom : Atom) → IsGround atom → Contains after atom ↔ ((Contains before atom × ¬ IsDeleted (schema_of problem inst) inst atom)
+    ⊎ Contains (adds problem inst) atom)
 
 -- the schema is the problem's, at the place of its number
 pub record IsSchemaAt (problem : Problem) (schema : Schema) : Type 0 where
@@ -71,4 +72,5 @@ IsAddable problem atom = Any (λ schema. Any (λ added. added.pred ≡ atom.pred
 -- some step adds the atom, and no later one deletes it
 abbrev pub IsAdded : Problem → List OpInst → Atom → Type 0
 IsAdded problem [] atom = ⊥
-IsAdded problem (step ∷ steps) atom = (Contains (adds problem step) atom × All (λ later. deletes problem later atom ≡ false) steps) ⊎ IsAdded problem steps atom
+IsAdded problem (step ∷ steps) atom = (Contains (adds problem step) atom × All (λ later. deletes problem later atom ≡ false) steps)
+    ⊎ IsAdded problem steps atom

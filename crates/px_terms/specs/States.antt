@@ -50,11 +50,13 @@ LiteralHoldsUnder state values lit = signed lit.positive where
 
 -- each axiom has a true literal, whatever elements its variables have
 abbrev pub AxiomsHold : Problem → State → Type 0
-AxiomsHold problem state = All (λ clause. (values : List ℕ) → AreValues state clause.vars values → Any (LiteralHoldsUnder state values) clause.lits) problem.axioms
+AxiomsHold problem state = All (λ clause. (values : List ℕ) → AreValues state clause.vars values
+    → Any (LiteralHoldsUnder state values) clause.lits) problem.axioms
 
 -- the second state is one that the instance may leave: where the precondition holds, all adds hold afterwards,
 -- and so does each ground atom of the problem that held and isn't deleted. Nothing is asked of atoms with
 -- numbers that the problem does not have, since no operator speaks of them.
 pub record Described (problem : Problem) (inst : OpInst) (before after : State) : Type 0 where
-  pub kept : All (Holds before) (precondition problem inst) → (atom : Atom) → IsAtomOf problem 0 atom → Holds before atom → ¬ IsDeleted (schema_of problem inst) inst atom → Holds after atom
+  pub kept : All (Holds before) (precondition problem inst) → (atom : Atom) → IsAtomOf problem 0 atom → Holds before atom
+      → ¬ IsDeleted (schema_of problem inst) inst atom → Holds after atom
   pub added : All (Holds before) (precondition problem inst) → All (Holds after) (adds problem inst)

@@ -158,8 +158,8 @@ pub fn instance_of(atom: &Atom, pattern: &Atom) -> bool
     fills(atom, pattern)
 }
 
-/// Does `atom` come from `pattern` so? The two may be any atoms.
-fn fills(atom: &Atom, pattern: &Atom) -> bool
+/// Does `pattern` become `atom` by putting terms in the place of each `Any`? The two may be any atoms.
+pub fn fills(atom: &Atom, pattern: &Atom) -> bool
     ensures { result ≡ is_instance atom.now pattern.now }
 {
     atom.pred() == pattern.pred() && is_filled(pattern.args(), atom.args())

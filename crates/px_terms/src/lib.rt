@@ -6,7 +6,8 @@
 //! - An [`Atom`] is a predicate with at most six terms, an [`OpInst`] an operator with at most eight. Both are `Copy`,
 //!   contracts see them as a number with the list of the terms, and they are ordered by number, then by terms from
 //!   the left. `new` answers `None` exactly where there are too many terms.
-//! - [`apply`] and [`apply_inst`] replace variables, [`instance_of`] tests an atom against a pattern with wild cards.
+//! - [`substituted`], [`apply`] and [`apply_inst`] replace variables. [`instance_of`] tests an atom without variables against a
+//!   pattern with wild cards, [`fills`] any atom.
 //! - A [`ClauseArena`] keeps the axioms by number. `push` refuses a clause of no literal or more than six, then a
 //!   sixty-fifth clause; a refused clause leaves it as it was.
 //! - A [`Schema`] is an operator, a [`Problem`] all that a search is about. Fields that are lists are [`Sequence`]s.
@@ -32,12 +33,13 @@ mod term;
 mod tests;
 mod validity;
 
-pub use atom::{Atom, apply, equal, instance_of};
+pub use atom::{Atom, apply, equal, fills, instance_of};
 pub use clause::{ArenaErr, Clause, ClauseArena, Lit};
 pub use instance::{OpInst, apply_inst};
 pub use laws::{atoms_are_ordered, contradiction, drop_plan, lit_lamp, merged_names};
 pub use problem::{Problem, Schema};
 pub use px_base::{NoMemory, Sequence};
+pub use substitution::substituted;
 pub use term::Term;
 pub use validity::{
     are_atoms_of, are_plain_below, are_variables_below, is_atom_of, is_ground, is_instance_of,

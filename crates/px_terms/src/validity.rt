@@ -178,7 +178,8 @@ fn has_short_lists(schema: &Schema) -> bool
 
 /// Are the schema's atoms the problem's?
 fn has_atoms_of(problem: &Problem, schema: &Schema) -> bool
-    ensures { IsTrue result ↔ (All (IsAtomOf problem.now schema.now.params) schema.now.pre × All (IsPatternOf problem.now schema.now.params) schema.now.del
+    ensures { IsTrue result ↔ (All (IsAtomOf problem.now schema.now.params) schema.now.pre
+        × All (IsPatternOf problem.now schema.now.params) schema.now.del
         × All (IsAtomOf problem.now schema.now.params) schema.now.add) }
 {
     let vars = u64::from(schema.params);
@@ -211,7 +212,8 @@ fn is_schema_at(problem: &Problem, place: usize) -> bool
 
 /// Is each schema the operator at its place?
 fn are_schemas_of(problem: &Problem) -> bool
-    ensures { IsTrue result ↔ EachIndex problem.now.schemas (λ k. IsSchemaOf problem.now k (slice_index_or problem.now.schemas k no_schema)) }
+    ensures { IsTrue result ↔ EachIndex problem.now.schemas (λ k. IsSchemaOf problem.now k
+        (slice_index_or problem.now.schemas k no_schema)) }
 {
     for place in 0..problem.schemas.len() {
         if !is_schema_at(problem, place) {
@@ -235,7 +237,8 @@ fn are_axioms_of(problem: &Problem) -> bool
 
 /// Is there an object, or nothing that one could be put for?
 fn has_objects(problem: &Problem) -> bool
-    ensures { IsTrue result ↔ (problem.now.objects ≡ 0 → All (λ schema. schema.params ≡ 0) problem.now.schemas × All (λ clause. clause.vars ≡ 0) problem.now.axioms) }
+    ensures { IsTrue result ↔ (problem.now.objects ≡ 0 → All (λ schema. schema.params ≡ 0) problem.now.schemas
+        × All (λ clause. clause.vars ≡ 0) problem.now.axioms) }
 {
     problem.objects > 0
         || (problem
@@ -252,7 +255,8 @@ fn has_objects(problem: &Problem) -> bool
 
 /// Are the problem's limits in range, and its lists short?
 fn is_limited(problem: &Problem) -> bool
-    ensures { IsTrue result ↔ ((IsShort problem.now.arities × IsShort problem.now.schemas) × ((1 ≤ problem.now.height) × (problem.now.height ≤ 8))
+    ensures { IsTrue result ↔ ((IsShort problem.now.arities × IsShort problem.now.schemas)
+        × ((1 ≤ problem.now.height) × (problem.now.height ≤ 8))
         × ((1 ≤ problem.now.nodes) × (problem.now.nodes ≤ 50000)) × ((2 ≤ problem.now.shapes) × (problem.now.shapes ≤ 70000))) }
 {
     problem.arities.len() < TOO_LONG

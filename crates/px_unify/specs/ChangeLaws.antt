@@ -13,7 +13,8 @@ use Rattle.px_unify.specs.declared.change.Change.{Change}
 use Rattle.px_unify.specs.declared.change.Change.TheVariants.{Fresh, Bound}
 use Rattle.px_unify.specs.Changes.{slots_after, slots_of, variables_of, Meets, Fits, IsUnbound, IsRoot, AreOneUnder, MakesEqual, MakesPairEqual, MakesEachEqual, NarrowedBy, NoneFits, HasSolutions, IsKept, Binds}
 
-pub slots_after-append : (front rest : List Change) (slots : List (Option Term)) → slots_after slots (front ++ rest) ≡ slots_after (slots_after slots front) rest
+pub slots_after-append : (front rest : List Change) (slots : List (Option Term))
+    → slots_after slots (front ++ rest) ≡ slots_after (slots_after slots front) rest
 slots_after-append [] rest slots = refl
 slots_after-append (Fresh ∷ front) rest slots = slots_after-append front rest (slots ++ None ∷ [])
 slots_after-append (Bound v term ∷ front) rest slots = slots_after-append front rest (set slots v (Some term))
@@ -27,7 +28,8 @@ pub slots-fresh : (changes : List Change) (n : ℕ) → slots_of (changes ++ rep
 slots-fresh changes n = slots_after-append changes (replicate n Fresh) [] ∙ slots_after-fresh n (slots_of changes)
 
 pub variables-fresh : (changes : List Change) (n : ℕ) → variables_of (changes ++ replicate n Fresh) ≡ variables_of changes + n
-variables-fresh changes n = ap length (slots-fresh changes n) ∙ length-append (slots_of changes) (replicate n None) ∙ ap (λ k. variables_of changes + k) (length-replicate n None)
+variables-fresh changes n = ap length (slots-fresh changes n) ∙ length-append (slots_of changes) (replicate n None) ∙ ap
+    (λ k. variables_of changes + k) (length-replicate n None)
 
 slice_get-after : {X : Type 0} (xs ys : List X) (k : ℕ) → slice_get (xs ++ ys) (length xs + k) ≡ slice_get ys k
 slice_get-after [] ys k = let here : 0 + k ≡ k = omega arith in rw here refl
@@ -40,7 +42,8 @@ slice_get-replicate (suc n) x (suc v) within = slice_get-replicate n x v (omega 
 
 -- new variables are not bound
 pub IsUnbound-fresh : (changes : List Change) (n v : ℕ) → v < n → IsUnbound (changes ++ replicate n Fresh) (variables_of changes + v)
-IsUnbound-fresh changes n v within = rw (slots-fresh changes n, slice_get-after (slots_of changes) (replicate n None) v) (slice_get-replicate n None v within)
+IsUnbound-fresh changes n v within = rw (slots-fresh changes n, slice_get-after (slots_of changes) (replicate n None) v)
+    (slice_get-replicate n None v within)
 
 module _ (sigma : List Term) where
   fits_front : (front rest : List Change) → Fits sigma (front ++ rest) → Fits sigma front × Fits sigma rest
@@ -65,7 +68,8 @@ module _ (sigma : List Term) where
   )
 
   -- a binding asks that the variable has the value of the term, and no more
-  pub Fits-bound : (changes : List Change) (v : ℕ) (term : Term) → Fits sigma (changes ++ Bound v term ∷ []) ↔ (Fits sigma changes × (substitute sigma (Var v) ≡ substitute sigma term))
+  pub Fits-bound : (changes : List Change) (v : ℕ) (term : Term) → Fits sigma (changes ++ Bound v term ∷ [])
+      ↔ (Fits sigma changes × (substitute sigma (Var v) ≡ substitute sigma term))
   Fits-bound changes v term = (
     λ fits. let both = (Fits-append changes (Bound v term ∷ [])).0 fits in (both.0, All-head (Meets sigma) (Bound v term) [] both.1),
     λ h. All-push (Meets sigma) changes (Bound v term) h.0 h.1,
@@ -98,7 +102,8 @@ pub IsKept-fresh : (marked now : List Change) (n : ℕ) → IsKept marked now �
 IsKept-fresh marked now n kept = take-append-le (length marked) now (replicate n Fresh) (kept-within marked now kept) ∙ kept
 
 pub IsKept-binds : (marked now new : List Change) → IsKept marked now → Binds now new → IsKept marked new
-IsKept-binds marked now new kept binds = sym (take_take (length marked) (length now) new (kept-within marked now kept)) ∙ ap (take (length marked)) binds.prefix ∙ kept
+IsKept-binds marked now new kept binds = sym (take_take (length marked) (length now) new (kept-within marked now kept)) ∙ ap
+    (take (length marked)) binds.prefix ∙ kept
 
 pub IsKept-undone : (marked now : List Change) (mark : ℕ) → IsKept marked now → length marked ≤ mark → IsKept marked (take mark now)
 IsKept-undone marked now mark kept above = take_take (length marked) mark now above ∙ kept
@@ -118,19 +123,22 @@ Binds-trans old now new first second = record {
 }
 
 -- what fits after two steps is what fits before and meets both conditions
-pub NarrowedBy-both : (old now new : List Change) (First Second : List Term → Type 0) → NarrowedBy old now First → NarrowedBy now new Second → NarrowedBy old new (λ sigma. First sigma × Second sigma)
+pub NarrowedBy-both : (old now new : List Change) (First Second : List Term → Type 0) → NarrowedBy old now First → NarrowedBy now new Second
+    → NarrowedBy old new (λ sigma. First sigma × Second sigma)
 NarrowedBy-both old now new First Second first second sigma = (
   λ fits. let late = (second sigma).0 fits in let soon = (first sigma).0 late.0 in (soon.0, (soon.1, late.1)),
   λ h. (second sigma).1 ((first sigma).1 (h.0, h.1.0), h.1.1),
 )
 
-pub NarrowedBy-fresh : (old now : List Change) (n : ℕ) (Condition : List Term → Type 0) → NarrowedBy old now Condition → NarrowedBy old (now ++ replicate n Fresh) Condition
+pub NarrowedBy-fresh : (old now : List Change) (n : ℕ) (Condition : List Term → Type 0) → NarrowedBy old now Condition
+    → NarrowedBy old (now ++ replicate n Fresh) Condition
 NarrowedBy-fresh old now n Condition narrowed sigma = (
   λ fits. (narrowed sigma).0 ((Fits-fresh sigma now n).0 fits),
   λ h. (Fits-fresh sigma now n).1 ((narrowed sigma).1 h),
 )
 
-each_front : (sigma : List Term) (pairs later : List (Atom × Atom)) → MakesEachEqual (pairs ++ later) sigma → MakesEachEqual pairs sigma × MakesEachEqual later sigma
+each_front : (sigma : List Term) (pairs later : List (Atom × Atom)) → MakesEachEqual (pairs ++ later) sigma → MakesEachEqual pairs sigma
+    × MakesEachEqual later sigma
 each_front sigma [] later all = (All-nil (MakesPairEqual sigma), all)
 each_front sigma (pair ∷ pairs) later all =
     let rest = each_front sigma pairs later (All-tail (MakesPairEqual sigma) pair (pairs ++ later) all) in
@@ -141,24 +149,29 @@ pub NarrowedBy-none : (changes : List Change) → NarrowedBy changes changes (Ma
 NarrowedBy-none changes sigma = (λ fits. (fits, All-nil (MakesPairEqual sigma)), λ h. h.0)
 
 -- One pair more: the substitutions that fit then make it equal as well.
-pub NarrowedBy-pair : (old now new : List Change) (pairs : List (Atom × Atom)) (a b : Atom) → NarrowedBy old now (MakesEachEqual pairs) → NarrowedBy now new (MakesEqual a b) →
+pub NarrowedBy-pair : (old now new : List Change) (pairs : List (Atom × Atom)) (a b : Atom) → NarrowedBy old now (MakesEachEqual pairs)
+    → NarrowedBy now new (MakesEqual a b) →
     NarrowedBy old new (MakesEachEqual (pairs ++ (a, b) ∷ []))
 NarrowedBy-pair old now new pairs a b first second sigma =
     let both = NarrowedBy-both old now new (MakesEachEqual pairs) (MakesEqual a b) first second sigma in (
       λ fits. let h = both.0 fits in (h.0, All-push (MakesPairEqual sigma) pairs (a, b) h.1.0 h.1.1),
-      λ h. let parts = each_front sigma pairs ((a, b) ∷ []) h.1 in both.1 (h.0, (parts.0, All-head (MakesPairEqual sigma) (a, b) [] parts.1)),
+      λ h. let parts = each_front sigma pairs ((a, b) ∷ []) h.1 in
+          both.1 (h.0, (parts.0, All-head (MakesPairEqual sigma) (a, b) [] parts.1)),
     )
 
 -- Where the next pair clashes, nothing that fitted at the start makes all of the pairs equal.
-pub NoneFits-pair : (old now : List Change) (pairs : List (Atom × Atom)) (a b : Atom) (later : List (Atom × Atom)) → NarrowedBy old now (MakesEachEqual pairs) → NoneFits now (MakesEqual a b) →
+pub NoneFits-pair : (old now : List Change) (pairs : List (Atom × Atom)) (a b : Atom) (later : List (Atom × Atom))
+    → NarrowedBy old now (MakesEachEqual pairs) → NoneFits now (MakesEqual a b) →
     NoneFits old (MakesEachEqual (pairs ++ (a, b) ∷ later))
 NoneFits-pair old now pairs a b later narrowed never sigma fits all =
     let parts = each_front sigma pairs ((a, b) ∷ later) all in
     never sigma ((narrowed sigma).1 (fits, parts.0)) (All-head (MakesPairEqual sigma) (a, b) later parts.1)
 
 -- After each pair was unified some substitution makes all of them equal, whatever the unbound variables stand for.
-pub SomeFits : (old now : List Change) (Condition : List Term → Type 0) → NarrowedBy old now Condition → HasSolutions now → (chosen : List Term) → length chosen ≡ variables_of now →
-    (sigma : List Term) × (length sigma ≡ variables_of now) × Fits sigma old × Condition sigma × ((v : ℕ) → IsUnbound now v → slice_get sigma v ≡ slice_get chosen v)
+pub SomeFits : (old now : List Change) (Condition : List Term → Type 0) → NarrowedBy old now Condition → HasSolutions now
+    → (chosen : List Term) → length chosen ≡ variables_of now →
+    (sigma : List Term) × (length sigma ≡ variables_of now) × Fits sigma old × Condition sigma
+    × ((v : ℕ) → IsUnbound now v → slice_get sigma v ≡ slice_get chosen v)
 SomeFits old now Condition narrowed solvable chosen count =
     let found = solvable chosen count in
     let both = (narrowed found.0).0 found.2 in
@@ -176,7 +189,8 @@ length-numbered first (suc n) = ap suc (length-numbered (suc first) n)
 slice_get-numbered : (first n v : ℕ) → v < n → slice_get (numbered first n) v ≡ Some (Obj (first + v))
 slice_get-numbered first zero v within = absurd (omega (arith, within))
 slice_get-numbered first (suc n) zero within = ap (λ (k : ℕ). Some (Obj k)) (omega arith)
-slice_get-numbered first (suc n) (suc v) within = slice_get-numbered (suc first) n v (omega (arith, within)) ∙ ap (λ (k : ℕ). Some (Obj k)) (omega arith)
+slice_get-numbered first (suc n) (suc v) within = slice_get-numbered (suc first) n v (omega (arith, within)) ∙ ap (λ (k : ℕ). Some (Obj k))
+    (omega arith)
 
 read : (sigma : List Term) (v : ℕ) (term : Term) → slice_get sigma v ≡ Some term → substitute sigma (Var v) ≡ term
 read sigma v term at = get_or_from_slice_get sigma v term Any at
@@ -190,7 +204,8 @@ module _ (changes : List Change) (solvable : HasSolutions changes) where
   root_differs m w unbound same =
       let count = variables_of changes in
       let found = solvable (replicate count (Obj (suc m))) (length-replicate count (Obj (suc m))) in
-      let value : substitute found.0 (Var w) ≡ Obj (suc m) = read found.0 w (Obj (suc m)) (found.3 w unbound ∙ slice_get-replicate count (Obj (suc m)) w (slice_get_within (slots_of changes) w None unbound)) in
+      let value : substitute found.0 (Var w) ≡ Obj (suc m) = read found.0 w (Obj (suc m))
+      (found.3 w unbound ∙ slice_get-replicate count (Obj (suc m)) w (slice_get_within (slots_of changes) w None unbound)) in
       omega (arith, number_same (same found.0 found.2 ∙ value))
 
   -- terms that are followed no further, and that always have one value, are one term: so what `resolve` answers is determined
@@ -203,8 +218,10 @@ module _ (changes : List Change) (solvable : HasSolutions changes) where
   one-root (Var v) (Var w) s_root t_root same =
       let count = variables_of changes in
       let found = solvable (numbered 0 count) (length-numbered 0 count) in
-      let at_v : substitute found.0 (Var v) ≡ Obj (0 + v) = read found.0 v (Obj (0 + v)) (found.3 v s_root ∙ slice_get-numbered 0 count v (slice_get_within (slots_of changes) v None s_root)) in
-      let at_w : substitute found.0 (Var w) ≡ Obj (0 + w) = read found.0 w (Obj (0 + w)) (found.3 w t_root ∙ slice_get-numbered 0 count w (slice_get_within (slots_of changes) w None t_root)) in
+      let at_v : substitute found.0 (Var v) ≡ Obj (0 + v) = read found.0 v (Obj (0 + v))
+      (found.3 v s_root ∙ slice_get-numbered 0 count v (slice_get_within (slots_of changes) v None s_root)) in
+      let at_w : substitute found.0 (Var w) ≡ Obj (0 + w) = read found.0 w (Obj (0 + w))
+      (found.3 w t_root ∙ slice_get-numbered 0 count w (slice_get_within (slots_of changes) w None t_root)) in
       let number : v ≡ w = omega (arith, number_same (sym at_v ∙ same found.0 found.2 ∙ at_w)) in
       ap (λ (k : ℕ). Var k) number
   one-root Any t s_root t_root same = absurd s_root

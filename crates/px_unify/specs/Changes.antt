@@ -69,7 +69,8 @@ NoneFits changes Condition = (sigma : List Term) → Fits sigma changes → ¬ C
 abbrev pub HasSolutions : List Change → Type 0
 HasSolutions changes =
     (chosen : List Term) → length chosen ≡ variables_of changes →
-    (sigma : List Term) × (length sigma ≡ variables_of changes) × Fits sigma changes × ((v : ℕ) → IsUnbound changes v → slice_get sigma v ≡ slice_get chosen v)
+    (sigma : List Term) × (length sigma ≡ variables_of changes) × Fits sigma changes
+    × ((v : ℕ) → IsUnbound changes v → slice_get sigma v ≡ slice_get chosen v)
 
 -- the changes that a mark stands behind are there still, in front of the others
 abbrev pub IsKept : List Change → List Change → Type 0

@@ -23,7 +23,7 @@ fn command<'a>(alloc: Global) -> Result<Command<'a>, AllocError>
     wider.arg(seed)
 }
 
-/// Reads words that are taken. Fails only for want of memory.
+/// Reads words that are taken. Fails only where memory runs out.
 pub(crate) fn read<'a>(alloc: Global, words: &'a [&'a str]) -> Result<ArgMatches<'a>, Error>
     requires taken { is_some (order_of (map (λ word. word.now) words.now)) ≡ true }
     ensures read { IfOk result (λ matches. order_read (found_of matches) ≡ order_of (map (λ word. word.now) words.now)) }

@@ -15,7 +15,8 @@ use std::rt::HostRuntime;
 /// Returns the problem without objects whose operator needs OFF, deletes it and adds ON.
 fn switch_problem(alloc: Global, rt: &impl Abort) -> Result<Problem, NoMemory>
     ensures valid { IfOk result IsValid }
-    ensures shape { IfOk result (λ p. (length p.schemas ≡ 1) × ((slice_index_or p.schemas 0 no_schema).params ≡ 0) × (length (slice_index_or p.schemas 0 no_schema).add ≡ 1)) }
+    ensures shape { IfOk result (λ p. (length p.schemas ≡ 1) × ((slice_index_or p.schemas 0 no_schema).params ≡ 0)
+        × (length (slice_index_or p.schemas 0 no_schema).add ≡ 1)) }
 {
     let off = Atom::new(0, &[]).expect(rt, "no arguments");
     let on = Atom::new(1, &[]).expect(rt, "no arguments");

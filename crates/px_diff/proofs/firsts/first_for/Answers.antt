@@ -1,4 +1,4 @@
-use Rattle.px_diff.specs.Firsts.{AreFirst}
+use Rattle.px_diff.specs.Firsts.{AreFirstEntries}
 use Rattle.px_diff.proofs.FirstLemmas.{first-macros, first-operators, first-ordered, not-all}
 use Rattle.px_diff.proofs.firsts.first_for.Goals as goal
 
@@ -7,7 +7,7 @@ returns-then-not-first-clause-first c = first-operators c.args.request.now c.arg
 
 pub returns-then-not-first-clause-order : goal.returns-then-not-first-clause-order
 returns-then-not-first-clause-order c =
-    let are : AreFirst c.args.request.now c.args.enough c.in_ok-first.first.is_all c.in_ok-first.first.entries.items = first-operators c.args.request.now c.args.enough c.in_ok-first.first.is_all c.in_ok-first.first.entries.items c.if-not-first.true c.in_ok-first.ensures.gathers in
+    let are : AreFirstEntries c.args.request.now c.args.enough c.in_ok-first.first.is_all c.in_ok-first.first.entries.items = first-operators c.args.request.now c.args.enough c.in_ok-first.first.is_all c.in_ok-first.first.entries.items c.if-not-first.true c.in_ok-first.ensures.gathers in
     (are.are_enough (not-all c.in_ok-first.first.is_all c.if-not-first.true)).ordered
 
 pub returns-then-not-is_all-clause-first : goal.returns-then-not-is_all-clause-first
@@ -17,7 +17,7 @@ returns-then-not-is_all-clause-first c =
 
 pub returns-then-not-is_all-clause-order : goal.returns-then-not-is_all-clause-order
 returns-then-not-is_all-clause-order c =
-    let are : AreFirst c.args.request.now c.args.enough c.in_ok-is_all.is_all c.gather_first_tables.new.found.items =
+    let are : AreFirstEntries c.args.request.now c.args.enough c.in_ok-is_all.is_all c.gather_first_tables.new.found.items =
     first-macros c.args.request.now c.args.enough c.in_ok-first.first.is_all c.in_ok-is_all.is_all c.in_ok-first.first.entries.items c.gather_first_tables.new.found.items
     c.if-not-first.false c.in_ok-first.ensures.gathers c.in_ok-is_all.ensures.gathers in
     (are.are_enough c.if-not-is_all.true).ordered

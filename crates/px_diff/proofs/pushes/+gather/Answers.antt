@@ -83,11 +83,11 @@ loop-object-preserved t c =
     let partial = c.args.partial.now in
     let object = c.loop-object.object in
     gathers_part problem c.args.request.now.tables.now c.args.request.now.wanted.now c.args.request.now.stack.now c.args.request.now.model.now.atoms (λ (inst : OpInst). (objects : List ℕ) × Fills problem partial inst objects × (slice_index objects 0 < object))
-    (StandsFor problem c.bound-next.result) (λ (inst : OpInst). (objects : List ℕ) × Fills problem partial inst objects × (slice_index objects 0 < object + 1))
+    (StandsFor problem c.bound_instance-next.result) (λ (inst : OpInst). (objects : List ℕ) × Fills problem partial inst objects × (slice_index objects 0 < object + 1))
     c.args.found.now.items c.loop-object.found.items c.gather.new.found.items
     (λ inst w. elim (level_or_below (slice_index w.0 0) object w.2) [
       | inl before ↦ inl (w.0, w.1, before)
-      | inr level ↦ inr (c.bound-next.ensures.fills problem inst w.0 w.1 level)
+      | inr level ↦ inr (c.bound_instance-next.ensures.fills problem inst w.0 w.1 level)
     ])
     c.loop-object.invariant c.in_ok-gather-in-Err.ensures.gathers
 

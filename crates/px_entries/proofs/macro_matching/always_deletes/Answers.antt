@@ -10,12 +10,12 @@ use Rattle.px_entries.proofs.LeftAdds.{deleted-under}
 use Rattle.px_base.proofs.Loops.{contains_here}
 use Rattle.px_entries.proofs.macro_matching.always_deletes.Goals as goal
 
-pub returns-then-always_fills : goal.returns-then-always_fills
-returns-then-always_fills c = λ _ sigma.
+pub returns-then-fills : goal.returns-then-fills
+returns-then-fills c = λ _ sigma.
     let step = c.args.step.now in
     let pattern = c.pattern-item.result in
     let patterns_are : c.as_slice-patterns.result.now ≡ (schema_of c.args.problem.now step).del = c.as_slice-patterns.ensures ∙ ap (λ (schema : Schema). schema.del) c.schema_of.ensures.schema in
     let has = subst (λ (l : List Atom). Contains l pattern) patterns_are (contains_here c.as_slice-patterns.result.now c.loop-pattern.pattern-index pattern c.loop-pattern-test.true c.pattern-item.is) in
     let applied : c.apply.result ≡ substitute_atom step.args pattern = c.apply.ensures ∙ ap (λ (args : List Term). substitute_atom args pattern) c.args-in-loop-pattern.ensures.value in
-    let fills = subst (λ (p : Atom). is_instance c.args.atom.now p ≡ true) applied (sym c.always_fills.ensures ∙ c.if-always_fills.true) in
+    let fills = subst (λ (p : Atom). is_instance c.args.atom.now p ≡ true) applied (sym c.fills.ensures ∙ c.if-fills.true) in
     deleted-under c.args.problem.now step c.args.atom.now pattern has fills sigma

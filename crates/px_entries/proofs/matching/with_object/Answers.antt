@@ -6,7 +6,7 @@ use Rattle.px_entries.proofs.matching.with_object.Goals as goal
 
 pub returns-then-object-problem-clause-stands : goal.returns-then-object-problem-clause-stands
 returns-then-object-problem-clause-stands c = λ full objects fills is.
-    c.bound.ensures.fills c.args.problem.now full objects fills (object_is c.args.problem.now c.args.partial.now full objects c.args.variable c.in-Obj.object c.args.wanted fills c.requires.variable is c.in-Obj.is)
+    c.bound_instance.ensures.fills c.args.problem.now full objects fills (object_is c.args.problem.now c.args.partial.now full objects c.args.variable c.in-Obj.object c.args.wanted fills c.requires.variable is c.in-Obj.is)
 
 pub returns-else-object-problem-clause-stands : goal.returns-else-object-problem-clause-stands
 returns-else-object-problem-clause-stands c = λ full objects fills is.
@@ -26,5 +26,5 @@ returns-in-Var c = record {
 
 pub returns-then-object-problem-clause-only : goal.returns-then-object-problem-clause-only
 returns-then-object-problem-clause-only c = λ full stands.
-    let r = c.bound.ensures.only c.args.problem.now full c.if-object-problem.true stands in
+    let r = c.bound_instance.ensures.only c.args.problem.now full c.if-object-problem.true stands in
     (r.0, r.1, object_at r.0 c.args.variable (omega (arith, c.requires.variable, r.1.count)) ∙ ap (λ n. Obj n) r.2 ∙ sym c.in-Obj.is)

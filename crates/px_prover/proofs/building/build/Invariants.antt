@@ -1,7 +1,7 @@
 use Rattle.std.proofs.Common.{◌≡◌, ◌+◌, ◌-◌, length, map, drop, reverse}
 use Rattle.px_proof.specs.ProofTerm.{derivation_of}
 use Rattle.px_question.specs.Settings.{setting_of}
-use Rattle.px_stack.specs.declared.open.Choice.{Choice}
+use Rattle.px_proof_state.specs.declared.open.Choice.{Choice}
 use Rattle.px_prover.specs.Building.{built, fresh_sum}
 use Rattle.px_prover.proofs.building.build.Given as goal
 

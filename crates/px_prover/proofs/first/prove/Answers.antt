@@ -24,12 +24,12 @@ asked_in problem listed atoms formula vars same model valid scope few some =
 pub walk_to_finished-requires-clause-stands : goal.walk_to_finished-requires-clause-stands
 walk_to_finished-requires-clause-stands c =
     let asked = asked_in c.args.problem.now c.atoms.result.now c.args.model.now.atoms c.args.formula.now c.args.vars c.atoms.ensures.value c.atoms.ensures.model c.requires.problem c.requires.formula c.requires.few_variables c.requires.objects in
-    opening-standing false (setting_of c.args.problem.now c.atoms.result.now) c.args.formula.now c.args.vars c.in-Ok.stack asked c.in-Ok.ensures
+    opening-standing false (setting_of c.args.problem.now c.atoms.result.now) c.args.formula.now c.args.vars c.in-Ok.state asked c.in-Ok.ensures
 
 pub walk_to_finished-requires-clause-possible : goal.walk_to_finished-requires-clause-possible
 walk_to_finished-requires-clause-possible c =
     let asked = asked_in c.args.problem.now c.atoms.result.now c.args.model.now.atoms c.args.formula.now c.args.vars c.atoms.ensures.value c.atoms.ensures.model c.requires.problem c.requires.formula c.requires.few_variables c.requires.objects in
-    sound-possible false (setting_of c.args.problem.now c.atoms.result.now) c.args.formula.now c.args.vars [] c.in-Ok.stack asked (opening-sound false (setting_of c.args.problem.now c.atoms.result.now) c.args.formula.now c.args.vars c.in-Ok.stack c.in-Ok.ensures)
+    sound-possible false (setting_of c.args.problem.now c.atoms.result.now) c.args.formula.now c.args.vars [] c.in-Ok.state asked (opening-sound false (setting_of c.args.problem.now c.atoms.result.now) c.args.formula.now c.args.vars c.in-Ok.state c.in-Ok.ensures)
 
 pub returns-in-Ok-answer-clause-of_problem : goal.returns-in-Ok-answer-clause-of_problem
 returns-in-Ok-answer-clause-of_problem c =

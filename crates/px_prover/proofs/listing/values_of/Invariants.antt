@@ -1,5 +1,5 @@
 use Rattle.std.proofs.Common.{◌≡◌, map, take}
-use Rattle.px_walk.specs.Values.{value_of}
+use Rattle.px_proof_walk.specs.Values.{value_of}
 use Rattle.px_prover.proofs.listing.values_of.Given as goal
 
 abbrev pub invariant-loop-term : goal.invariant-loop-term

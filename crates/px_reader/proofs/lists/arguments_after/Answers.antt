@@ -1,4 +1,4 @@
-use Rattle.px_reader.proofs.Common.{◌≡◌, ◌++◌, ◌∷◌, [], ◌+◌, false, map, drop, arith, ◌==◌, common_steps, map-append, argument_of, lexemes_of, argument_view}
+use Rattle.px_reader.proofs.Common.{◌≡◌, ◌++◌, ◌∷◌, [], false, map, drop, arith, ◌==◌, common_steps, map-append, argument_of, lexemes_of, argument_view}
 use Rattle.px_reader.proofs.Walks.{items-closed, items-wrong, items-more, items-none}
 use Rattle.px_reader.proofs.lists.arguments_after.Goals as goal
 
@@ -7,8 +7,7 @@ returns-then-sign-eq41-clause-found c =
     let pushed : c.push.new.self.items ≡ c.loop-argument.arguments.items ++ c.in-Some.argument ∷ [] = grind (arith, common_steps) in
     rw (pushed, map-append) (items-closed argument_of (lexemes_of (drop c.args.start c.args.tokens.now))
     (lexemes_of (drop c.loop-argument.at c.args.tokens.now)) (map argument_view c.loop-argument.arguments.items)
-    (argument_view c.in-Some.argument) c.in-Some.sign (lexemes_of (drop (c.loop-argument.at + 2) c.args.tokens.now))
-    c.loop-argument.invariant.0 c.in-Some.ensures.item c.if-sign-eq41.true)
+    c.loop-argument.invariant.0 _ c.in-Some.sign _ c.in-Some.ensures.item c.if-sign-eq41.true)
 
 pub returns-then-sign-ne44-clause-found : goal.returns-then-sign-ne44-clause-found
 returns-then-sign-ne44-clause-found c =
@@ -16,16 +15,14 @@ returns-then-sign-ne44-clause-found c =
     let not_comma : (c.in-Some.sign == 44) ≡ false = grind (arith, c.if-sign-ne44.true) in
     items-wrong argument_of (lexemes_of (drop c.args.start c.args.tokens.now)) (lexemes_of (drop c.loop-argument.at c.args.tokens.now))
     (map argument_view c.loop-argument.arguments.items)
-    (argument_view c.in-Some.argument) c.in-Some.sign (lexemes_of (drop (c.loop-argument.at + 2) c.args.tokens.now))
-    c.loop-argument.invariant.0 c.in-Some.ensures.item not_close not_comma
+    c.loop-argument.invariant.0 _ c.in-Some.sign _ c.in-Some.ensures.item not_close not_comma
 
 pub loop-argument-preserved : goal.loop-argument-preserved
 loop-argument-preserved c =
     let pushed : c.push.new.self.items ≡ c.loop-argument.arguments.items ++ c.in-Some.argument ∷ [] = grind (arith, common_steps) in (
       rw (pushed, map-append) (items-more argument_of (lexemes_of (drop c.args.start c.args.tokens.now))
           (lexemes_of (drop c.loop-argument.at c.args.tokens.now)) (map argument_view c.loop-argument.arguments.items)
-          (argument_view c.in-Some.argument) c.in-Some.sign (lexemes_of (drop (c.loop-argument.at + 2) c.args.tokens.now))
-          c.loop-argument.invariant.0 c.in-Some.ensures.item c.if-sign-ne44.false),
+          c.loop-argument.invariant.0 _ c.in-Some.sign _ c.in-Some.ensures.item c.if-sign-ne44.false),
       omega arith,
       c.in-Some.ensures.two,
     )

@@ -6,18 +6,16 @@ use Rattle.px_reader.proofs.reading.read_each.Goals as goal
 pub loop-index-init : goal.loop-index-init
 loop-index-init c = none-read (stage_view c.args.stage.now) (λ line. chars (without_return line.now)) c.args.lines.now _ c.requires.start
 
-pub returns-in-Err-Fault-clause-fails : goal.returns-in-Err-Fault-clause-fails
-returns-in-Err-Fault-clause-fails c =
-    let fails = rw c.in-Err-Fault.field-0-is at c.in-Err-Fault.ensures.err in
-    subst (LinesFail (stage_view c.args.stage.now) (characters_of c.args.lines.now))
-    (sym (rw c.in-Err-Fault.field-0-is at c.refused.ensures))
+pub returns-in-Ok-Some-clause-fails : goal.returns-in-Ok-Some-clause-fails
+returns-in-Ok-Some-clause-fails c =
+    let fails = rw c.in-Ok-Some.field-0-is at c.in-Ok-Some.ensures in
+    subst (LinesFail (stage_view c.args.stage.now) (characters_of c.args.lines.now)) (sym c.refused.ensures)
     (one-fails (stage_view c.args.stage.now) (λ line. chars (without_return line.now)) c.args.lines.now (declared_of c.loop-index.reader)
-    c.loop-index.index _ _
-    (refusal_of c.in-Err-Fault.fault)
+    c.loop-index.index _ _ (refusal_of c.in-Ok-Some.fault)
     c.loop-index-test.true (ap chars c.without_return.ensures) c.loop-index.invariant fails)
 
 pub loop-index-preserved : goal.loop-index-preserved
 loop-index-preserved c =
     more-read (stage_view c.args.stage.now) (λ line. chars (without_return line.now)) c.args.lines.now (declared_of c.loop-index.reader)
-    (declared_of c.read_line.new.self) c.loop-index.index _ _
-    c.loop-index-test.true (ap chars c.without_return.ensures) c.loop-index.invariant c.in-Ok.ensures.ok
+    (declared_of c.read_line.new.self) c.loop-index.index _ _ c.loop-index-test.true (ap chars c.without_return.ensures)
+    c.loop-index.invariant (rw c.in-Ok-None.field-0-is at c.in-Ok-None.ensures)

@@ -1,4 +1,4 @@
-use Rattle.px_reader.proofs.Common.{◌≡◌, sym, ap, ◌∙◌, subst, inr, length, arith, nothing_declared, lines_of, PassAll, lines-kept, start-in-range, declared-in-range, characters_of, HasFirstFault, LinesFail, stage_view, declared_of}
+use Rattle.px_reader.proofs.Common.{◌≡◌, refl, block_view, sym, ap, ◌∙◌, subst, inr, length, arith, nothing_declared, lines_of, PassAll, lines-kept, start-in-range, declared-in-range, characters_of, HasFirstFault, LinesFail, stage_view, declared_of}
 use Rattle.px_reader.proofs.Outcomes.{parts-lines, few-parts, left-open, text-fails, err-carried}
 use Rattle.px_reader.proofs.reading.read_text.Goals as goal
 
@@ -10,7 +10,7 @@ read_each-requires-clause-few c =
 
 pub finish-requires : goal.finish-requires
 finish-requires c = declared-in-range _
-    (lines-kept (stage_view c.args.stage.now) 1 nothing_declared _ _ start-in-range c.in_ok-read_each.ensures.passes) c.in-None.ensures
+    (lines-kept (stage_view c.args.stage.now) 1 nothing_declared _ _ start-in-range c.in_ok-read_each.ensures.passes) (rw c.in-None.is refl)
 
 pub returns-in_err-read_each-clause-refused : goal.returns-in_err-read_each-clause-refused
 returns-in_err-read_each-clause-refused c =
@@ -31,7 +31,7 @@ returns-in-Ok-finish-clause-script c =
         text = c.utf8.text;
         lines = subst (λ ls. PassAll (stage_view c.args.stage.now) 1 nothing_declared ls (declared_of c.read_each.new.reader)) lines
             c.in_ok-read_each.ensures.passes;
-        closed = c.in-None.ensures;
+        closed = rw c.in-None.is refl;
       };
       is = c.in-Ok-finish.ensures;
     }
@@ -42,9 +42,8 @@ returns-in-Some-clause-refused c =
     ∙ parts-lines c.in-Ok.lines.items c.args.text.now (rw c.without_mark.ensures at c.in-Ok.ensures) in
     let passes = subst (λ ls. PassAll (stage_view c.args.stage.now) 1 nothing_declared ls (declared_of c.read_each.new.reader)) lines
     c.in_ok-read_each.ensures.passes in
-    let block = c.in-Some.ensures.0 in
+    let block = block_view (length c.read_each.new.reader.schemas.items) c.in-Some.block in
     let fails = left-open (stage_view c.args.stage.now) 1 nothing_declared (lines_of c.args.text.now) (declared_of c.read_each.new.reader)
-    block passes
-    c.in-Some.ensures.1 in
+    block passes (rw c.in-Some.is refl) in
     subst (HasFirstFault (stage_view c.args.stage.now) c.args.text.now) (sym c.refused.ensures)
-    (inr (c.utf8.text, rw c.in-Some.ensures.2 fails))
+    (inr (c.utf8.text, fails))

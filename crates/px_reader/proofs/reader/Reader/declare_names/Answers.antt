@@ -1,5 +1,5 @@
-use Rattle.px_reader.proofs.Common.{◌≡◌, ◌<◌, List, true, map, length, ap, ◌∙◌, Bor, ℕ, arith, common_steps, take_all, All-from_recursion, NameLists, is_name_text, with_more, text_of, Reader}
-use Rattle.px_reader.proofs.Fresh.{more-none, name-next, one-more-name}
+use Rattle.px_reader.proofs.Common.{◌<◌, List, map, length, ap, ◌∙◌, Bor, ℕ, arith, common_steps, take_all, NameLists, with_more, text_of, Reader}
+use Rattle.px_reader.proofs.MoreNames.{more-none, next-fresh, one-more-name}
 use Rattle.px_reader.proofs.reader.Reader.declare_names.Goals as goal
 
 pub loop-name-init : goal.loop-name-init
@@ -9,9 +9,8 @@ loop-name-init c = let changed : NameLists → Reader = λ t. record c.args.self
 pub add_name-requires : goal.add_name-requires
 add_name-requires c =
     let below : c.loop-name.name-index < length c.args.names.now = grind (arith, common_steps) in
-    name-next c.args.kind c.args.self.now.names c.loop-name.self.names c.args.names.now c.loop-name.name-index _
-    (ap (λ s. s.names) c.loop-name.invariant)
-    (All-from_recursion (λ n. is_name_text n.now ≡ true) c.args.names.now c.requires.named) c.requires.single c.requires.few below
+    next-fresh c.args.kind c.args.self.now.names c.loop-name.self.names c.args.names.now c.loop-name.name-index _
+    (ap (λ s. s.names) c.loop-name.invariant) c.requires.named c.requires.fresh below
 
 pub loop-name-preserved : goal.loop-name-preserved
 loop-name-preserved c =

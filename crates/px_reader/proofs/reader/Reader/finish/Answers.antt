@@ -1,5 +1,5 @@
 use Rattle.px_reader.proofs.Common.{declared_of}
-use Rattle.px_reader.proofs.Finishing.{is-building, is-short, has-objects, has-height, has-nodes, has-shapes}
+use Rattle.px_reader.proofs.Finishing.{is-building, is-short, has-objects, is-valid}
 use Rattle.px_reader.proofs.reader.Reader.finish.Goals as goal
 
 pub subject-requires-clause-building : goal.subject-requires-clause-building
@@ -13,11 +13,7 @@ subject-requires-clause-objects c =
     has-objects (declared_of c.args.self) c.requires c.building-building.result c.building-building.ensures c.own_problem-own.result
     c.own_problem-own.ensures
 
-pub subject-requires-clause-height : goal.subject-requires-clause-height
-subject-requires-clause-height c = has-height (declared_of c.args.self) c.requires c.own_problem-own.result c.own_problem-own.ensures
-
-pub subject-requires-clause-nodes : goal.subject-requires-clause-nodes
-subject-requires-clause-nodes c = has-nodes (declared_of c.args.self) c.requires c.own_problem-own.result c.own_problem-own.ensures
-
-pub subject-requires-clause-shapes : goal.subject-requires-clause-shapes
-subject-requires-clause-shapes c = has-shapes (declared_of c.args.self) c.requires c.own_problem-own.result c.own_problem-own.ensures
+pub subject-requires-clause-valid : goal.subject-requires-clause-valid
+subject-requires-clause-valid c =
+    is-valid (declared_of c.args.self) c.requires c.building-building.result c.building-building.ensures c.own_problem-own.result
+    c.own_problem-own.ensures

@@ -1,5 +1,5 @@
 use Rattle.px_reader.proofs.Common.{ℕ, List, map, length, sym, ◌∙◌, nat_lt, list_any, list_any-map, text_of}
-use Rattle.px_reader.proofs.Seen.{or_false}
+use Rattle.px_reader.proofs.Twice.{or_false}
 use Rattle.px_reader.proofs.statement.Statement.has_long_name.Goals as goal
 
 pub returns-in-Object : goal.returns-in-Object

@@ -1,0 +1,57 @@
+//! What is never equal, told apart before anything is bound.
+ghost use Rattle.std.specs.Prelude.{◌≡◌, All, IsTrue};
+ghost use Rattle.px_terms.specs.Language.{IsPlainBelow};
+ghost use Rattle.px_unify.specs.Changes.{variables_of};
+ghost use Rattle.px_proof_state.specs.Apart.{AreApart, AreLiteralsApart, AreOneAtomUnder, AreTermsApart};
+
+use px_terms::{Atom, Lit, Term};
+use px_unify::Bind;
+
+/// The atom with each argument followed to the end of its bindings.
+pub(crate) fn followed(bind: &Bind, atom: &Atom) -> Atom
+    requires { All (IsPlainBelow (variables_of bind.now)) atom.now.args }
+    ensures { AreOneAtomUnder bind.now atom.now result }
+{
+    let args = atom.args();
+    let mut terms = [Term::Any; 6];
+    for (place, term) in args.iter().enumerate() {
+        terms[place] = bind.resolve(*term);
+    }
+    match Atom::new(atom.pred(), &terms[..args.len()]) {
+        Some(ends) => ends,
+        None => unreachable!(),
+    }
+}
+
+/// Are the terms two objects?
+fn are_terms_apart(s: Term, t: Term) -> bool
+    ensures { IsTrue result → AreTermsApart s t }
+{
+    match (s, t) {
+        (Term::Obj(a), Term::Obj(b)) => a != b,
+        _ => false,
+    }
+}
+
+/// Do the predicates, the numbers of arguments, or two objects at one place tell the atoms apart?
+pub(crate) fn are_apart(a: &Atom, b: &Atom) -> bool
+    ensures { IsTrue result → AreApart a.now b.now }
+{
+    let (xs, ys) = (a.args(), b.args());
+    if a.pred() != b.pred() || xs.len() != ys.len() {
+        return true;
+    }
+    for (place, x) in xs.iter().enumerate() {
+        if are_terms_apart(*x, ys[place]) {
+            return true;
+        }
+    }
+    false
+}
+
+/// Do the signs or the atoms tell the literals apart?
+pub(crate) fn are_literals_apart(a: &Lit, b: &Lit) -> bool
+    ensures { IsTrue result → AreLiteralsApart a.now b.now }
+{
+    a.positive != b.positive || are_apart(&a.atom, &b.atom)
+}

@@ -1,0 +1,71 @@
+//! Walking to the last list, and gathering at each.
+ghost use Rattle.std.specs.Prelude.{◌≡◌, ◌<◌, ◌≤◌, ◌+◌, ◌++◌, ◌∷◌, [], length, map, List, IfOk, IfSome, IfNone, OnOk};
+ghost use Rattle.px_proof.specs.declared.shape.Tick.{Tick};
+ghost use Rattle.px_proof_walk.specs.Search.{AreAll, LimitComes};
+
+use crate::steps::advance;
+use crate::walk::Walk;
+use px_base::{NoMemory, push};
+use px_proof::Shape;
+use std::alloc::Global;
+
+/// What gathers something at each list of a walk.
+pub trait Gather<Q, W: Walk<Q>> {
+    ghost use Rattle.std.specs.Prelude.{List};
+    ghost use Rattle.px_proof.specs.declared.shape.Tick.{Tick};
+
+    // what is gathered is that of these lists, and nothing else
+    ghost gathered: { Q → Self → List (List Tick) → Type 0 };
+
+    /// Gathers what the list at which the walk stands gives, and leaves the walk there.
+    ///
+    /// # Errors
+    /// `NoMemory` if memory runs out.
+    fn gather(&mut self, question: &Q, walk: &mut W) -> Result<(), NoMemory>
+        requires stands { W.stands question.now walk.old }
+        requires possible { W.possible question.now (W.ticks walk.old) }
+        requires room { length (W.ticks walk.old) < W.most question.now }
+        ensures more { OnOk result ((seen : List (List Tick)) → gathered question.now self.old seen
+            → gathered question.now self.new (seen ++ W.ticks walk.old ∷ [])) }
+        ensures there { OnOk result (W.ticks walk.new ≡ W.ticks walk.old) }
+        ensures still { OnOk result (W.stands question.now walk.new) };
+}
+
+/// Walks from the start to the last list and gathers at each. If there are `limit` lists or more, returns the shapes of the
+/// first `limit` instead.
+///
+/// # Errors
+/// `NoMemory` if memory runs out.
+pub fn walk_to_end<Q, W: Walk<Q>, G: Gather<Q, W>>(
+    alloc: Global,
+    question: &Q,
+    walk: &mut W,
+    gather: &mut G,
+    limit: u32,
+) -> Result<Option<Vec<Shape>>, NoMemory>
+    requires stands { W.stands question.now walk.old }
+    requires start { W.ticks walk.old ≡ [] }
+    requires possible { W.possible question.now [] }
+    requires nothing { G.gathered question.now gather.old [] }
+    requires limit { 0 < limit }
+    requires room { limit ≤ W.most question.now }
+    ensures all { IfOk result (λ met. IfNone met ((seen : List (List Tick)) × AreAll (W.possible question.now) limit seen
+        × G.gathered question.now gather.new seen)) }
+    ensures limited { IfOk result (λ met. IfSome met (λ shapes. (seen : List (List Tick))
+        × (shapes.items ≡ map (W.shape_of question.now) seen) × LimitComes (W.possible question.now) (λ ticks. ⊥) limit seen)) }
+    ensures still { OnOk result (W.stands question.now walk.new) }
+{
+    let mut shapes = Vec::new(alloc);
+    for count in 0..limit {
+        let shape = walk.shape(question)?;
+        push(&mut shapes, shape)?;
+        if count + 1 == limit {
+            return Ok(Some(shapes));
+        }
+        gather.gather(question, walk)?;
+        if !advance(question, walk)? {
+            return Ok(None);
+        }
+    }
+    unreachable!()
+}

@@ -1,0 +1,60 @@
+use Rattle.std.proofs.Common.{Bool, true, false, Some, subst, sym}
+use Rattle.px_proof.specs.declared.shape.Tick.{Tick}
+use Rattle.px_prover.specs.Asking.{setting_in, IsPossibleIn}
+use Rattle.px_prover.specs.GapAsking.{gap_setting}
+use Rattle.px_prover.specs.Standing.{ticks_in, IsStanding}
+use Rattle.px_prover.specs.declared.question.Question.{Question}
+use Rattle.px_prover.proofs.Passing.{left-falls}
+use Rattle.px_prover.proofs.PatternPassing.{HasPatterns, patterns-end, patterns-more, patterns-next}
+use Rattle.px_proof_walk.specs.Order.{IsAfter, TriesAfter}
+use Rattle.px_proof_walk.specs.Possible.{IsPossible}
+use Rattle.px_prover.proofs.patterns.PatternsGatherGapQuestionProofState.gather.Goals as goal
+
+pub loop-self-preserved : goal.loop-self-preserved
+loop-self-preserved c =
+    let s = gap_setting c.args.question.now in
+    let formula = c.args.question.now.formula.now in
+    let vars = c.args.question.now.vars in
+    let here = ticks_in c.args.walk.now.choices in
+    let now = c.try_after.new.self in
+    let was = ticks_in c.loop-self.walk.choices in
+    let tried : TriesAfter (IsPossible true s formula vars) was (ticks_in now.choices) c.loop-self.last true =
+    subst (λ (b : Bool). TriesAfter (IsPossible true s formula vars) was (ticks_in now.choices) c.loop-self.last b) c.if-branch.true
+    (subst (λ (q : Question). TriesAfter (IsPossibleIn q) was (ticks_in now.choices) c.loop-self.last c.in_ok-try_after.field-0) c.loose-loose.ensures c.in_ok-try_after.ensures.tried) in
+    let next = patterns-next s formula vars here c.args.self.now.found.items c.loop-self.self.found.items c.loop-self.last c.loop-self.invariant.gathered was c.loop-self.invariant.there (ticks_in now.choices) tried
+    c.gather_here.new.found.items c.in_ok-gather_here.ensures (ticks_in c.retract.new.self.choices) c.in-Some.tick c.in-Some.ensures.last in
+    record {
+      stands = subst (λ (q : Question). IsStanding q.loose (setting_in q) q.formula.now q.vars c.retract.new.self) c.loose-loose.ensures c.in-Some.ensures.still;
+      there = next.0;
+      small = c.sized.ensures.small;
+      gathered = subst (λ (t : Tick). HasPatterns s formula vars here c.args.self.now.found.items (Some t) c.gather_here.new.found.items) (sym c.sized.ensures.same) next.2;
+    }
+
+pub loop-self-smaller : goal.loop-self-smaller
+loop-self-smaller c =
+    let s = gap_setting c.args.question.now in
+    let formula = c.args.question.now.formula.now in
+    let vars = c.args.question.now.vars in
+    let here = ticks_in c.args.walk.now.choices in
+    let now = c.try_after.new.self in
+    let was = ticks_in c.loop-self.walk.choices in
+    let tried : TriesAfter (IsPossible true s formula vars) was (ticks_in now.choices) c.loop-self.last true =
+    subst (λ (b : Bool). TriesAfter (IsPossible true s formula vars) was (ticks_in now.choices) c.loop-self.last b) c.if-branch.true
+    (subst (λ (q : Question). TriesAfter (IsPossibleIn q) was (ticks_in now.choices) c.loop-self.last c.in_ok-try_after.field-0) c.loose-loose.ensures c.in_ok-try_after.ensures.tried) in
+    let next = patterns-next s formula vars here c.args.self.now.found.items c.loop-self.self.found.items c.loop-self.last c.loop-self.invariant.gathered was c.loop-self.invariant.there (ticks_in now.choices) tried
+    c.gather_here.new.found.items c.in_ok-gather_here.ensures (ticks_in c.retract.new.self.choices) c.in-Some.tick c.in-Some.ensures.last in
+    left-falls c.loop-self.last c.sized.result c.loop-self.invariant.small c.sized.ensures.small (subst (IsAfter c.loop-self.last) (sym c.sized.ensures.same) next.1)
+
+pub returns-clause-more : goal.returns-clause-more
+returns-clause-more c =
+    let s = gap_setting c.args.question.now in
+    let formula = c.args.question.now.formula.now in
+    let vars = c.args.question.now.vars in
+    let here = ticks_in c.args.walk.now.choices in
+    let now = c.try_after.new.self in
+    let was = ticks_in c.loop-self.walk.choices in
+    let tried : TriesAfter (IsPossible true s formula vars) was (ticks_in now.choices) c.loop-self.last false =
+    subst (λ (b : Bool). TriesAfter (IsPossible true s formula vars) was (ticks_in now.choices) c.loop-self.last b) c.if-branch.false
+    (subst (λ (q : Question). TriesAfter (IsPossibleIn q) was (ticks_in now.choices) c.loop-self.last c.in_ok-try_after.field-0) c.loose-loose.ensures c.in_ok-try_after.ensures.tried) in
+    λ seen before. patterns-more s formula vars seen here c.args.self.now.found.items c.loop-self.self.found.items before
+    (patterns-end s formula vars here c.args.self.now.found.items c.loop-self.self.found.items c.loop-self.last c.loop-self.invariant.gathered was c.loop-self.invariant.there (ticks_in now.choices) tried)

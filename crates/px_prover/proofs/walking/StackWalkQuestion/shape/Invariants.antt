@@ -1,6 +1,0 @@
-use Rattle.std.proofs.Common.{◌≡◌, map, take}
-use Rattle.px_stack.specs.declared.open.Choice.{Choice}
-use Rattle.px_prover.proofs.walking.StackWalkQuestion.shape.Given as goal
-
-abbrev pub invariant-loop-choice : goal.invariant-loop-choice
-invariant-loop-choice l = l.ticks.items ≡ map (λ (c : Choice). c.tick) (take l.choice-index l.choice-items)

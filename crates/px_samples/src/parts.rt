@@ -1,0 +1,112 @@
+//! What sample problems are made of.
+ghost use Rattle.std.specs.Prelude.{◌≤◌, length};
+
+use px_base::Sequence;
+use px_ops::Model;
+use px_terms::{Atom, ClauseArena, Lit, OpInst, Problem, Schema, Term, are_plain_below, is_ground};
+use std::alloc::Global;
+
+/// The object of that number.
+pub fn o(number: u32) -> Term {
+    Term::Obj(number)
+}
+
+/// The variable of that number, or the parameter.
+pub fn v(number: u32) -> Term {
+    Term::Var(number)
+}
+
+/// The predicate of that number with these terms.
+pub fn atom(pred: u32, args: &[Term]) -> Atom
+    requires { length args.now ≤ 6 }
+{
+    match Atom::new(pred, args) {
+        Some(atom) => atom,
+        None => unreachable!(),
+    }
+}
+
+/// The operator of that number with these terms.
+pub fn instance(op: u32, args: &[Term]) -> OpInst
+    requires { length args.now ≤ 8 }
+{
+    match OpInst::new(op, args) {
+        Some(inst) => inst,
+        None => unreachable!(),
+    }
+}
+
+/// The literal that asserts the atom.
+pub fn yes(atom: Atom) -> Lit {
+    Lit {
+        positive: true,
+        atom,
+    }
+}
+
+/// The literal that denies the atom.
+pub fn no(atom: Atom) -> Lit {
+    Lit {
+        positive: false,
+        atom,
+    }
+}
+
+/// Adds the axiom of these literals, over that many variables. None where it isn't one.
+pub fn add_axiom(axioms: &mut ClauseArena, vars: u32, lits: &[Lit]) -> Option<()> {
+    if !are_plain_below(vars, lits) {
+        return None;
+    }
+    match axioms.push(vars, lits) {
+        Ok(_) => Some(()),
+        Err(_) => None,
+    }
+}
+
+/// The operator of that number and that many parameters, with its preconditions, deletions and additions.
+pub fn schema(
+    alloc: Global,
+    (op, params): (u32, u32),
+    pre: &[Atom],
+    del: &[Atom],
+    add: &[Atom],
+) -> Option<Schema> {
+    Some(Schema {
+        op,
+        params,
+        pre: Sequence::from_slice(alloc, pre).ok()?,
+        del: Sequence::from_slice(alloc, del).ok()?,
+        add: Sequence::from_slice(alloc, add).ok()?,
+    })
+}
+
+/// The problem of that many objects, with predicates of these numbers of arguments, these axioms and these operators.
+pub fn problem_of<const N: usize>(
+    alloc: Global,
+    objects: u32,
+    arities: &[u8],
+    axioms: ClauseArena,
+    schemas: [Schema; N],
+) -> Option<Problem> {
+    Some(Problem {
+        objects,
+        arities: Sequence::from_slice(alloc, arities).ok()?,
+        axioms,
+        schemas: Sequence::from_vec(Vec::from_array(alloc, schemas).ok()?),
+        height: 4,
+        nodes: 1,
+        shapes: 10_000,
+    })
+}
+
+/// The model of the atoms. None where one has a variable.
+pub fn model_of(alloc: Global, atoms: &[Atom]) -> Option<Model> {
+    let mut model = Model::new(alloc);
+    for atom in atoms {
+        if !is_ground(atom) {
+            return None;
+        }
+        model.insert(*atom).ok()?;
+    }
+    Some(model)
+}

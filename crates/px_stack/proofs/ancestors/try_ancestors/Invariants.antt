@@ -1,8 +1,0 @@
-use Rattle.px_stack.proofs.AncestorRange.{IsOnTheWayUp}
-use Rattle.px_stack.proofs.ancestors.try_ancestors.Given as goal
-
-abbrev pub invariant-loop-at : goal.invariant-loop-at
-invariant-loop-at l = IsOnTheWayUp l.fn.stack l.goal l.from l.stack l.at l.number
-
-abbrev pub decreases-loop-at : goal.decreases-loop-at
-decreases-loop-at l = l.at

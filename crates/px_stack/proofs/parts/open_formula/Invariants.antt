@@ -1,6 +1,0 @@
-use Rattle.std.proofs.Common.{◌-◌, length}
-use Rattle.px_stack.proofs.Opening.{AreAsked}
-use Rattle.px_stack.proofs.parts.open_formula.Given as goal
-
-abbrev pub invariant-loop-done : goal.invariant-loop-done
-invariant-loop-done l = AreAsked l.formula l.height l.goals.items l.front (length l.formula - l.done)
