@@ -79,7 +79,7 @@ enum Plain {
     Limited,
 }
 
-// Alike: px_prover_tests stops so, too; no crate but one of tests may stop.
+// Alike: px_prover_tests has the same, since only crates of tests may end the process.
 /// Stops unless the problem and the formula may be asked about.
 pub fn assert_asked(rt: &impl Abort, problem: &Problem, formula: &[Atom], vars: u32)
     ensures problem { IsValid problem.now }

@@ -8,7 +8,7 @@ use px_prover::{Answer, ProveErr, prove};
 use px_samples::{
     add_axiom, atom, box_in_first_room, model_of, no, o, opening, problem_of, rooms, v, yes,
 };
-use px_terms::{ClauseArena, Problem, Term};
+use px_terms::{Atom, ClauseArena, Problem, Term};
 use std::alloc::Global;
 use std::process::Abort;
 use std::rt::HostRuntime;
@@ -106,6 +106,17 @@ fn agrees(rt: &impl Abort, problem: &mut Problem, asked: Asked) -> bool {
     true
 }
 
+/// Eleven atoms in a chain, over twelve variables.
+fn chain_of_eleven(alloc: Global, rt: &impl Abort) -> Vec<Atom> {
+    let mut formula = Vec::new(alloc);
+    for i in 0..11 {
+        formula
+            .push(atom(0, &[v(i), v(i + 1)]))
+            .expect(rt, "memory");
+    }
+    formula
+}
+
 /// A chain of eleven atoms over 256 objects takes the facts in turn.
 #[test]
 fn a_chain_of_eleven_atoms(rt: HostRuntime) {
@@ -116,12 +127,7 @@ fn a_chain_of_eleven_atoms(rt: HostRuntime) {
         facts.push(atom(0, &[o(i), o(i + 1)])).expect(&rt, "memory");
     }
     let model = model_of(alloc, &facts).expect(&rt, "memory");
-    let mut formula = Vec::new(alloc);
-    for i in 0..11 {
-        formula
-            .push(atom(0, &[v(i), v(i + 1)]))
-            .expect(&rt, "memory");
-    }
+    let formula = chain_of_eleven(alloc, &rt);
     match ask(&rt, &problem, about(alloc, &formula, 12, &model)) {
         Ok(answer) => {
             assert!(&rt;
@@ -232,12 +238,7 @@ fn seventy_thousand_shapes(rt: HostRuntime) {
         }
     }
     let model = model_of(alloc, &facts).expect(&rt, "memory");
-    let mut formula = Vec::new(alloc);
-    for i in 0..11 {
-        formula
-            .push(atom(0, &[v(i), v(i + 1)]))
-            .expect(&rt, "memory");
-    }
+    let mut formula = chain_of_eleven(alloc, &rt);
     formula.push(atom(1, &[])).expect(&rt, "memory");
     let axioms = ClauseArena::new(alloc);
     let mut problem = problem_of(alloc, 50, &[2, 0], axioms, []).expect(&rt, "memory");

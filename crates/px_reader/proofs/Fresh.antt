@@ -1,12 +1,5 @@
 -- The names that a line without a fault declares are fresh: they are names, no two of a kind are equal, and there is room for them.
-use Rattle.px_reader.proofs.Common.{◌≡◌, ◌≤◌, ℕ, true, List, [], ◌∷◌, ◌++◌, map, length, refl, sym, ap, ◌∙◌, subst, arith, chars, all_scalars, and_parts, get_or-append_seam, length-append, NameLists, Lexeme, name, Lexes, Statement, line_of, is_formed, Declared, greatest, well-formed, line-kept, IsFaultless, AreInRange, AreOfKinds, IsFresh, IsNamed, leaves, text_of, Bor, AllByRecursion, IsName, is_name}
-use Rattle.std.proofs.lemmas.List.{get_or_append_left}
-use Rattle.std.proofs.lemmas.Str.{chars-encodes}
-use Rattle.px_names.specs.Lists.{IsWelcome, names_of}
-use Rattle.px_names.specs.declared.kind.Kind.{Kind}
-use Rattle.px_script.specs.Lexemes.{IsLexeme}
-use Rattle.px_script.specs.Limits as limit
-use Rattle.px_script.specs.Limits.{Limit}
+use Rattle.px_reader.proofs.Common.{◌≡◌, ◌≤◌, ℕ, true, List, [], ◌∷◌, ◌++◌, map, length, refl, sym, ap, ◌∙◌, subst, arith, chars, all_scalars, and_parts, get_or-append_seam, length-append, NameLists, Lexeme, name, Lexes, Statement, line_of, is_formed, Declared, greatest, well-formed, line-kept, IsFaultless, AreInRange, AreOfKinds, IsFresh, IsNamed, leaves, text_of, Bor, AllByRecursion, IsName, is_name, get_or_append_left, chars-encodes, IsWelcome, names_in, Kind, IsLexeme, most_objects, most_commands, Limit}
 
 -- ---- the names in the lexemes of a line are names
 
@@ -36,12 +29,13 @@ objects-named (n ∷ names) named = (named.0, objects-named names named.1)
 
 lists : (d : Declared) → AreInRange d → AreOfKinds d.names
 lists d r =
-    let within : (l : Limit) (n : ℕ) → n ≤ greatest d.version l → n ≤ greatest 1 l = λ l n below. subst (λ v. n ≤ greatest v l) r.version below in
+    let within : (l : Limit) (n : ℕ) → n ≤ greatest d.version l → n ≤ greatest 1 l = λ l n below.
+    subst (λ v. n ≤ greatest v l) r.version below in
     record {
-      objects = record { distinct = r.names.objects.distinct; few = within limit.objects _ r.names.few_objects };
+      objects = record { distinct = r.names.objects.distinct; few = within most_objects _ r.names.few_objects };
       predicates = record { distinct = r.names.predicates.distinct; few = r.names.few_predicates };
       operators = record { distinct = r.names.operators.distinct; few = r.names.few_operators };
-      results = (let few = within limit.commands _ r.commands.few in let results = r.results.few in
+      results = (let few = within most_commands _ r.commands.few in let results = r.results.few in
           record { distinct = r.names.results.distinct; few = omega (arith, few, results) });
     }
 
@@ -50,13 +44,10 @@ pub line-lists : (n : ℕ) (d : Declared) (s : Statement) → AreInRange d → i
     → AreOfKinds (leaves n d s).names
 line-lists n d s r formed faultless = lists _ (line-kept n d r s (well-formed d (line_of s) formed) faultless)
 
-pub welcome : (k : Kind) (names : NameLists) (n : List ℕ) → IsFresh k names n → IsWelcome k (names_of k names) n
-welcome k names n fresh =
-    let old = names_of k names in
-    let one = length-append old (n ∷ []) in
-    let few = fresh.1.few in (
-      fresh.0,
-      (λ (i, below, is). fresh.1.distinct i (length old) n below (omega (arith, one))
-          (get_or_append_left old (n ∷ []) n i below ∙ is ∙ sym (get_or-append_seam old n [] n))),
-      omega (arith, one, few),
-    )
+pub welcome : (k : Kind) (names : NameLists) (n : List ℕ) → IsFresh k names n → IsWelcome k (names_in k names) n
+welcome k names n fresh = let old = names_in k names in let one = length-append old (n ∷ []) in let few = fresh.1.few in (
+  fresh.0,
+  (λ (i, below, is). fresh.1.distinct i (length old) n below (omega (arith, one))
+      (get_or_append_left old (n ∷ []) n i below ∙ is ∙ sym (get_or-append_seam old n [] n))),
+  omega (arith, one, few),
+)

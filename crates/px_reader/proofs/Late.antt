@@ -1,23 +1,22 @@
 -- Facts are counted once they are added: what a line's fault is before and after that.
-use Rattle.px_reader.proofs.Common.{◌≡◌, ℕ, Bool, true, false, length, List, [], ◌∷◌, ◌++◌, map, refl, sym, ap, ◌∙◌, ◌&&◌, None, Some, nat_lt, Declared, Statement, fact, greatest, fault_at, first_of, passed, Stage, SignedAtom, no-cause, only-limits, IsRight, Atom, atom_set, atom_of, is_fact, early_fault, early_limits, leaves}
-use Rattle.px_script.specs.Faults as faults
-use Rattle.px_script.specs.Faults.{Refusal, causes_with}
-use Rattle.px_script.specs.Limits as limit
+use Rattle.px_reader.proofs.Common.{◌≡◌, ℕ, Bool, true, false, length, List, [], ◌∷◌, ◌++◌, map, refl, sym, ap, ◌∙◌, ◌&&◌, None, Some, nat_lt, Declared, Statement, fact, greatest, fault_at, first_of, passed, Stage, SignedAtom, no-cause, only-limits, IsRight, Atom, atom_set, atom_of, is_fact, early_fault, early_limits, leaves, own_limits, limits, Refusal, causes_with, most_facts}
 
 -- a line of other kinds has all its faults early
 pub early-all : (stage : Stage) (d : Declared) (s : Statement) → is_fact s ≡ false → early_fault stage d s ≡ fault_at stage d s
 early-all stage d (fact xs) other = cc
 early-all stage d _ other = refl
 
-first-front : (causes more : List (Bool × Refusal)) (fault : Refusal) → first_of causes ≡ Some fault → first_of (causes ++ more) ≡ Some fault
+first-front : (causes more : List (Bool × Refusal)) (fault : Refusal) → first_of causes ≡ Some fault
+    → first_of (causes ++ more) ≡ Some fault
 first-front [] more fault is = cc
 first-front ((true, cause) ∷ causes) more fault is = is
 first-front ((false, cause) ∷ causes) more fault is = first-front causes more fault is
 
 -- a fault that is there early is the line's
-pub early-some : (stage : Stage) (d : Declared) (s : Statement) (fault : Refusal) → early_fault stage d s ≡ Some fault → fault_at stage d s ≡ Some fault
+pub early-some : (stage : Stage) (d : Declared) (s : Statement) (fault : Refusal) → early_fault stage d s ≡ Some fault
+    → fault_at stage d s ≡ Some fault
 early-some stage d (fact xs) fault is = first-front (causes_with stage d (fact xs) (early_limits d (fact xs)))
-    (map passed (faults.own_limits d (fact xs))) fault is
+    (map passed (own_limits d (fact xs))) fault is
 early-some stage d _ fault is = is
 
 pub early-right : (stage : Stage) (d : Declared) (s : Statement) → early_fault stage d s ≡ None → IsRight d s
@@ -26,15 +25,13 @@ early-right stage d s none = (no-cause stage d s (early_limits d s) none).1
 module _ (stage : Stage) (n : ℕ) (d after : Declared) (version : d.version ≡ 1) where
   -- the limit of facts is the one that is left
   counted : (xs : List SignedAtom) (many : Bool) → after ≡ leaves n d (fact xs) → early_fault stage d (fact xs) ≡ None
-      → nat_lt 512 (length after.facts) ≡ many
-      → fault_at stage d (fact xs) ≡ first_of (passed (many, 11) ∷ [])
-  counted xs many is none count =
-      let set : List Atom = atom_set (map (atom_of d []) xs ++ d.facts) in
+      → nat_lt 512 (length after.facts) ≡ many → fault_at stage d (fact xs) ≡ first_of (passed (many, 11) ∷ [])
+  counted xs many is none count = let set : List Atom = atom_set (map (atom_of d []) xs ++ d.facts) in
       let here : nat_lt 512 (length set) ≡ many = sym (ap (λ (e : Declared). nat_lt 512 (length e.facts)) is) ∙ count in
-      let one : nat_lt (greatest d.version limit.facts) (length set) ≡ many
-      = ap (λ v. nat_lt (greatest v limit.facts) (length set)) version ∙ here in
+      let one : nat_lt (greatest d.version most_facts) (length set) ≡ many
+      = ap (λ v. nat_lt (greatest v most_facts) (length set)) version ∙ here in
       let left = no-cause stage d (fact xs) (early_limits d (fact xs)) none in
-      only-limits stage d (fact xs) (faults.limits d (fact xs)) left.0 left.1 ∙ ap (λ b. first_of (passed (b, 11) ∷ [])) one
+      only-limits stage d (fact xs) (limits d (fact xs)) left.0 left.1 ∙ ap (λ b. first_of (passed (b, 11) ∷ [])) one
 
   pub few-facts : (s : Statement) → after ≡ leaves n d s → early_fault stage d s ≡ None
       → (is_fact s && nat_lt 512 (length after.facts)) ≡ false → fault_at stage d s ≡ None

@@ -4,22 +4,17 @@ use Rattle.px_reader.proofs.Common.{◌≡◌, ℕ, List, [], ◌∷◌, ◌++�
 step-only : (rest after : List ℕ) (l : Lexeme) → Begins rest l after → (more : List Lexeme) → Lexes rest more
     → (fewer : List Lexeme) × (more ≡ l ∷ fewer) × Lexes after fewer
 step-only rest after l begins [] is = Begins-not-ignored rest l after begins is
-step-only rest after l begins (m ∷ more) is =
-    let same = Begins-same rest l m after is.0 begins is.1 in
-    let P : List ℕ → Type 0 = λ t. Lexes t more in
-    (more, ap (λ t. t ∷ more) (sym same.0), subst P (sym same.1) is.2)
+step-only rest after l begins (m ∷ more) is = let same = Begins-same rest l m after is.0 begins is.1 in
+    let P : List ℕ → Type 0 = λ t. Lexes t more in (more, ap (λ t. t ∷ more) (sym same.0), subst P (sym same.1) is.2)
 
 pub one-more-read : (line : List ℕ) (got : List Lexeme) (rest : List ℕ) (l : Lexeme) (after : List ℕ) → ReadSoFar line got rest
     → first rest ≡ found l after → ReadSoFar line (got ++ l ∷ []) after
-one-more-read line got rest l after so_far scan =
-    let begins = found-begins rest l after scan in
-    record {
-      goes_on = λ more is. rw append_assoc (so_far.goes_on (l ∷ more) (after, begins, is));
-      only = λ all is.
-          let parts = so_far.only all is in
-          let step = step-only rest after l begins parts.0 parts.2 in
-          (step.0, parts.1 ∙ ap (λ t. got ++ t) step.1 ∙ sym (append_assoc got (l ∷ []) step.0), step.2);
-    }
+one-more-read line got rest l after so_far scan = let begins = found-begins rest l after scan in record {
+  goes_on = λ more is. rw append_assoc (so_far.goes_on (l ∷ more) (after, begins, is));
+  only = λ all is.
+      let parts = so_far.only all is in let step = step-only rest after l begins parts.0 parts.2 in
+      (step.0, parts.1 ∙ ap (λ t. got ++ t) step.1 ∙ sym (append_assoc got (l ∷ []) step.0), step.2);
+}
 
 pub all-read : (line : List ℕ) (got : List Lexeme) (rest : List ℕ) → ReadSoFar line got rest → first rest ≡ ignored → Lexes line got
 all-read line got rest so_far scan = rw (← append-nil got) (so_far.goes_on [] (scanned-ignored rest scan))

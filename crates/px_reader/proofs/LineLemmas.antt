@@ -1,10 +1,8 @@
 -- Lines without what ends them, and what reading a line shows.
-use Rattle.px_reader.proofs.Common.{AllByRecursion, IsNamed, all_scalars, spelling, subst, ◌≡◌, ◌≢◌, ℕ, ◌+◌, ◌-◌, ◌<◌, true, List, [], ◌∷◌, ◌++◌, take, drop, length, get_or, refl, sym, ap, ◌∙◌, inl, inr, arith, Option, None, Some, Result, Ok, Err, IfOk, slice_index, ◌==◌, bytes_eq, eqb-true, take-append-drop, take_more, take_all, bytes_eq-Decides, Lexeme, Lexes, mark, without_mark, without_return, Statement, line_of, Forms, begins_with_word, is_formed, Declared, coded, Stage, Fails, parse-sound, parse-complete, by_test, parse, HasFault, LineEnds}
-use Rattle.std.specs.Prelude.{encode_utf8, MatchOption}
-use Rattle.std.specs.Str.Pattern.{HasCharAt}
+use Rattle.px_reader.proofs.Common.{AllByRecursion, IsNamed, all_scalars, spelling, subst, ◌≡◌, ◌≢◌, ℕ, ◌+◌, ◌-◌, ◌<◌, true, List, [], ◌∷◌, ◌++◌, take, drop, length, get_or, refl, sym, ap, ◌∙◌, inl, inr, arith, Option, None, Some, Result, Ok, Err, IfOk, slice_index, ◌==◌, bytes_eq, eqb-true, take-append-drop, take_more, take_all, bytes_eq-Decides, Lexeme, Lexes, mark, without_mark, without_return, Statement, line_of, Forms, begins_with_word, is_formed, Declared, coded, Stage, Fails, parse-sound, parse-complete, by_test, parse, HasFault, LineEnds, HasCharAt, after_line, MatchOption}
+use Rattle.std.specs.Prelude.{encode_utf8}
 use Rattle.px_base.specs.declared.no_memory.NoMemory.{NoMemory}
 use Rattle.px_reader.specs.declared.fault.Fault.{Fault}
-use Rattle.px_script.specs.Declarations.{after_line}
 use Rattle.px_reader.proofs.Fresh.{lexemes-named}
 use lib.Utf8.{encode}
 
@@ -12,29 +10,22 @@ mark-encoded : encode_utf8 0xFEFF ≡ mark
 unfolding encode
 mark-encoded = refl
 
-after-mark : (x : List ℕ) → x ≡ without_mark (mark ++ x)
-after-mark x = refl
-
 pub marked : (bs : List ℕ) (n : ℕ) (x : List ℕ) → HasCharAt 0xFEFF bs 0 n → x ≡ drop n bs → x ≡ without_mark bs
-marked bs n x is e = after-mark x ∙ ap without_mark (ap (λ y. mark ++ y) e ∙ ap (λ m. m ++ drop n bs) (sym mark-encoded) ∙ sym is.split)
+marked bs n x is e = ap without_mark (ap (λ y. mark ++ y) e ∙ ap (λ m. m ++ drop n bs) (sym mark-encoded) ∙ sym is.split)
 
 pub unmarked : (bs : List ℕ) → ((rest : List ℕ) → bs ≢ encode_utf8 0xFEFF ++ rest) → bs ≡ without_mark bs
-unmarked bs none = by_test (bytes_eq (take 3 bs) mark)
-    (λ e. absurd (none (drop 3 bs) (sym (take-append-drop 3 bs)
-    ∙ ap (λ t. t ++ drop 3 bs) ((bytes_eq-Decides (take 3 bs) mark).0 e ∙ sym mark-encoded))))
-    (λ e. rw e refl)
+unmarked bs none = by_test (bytes_eq (take 3 bs) mark) (λ e. absurd (none (drop 3 bs) (sym (take-append-drop 3 bs)
+    ∙ ap (λ t. t ++ drop 3 bs) ((bytes_eq-Decides (take 3 bs) mark).0 e ∙ sym mark-encoded)))) (λ e. rw e refl)
 
 last-of : (bs : List ℕ) → 0 < length bs → bs ≡ take (length bs - 1) bs ++ get_or bs (length bs - 1) 0 ∷ []
-last-of bs some =
-    let more : (length bs - 1) + 1 ≡ length bs = omega (arith, some) in
+last-of bs some = let more : (length bs - 1) + 1 ≡ length bs = omega (arith, some) in
     sym (ap (λ t. take t bs) more ∙ take_all (length bs) bs (omega arith)) ∙ take_more bs (length bs - 1) 0 (omega (arith, some))
 
 pub unreturned : (bs : List ℕ) → ((front : List ℕ) → bs ≢ front ++ 13 ∷ []) → bs ≡ without_return bs
 unreturned [] none = refl
 unreturned (b ∷ bs) none = by_test (slice_index (b ∷ bs) (length (b ∷ bs) - 1) == 13)
     (λ e. absurd (none (take (length (b ∷ bs) - 1) (b ∷ bs))
-    (last-of (b ∷ bs) (omega arith) ∙ ap (λ t. take (length (b ∷ bs) - 1) (b ∷ bs) ++ t ∷ []) (eqb-true _ 13 e))))
-    (λ e. rw e refl)
+    (last-of (b ∷ bs) (omega arith) ∙ ap (λ t. take (length (b ∷ bs) - 1) (b ∷ bs) ++ t ∷ []) (eqb-true _ 13 e)))) (λ e. rw e refl)
 
 -- A line has these lexemes, which the parser was given.
 module _ (stage : Stage) (d : Declared) (line : List ℕ) where
@@ -59,5 +50,4 @@ module _ (stage : Stage) (d : Declared) (line : List ℕ) where
   pub fails-form : (lexemes : List Lexeme) → Lexes line lexemes → begins_with_word d lexemes ≡ true → None ≡ parse d lexemes
       → Fails stage d line (coded 2)
   fails-form [] lexes word e = cc
-  fails-form (x ∷ xs) lexes word e =
-      inr (x ∷ xs, lexes, inr (inl (word, λ s forms. let p = parse-complete d (x ∷ xs) s forms in cc, refl)))
+  fails-form (x ∷ xs) lexes word e = inr (x ∷ xs, lexes, inr (inl (word, λ s forms. let p = parse-complete d (x ∷ xs) s forms in cc, refl)))

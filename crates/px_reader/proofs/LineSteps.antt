@@ -11,8 +11,7 @@ module _ {X : Type 0} (stage : Stage) (text : X → List ℕ) (xs : List X) wher
         → FailsIn stage 1 nothing_declared (map text xs) at r
 
   pub none-read : (d : Declared) → d ≡ nothing_declared → HasRead d 0
-  none-read d e = subst (λ d. HasRead d 0) (sym e)
-      (record { in_range = start-in-range; passes = λ last p. p; fails = λ at r p. p })
+  none-read d e = subst (λ d. HasRead d 0) (sym e) (record { in_range = start-in-range; passes = λ last p. p; fails = λ at r p. p })
 
   next : (k : ℕ) (e : X) (t : List ℕ) → k < length xs → t ≡ text (get_or xs k e) → map text (drop k xs) ≡ t ∷ map text (drop (k + 1) xs)
   next k e t below is = ap (map text) (drop_more xs k e below) ∙ ap (λ y. y ∷ map text (drop (k + 1) xs)) (sym is)

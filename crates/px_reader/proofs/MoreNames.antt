@@ -1,11 +1,6 @@
 -- The names of a kind with more of them.
-use Rattle.px_reader.proofs.Common.{AllByRecursion, AreOfKind, IsFresh, IsName, drop, take-append-drop, arith, length-append, subst, ◌≡◌, ◌<◌, ◌+◌, ℕ, List, [], ◌∷◌, ◌++◌, map, take, length, get_or, refl, sym, ap, ◌∙◌, append_assoc, append-nil, map-append, take_more, NameLists, with_name, with_more, Reader, text_of}
-use Rattle.std.proofs.lemmas.List.{get_or_append_left}
-use Rattle.std.proofs.lemmas.List.Elements.{All-from_recursion}
-use Rattle.px_names.specs.Lists.{names_of}
-use Rattle.px_names.specs.declared.kind.Kind.{Kind}
+use Rattle.px_reader.proofs.Common.{AllByRecursion, AreOfKind, IsFresh, IsName, drop, take-append-drop, arith, length-append, subst, ◌≡◌, ◌<◌, ◌+◌, ℕ, List, [], ◌∷◌, ◌++◌, map, take, length, get_or, refl, sym, ap, ◌∙◌, append_assoc, append-nil, map-append, NameLists, with_name, with_more, Reader, text_of, get_or_append_left, All-from_recursion, names_in, Kind, Bor, map_more}
 use Rattle.px_names.specs.declared.kind.Kind.TheVariants as kind
-use denote.Ref.{Bor}
 
 pub more-none : (k : Kind) (names : NameLists) → names ≡ with_more k [] names
 more-none kind.Object names = rw append-nil refl
@@ -20,7 +15,7 @@ more-next kind.Predicate ns n names = rw append_assoc refl
 more-next kind.Operator ns n names = rw append_assoc refl
 more-next kind.Result ns n names = rw append_assoc refl
 
-more-names : (k : Kind) (ns : List (List ℕ)) (names : NameLists) → names_of k (with_more k ns names) ≡ names_of k names ++ ns
+more-names : (k : Kind) (ns : List (List ℕ)) (names : NameLists) → names_in k (with_more k ns names) ≡ names_in k names ++ ns
 more-names kind.Object ns names = refl
 more-names kind.Predicate ns names = refl
 more-names kind.Operator ns names = refl
@@ -28,31 +23,24 @@ more-names kind.Result ns names = refl
 
 -- names in front of others of their kind
 front-names : (k : Kind) (xs ys : List (List ℕ)) → AreOfKind k (xs ++ ys) → AreOfKind k xs
-front-names k xs ys all =
-    let both = length-append xs ys in
-    let few = all.few in
-    record {
-      distinct = λ i j d before below same. all.distinct i j d before (omega (arith, below, both))
-          (get_or_append_left xs ys d i (omega (arith, before, below)) ∙ same ∙ sym (get_or_append_left xs ys d j below));
-      few = omega (arith, few, both);
-    }
-
-texts-more : (names : List (Bor (List ℕ))) (i : ℕ) (x : Bor (List ℕ)) → i < length names
-    → map text_of (take (i + 1) names) ≡ map text_of (take i names) ++ (get_or names i x).now ∷ []
-texts-more names i x below = ap (map text_of) (take_more names i x below) ∙ map-append text_of (take i names) (get_or names i x ∷ [])
+front-names k xs ys all = let both = length-append xs ys in let few = all.few in record {
+  distinct = λ i j d before below same. all.distinct i j d before (omega (arith, below, both))
+      (get_or_append_left xs ys d i (omega (arith, before, below)) ∙ same ∙ sym (get_or_append_left xs ys d j below));
+  few = omega (arith, few, both);
+}
 
 -- the next of the names that are declared in turn
 pub next-fresh : (k : Kind) (first now : NameLists) (names : List (Bor (List ℕ))) (i : ℕ) (x : Bor (List ℕ))
     → now ≡ with_more k (map text_of (take i names)) first → AllByRecursion (λ n. IsName n.now) names
-    → AreOfKind k (names_of k first ++ map text_of names) → i < length names → IsFresh k now (get_or names i x).now
-next-fresh k first now names i x is named all below =
-    let front = take (i + 1) names in
+    → AreOfKind k (names_in k first ++ map text_of names) → i < length names → IsFresh k now (get_or names i x).now
+next-fresh k first now names i x is named all below = let front = take (i + 1) names in
     let parts : map text_of names ≡ map text_of front ++ map text_of (drop (i + 1) names) =
     ap (map text_of) (sym (take-append-drop (i + 1) names)) ∙ map-append text_of front (drop (i + 1) names) in
-    let whole = ap (λ t. names_of k first ++ t) parts ∙ sym (append_assoc (names_of k first) (map text_of front) (map text_of (drop (i + 1) names))) in
-    let these : names_of k first ++ map text_of front ≡ names_of k now ++ (get_or names i x).now ∷ [] =
-    ap (λ t. names_of k first ++ t) (texts-more names i x below) ∙ sym (append_assoc (names_of k first) _ _)
-    ∙ ap (λ t. t ++ (get_or names i x).now ∷ []) (sym (ap (names_of k) is ∙ more-names k _ first)) in (
+    let whole = ap (λ t. names_in k first ++ t) parts
+    ∙ sym (append_assoc (names_in k first) (map text_of front) (map text_of (drop (i + 1) names))) in
+    let these : names_in k first ++ map text_of front ≡ names_in k now ++ (get_or names i x).now ∷ [] =
+    ap (λ t. names_in k first ++ t) (map_more text_of names i x below) ∙ sym (append_assoc (names_in k first) _ _)
+    ∙ ap (λ t. t ++ (get_or names i x).now ∷ []) (sym (ap (names_in k) is ∙ more-names k _ first)) in (
       All-from_recursion (λ n. IsName n.now) names named i x below,
       subst (AreOfKind k) these (front-names k _ _ (subst (AreOfKind k) whole all)),
     )
@@ -66,4 +54,5 @@ one-more-name k first now after names i x is was below =
     let step : Reader → Reader = λ r. record r { names = with_name k (get_or names i x).now r.names } in
     let known : List (List ℕ) → Reader = λ ns. record first { names = with_more k ns first.names } in
     let changed : NameLists → Reader = λ t. record first { names = t } in
-    is ∙ ap step was ∙ ap changed (more-next k (map text_of (take i names)) (get_or names i x).now first.names) ∙ ap known (sym (texts-more names i x below))
+    is ∙ ap step was ∙ ap changed (more-next k (map text_of (take i names)) (get_or names i x).now first.names)
+    ∙ ap known (sym (map_more text_of names i x below))

@@ -12,16 +12,12 @@ capped (Err e) value P p is = elim (cases_lt value (2 ^ 32)) [ inl small ↦ abs
 -- digits are their own bytes
 pub encodes-digits : (cs : List ℕ) → all_ascii_digits cs ≡ true → encode_utf8_all cs ≡ cs
 encodes-digits [] all = refl
-encodes-digits (c ∷ cs) all =
-    let both = and_parts (is_ascii_digit c) (all_ascii_digits cs) all in
-    let range = digit-range c both.0 in
+encodes-digits (c ∷ cs) all = let both = and_parts (is_ascii_digit c) (all_ascii_digits cs) all in let range = digit-range c both.0 in
     rw (encode_ascii c (omega (arith, range.1)), encodes-digits cs both.1) refl
 
 -- what `parse` answers for the text of digits, with the greatest number in place of an error
 pub parsed-digits : {E : Type 0} (text : List ℕ) (r : Result ℕ E) → IsUtf8 text → 0 < length (chars text)
-    → all_ascii_digits (chars text) ≡ true → ParsesUnsigned 32 10 text r
-    → result_unwrap_or r (2 ^ 32 - 1) ≡ number_value (chars text)
-parsed-digits text r u some all parses =
-    let same : chars text ≡ text = sym (encodes-digits (chars text) all) ∙ encodes-chars text u in
+    → all_ascii_digits (chars text) ≡ true → ParsesUnsigned 32 10 text r → result_unwrap_or r (2 ^ 32 - 1) ≡ number_value (chars text)
+parsed-digits text r u some all parses = let same : chars text ≡ text = sym (encodes-digits (chars text) all) ∙ encodes-chars text u in
     let P : List ℕ → Type 0 = λ t. ParsesUnsigned 32 10 t r in
     capped r (digits_value 10 (chars text)) _ some (parse_digits own 32 (chars text) r (subst P (sym same) parses) all)

@@ -1,12 +1,10 @@
 -- What reading a text, and bytes, ends with.
-use Rattle.px_reader.proofs.Common.{◌≡◌, ℕ, ◌+◌, ◌≤◌, List, [], ◌∷◌, map, take, length, refl, sym, ap, ◌∙◌, subst, inr, arith, Some, Result, Ok, Err, IfOk, IfErr, count_by, ◌==◌, IsErrAnd, slice_split, IsUtf8, bytes_eq, chars, length-map, length-drop, map-map, count_by-le-length, ScriptValue, Declared, OpenBlock, Refusal, mark, without_mark, without_return, lines_of, Stage, PassAll, FailsIn, IsScript, FirstFault, ReadsOneWay, by_test, of-stage, characters_of, LinesFail, HasFirstFault, IsRead, IsRefused, NamesFault, content, refusal_told}
+use Rattle.px_reader.proofs.Common.{◌≡◌, ℕ, ◌+◌, ◌≤◌, List, [], ◌∷◌, map, take, length, refl, sym, ap, ◌∙◌, subst, inr, arith, Some, Result, Ok, Err, IfOk, IfErr, count_by, ◌==◌, IsErrAnd, slice_split, IsUtf8, bytes_eq, chars, length-map, length-drop, map-map, count_by-le-length, ScriptValue, Declared, OpenBlock, Refusal, mark, without_mark, without_return, lines_of, Stage, PassAll, FailsIn, IsScript, FirstFault, ReadsOneWay, by_test, of-stage, characters_of, LinesFail, HasFirstFault, IsRead, IsRefused, content, refusal_told, Bor, IsOfStage}
 use Rattle.std.proofs.lemmas.List.Splits.{length-slice_split}
-use Rattle.px_script.specs.StageRanges.{IsOfStage}
 use Rattle.px_script.proofs.Law.{reads-one-way}
 use Rattle.px_reader.specs.declared.script.Script.{Script}
 use Rattle.px_reader.specs.declared.script.ScriptErr.{ScriptErr}
 use Rattle.px_reader.specs.declared.script.ScriptErr.TheVariants.{Refused, NoMemory}
-use denote.Ref.{Bor}
 
 pub text-fails : (stage : Stage) (text : List ℕ) (error : ScriptErr) → IsUtf8 text → LinesFail stage (lines_of text) error
     → HasFirstFault stage text error
@@ -15,8 +13,7 @@ text-fails stage text NoMemory utf8 fails = tt
 
 -- after lines without a fault an open block is the first
 pub left-open : (stage : Stage) (n : ℕ) (d : Declared) (lines : List (List ℕ)) (last : Declared) (block : OpenBlock)
-    → PassAll stage n d lines last
-    → last.block ≡ Some block → FailsIn stage n d lines block.line (record { code = 10; limit = 0 })
+    → PassAll stage n d lines last → last.block ≡ Some block → FailsIn stage n d lines block.line (record { code = 10; limit = 0 })
 left-open stage n d [] last block same opened = (block, ap (λ e. e.block) (sym same) ∙ opened, refl, refl)
 left-open stage n d (line ∷ lines) last block passes opened
     = inr (passes.0, passes.1, left-open stage (n + 1) passes.0 lines last block passes.2 opened)
@@ -28,9 +25,7 @@ parts-lines parts text is = sym (map-map (λ line. chars (without_return line)) 
     ∙ ap (map (λ line. chars (without_return line))) is
 
 unmarked-short : (text : List ℕ) → length (without_mark text) ≤ length text
-unmarked-short text = by_test (bytes_eq (take 3 text) mark)
-    (λ e. rw (e, length-drop) omega arith)
-    (λ e. rw e omega arith)
+unmarked-short text = by_test (bytes_eq (take 3 text) mark) (λ e. rw (e, length-drop) omega arith) (λ e. rw e omega arith)
 
 -- there is at most one line more than there are bytes
 pub few-parts : (parts : List (Bor (List ℕ))) (text : List ℕ)
@@ -48,24 +43,19 @@ module _ (stage : Stage) (bytes : List ℕ) where
   law : ReadsOneWay stage bytes
   law = reads-one-way stage bytes
 
-  error-read : (error : ScriptErr) → HasFirstFault stage bytes error → (value : ScriptValue) → IsScript stage bytes value → error ≡ NoMemory
-  error-read (Refused refused) fault value is = absurd (law.not_both is.last refused.line (refusal_told refused) is.spells fault)
-  error-read NoMemory fault value is = refl
-
-  error-named : (error : ScriptErr) → HasFirstFault stage bytes error → (line : ℕ) (refusal : Refusal) → FirstFault stage bytes line refusal
-      → NamesFault error line refusal
-  error-named (Refused refused) fault line refusal first = law.one_fault refused.line line (refusal_told refused) refusal fault first
-  error-named NoMemory fault line refusal first = tt
-
   pub all-scripts : (r : Result Script ScriptErr) → IfOk r (λ s. IsScript stage bytes (content s)) → IfErr r (HasFirstFault stage bytes)
       → (value : ScriptValue) → IsScript stage bytes value → IsRead r value
   all-scripts (Ok s) script fault value is = law.one_content (content s) value script is
-  all-scripts (Err error) script fault value is = error-read error fault value is
+  all-scripts (Err (Refused refused)) script fault value is =
+      absurd (law.not_both is.last refused.line (refusal_told refused) is.spells fault)
+  all-scripts (Err NoMemory) script fault value is = refl
 
   pub all-faults : (r : Result Script ScriptErr) → IfOk r (λ s. IsScript stage bytes (content s)) → IfErr r (HasFirstFault stage bytes)
       → (line : ℕ) (refusal : Refusal) → FirstFault stage bytes line refusal → IsRefused r line refusal
   all-faults (Ok s) script fault line refusal first = law.not_both script.last line refusal script.spells first
-  all-faults (Err error) script fault line refusal first = error-named error fault line refusal first
+  all-faults (Err (Refused refused)) script fault line refusal first =
+      law.one_fault refused.line line (refusal_told refused) refusal fault first
+  all-faults (Err NoMemory) script fault line refusal first = tt
 
   -- what a script has of the stage
   pub of-stage-read : (r : Result Script ScriptErr) → IfOk r (λ s. IsScript stage bytes (content s))

@@ -1,16 +1,11 @@
 -- What a line without a fault lets a step take for granted.
-use Rattle.px_reader.proofs.Common.{◌≡◌, ℕ, ◌≤◌, true, List, [], ◌∷◌, ◌++◌, map, length, get_or, false, refl, sym, ap, ◌∙◌, subst, inl, inr, arith, All, Option, None, Some, slice_index, get_or-append_seam, eqb-true, cases_lt, append-nil, length-map, get_or_past, ArePlainBelow, IsClause, IsGround, has_wrong_arity, Declared, OpenOperator, operator_here, parameters_of, parameters_here, number_in, atom_of, literal_of, clause_of, variables_of, own_problem, atoms_of, is_formed, SignedAtom, Line, Statement, plain, line_of, «axiom», fact, IsRight, IsFaultless, stands-right, at-top, has_other_arity, atoms-right, line-kept, well-formed, atoms-with, unmap, no-parameters, OperatorsInRange, AreInRange, not-false, each-fails, AreReadable, argument_view, signed_view}
-use Rattle.std.proofs.lemmas.List.{length-append}
+use Rattle.px_reader.proofs.Common.{◌≡◌, ℕ, ◌≤◌, true, List, [], ◌∷◌, ◌++◌, map, length, get_or, false, refl, sym, ap, ◌∙◌, subst, inl, inr, arith, All, Option, None, Some, slice_index, get_or-append_seam, eqb-true, cases_lt, append-nil, length-map, get_or_past, ArePlainBelow, IsClause, IsGround, has_wrong_arity, Declared, OpenOperator, operator_here, parameters_of, number_in, atom_of, literal_of, clause_of, variables_of, own_problem, atoms_of, is_formed, SignedAtom, Line, Statement, plain, line_of, «axiom», fact, IsRight, IsFaultless, stands-right, at-top, has_other_arity, atoms-right, line-kept, well-formed, atoms-with, unmap, no-parameters, OperatorsInRange, AreInRange, not-false, each-fails, AreReadable, argument_view, signed_view, WrittenAtom, length-append}
 use Rattle.px_terms.specs.ValidityLaws.{atom_of-is_ground}
-use Rattle.px_reader.specs.declared.statement.SignedAtom as code
 
 few-in : (d : Declared) (o : Option OpenOperator) → OperatorsInRange d.version d.names (own_problem d) d.things o
     → length (parameters_of o) ≤ 8
 few-in d None h = omega arith
 few-in d (Some o) h = let params = h.schema.params in omega (arith, h.params, params)
-
-few-parameters : (d : Declared) → AreInRange d → length (parameters_here d) ≤ 8
-few-parameters d r = few-in d (operator_here d.block) r.operators
 
 -- an arity is at most 6, that of no predicate too
 arity-small : (arities : List ℕ) → All (λ n. n ≤ 6) arities → (k : ℕ) → slice_index arities k ≤ 6
@@ -29,38 +24,31 @@ sizes d l r right = each-fails (has_other_arity d) (λ x. length x.atom.argument
 
 -- the facts of a line have objects alone
 facts-are : (d : Declared) (xs : List SignedAtom) → AreInRange d → IsRight d (fact xs) → All IsGround (map (atom_of d []) xs)
-facts-are d xs r f =
-    let top = at-top d (line_of (fact xs)) (stands-right d (line_of (fact xs)) f.order) (λ b. refl) in
+facts-are d xs r f = let top = at-top d (line_of (fact xs)) (stands-right d (line_of (fact xs)) f.order) (λ b. refl) in
     let all = atoms-with d r xs plain refl (λ v. refl) 0 (omega (arith, ap length (no-parameters d top)))
     (atoms-right d (fact xs) xs (record { atoms = refl; arguments = refl }) f) in
     λ k a below. atom_of-is_ground (own_problem d) _ (all k a below)
 
 -- the atoms of a line can be told by numbers
-pub readable : (d : Declared) (s : Statement) (atoms slice : List code.SignedAtom) → slice ≡ atoms → AreInRange d → IsRight d s
+pub readable : (d : Declared) (s : Statement) (atoms slice : List WrittenAtom) → slice ≡ atoms → AreInRange d → IsRight d s
     → atoms_of (line_of s) ≡ map signed_view atoms ++ [] → AreReadable d slice
-readable d s atoms slice is r right are =
-    let P : List SignedAtom → Type 0 = All (λ x. length x.atom.arguments ≤ 6) in
+readable d s atoms slice is r right are = let P : List SignedAtom → Type 0 = All (λ x. length x.atom.arguments ≤ 6) in
     let viewed = unmap signed_view (λ x. length x.atom.arguments ≤ 6) atoms
-    (subst P (are ∙ append-nil (map signed_view atoms)) (sizes d (line_of s) r right.arity)) in
-    subst (AreReadable d) (sym is) (record {
-      few = few-parameters d r;
+    (subst P (are ∙ append-nil (map signed_view atoms)) (sizes d (line_of s) r right.arity)) in subst (AreReadable d) (sym is) (record {
+      few = few-in d (operator_here d.block) r.operators;
       sizes = λ k a below. let small = viewed k a below in omega
           (arith, small, length-map (get_or atoms k a).arguments.items argument_view);
     })
 
-pub facts-ground : (d : Declared) (atoms : List code.SignedAtom) → AreInRange d → IsRight d (fact (map signed_view atoms))
+pub facts-ground : (d : Declared) (atoms : List WrittenAtom) → AreInRange d → IsRight d (fact (map signed_view atoms))
     → All (λ x. IsGround (atom_of d [] (signed_view x))) atoms
-facts-ground d atoms r right =
-    unmap signed_view (λ x. IsGround (atom_of d [] x)) atoms
+facts-ground d atoms r right = unmap signed_view (λ x. IsGround (atom_of d [] x)) atoms
     (unmap (atom_of d []) IsGround (map signed_view atoms) (facts-are d (map signed_view atoms) r right))
 
 -- the new clause is the last of the axioms
 pub axiom-plain : (d : Declared) (xs : List SignedAtom) → AreInRange d → is_formed d (line_of («axiom» xs)) ≡ true
-    → IsFaultless d («axiom» xs)
-    → ArePlainBelow (length (variables_of xs)) (map (literal_of d (variables_of xs)) xs)
-axiom-plain d xs r formed f =
-    let after = line-kept 0 d r («axiom» xs) (well-formed d (line_of («axiom» xs)) formed) f in
+    → IsFaultless d («axiom» xs) → ArePlainBelow (length (variables_of xs)) (map (literal_of d (variables_of xs)) xs)
+axiom-plain d xs r formed f = let after = line-kept 0 d r («axiom» xs) (well-formed d (line_of («axiom» xs)) formed) f in
     let last = after.problem.valid.arena.each (length d.axioms) (clause_of d xs)
     (omega (arith, length-append d.axioms (clause_of d xs ∷ []))) in
-    let c : IsClause (clause_of d xs) = subst IsClause (get_or-append_seam d.axioms (clause_of d xs) [] (clause_of d xs)) last in
-    c.plain
+    let c : IsClause (clause_of d xs) = subst IsClause (get_or-append_seam d.axioms (clause_of d xs) [] (clause_of d xs)) last in c.plain

@@ -4,33 +4,27 @@ use Rattle.std.specs.Prelude.{encode_utf8}
 
 -- what stands before a text in a text is text
 pub IsUtf8-front : (text front rest : List ℕ) → IsUtf8 text → text ≡ front ++ rest → IsUtf8 rest → IsUtf8 front
-IsUtf8-front text front rest u whole v =
-    let P : List ℕ → Type 0 = IsUtf8 in
+IsUtf8-front text front rest u whole v = let P : List ℕ → Type 0 = IsUtf8 in
     let taken : take (length front) text ≡ front = rw whole (take-append_seam front rest) in
     subst P taken (IsUtf8-take text (length front) u (IsCharBoundary-at_seam text front rest whole v))
 
 -- the first character of a text is a text
 IsUtf8-first : (text rest : List ℕ) (c : ℕ) → IsUtf8 text → text ≡ encode_utf8 c ++ rest → IsUtf8 (encode_utf8 c)
-IsUtf8-first text rest c u whole =
-    let parts = cons_from_encodes u.0 rest c (u.1.1 ∙ whole) in
-    let scalars : all_scalars (c ∷ parts.0) ≡ true = sym (ap all_scalars parts.1) ∙ u.1.0 in
-    IsUtf8-encode c (and_parts _ _ scalars).0
+IsUtf8-first text rest c u whole = let parts = cons_from_encodes u.0 rest c (u.1.1 ∙ whole) in
+    let scalars : all_scalars (c ∷ parts.0) ≡ true = sym (ap all_scalars parts.1) ∙ u.1.0 in IsUtf8-encode c (and_parts _ _ scalars).0
 
 -- a front that passes grows by a character that passes
 pub front-grows : (p : ℕ → Bool) (text front rest after : List ℕ) (c : ℕ) → IsUtf8 text → text ≡ front ++ rest → IsUtf8 rest
-    → rest ≡ encode_utf8 c ++ after
-    → list_all p (chars front) ≡ true → p c ≡ true
+    → rest ≡ encode_utf8 c ++ after → list_all p (chars front) ≡ true → p c ≡ true
     → (text ≡ (front ++ encode_utf8 c) ++ after) × (list_all p (chars (front ++ encode_utf8 c)) ≡ true)
-front-grows p text front rest after c u whole v next all passes =
-    let one = IsUtf8-first rest after c v next in
+front-grows p text front rest after c u whole v next all passes = let one = IsUtf8-first rest after c v next in
     let single : chars (encode_utf8 c) ≡ c ∷ [] = chars_past_char (encode_utf8 c) [] c one (sym (append-nil (encode_utf8 c)))
     ∙ ap (λ t. c ∷ t) chars-nil in (
       whole ∙ ap (λ t. front ++ t) next ∙ sym (append_assoc front (encode_utf8 c) after),
       rw (
         chars-append front (encode_utf8 c) (IsUtf8-front text front rest u whole v),
         single,
-        list_all-append p (chars front)
-            (c ∷ []),
+        list_all-append p (chars front) (c ∷ []),
         all,
         passes,
       ) refl,
@@ -53,8 +47,7 @@ pub cut-place : (text front rest : List ℕ) → text ≡ front ++ rest → leng
 cut-place text front rest whole = rw (whole, length-append) (omega arith)
 
 pub cut-boundary : (text front rest : List ℕ) → text ≡ front ++ rest → IsUtf8 rest → IsCharBoundary text (length text - length rest)
-cut-boundary text front rest whole v =
-    let P : ℕ → Type 0 = λ n. IsCharBoundary text n in
+cut-boundary text front rest whole v = let P : ℕ → Type 0 = λ n. IsCharBoundary text n in
     subst P (sym (cut-place text front rest whole)) (IsCharBoundary-at_seam text front rest whole v)
 
 pub cut-front : (text front rest : List ℕ) → text ≡ front ++ rest → take (length text - length rest) text ≡ front

@@ -8,12 +8,6 @@ pub ok-same : {T E X : Type 0} (r : Result T E) (view : T → X) (a b : X) → I
 ok-same (Ok t) view a b h e = h ∙ e
 ok-same (Err x) view a b h e = h
 
--- what follows from it for an Ok
-pub ok-then : {T E X : Type 0} (r : Result T E) (view : T → X) (a : X) (P : T → Type 0) → ((t : T) → view t ≡ a → P t)
-    → IfOk r (λ t. view t ≡ a) → IfOk r P
-ok-then (Ok t) view a P f h = f t h
-ok-then (Err x) view a P f h = h
-
 -- what is at the end of the line, and what isn't
 pub ended : {A : Type 0} (found : Option A) (after : List Lexeme) → length after ≤ 0
     → found ≡ option_and_then at_end (option_map (λ a. (a, after)) found)
@@ -43,11 +37,9 @@ Advances {A = A} one = (lexemes : List Lexeme) (front : A × List Lexeme) → on
 
 advances-spelled : {A : Type 0} (good : A → Bool) (one : List Lexeme → Option (A × List Lexeme)) (spell : A → List Lexeme)
     → ReadsBack good one spell → ReadsSpelled one spell → Advances one
-advances-spelled good one spell back sound lexemes front e =
-    let long = back.long front.0 in
+advances-spelled good one spell back sound lexemes front e = let long = back.long front.0 in
     let read = subst (λ o. IfSome o (λ f. lexemes ≡ spell f.0 ++ f.1)) e (sound lexemes) in
-    let whole = ap length read ∙ length-append (spell front.0) front.1 in
-    omega (arith, long, whole)
+    let whole = ap length read ∙ length-append (spell front.0) front.1 in omega (arith, long, whole)
 
 pub atom-advances : Advances atom_at
 atom-advances = advances-spelled _ atom_at _ atoms-back atom-sound
@@ -76,8 +68,7 @@ module _ {A : Type 0} (one : List Lexeme → Option (A × List Lexeme)) (advance
       → ((ys : List Lexeme) → length ys ≤ n → length ys ≤ m → all_within one n ys ≡ all_within one m ys)
       → after_one (all_within one n) found ≡ after_one (all_within one m) found
   fuel-step n m xs None e short less recur = refl
-  fuel-step n m xs (Some front) e short less recur =
-      let fewer = advances xs front e in
+  fuel-step n m xs (Some front) e short less recur = let fewer = advances xs front e in
       ap (option_map (λ more. front.0 ∷ more)) (recur front.1 (omega (arith, fewer, short)) (omega (arith, fewer, less)))
 
   all-ended : (n : ℕ) → all_within one n [] ≡ Some []
@@ -93,22 +84,19 @@ module _ {A : Type 0} (one : List Lexeme → Option (A × List Lexeme)) (advance
   fuel (suc n) zero (x ∷ xs) short less = absurd (omega (arith, less))
   fuel (suc n) (suc m) (x ∷ xs) short less = fuel-step n m (x ∷ xs) (one (x ∷ xs)) refl short less (λ ys s l. fuel n m ys s l)
 
-  first-step : (n : ℕ) (x : Lexeme) (xs : List Lexeme) → all_within one (suc n) (x ∷ xs) ≡ after_one (all_within one n) (one (x ∷ xs))
-  unfolding all_within
-  first-step n x xs = refl
-
   -- the first thing, and then the others
   all-first : (xs : List Lexeme) (a : A) (after : List Lexeme) → Some (a, after) ≡ one xs
       → all_of one xs ≡ option_map (λ more. a ∷ more) (all_of one after)
+  unfolding all_within
   all-first [] a after e = let fewer = advances [] (a, after) (sym e) in absurd (omega (arith, fewer))
-  all-first (x ∷ xs) a after e =
-      let fewer = advances (x ∷ xs) (a, after) (sym e) in
-      first-step (length xs) x xs ∙ ap (after_one (all_within one (length xs))) (sym e)
+  all-first (x ∷ xs) a after e = let fewer = advances (x ∷ xs) (a, after) (sym e) in
+      ap (after_one (all_within one (length xs))) (sym e)
       ∙ ap (option_map (λ more. a ∷ more)) (fuel (length xs) (length after) after (omega (arith, fewer)) (omega arith))
 
   all-none : (xs : List Lexeme) → 0 < length xs → None ≡ one xs → None ≡ all_of one xs
+  unfolding all_within
   all-none [] some e = absurd (omega (arith, some))
-  all-none (x ∷ xs) some e = ap (after_one (all_within one (length xs))) e ∙ sym (first-step (length xs) x xs)
+  all-none (x ∷ xs) some e = ap (after_one (all_within one (length xs))) e
 
 module _ {T A : Type 0} (view : T → A) (one : List Lexeme → Option (A × List Lexeme)) (advances : Advances one) (tokens : List Token)
     (at : ℕ) (got : List T)
@@ -136,8 +124,7 @@ module _ {T A : Type 0} (view : T → A) (one : List Lexeme → Option (A × Lis
       )
 
   pub things-none : at < length tokens → None ≡ one (lexemes_of piece) → None ≡ all_of one (lexemes_of tokens)
-  things-none below e =
-      let long : 0 < length (lexemes_of (drop at tokens)) = omega
+  things-none below e = let long : 0 < length (lexemes_of (drop at tokens)) = omega
       (arith, length-map (drop at tokens) lexeme_of, length-drop at tokens, below) in
       ap (before (map view got)) (all-none one advances (lexemes_of (drop at tokens)) long (e ∙ ap (λ t. one (lexemes_of t)) piece-is))
       ∙ sym whole

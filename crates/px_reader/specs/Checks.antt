@@ -1,7 +1,9 @@
 -- Tests of the code's statements, and of what it has of them.
-use Rattle.std.specs.Prelude.{◌≡◌, ◌≤◌, ◌++◌, ℕ, Bool, true, false, List, [], ◌∷◌, All, length, map, not, Option}
-use Rattle.std.specs.Option.{option_map}
+use Rattle.px_script.specs.Declarations.{Declared, OpenOperator, parameters_here, names_here}
+use Rattle.px_script.specs.Stages.{Stage}
 use Rattle.std.specs.List.{list_any}
+use Rattle.std.specs.Option.{option_map}
+use Rattle.std.specs.Prelude.{◌≡◌, ◌≤◌, ◌++◌, ℕ, Bool, true, false, List, [], ◌∷◌, All, length, map, not, Option}
 use Rattle.px_names.specs.Lists.{AreDistinct, NameLists, has_name, limit_of, names_of}
 use Rattle.px_names.specs.Name.{IsName}
 use Rattle.px_names.specs.declared.kind.Kind.{Kind}
@@ -9,9 +11,7 @@ use Rattle.px_names.specs.declared.kind.Kind.TheVariants as kind
 use Rattle.px_script.specs.Causes.{has_long_name, is_known_argument, takes}
 use Rattle.px_script.specs.Lexemes.{Lexeme, name}
 use Rattle.px_script.specs.Limits.{name_bytes, number_of}
-use Rattle.px_script.specs.Declarations.{Declared, OpenOperator, parameters_here, names_here}
 use Rattle.px_script.specs.Faults.{Refusal, causes_with, first_of, grown, own_limits, passed}
-use Rattle.px_script.specs.Stages.{Stage}
 use Rattle.px_script.specs.Statements.{Statement, Manner, line_of, pre, delete, add, fact}
 use Rattle.px_script.specs.Items as spec
 use Rattle.px_reader.specs.FaultViews.{limit_refusal}

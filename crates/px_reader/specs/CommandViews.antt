@@ -1,11 +1,10 @@
 -- What the definitions see of a script, by its parts.
-use Rattle.std.specs.Prelude.{ℕ, List, map, Option}
+use Rattle.px_script.specs.Content.{ScriptValue}
+use Rattle.px_script.specs.Common.{NameLists, Problem}
 use Rattle.std.specs.Option.{option_map}
-use Rattle.px_names.specs.Lists.{NameLists}
+use Rattle.std.specs.Prelude.{ℕ, List, map, Option}
 use Rattle.px_ops.specs.ModelValue.{ModelValue}
 use Rattle.px_script.specs.Commands as spec
-use Rattle.px_script.specs.Content.{ScriptValue}
-use Rattle.px_terms.specs.declared.problem.Problem.{Problem}
 use Rattle.px_rooms.specs.declared.building.Building.{Building}
 use Rattle.px_reader.specs.declared.command.Binding.{Binding}
 use Rattle.px_reader.specs.declared.command.Command.{Command}

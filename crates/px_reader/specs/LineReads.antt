@@ -1,13 +1,14 @@
 -- What reading a line, and all lines, ends with.
-use Rattle.std.specs.Prelude.{◌≡◌, ℕ, List, map, None, Some, Option, Ok, Err, Result, MatchResult}
-use Rattle.std.specs.Str.{chars}
 use Rattle.px_script.specs.Content.{ScriptValue}
 use Rattle.px_script.specs.Declarations.{Declared, nothing_declared}
+use Rattle.px_script.specs.Stages.{Stage}
+use Rattle.px_script.specs.Statements.{Statement}
+use Rattle.std.specs.Option.{option_map}
+use Rattle.std.specs.Prelude.{◌≡◌, ℕ, List, map, None, Some, Option, Ok, Err, Result, MatchResult}
+use Rattle.std.specs.Str.{chars}
 use Rattle.px_script.specs.Faults.{Refusal, fault_at}
 use Rattle.px_script.specs.Lines.{without_return}
-use Rattle.px_script.specs.Stages.{Stage}
 use Rattle.px_script.specs.Scripts.{Passes, Fails, FailsIn, FirstFault}
-use Rattle.px_script.specs.Statements.{Statement}
 use Rattle.px_reader.specs.declared.fault.Fault.{Fault}
 use Rattle.px_reader.specs.declared.script.Refused.{Refused}
 use Rattle.px_reader.specs.declared.script.ScriptErr.{ScriptErr}
@@ -24,8 +25,7 @@ stage_view words = map text_of words
 
 -- this is the first fault of a statement, if it has one
 abbrev pub HasFault : Stage → Declared → Statement → Option Fault → Type 0
-HasFault stage d s None = fault_at stage d s ≡ None
-HasFault stage d s (Some fault) = fault_at stage d s ≡ Some (refusal_of fault)
+HasFault stage d s fault = fault_at stage d s ≡ option_map refusal_of fault
 
 -- a line has no fault and leaves this, or has this first fault
 abbrev pub LineEnds : Stage → ℕ → Declared → List ℕ → Declared → Option Fault → Type 0
@@ -61,12 +61,8 @@ content s = script_of s.version s.names s.problem s.facts s.building s.commands
 abbrev pub IsRead : Result Script ScriptErr → ScriptValue → Type 0
 IsRead result value = MatchResult result (λ s. content s ≡ value) (λ error. error ≡ script.NoMemory)
 
--- the refusal names this line and this fault, unless memory ran out
-abbrev pub NamesFault : ScriptErr → ℕ → Refusal → Type 0
-NamesFault (script.Refused refused) line refusal = (refused.line ≡ line) × (refusal_told refused ≡ refusal)
-NamesFault script.NoMemory line refusal = Unit {0}
-
 -- the input is refused, for this fault of this line unless memory ran out
 abbrev pub IsRefused : Result Script ScriptErr → ℕ → Refusal → Type 0
 IsRefused (Ok s) line refusal = ⊥
-IsRefused (Err error) line refusal = NamesFault error line refusal
+IsRefused (Err (script.Refused refused)) line refusal = (refused.line ≡ line) × (refusal_told refused ≡ refusal)
+IsRefused (Err script.NoMemory) line refusal = Unit {0}

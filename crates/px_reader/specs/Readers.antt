@@ -1,12 +1,12 @@
 -- What the definitions see of the lines so far.
-use Rattle.std.specs.Prelude.{ℕ, List, [], ◌++◌, map, length}
-use Rattle.std.specs.Option.{option_map}
-use Rattle.std.specs.String.{string_bytes}
 use Rattle.px_names.specs.Lists.{NameLists}
+use Rattle.px_script.specs.Statements.{Statement, line_of}
+use Rattle.std.specs.Option.{option_map}
+use Rattle.std.specs.Prelude.{ℕ, List, [], ◌++◌, map, length}
+use Rattle.std.specs.String.{string_bytes}
 use Rattle.px_names.specs.declared.kind.Kind.{Kind}
 use Rattle.px_names.specs.declared.kind.Kind.TheVariants as kind
 use Rattle.px_script.specs.Declarations.{Declared, OpenBlock, OpenOperator, BlockKind, of_operator, of_building, declares, declared_by, with_all_names}
-use Rattle.px_script.specs.Statements.{Statement, line_of}
 pub use Rattle.px_reader.specs.CommandViews.{command_view}
 use Rattle.px_reader.specs.declared.reader.Reader.{Reader}
 use Rattle.px_reader.specs.declared.blocks.OpenBlock as code

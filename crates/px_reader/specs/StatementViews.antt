@@ -1,11 +1,11 @@
 -- What the definitions see of statements.
+use Rattle.px_script.specs.Lexemes.{Lexeme}
+use Rattle.std.specs.Option.{option_map}
 use Rattle.std.specs.Prelude.{ℕ, List, map, drop, Option, Vec}
 use Rattle.std.specs.Cmp.Lexicographic.{slice_cmp}
-use Rattle.std.specs.Option.{option_map}
 use Rattle.std.specs.Ordering.{nat_cmp}
 use Rattle.std.specs.declared.alloc.Global.{Global}
 use Rattle.std.specs.declared.cmp.Ordering.{Ordering}
-use Rattle.px_script.specs.Lexemes.{Lexeme}
 use Rattle.px_script.specs.Items as items
 use Rattle.px_script.specs.Statements as spec
 use Rattle.px_reader.specs.Tokens.{lexeme_of}

@@ -1,10 +1,10 @@
 -- What the definitions see of tokens, and what is known of a text whose front was read.
-use Rattle.std.specs.Prelude.{◌≡◌, ◌++◌, ℕ, Bool, List, [], ◌∷◌, true, false, encode_utf8_all, Result, Option, Some, None, Ok, Err}
+use Rattle.px_names.specs.Name.{starts_name}
 use Rattle.std.specs.Char.{is_ascii_digit}
 use Rattle.std.specs.List.{list_all}
-use Rattle.std.specs.Str.{IsUtf8, chars}
 use Rattle.unicode_ident.specs.Ident.{is_xid_continue}
-use Rattle.px_names.specs.Name.{starts_name}
+use Rattle.std.specs.Prelude.{◌≡◌, ◌++◌, ℕ, Bool, List, [], ◌∷◌, true, false, encode_utf8_all, Result, Option, Some, None, Ok, Err}
+use Rattle.std.specs.Str.{IsUtf8, chars}
 use Rattle.px_script.specs.Lexemes.{Lexeme, Lexes, name, variable, number, sign, is_blank}
 use Rattle.px_script.proofs.Scanning.{First, found, ignored, bad, front_while, after_while, stops}
 use Rattle.px_reader.specs.declared.token.BadToken.{BadToken}

@@ -63,12 +63,8 @@ impl Reader {
             Statement::Plan(name, goal) => self.add_plan(name, &goal),
             Statement::Learn(name, source) => self.add_learned(name, source),
             Statement::Show(name) => self.add_show(name),
-            Statement::DisturbAtoms(turn, between, edits) => self.disturb_atoms(
-                turn, between, &edits,
-            ),
-            Statement::DisturbRooms(turn, between, edits) => self.disturb_rooms(
-                turn, between, &edits,
-            ),
+            Statement::DisturbAtoms(turn, late, edits) => self.disturb_atoms(turn, late, &edits),
+            Statement::DisturbRooms(turn, late, edits) => self.disturb_rooms(turn, late, &edits),
             Statement::Run(name, bindings) => self.add_run(name, &bindings),
             Statement::Facts => self.add_command(Command::Facts),
         }

@@ -11,24 +11,19 @@ use px_names::Kind;
 use std::alloc::{AllocError, Global};
 use std::collections::BTreeSet;
 
-/// The different names.
 fn different<'a>(alloc: Global, names: &[&'a str]) -> Result<BTreeSet<&'a str>, AllocError>
     ensures { IfOk result (IsFromIterResult text_cmp names.now) }
 {
     names.iter().copied().collect(alloc)
 }
 
-/// The different parameters.
 fn different_parameters(
     alloc: Global,
     bindings: &[WrittenBinding<'_>],
 ) -> Result<BTreeSet<u32>, AllocError>
     ensures { IfOk result (IsFromIterResult nat_cmp (map (λ binding. binding.parameter) bindings.now)) }
 {
-    bindings
-        .iter()
-        .map(|binding| binding.parameter)
-        .collect(alloc)
+    bindings.iter().map(|b| b.parameter).collect(alloc)
 }
 
 /// Some parameter is bound more than once.
@@ -49,10 +44,7 @@ impl Reader {
             Statement::Object(names) => self.repeats(names),
             Statement::Predicate(name, _) => Ok(self.has(Kind::Predicate, name)),
             Statement::Operator(name, parameters) => {
-                if self.has(Kind::Operator, name) {
-                    return Ok(true);
-                }
-                self.repeats(parameters)
+                Ok(self.has(Kind::Operator, name) || self.repeats(parameters)?)
             }
             Statement::Building => Ok(self.has_building()),
             Statement::Room(name) | Statement::Box(name, _) => Ok(self.has(Kind::Object, name)),
@@ -63,10 +55,9 @@ impl Reader {
             Statement::Height(_) => Ok(self.height.is_some()),
             Statement::Nodes(_) => Ok(self.nodes.is_some()),
             Statement::Shapes(_) => Ok(self.shapes.is_some()),
-            Statement::Plan(name, _) | Statement::Learn(name, _) => Ok(self.has(
-                Kind::Result,
-                name,
-            )),
+            Statement::Plan(name, _) | Statement::Learn(name, _) => {
+                Ok(self.has(Kind::Result, name))
+            }
             Statement::Run(_, bindings) => binds_twice(self.alloc, bindings),
             _ => Ok(false),
         }
@@ -83,7 +74,6 @@ impl Reader {
         Ok(different.len() < names.len())
     }
 
-    /// One of the names is an object's.
     fn have(&self, names: &[&str]) -> bool
         ensures { result ≡ list_any (λ name. has_name name.now self.now.names.objects) names.now }
     {

@@ -34,10 +34,9 @@ pub fn name<'a>(tokens: &[Token<'a>]) -> Option<&'a str>
 pub fn alone<'a>(statement: Statement<'a>, tokens: &[Token<'a>]) -> Option<Statement<'a>>
     ensures { option_map statement_view result ≡ nothing_form (statement_view statement.entry) (lexemes_of tokens.now) }
 {
-    if tokens.is_empty() {
-        Some(statement)
-    } else {
-        None
+    match tokens {
+        [] => Some(statement),
+        _ => None,
     }
 }
 
@@ -95,15 +94,13 @@ pub fn plan<'a>(alloc: Global, tokens: &[Token<'a>]) -> Result<Option<Statement<
 pub fn learn<'a>(tokens: &[Token<'a>]) -> Option<Statement<'a>>
     ensures { option_map statement_view result ≡ learn_form (lexemes_of tokens.now) }
 {
-    match tokens {
-        [Token::Name(name), Token::Name(word), Token::Name(source)] => {
-            if *word == "from" {
-                Some(Statement::Learn(name, source))
-            } else {
-                None
-            }
-        }
-        _ => None,
+    let [Token::Name(name), Token::Name(word), Token::Name(source)] = tokens else {
+        return None;
+    };
+    if *word == "from" {
+        Some(Statement::Learn(name, source))
+    } else {
+        None
     }
 }
 

@@ -92,21 +92,16 @@ impl Reader {
         requires few { new < 2 ^ 63 }
         ensures { IsFirstLimit result (over (declared_of self.now) limit.objects (length self.now.names.objects + new) ∷ []) }
     {
-        passed(
-            self.names.count(Kind::Object) as usize + new > 256,
-            Limit::Objects,
-        )
+        let count = self.names.count(Kind::Object) as usize;
+        passed(count + new > 256, Limit::Objects)
     }
 
     fn predicate_limit(&self, arity: u32) -> Option<Limit>
         ensures { IsFirstLimit result (over (declared_of self.now) limit.predicates (length self.now.names.predicates + 1)
             ∷ over (declared_of self.now) limit.arity arity ∷ []) }
     {
-        passed(
-            self.names.count(Kind::Predicate) + 1 > 64,
-            Limit::Predicates,
-        )
-        .or(passed(arity > 6, Limit::Arity))
+        let count = self.names.count(Kind::Predicate);
+        passed(count + 1 > 64, Limit::Predicates).or(passed(arity > 6, Limit::Arity))
     }
 
     fn axiom_limit(&self, literals: &[SignedAtom<'_>]) -> Result<Option<Limit>, NoMemory>
@@ -125,10 +120,8 @@ impl Reader {
         ensures { IsFirstLimit result (over (declared_of self.now) limit.operators (length self.now.names.operators + 1)
             ∷ over (declared_of self.now) limit.parameters parameters ∷ []) }
     {
-        passed(self.names.count(Kind::Operator) + 1 > 32, Limit::Operators).or(passed(
-            parameters > 8,
-            Limit::Parameters,
-        ))
+        let count = self.names.count(Kind::Operator);
+        passed(count + 1 > 32, Limit::Operators).or(passed(parameters > 8, Limit::Parameters))
     }
 
     fn plan_limit(&self, goal: &[SignedAtom<'_>]) -> Result<Option<Limit>, NoMemory>

@@ -162,13 +162,7 @@ impl<'a> Statement<'a> {
             | Statement::Box(_, _)
             | Statement::Robot(_) => Place::Inside(Block::Building),
             Statement::End => Place::Closes,
-            Statement::Plan(_, _)
-            | Statement::Learn(_, _)
-            | Statement::Show(_)
-            | Statement::DisturbAtoms(_, _, _)
-            | Statement::DisturbRooms(_, _, _)
-            | Statement::Run(_, _)
-            | Statement::Facts => Place::Command,
+            _ => Place::Command,
         }
     }
 

@@ -42,15 +42,11 @@ fn argument_and_sign<'a>(tokens: &[Token<'a>]) -> Option<(Argument<'a>, char)>
     ensures two { IfSome result (λ p. 2 ≤ length tokens.now) }
 {
     match tokens {
-        [item, Token::Sign(sign), ..] => match argument_of(*item) {
-            Some(argument) => Some((argument, *sign)),
-            None => None,
-        },
+        [item, Token::Sign(sign), ..] => Some((argument_of(*item)?, *sign)),
         _ => None,
     }
 }
 
-/// The same at a place.
 fn argument_at<'a>(tokens: &[Token<'a>], at: usize) -> Option<(Argument<'a>, char)>
     requires { at ≤ length tokens.now }
     ensures item { option_map (λ p. (argument_view p.0, p.1, lexemes_of (drop (at + 2) tokens.now))) result
@@ -135,13 +131,9 @@ pub fn listed_names<'a>(
     names_among(alloc, &arguments)
 }
 
-/// Does an opening parenthesis stand in front?
 fn opens(tokens: &[Token<'_>]) -> bool
     ensures opens { result ≡ opens (lexemes_of tokens.now) }
     ensures some { IsTrue result → 0 < length tokens.now }
 {
-    match tokens {
-        [Token::Sign(sign), ..] => *sign == '(',
-        _ => false,
-    }
+    matches!(tokens, [Token::Sign('('), ..])
 }

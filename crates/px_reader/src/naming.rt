@@ -17,7 +17,6 @@ pub fn place_of(name: &str, names: &[String]) -> Option<usize>
     names.iter().position(|other| name == other.as_str())
 }
 
-/// The name stands in a list.
 fn is_among(name: &str, names: &[String]) -> bool
     ensures { result ≡ has_name name.now (map string_bytes names.now) }
 {
@@ -43,12 +42,9 @@ impl Reader {
         ensures { MatchOption result (operator_here (declared_of self.now).block ≡ None)
             (λ o. operator_here (declared_of self.now).block ≡ Some (operator_view (length self.now.schemas.items) o.now)) }
     {
-        match &self.block {
-            Some(block) => match &block.kind {
-                BlockKind::Operator(operator) => Some(operator),
-                BlockKind::Building => None,
-            },
-            None => None,
+        match &self.block.as_ref()?.kind {
+            BlockKind::Operator(operator) => Some(operator),
+            BlockKind::Building => None,
         }
     }
 
@@ -58,10 +54,8 @@ impl Reader {
         ensures found { is_some result ≡ has_name name.now (parameters_here (declared_of self.now)) }
         ensures within { IfSome result (λ number. number < length (parameters_here (declared_of self.now))) }
     {
-        match self.open_operator() {
-            Some(operator) => place_of(name, &operator.parameters),
-            None => None,
-        }
+        let operator = self.open_operator()?;
+        place_of(name, &operator.parameters)
     }
 
     /// Some name of the line isn't declared in the kind of its place.
@@ -71,7 +65,6 @@ impl Reader {
         self.lack_names(statement.atoms()) || self.lacks_name(statement)
     }
 
-    /// Some predicate or argument isn't declared.
     fn lack_names(&self, atoms: &[SignedAtom<'_>]) -> bool
         ensures { result ≡ (list_any (λ atom. not (has_name atom.predicate.now self.now.names.predicates)) atoms.now
             || list_any (lacks_argument (declared_of self.now)) atoms.now) }
@@ -84,7 +77,7 @@ impl Reader {
     {
         atoms
             .iter()
-            .any(|atom| !self.has(Kind::Predicate, atom.predicate))
+            .any(|a| !self.has(Kind::Predicate, a.predicate))
     }
 
     fn lack_arguments(&self, atoms: &[SignedAtom<'_>]) -> bool
@@ -96,9 +89,7 @@ impl Reader {
     fn has_unknown_argument(&self, atom: &SignedAtom<'_>) -> bool
         ensures { result ≡ lacks_argument (declared_of self.now) atom.now }
     {
-        atom.arguments
-            .iter()
-            .any(|argument| !self.is_known(argument))
+        atom.arguments.iter().any(|x| !self.is_known(x))
     }
 
     fn is_known(&self, argument: &Argument<'_>) -> bool
@@ -156,9 +147,7 @@ impl Reader {
     fn lack_objects(&self, bindings: &[WrittenBinding<'_>]) -> bool
         ensures { result ≡ list_any (λ binding. lacks (declared_of self.now) (an_object, binding.object.now)) bindings.now }
     {
-        bindings
-            .iter()
-            .any(|binding| !self.has(Kind::Object, binding.object))
+        bindings.iter().any(|b| !self.has(Kind::Object, b.object))
     }
 
     /// Some atom has another number of arguments than its predicate.
@@ -204,9 +193,7 @@ impl Reader {
     fn has_unbound(&self, manner: Manner, atom: &SignedAtom<'_>) -> bool
         ensures { result ≡ refuses (declared_of self.now) (manner_view manner) atom.now }
     {
-        atom.arguments
-            .iter()
-            .any(|argument| !self.takes(manner, argument))
+        atom.arguments.iter().any(|x| !self.takes(manner, x))
     }
 
     /// The argument may stand in atoms of the manner.

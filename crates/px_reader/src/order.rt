@@ -1,7 +1,7 @@
 //! Lines that stand where they may not, or that aren't built.
 ghost use Rattle.std.specs.Prelude.{◌≡◌, ◌||◌};
 ghost use Rattle.px_reader.specs.Checks as checks;
-ghost use Rattle.px_reader.specs.Common.{list_any, option_map, is_out_of_order, declares_after_command, may_stand, is_late, has_two_domains, varies, varies_too_early, is_robot, has_robot, lacks_robot, has_building, block_here, has_parameter, is_unbuilt, line_of, block_view, place_view, stage_view, declared_of, statement_view};
+ghost use Rattle.px_reader.specs.Common.{list_any, option_map, is_out_of_order, may_stand, has_two_domains, varies, varies_too_early, is_robot, has_robot, lacks_robot, has_building, block_here, has_parameter, is_unbuilt, line_of, block_view, place_view, stage_view, declared_of, statement_view};
 
 use crate::line::{Block, Place};
 use crate::reader::Reader;
@@ -18,7 +18,6 @@ impl SignedAtom<'_> {
     }
 }
 
-/// Some atom has a variable.
 fn any_varies(atoms: &[SignedAtom<'_>]) -> bool
     ensures { result ≡ list_any checks.varies atoms.now }
 {
@@ -28,9 +27,7 @@ fn any_varies(atoms: &[SignedAtom<'_>]) -> bool
 fn any_robot(things: &[Thing]) -> bool
     ensures { result ≡ list_any is_robot things.now }
 {
-    things
-        .iter()
-        .any(|thing| matches!(thing, Thing::Robot { .. }))
+    things.iter().any(|t| matches!(t, Thing::Robot { .. }))
 }
 
 impl Statement<'_> {
@@ -45,7 +42,6 @@ impl Statement<'_> {
         }
     }
 
-    /// The line has a variable or a parameter.
     fn varies(&self) -> bool
         ensures { result ≡ varies (line_of (statement_view self.now)) }
     {
@@ -66,49 +62,30 @@ impl Reader {
         ensures { result ≡ is_out_of_order (declared_of self.now) (line_of (statement_view statement.now)) }
     {
         let place = statement.place();
-        self.declares_after_command(place)
+        (!matches!(place, Place::Command) && !self.commands.is_empty())
             || !self.may_stand(place)
-            || self.is_late(place)
+            || (matches!(place, Place::First) && self.begun)
             || self.has_two_domains(place)
             || self.varies_too_early(statement)
             || self.lacks_robot(place)
     }
 
-    fn declares_after_command(&self, place: Place) -> bool
-        ensures { result ≡ declares_after_command (declared_of self.now) (place_view place) }
-    {
-        !matches!(place, Place::Command) && !self.commands.is_empty()
-    }
-
-    /// What the open block is of.
     fn block_here(&self) -> Option<Block>
         ensures { option_map block_view result ≡ block_here (declared_of self.now) }
     {
-        match &self.block {
-            Some(block) => Some(block.kind.block()),
-            None => None,
-        }
+        Some(self.block.as_ref()?.kind.block())
     }
 
     /// The line may stand where this block is open, or none.
     fn may_stand(&self, place: Place) -> bool
         ensures { result ≡ may_stand (block_here (declared_of self.now)) (place_view place) }
     {
-        match self.block_here() {
-            None => !matches!(place, Place::Inside(_) | Place::Closes),
-            Some(Block::Operator) => {
-                matches!(place, Place::Inside(Block::Operator) | Place::Closes)
-            }
-            Some(Block::Building) => {
-                matches!(place, Place::Inside(Block::Building) | Place::Closes)
-            }
+        match (self.block_here(), place) {
+            (None, _) => !matches!(place, Place::Inside(_) | Place::Closes),
+            (Some(Block::Operator), Place::Inside(Block::Operator)) => true,
+            (Some(Block::Building), Place::Inside(Block::Building)) => true,
+            (Some(_), _) => matches!(place, Place::Closes),
         }
-    }
-
-    fn is_late(&self, place: Place) -> bool
-        ensures { result ≡ is_late (declared_of self.now) (place_view place) }
-    {
-        matches!(place, Place::First) && self.begun
     }
 
     /// A building stands beside a line that it excludes.
@@ -139,19 +116,16 @@ impl Reader {
     pub fn has_robot(&self) -> bool
         ensures { result ≡ has_robot (declared_of self.now) }
     {
-        match &self.things {
-            Some(things) => any_robot(things),
-            None => false,
-        }
+        matches!(&self.things, Some(things) if any_robot(things))
     }
 
     /// The building ends without a robot.
     fn lacks_robot(&self, place: Place) -> bool
         ensures { result ≡ lacks_robot (declared_of self.now) (block_here (declared_of self.now)) (place_view place) }
     {
-        match (self.block_here(), place) {
-            (Some(Block::Building), Place::Closes) => !self.has_robot(),
-            _ => false,
-        }
+        matches!(
+            (self.block_here(), place),
+            (Some(Block::Building), Place::Closes)
+        ) && !self.has_robot()
     }
 }

@@ -103,7 +103,6 @@ fn are_signed(manner: Manner, atoms: &[SignedAtom<'_>]) -> bool
     atoms.iter().all(|atom| manner.is_signed(atom.sign))
 }
 
-/// Edits are of the script's kind.
 fn is_of_script(manner: Manner, with_building: bool) -> bool
     ensures { (d : Declared) → has_building d ≡ with_building → result ≡ is_of_script d (manner_view manner) }
 {

@@ -86,10 +86,7 @@ impl Reader {
         requires { self.now.version ≡ 1 }
         ensures { result ≡ begins_with_word (declared_of self.now) (lexemes_of tokens.now) }
     {
-        match tokens {
-            [Token::Name(name), ..] => is_word(name),
-            _ => false,
-        }
+        matches!(tokens, [Token::Name(name), ..] if is_word(name))
     }
 
     /// Reads the next line, and answers its fault, if it has one.
@@ -153,26 +150,20 @@ impl Reader {
             ≡ early_fault (stage_view stage.now) (declared_of self.now) (statement_view statement.now)) }
     {
         if self.is_out_of_order(statement) {
-            return Ok(Some(Fault::Order));
-        }
-        if statement.is_unbuilt(stage) {
-            return Ok(Some(Fault::NotBuilt));
-        }
-        if self.has_unknown_name(statement) {
-            return Ok(Some(Fault::UnknownName));
-        }
-        if self.has_duplicate(statement)? {
-            return Ok(Some(Fault::Duplicate));
-        }
-        if self.has_wrong_arity(statement) {
-            return Ok(Some(Fault::Arity));
-        }
-        if self.is_unbound(statement) {
-            return Ok(Some(Fault::Unbound));
-        }
-        match self.passed_limit(statement)? {
-            Some(limit) => Ok(Some(Fault::Limit(limit))),
-            None => Ok(None),
+            Ok(Some(Fault::Order))
+        } else if statement.is_unbuilt(stage) {
+            Ok(Some(Fault::NotBuilt))
+        } else if self.has_unknown_name(statement) {
+            Ok(Some(Fault::UnknownName))
+        } else if self.has_duplicate(statement)? {
+            Ok(Some(Fault::Duplicate))
+        } else if self.has_wrong_arity(statement) {
+            Ok(Some(Fault::Arity))
+        } else if self.is_unbound(statement) {
+            Ok(Some(Fault::Unbound))
+        } else {
+            let limit = self.passed_limit(statement)?;
+            Ok(limit.map(|limit| Fault::Limit(limit)))
         }
     }
 
@@ -198,7 +189,6 @@ impl Reader {
     }
 }
 
-/// The building with these things, if there is one.
 fn building(things: Option<Vec<Thing>>) -> Option<Building>
     ensures { option_map (λ building. building.things) result ≡ option_map (λ things. things.items) things }
 {

@@ -1,7 +1,7 @@
 //! Reads all lines of an input.
 ghost use Rattle.std.specs.Prelude.{◌≡◌, ℕ, ◌<◌, ◌+◌, ◌-◌, ◌^◌, ◌==◌, IfOk, IfErr, OnOk, length, map, count_by};
 ghost use Rattle.px_script.specs.Lines.{without_mark, without_return};
-ghost use Rattle.px_script.specs.StageRanges.{IsOfStage};
+ghost use Rattle.px_script.specs.Ranges.{IsOfStage};
 ghost use Rattle.px_script.specs.Scripts.{PassAll, IsScript, FirstFault};
 ghost use Rattle.px_reader.specs.Common.{slice_split, ScriptValue, nothing_declared, Refusal, stage_now, characters_of, stage_view, LinesFail, HasFirstFault, IsRead, IsRefused, content, told, declared_of};
 
@@ -49,7 +49,6 @@ fn refused(line: u32, fault: Fault) -> ScriptErr
     ScriptErr::Refused(Refused { line, code, limit })
 }
 
-/// Reads the lines in turn.
 fn read_each(stage: &[&str], reader: &mut Reader, lines: &[&str]) -> Result<(), ScriptErr>
     requires start { declared_of reader.old ≡ nothing_declared }
     requires few { length lines.now < 2 ^ 32 }
@@ -67,7 +66,6 @@ fn read_each(stage: &[&str], reader: &mut Reader, lines: &[&str]) -> Result<(), 
     Ok(())
 }
 
-/// Reads the lines of a text.
 fn read_text(alloc: Global, stage: &[&str], text: &str) -> Result<Script, ScriptErr>
     requires { length text.now < 2 ^ 32 - 1 }
     ensures script { IfOk result (λ script. IsScript (stage_view stage.now) text.now (content script)) }
@@ -112,8 +110,7 @@ fn read_at(alloc: Global, stage: &[&str], bytes: &[u8]) -> Result<Script, Script
 /// Reads a script of version 1, or finds its first fault.
 ///
 /// # Errors
-/// `Refused` where the bytes are no script, with the first fault. `NoMemory` where memory runs out: no clause says when it
-/// comes.
+/// `Refused` where the bytes are no script, with the first fault. `NoMemory` where memory runs out: no clause says when that is.
 pub fn read_script(alloc: Global, bytes: &[u8]) -> Result<Script, ScriptErr>
     requires { length bytes.now < 2 ^ 32 - 1 }
     ensures script { IfOk result (λ script. IsScript stage_now bytes.now (content script)) }

@@ -32,17 +32,15 @@ fn atom_after<'a>(
     let [Token::Name(predicate), after @ ..] = tokens else {
         return Ok(None);
     };
-    match arguments(alloc, after)? {
-        Some((arguments, count)) => Ok(Some((
-            SignedAtom {
-                sign,
-                predicate,
-                arguments,
-            },
-            count + 1,
-        ))),
-        None => Ok(None),
-    }
+    let Some((arguments, count)) = arguments(alloc, after)? else {
+        return Ok(None);
+    };
+    let atom = SignedAtom {
+        sign,
+        predicate,
+        arguments,
+    };
+    Ok(Some((atom, count + 1)))
 }
 
 /// The atom in front, with a sign or none, and how many tokens both take.
@@ -92,10 +90,7 @@ fn room_edit_for<'a>(
             _ => None,
         },
         "door" => match after {
-            [Token::Name(state), ..] => match open_of(state) {
-                Some(is_open) => Some((WrittenRoomEdit::DoorTo(name, is_open), 1)),
-                None => None,
-            },
+            [Token::Name(state), ..] => Some((WrittenRoomEdit::DoorTo(name, open_of(state)?), 1)),
             _ => None,
         },
         _ => None,
@@ -107,15 +102,11 @@ fn room_edit<'a>(tokens: &[Token<'a>]) -> Option<(WrittenRoomEdit<'a>, usize)>
     ensures found { front_view room_edit_view tokens.now result ≡ room_edit_at (lexemes_of tokens.now) }
     ensures within { IfSome result (λ p. (0 < p.1) × (p.1 ≤ length tokens.now)) }
 {
-    match tokens {
-        [Token::Name(word), Token::Name(name), after @ ..] => {
-            match room_edit_for(word, name, after) {
-                Some((edit, count)) => Some((edit, count + 2)),
-                None => None,
-            }
-        }
-        _ => None,
-    }
+    let [Token::Name(word), Token::Name(name), after @ ..] = tokens else {
+        return None;
+    };
+    let (edit, count) = room_edit_for(word, name, after)?;
+    Some((edit, count + 2))
 }
 
 /// The number of a parameter by its name, which is the letter p and the number from 1 to 9999.
@@ -137,13 +128,11 @@ fn binding<'a>(tokens: &[Token<'a>]) -> Option<(WrittenBinding<'a>, usize)>
     ensures found { front_view binding_view tokens.now result ≡ binding_at (lexemes_of tokens.now) }
     ensures within { IfSome result (λ p. (0 < p.1) × (p.1 ≤ length tokens.now)) }
 {
-    match tokens {
-        [Token::Name(name), Token::Sign('='), Token::Name(object), ..] => match parameter_of(name) {
-            Some(parameter) => Some((WrittenBinding { parameter, object }, 3)),
-            None => None,
-        },
-        _ => None,
-    }
+    let [Token::Name(name), Token::Sign('='), Token::Name(object), ..] = tokens else {
+        return None;
+    };
+    let parameter = parameter_of(name)?;
+    Some((WrittenBinding { parameter, object }, 3))
 }
 
 // Alike: the three functions below, one for each kind of thing, since each reads another type of things.
@@ -158,13 +147,11 @@ pub fn atoms<'a>(
     let mut atoms = Vec::new(alloc);
     let mut at = 0;
     'things: while at < tokens.len() {
-        match atom(alloc, &tokens[at..])? {
-            Some((atom, count)) => {
-                atoms.push(atom)?;
-                at += count;
-            }
-            None => return Ok(None),
-        }
+        let Some((atom, count)) = atom(alloc, &tokens[at..])? else {
+            return Ok(None);
+        };
+        atoms.push(atom)?;
+        at += count;
     }
     Ok(Some(atoms))
 }
@@ -179,13 +166,11 @@ pub fn room_edits<'a>(
     let mut edits = Vec::new(alloc);
     let mut at = 0;
     'things: while at < tokens.len() {
-        match room_edit(&tokens[at..]) {
-            Some((edit, count)) => {
-                edits.push(edit)?;
-                at += count;
-            }
-            None => return Ok(None),
-        }
+        let Some((edit, count)) = room_edit(&tokens[at..]) else {
+            return Ok(None);
+        };
+        edits.push(edit)?;
+        at += count;
     }
     Ok(Some(edits))
 }
@@ -200,13 +185,11 @@ pub fn bindings<'a>(
     let mut bindings = Vec::new(alloc);
     let mut at = 0;
     'things: while at < tokens.len() {
-        match binding(&tokens[at..]) {
-            Some((binding, count)) => {
-                bindings.push(binding)?;
-                at += count;
-            }
-            None => return Ok(None),
-        }
+        let Some((binding, count)) = binding(&tokens[at..]) else {
+            return Ok(None);
+        };
+        bindings.push(binding)?;
+        at += count;
     }
     Ok(Some(bindings))
 }

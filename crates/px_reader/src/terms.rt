@@ -79,7 +79,6 @@ pub fn has_many_variables(alloc: Global, atoms: &[SignedAtom<'_>]) -> Result<boo
     Ok(variables.len() > 12)
 }
 
-/// The number of a variable.
 fn variable_number(variables: &[&str], name: &str) -> u32
     requires { length variables.now ≤ 12 }
     ensures { result ≡ number_in name.now (map text_of variables.now) }
@@ -91,7 +90,6 @@ fn variable_number(variables: &[&str], name: &str) -> u32
 }
 
 impl Reader {
-    /// The term of an argument.
     fn term(&self, variables: &[&str], argument: &Argument<'_>) -> Term
         requires few { length (parameters_here (declared_of self.now)) ≤ 8 }
         requires few_variables { length variables.now ≤ 12 }
@@ -197,10 +195,7 @@ impl Reader {
         ensures { IfOk result (λ numbered. numbered.items
             ≡ map (λ edit. room_edit_of (declared_of self.now) (room_edit_view edit)) edits.now) }
     {
-        let numbered = edits
-            .iter()
-            .map(|edit| self.room_edit(edit))
-            .collect(self.alloc)?;
+        let numbered = edits.iter().map(|e| self.room_edit(e)).collect(self.alloc)?;
         Ok(numbered)
     }
 

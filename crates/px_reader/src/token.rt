@@ -115,10 +115,7 @@ fn number_at(text: &str) -> Result<Option<(Token<'_>, &str)>, BadToken>
 fn goes_on(text: &str) -> bool
     ensures { result ≡ goes_on (chars text.now) }
 {
-    match split_first(text) {
-        Some((first, _)) => unicode_ident::is_xid_continue(first),
-        None => false,
-    }
+    matches!(split_first(text), Some((first, _)) if unicode_ident::is_xid_continue(first))
 }
 
 // The number that digits stand for, up to 32 bits.
@@ -130,7 +127,6 @@ fn number_value(digits: &str) -> u32
     digits.parse().unwrap_or(u32::MAX)
 }
 
-// A class of characters.
 #[derive(Clone, Copy)]
 enum Class {
     Blank,
@@ -139,7 +135,6 @@ enum Class {
 }
 
 impl Class {
-    // Whether a character is of the class.
     fn has(self, ch: char) -> bool
         ensures { result ≡ is_of self ch }
     {

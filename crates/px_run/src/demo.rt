@@ -3,7 +3,7 @@ ghost use Rattle.std.specs.Prelude.{◌≡◌, ◌≤◌, IfOk, ◌∷◌, [], c
 ghost use Rattle.std.specs.Fmt.{decimal};
 ghost use Rattle.px_printer.specs.Texts.{line};
 ghost use Rattle.px_reader.specs.LineReads.{content};
-ghost use Rattle.px_script.specs.StageRanges.{IsOfStage};
+ghost use Rattle.px_script.specs.Ranges.{IsOfStage};
 ghost use Rattle.px_script.specs.Stages.{stage_now};
 ghost use Rattle.px_session.specs.Opened.{opened};
 ghost use Rattle.px_run.specs.Outcomes.{sink_ends, DemoRight, SumRight};

@@ -2,7 +2,7 @@
 ghost use Rattle.std.specs.Prelude.{◌≡◌, ◌+◌, List, ℕ, Some, map, length};
 ghost use Rattle.std.specs.Io.KnownBytes.{Consumes};
 ghost use Rattle.px_reader.specs.LineReads.{content};
-ghost use Rattle.px_script.specs.StageRanges.{IsOfStage};
+ghost use Rattle.px_script.specs.Ranges.{IsOfStage};
 ghost use Rattle.px_script.specs.Stages.{stage_now};
 ghost use Rattle.px_session.specs.Opened.{opened};
 ghost use Rattle.px_words.specs.Orders.{order_of};

@@ -123,7 +123,8 @@ fn moving_marks(scene: Scene) -> [Mark; 7] {
     ]
 }
 
-/// The table of that many parameters that goes through the door and pushes the box through the other one, so that some box is there.
+/// The table of that many parameters that goes through the scene's door and pushes the box through its door back, so that some box is
+/// there.
 pub fn moving(alloc: Global, params: u32, scene: Scene) -> Option<Table> {
     let steps = [
         instance(0, &[scene.door, scene.here, scene.there]),

@@ -1,15 +1,7 @@
 -- The atoms of a line without a fault are the problem's, and their variables are numbered in the order in which they first occur.
-use Rattle.px_script.specs.Items.{Argument, SignedAtom, named, open_variable, anything, is_variable, is_empty}
-use Rattle.px_script.specs.Statements.{Statement, Line, Manner, patterns, line_of}
-use Rattle.px_script.specs.Declarations.{Declared, number_in, parameters_here, with_variable, variables_of, term_of, atom_of}
+use Rattle.px_script.proofs.Common.{Argument, SignedAtom, named, open_variable, anything, is_variable, is_empty, Statement, Line, Manner, patterns, line_of, Declared, number_in, parameters_here, with_variable, variables_of, term_of, atom_of, is_known_argument, takes, varies, varies_too_early, own_problem, variable_in, first_occurrences, AreNumbered, ◌≡◌, ℕ, suc, ◌+◌, ◌<◌, ◌≤◌, Bool, true, false, not, ◌&&◌, ◌||◌, ◌==◌, List, [], ◌∷◌, ◌++◌, map, length, refl, sym, ap, ◌∙◌, subst, arith, append_assoc, append-nil, eqb-true, length-append, nat_lt, All, fold, slice_index, list_any, flat_map, filter, filter_map, range_with_len, slice_index_or, nat_tests, not-false, or_parts, length-map, map-append, All-map, both_answers, has_name, Term, Obj, Var, Any, HasArity, IsTermOf, IsPatternTermOf, IsAtomOf, IsPatternOf, filter_agree, list_any_none}
 use Rattle.px_script.specs.Forms as forms
-use Rattle.px_script.specs.Causes.{is_known_argument, takes, varies, varies_too_early}
-use Rattle.px_script.specs.Content.{own_problem}
-use Rattle.px_script.specs.Ranges.{variable_in, first_occurrences, AreNumbered}
-use Rattle.px_script.proofs.Common.{◌≡◌, ℕ, suc, ◌+◌, ◌<◌, ◌≤◌, Bool, true, false, not, ◌&&◌, ◌||◌, ◌==◌, List, [], ◌∷◌, ◌++◌, map, length, refl, sym, ap, ◌∙◌, subst, arith, append_assoc, append-nil, eqb-true, length-append, nat_lt, All, fold, slice_index, list_any, flat_map, filter, filter_map, range_with_len, nat_tests, not-false, or_parts, length-map, map-append, All-cons, All-nil, list_any-append, both_answers, has_name, Term, Obj, Var, Any, HasArity, IsTermOf, IsPatternTermOf, IsAtomOf, IsPatternOf}
-use Rattle.std.proofs.lemmas.List.Elements.{filter_agree}
-use Rattle.std.proofs.lemmas.List.Folds.{list_any_none}
-use Rattle.px_script.proofs.Lists.{by_test, each-fails, number-below, number-kept, number-new, known-still, known-last}
+use Rattle.px_script.proofs.Lists.{by_test, each-fails, list_any_flat, number-below, number-kept, number-new, known-still, known-last}
 use Rattle.px_script.proofs.Faultless.{IsRight}
 use Rattle.px_script.proofs.States.{AreInRange}
 
@@ -54,8 +46,7 @@ first-number least m count k ns same counts later =
 variables-more : (arguments : List Argument) (seen : List (List ℕ))
     → (more : List (List ℕ)) × (fold with_variable seen arguments ≡ seen ++ more)
 variables-more [] seen = ([], sym (append-nil seen))
-variables-more (open_variable v ∷ rest) seen = by_test (has_name v seen)
-    (λ e. rw e (variables-more rest seen))
+variables-more (open_variable v ∷ rest) seen = by_test (has_name v seen) (λ e. rw e (variables-more rest seen))
     (λ e. let later = variables-more rest (seen ++ v ∷ []) in rw e (v ∷ later.0, later.1 ∙ append_assoc seen (v ∷ []) later.0))
 variables-more (_ ∷ rest) seen = variables-more rest seen
 
@@ -75,8 +66,7 @@ is_term anything = false
 is_term _ = true
 
 listed-in : (arguments : List Argument) (seen all : List (List ℕ)) → all ≡ fold with_variable seen arguments
-    → list_any (λ a. not (is_term a)) arguments ≡ false
-    → list_any (λ a. not (is_listed all a)) arguments ≡ false
+    → list_any (λ a. not (is_term a)) arguments ≡ false → list_any (λ a. not (is_listed all a)) arguments ≡ false
 listed-in [] seen all whole plain = refl
 listed-in (named n ∷ rest) seen all whole plain = listed-in rest seen all whole plain
 listed-in (anything ∷ rest) seen all whole plain = cc
@@ -95,10 +85,8 @@ module _ (objects : List (List ℕ)) where
       → variables ≡ fold with_variable seen arguments
       → filter (is_from (length seen)) (first_occurrences (occurrences variables arguments)) ≡ range_with_len (length seen) (length more)
   numbered-from [] seen more variables whole all =
-      let none : length more ≡ 0 = let a = ap length (sym whole ∙ all) in omega (arith, a, length-append seen more) in
-      rw none refl
-  numbered-from (open_variable v ∷ rest) seen more variables whole all = by_test (has_name v seen)
-      (λ e.
+      let none : length more ≡ 0 = let a = ap length (sym whole ∙ all) in omega (arith, a, length-append seen more) in rw none refl
+  numbered-from (open_variable v ∷ rest) seen more variables whole all = by_test (has_name v seen) (λ e.
       let kept : number_in v variables ≡ number_in v seen = ap (number_in v) whole ∙ number-kept v seen more e in
       let below : number_in v variables < length seen = let b = number-below v seen e in omega (arith, kept, b) in
       let out : is_from (length seen) (number_in v variables) ≡ false = grind (arith, nat_tests, below) in
@@ -118,13 +106,6 @@ module _ (objects : List (List ℕ)) where
       (first_occurrences (occurrences variables rest)) number longer (subst L count later))
   numbered-from (_ ∷ rest) seen more variables whole all = numbered-from rest seen more variables whole all
 
-  numbered-all : (arguments : List Argument)
-      → first_occurrences (occurrences (fold with_variable [] arguments) arguments)
-      ≡ range_with_len 0 (length (fold with_variable [] arguments))
-  numbered-all arguments =
-      let variables = fold with_variable [] arguments in
-      sym (filter-whole (first_occurrences (occurrences variables arguments))) ∙ numbered-from arguments [] variables variables refl refl
-
 -- the terms of atoms, in a row
 args-of : (d : Declared) (variables : List (List ℕ)) (xs : List SignedAtom)
     → flat_map (λ atom. atom.args) (map (atom_of d variables) xs) ≡ map (term_of (parameters_here d) variables d.names.objects)
@@ -137,10 +118,10 @@ args-of d variables (x ∷ xs) =
 pub numbered : (d : Declared) (xs : List SignedAtom) → parameters_here d ≡ []
     → AreNumbered (length (variables_of xs)) (map (atom_of d (variables_of xs)) xs)
 numbered d xs none =
-    let P : List (List ℕ) → Type 0 = λ ps. first_occurrences (filter_map variable_in
-    (map (term_of ps (variables_of xs) d.names.objects) (arguments_of xs))) ≡ range_with_len 0 (length (variables_of xs)) in
-    ap (λ t. first_occurrences (filter_map variable_in t)) (args-of d (variables_of xs) xs)
-    ∙ subst P (sym none) (numbered-all d.names.objects (arguments_of xs))
+    ap (λ t. first_occurrences (filter_map variable_in t)) (args-of d (variables_of xs) xs
+    ∙ ap (λ ps. map (term_of ps (variables_of xs) d.names.objects) (arguments_of xs)) none)
+    ∙ sym (filter-whole (first_occurrences (occurrences d.names.objects (variables_of xs) (arguments_of xs))))
+    ∙ numbered-from d.names.objects (arguments_of xs) [] (variables_of xs) (variables_of xs) refl refl
 
 -- arguments without variables
 variables-none : (arguments : List Argument) → list_any is_variable arguments ≡ false → fold with_variable [] arguments ≡ []
@@ -176,8 +157,7 @@ module _ (d : Declared) (predicates : length d.arities ≡ length d.names.predic
   term = term_of (parameters_here d) variables d.names.objects
 
   term-is : (argument : Argument) → is_known_argument d argument ≡ true → accepts argument ≡ true → P (term argument)
-  term-is (named n) known right = by_test (has_name n (parameters_here d))
-      (λ e. let below = number-below n (parameters_here d) e in
+  term-is (named n) known right = by_test (has_name n (parameters_here d)) (λ e. let below = number-below n (parameters_here d) e in
       rw e (a.variable (number_in n (parameters_here d)) (omega (arith, below, a.parameters))))
       (λ e. rw e (a.object (number_in n d.names.objects)
       (number-below n d.names.objects (or-left (has_name n d.names.objects) (has_name n (parameters_here d)) known e))))
@@ -191,35 +171,25 @@ module _ (d : Declared) (predicates : length d.arities ≡ length d.names.predic
 
   terms-are : (arguments : List Argument) → list_any (λ x. not (is_known_argument d x)) arguments ≡ false
       → list_any (λ x. not (accepts x)) arguments ≡ false → All P (map term arguments)
-  terms-are [] known right = All-nil P
-  terms-are (x ∷ more) known right =
-      let k = or_parts (not (is_known_argument d x)) (list_any (λ y. not (is_known_argument d y)) more) known in
-      let s = or_parts (not (accepts x)) (list_any (λ y. not (accepts y)) more) right in
-      All-cons P (term x) (map term more) (term-is x (not-false _ k.0) (not-false _ s.0)) (terms-are more k.1 s.1)
+  terms-are arguments known right =
+      let k = each-fails _ (λ x. is_known_argument d x ≡ true) (λ x e. not-false _ e) arguments known in
+      let s = each-fails _ (λ x. accepts x ≡ true) (λ x e. not-false _ e) arguments right in
+      All-map P term arguments (λ i x below. term-is _ (k i x below) (s i x below))
 
-  arity-is : (x : SignedAtom) → has_name x.atom.predicate d.names.predicates ≡ true → has_other_arity d x ≡ false
-      → HasArity (own_problem d) (atom_of d variables x)
-  arity-is x known right =
-      let below = number-below x.atom.predicate d.names.predicates known in
-      (omega (arith, below, predicates), length-map x.atom.arguments term ∙ eqb-true _ _ (not-false _ right))
-
-  split : (p : Argument → Bool) (x : SignedAtom) (more : List SignedAtom) → list_any p (arguments_of (x ∷ more)) ≡ false
-      → (list_any p x.atom.arguments ≡ false) × (list_any p (arguments_of more) ≡ false)
-  split p x more none = or_parts (list_any p x.atom.arguments) (list_any p (arguments_of more))
-      (sym (list_any-append p x.atom.arguments (arguments_of more)) ∙ none)
+  each-part : (p : Argument → Bool) (xs : List SignedAtom) → list_any p (arguments_of xs) ≡ false
+      → All (λ x. list_any p x.atom.arguments ≡ false) xs
+  each-part p xs none = each-fails _ _ (λ x e. e) xs (sym (list_any_flat p (λ x. x.atom.arguments) xs) ∙ none)
 
   atoms-are : {manner : Manner} (xs : List SignedAtom) → AreRight d manner xs → list_any (λ x. not (accepts x)) (arguments_of xs) ≡ false
       → All (λ atom. HasArity (own_problem d) atom × All P atom.args) (map (atom_of d variables) xs)
-  atoms-are [] are right = All-nil _
-  atoms-are (x ∷ more) are right =
-      let n = or_parts (not (has_name x.atom.predicate d.names.predicates)) _ are.declared in
-      let k = split (λ y. not (is_known_argument d y)) x more are.known in
-      let r = or_parts (has_other_arity d x) (list_any (has_other_arity d) more) are.arity in
-      let b = split (λ y. not (takes d _ y)) x more are.bound in
-      let s = split (λ y. not (accepts y)) x more right in
-      All-cons (λ atom. HasArity (own_problem d) atom × All P atom.args) _ _
-      (arity-is x (not-false _ n.0) r.0, terms-are x.atom.arguments k.0 s.0)
-      (atoms-are more (record { declared = n.1; known = k.1; arity = r.1; bound = b.1 }) s.1)
+  atoms-are xs are right =
+      let n = each-fails _ (λ x. has_name x.atom.predicate d.names.predicates ≡ true) (λ x e. not-false _ e) xs are.declared in
+      let r = each-fails (has_other_arity d) (λ x. has_other_arity d x ≡ false) (λ x e. e) xs are.arity in
+      let k = each-part (λ y. not (is_known_argument d y)) xs are.known in let s = each-part (λ y. not (accepts y)) xs right in
+      All-map (λ atom. HasArity (own_problem d) atom × All P atom.args) (atom_of d variables) xs (λ i e below.
+      let b = number-below _ d.names.predicates (n i e below) in
+      let size = length-map (slice_index_or xs i e).atom.arguments term ∙ eqb-true _ _ (not-false _ (r i e below)) in
+      ((omega (arith, b, predicates), size), terms-are _ (k i e below) (s i e below)))
 
 -- ---- the atoms of a line
 
@@ -233,9 +203,7 @@ of-items p all xs is none = ap (list_any p) (sym (append-nil xs) ∙ sym is) ∙
 
 pub atoms-right : (d : Declared) (s : Statement) (xs : List SignedAtom) → HasAtoms (line_of s) xs → IsRight d s
     → AreRight d (line_of s).manner xs
-atoms-right d s xs has right =
-    let outer = or_parts _ _ right.known in
-    let inner = or_parts _ _ outer.0 in
+atoms-right d s xs has right = let outer = or_parts _ _ right.known in let inner = or_parts _ _ outer.0 in
     record {
       declared = of-items _ (forms.atoms_of (line_of s)) xs has.atoms inner.0;
       known = of-items _ (forms.arguments_of (line_of s)) (arguments_of xs) has.arguments inner.1;
@@ -265,8 +233,7 @@ none-few n = omega arith
 module _ (d : Declared) (r : AreInRange d) (xs : List SignedAtom) where
   -- a line whose atoms have names alone as arguments
   pub atoms-with : (manner : Manner) → takes d manner anything ≡ false → ((v : List ℕ) → takes d manner (open_variable v) ≡ false)
-      → (vars : ℕ) → length (parameters_here d) ≤ vars → AreRight d manner xs
-      → All (IsAtomOf (own_problem d) vars) (map (atom_of d []) xs)
+      → (vars : ℕ) → length (parameters_here d) ≤ vars → AreRight d manner xs → All (IsAtomOf (own_problem d) vars) (map (atom_of d []) xs)
   atoms-with manner wild variable vars parameters right =
       atoms-are d r.problem.predicates [] vars (takes d manner) (IsTermOf (own_problem d) vars) (search (none-few, both_answers))
       xs right right.bound
@@ -281,17 +248,13 @@ module _ (d : Declared) (r : AreInRange d) (xs : List SignedAtom) where
   pub atoms-open : parameters_here d ≡ [] → (manner : Manner) → takes d manner anything ≡ false → AreRight d manner xs
       → All (IsAtomOf (own_problem d) (length (variables_of xs))) (map (atom_of d (variables_of xs)) xs)
   atoms-open none manner wild right =
+      let here : length (parameters_here d) ≤ length (variables_of xs) = omega (arith, ap length none) in
       atoms-are d r.problem.predicates (variables_of xs) (length (variables_of xs)) (is_listed (variables_of xs))
-      (IsTermOf (own_problem d) (length (variables_of xs))) (record {
-        object = λ k below. below;
-        variable = λ k below. below;
-        wild = λ e. cc;
-        bound = λ v e. e;
-        parameters = omega (arith, ap length none);
-        few = omega arith;
-      }) xs right
+      (IsTermOf (own_problem d) (length (variables_of xs)))
+      (record { object = λ k b. b; variable = λ k b. b; wild = λ e. cc; bound = λ v e. e; parameters = here; few = omega arith })
+      xs right
       (listed-in (arguments_of xs) [] (variables_of xs) refl (list_any_none _ (arguments_of xs)
-      (each-fails (λ a. not (takes d manner a)) (λ a. not (is_term a) ≡ false) term-only (arguments_of xs) right.bound)))
+      (each-fails _ _ term-only (arguments_of xs) right.bound)))
     where
       term-only : (a : Argument) → not (takes d manner a) ≡ false → not (is_term a) ≡ false
       term-only anything e = both_answers (takes d manner anything) wild (not-false (takes d manner anything) e)

@@ -1,7 +1,6 @@
 -- The things of a building by their numbers, where there is one thing more; and what a building is in the end: its things are a building.
-use Rattle.px_rooms.specs.States.{IsBuilding, IsDoorOrNone, thing_at}
+use Rattle.px_script.proofs.Common.{IsBuilding, IsDoorOrNone, thing_at, ◌≡◌, ℕ, zero, suc, ◌+◌, ◌≤◌, true, false, List, [], ◌∷◌, ◌++◌, length, refl, sym, ap, ◌∙◌, subst, arith, length-append, All, AllByRecursion, Option, None, Some, slice_get, slice_index_or, list_any, All-append, All-from_recursion, All-push, has_name, Standing, a_room, a_door, a_box, IsBoxAt, IsDoorAt, IsRoomAt, StandsRight, robot_rooms, standings, robots-more, standings-more, Thing, is_robot, Roles, number_in, IsThingAfter}
 use Rattle.px_world.specs.declared.thing.Thing.TheVariants as thing
-use Rattle.px_script.proofs.Common.{◌≡◌, ℕ, zero, suc, ◌+◌, ◌≤◌, true, false, List, [], ◌∷◌, ◌++◌, length, refl, sym, ap, ◌∙◌, subst, arith, length-append, All, AllByRecursion, Option, None, Some, slice_get, slice_index_or, list_any, All-append, All-from_recursion, All-push, has_name, Standing, a_room, a_door, a_box, IsBoxAt, IsDoorAt, IsRoomAt, StandsRight, robot_rooms, standings, robots-more, standings-more, Thing, is_robot, Roles, number_in, IsThingAfter}
 use Rattle.px_script.proofs.Lists.{by_test, number-kept, number-unknown, number-new, each-more}
 use Rattle.px_script.proofs.States.{AreRolesOf, AreStanding}
 
@@ -29,16 +28,10 @@ pub rooms-kind : IsKind IsRoomAt
 rooms-kind = record { kept = λ old more k is. at-kept old more k a_room is; no_robot = λ things is. cc }
 
 pub doors-kind : IsKind IsDoorAt
-doors-kind = record {
-  kept = λ old more k is. (is.0, is.1, is.2, at-kept old more k (a_door is.0 is.1 is.2) is.3);
-  no_robot = λ things is. let e = is.3 in cc;
-}
+doors-kind = record { kept = λ old more k is. (is.0, is.1, is.2, at-kept old more k _ is.3); no_robot = λ things is. let e = is.3 in cc }
 
 pub boxes-kind : IsKind IsBoxAt
-boxes-kind = record {
-  kept = λ old more k is. (is.0, is.1, at-kept old more k (a_box is.0 is.1) is.2);
-  no_robot = λ things is. let e = is.2 in cc;
-}
+boxes-kind = record { kept = λ old more k is. (is.0, is.1, at-kept old more k _ is.2); no_robot = λ things is. let e = is.2 in cc }
 
 -- ---- the names of a kind
 
@@ -49,24 +42,17 @@ module _ (P : List Standing → ℕ → Type 0) (kind : IsKind P) where
   -- a name of the kind is an object's
   pub kind-known : (objects : List (List ℕ)) (things : List Standing) (n : List ℕ) → P things (number_in n objects)
       → has_name n objects ≡ true
-  kind-known objects things n is = by_test (has_name n objects)
-      (λ e. e)
+  kind-known objects things n is = by_test (has_name n objects) (λ e. e)
       (λ e. absurd (kind.no_robot things (subst (P things) (number-unknown n objects e) is)))
 
   -- a name keeps its kind where there are more objects and things
-  name-kept : (objects more : List (List ℕ)) (things others : List Standing) (n : List ℕ) → P things (number_in n objects)
-      → P (things ++ others) (number_in n (objects ++ more))
-  name-kept objects more things others n is = subst (P (things ++ others))
-      (sym (number-kept n objects more (kind-known objects things n is))) (kind.kept things others (number_in n objects) is)
-
   pub kind-kept : (objects more new : List (List ℕ)) (things after : List Thing) (others : List Standing) (names : List (List ℕ))
       → new ≡ objects ++ more → standings after ≡ standings things ++ others → AreOfKind P objects things names
       → AreOfKind P new after names
   kind-kept objects more new things after others names objects_are things_are all = λ k d below.
-      let n = slice_index_or names k d in
-      subst (λ o. P (standings after) (number_in n o)) (sym objects_are)
-      (subst (λ xs. P xs (number_in n (objects ++ more))) (sym things_are)
-      (name-kept objects more (standings things) others n (all k d below)))
+      let n = slice_index_or names k d in let is = all k d below in subst (λ o. P (standings after) (number_in n o)) (sym objects_are)
+      (subst (λ xs. P xs (number_in n (objects ++ more))) (sym things_are) (subst (P (standings things ++ others))
+      (sym (number-kept n objects more (kind-known objects (standings things) n is))) (kind.kept (standings things) others _ is)))
 
   -- a new name is that of the new thing
   pub kind-more : (objects : List (List ℕ)) (n : List ℕ) (things : List Thing) (t : Thing) (one : Standing) (names : List (List ℕ))
@@ -118,20 +104,16 @@ next-robot before _ is = tt
 
 pub standing-more : (things : List Thing) (t : Thing) → AreStanding things → IsThingAfter things t
     → length (robot_rooms things) + length (robot_rooms (t ∷ [])) ≤ 1 → AreStanding (things ++ t ∷ [])
-standing-more things t old is single =
-    let after = standings-more things t in
-    let robots_after = robots-more things t in
-    let xs = standings things in
-    let more = standings (t ∷ []) in
+standing-more things t old is single = let after = standings-more things t in let robots_after = robots-more things t in
+    let xs = standings things in let more = standings (t ∷ []) in
     let all_right = All-append (StandsRight xs) xs more old.right (All-from_recursion _ more (next-right things t is)) in
     let all_robots = All-append (IsRoomAt xs) (robot_rooms things) _ old.robots
     (All-from_recursion _ (robot_rooms (t ∷ [])) (next-robot things t is)) in
-    let R : List Standing → Type 0 = λ ys. All (StandsRight ys) ys in
-    let S : List ℕ → Type 0 = λ rs. All (IsRoomAt (xs ++ more)) rs in
     let T : List Standing → Type 0 = λ ys. All (IsRoomAt ys) (robot_rooms (things ++ t ∷ [])) in
+    let robots = subst (All (IsRoomAt (xs ++ more))) (sym robots_after) (λ k d below. rooms-kind.kept xs more _ (all_robots k d below)) in
     record {
-      right = subst R (sym after) (λ k d below. stands-kept xs more _ (all_right k d below));
-      robots = subst T (sym after) (subst S (sym robots_after) (λ k d below. rooms-kind.kept xs more _ (all_robots k d below)));
+      right = subst (λ ys. All (StandsRight ys) ys) (sym after) (λ k d below. stands-kept xs more _ (all_right k d below));
+      robots = subst T (sym after) robots;
       one_robot = omega (arith, ap length robots_after, length-append (robot_rooms things) (robot_rooms (t ∷ [])), single);
       earlier = each-more IsThingAfter things t thing.Room old.earlier is;
     }
@@ -152,7 +134,5 @@ robots-some (_ ∷ things) there = robots-some things there
 
 -- things that stand right are a building where there is a robot
 pub is-building : (things : List Thing) → AreStanding things → 1 ≤ length (robot_rooms things) → IsBuilding things
-is-building things are some = (
-  omega (arith, some, are.one_robot),
-  record { robot_room = are.robots 0 0 some; robot_beside = tt; things = are.right },
-)
+is-building things are some =
+    (omega (arith, some, are.one_robot), record { robot_room = are.robots 0 0 some; robot_beside = tt; things = are.right })

@@ -31,11 +31,8 @@ pub record IsFaultless (d : Declared) (s : Statement) : Type 0 where
   pub limits : AllByRecursion (λ test. test.0 ≡ false) (own_limits d s)
 
 pub stands-right : (d : Declared) (l : Line) → is_out_of_order d l ≡ false → StandsRight d l
-stands-right d l e =
-    let a = or_parts _ (lacks_robot d (block_here d) l.place) e in
-    let b = or_parts _ (varies_too_early d l) a.0 in
-    let c = or_parts _ (has_two_domains d l.place) b.0 in
-    let f = or_parts _ (is_late d l.place) c.0 in
+stands-right d l e = let a = or_parts _ (lacks_robot d (block_here d) l.place) e in let b = or_parts _ (varies_too_early d l) a.0 in
+    let c = or_parts _ (has_two_domains d l.place) b.0 in let f = or_parts _ (is_late d l.place) c.0 in
     let g = or_parts (declares_after_command d l.place) (not (may_stand (block_here d) l.place)) f.0 in
     record { after = g.0; stands = not-false _ g.1; late = f.1; domains = c.1; early = b.1; robot = a.1 }
 
@@ -46,15 +43,10 @@ none-passed (test ∷ more) none = let both = passes-test test.0 _ _ none in (bo
 -- none of the causes is there, and no limit of these is passed
 pub no-cause : (stage : Stage) (d : Declared) (s : Statement) (last : List (Bool × ℕ)) → first_of (causes_with stage d s last) ≡ None
     → (is_unbuilt stage s ≡ false) × IsRight d s × (first_of (map passed last) ≡ None)
-no-cause stage d s last e =
-    let l = line_of s in
-    let a = passes-test (is_out_of_order d l) _ _ e in
-    let b = passes-test (is_unbuilt stage s) _ _ a.1 in
-    let c = passes-test (has_unknown_name d l) _ _ b.1 in
-    let f = passes-test (has_duplicate d s) _ _ c.1 in
-    let g = passes-test (has_wrong_arity d l) _ _ f.1 in
-    let h = passes-test (is_unbound d l) _ _ g.1 in
-    (b.0, record { order = a.0; known = c.0; single = f.0; arity = g.0; bound = h.0 }, h.1)
+no-cause stage d s last e = let l = line_of s in let a = passes-test (is_out_of_order d l) _ _ e in
+    let b = passes-test (is_unbuilt stage s) _ _ a.1 in let c = passes-test (has_unknown_name d l) _ _ b.1 in
+    let f = passes-test (has_duplicate d s) _ _ c.1 in let g = passes-test (has_wrong_arity d l) _ _ f.1 in
+    let h = passes-test (is_unbound d l) _ _ g.1 in (b.0, record { order = a.0; known = c.0; single = f.0; arity = g.0; bound = h.0 }, h.1)
 
 -- where the line is right, the limits are left
 pub only-limits : (stage : Stage) (d : Declared) (s : Statement) (last : List (Bool × ℕ)) → is_unbuilt stage s ≡ false → IsRight d s
@@ -63,23 +55,17 @@ only-limits stage d s last built r = rw (r.order, built, r.known, r.single, r.ar
 
 -- the line is built, and has no fault in the whole language
 pub no-fault : (stage : Stage) (d : Declared) (s : Statement) → fault_at stage d s ≡ None → (is_unbuilt stage s ≡ false) × IsFaultless d s
-no-fault stage d s e =
-    let l = line_of s in
-    let none = no-cause stage d s (faults.limits d s) e in
-    let r : IsRight d s = none.1 in
-    let k = passes-test (has_long_name d l) _ _ none.2 in
-    let twice = or_parts (repeats_name d l) (repeats_itself d s) r.single in (
-      none.0,
-      record {
-        right = r;
-        order = stands-right d l r.order;
-        known = none-passes (λ w. not (has_name w.1 (names_here d w.0))) _ (λ w e. not-false _ e) (wanted_by l) (or_parts _ _ r.known).1;
-        single = none-passes (λ group. repeats (taken_here d group.0) group.1) _ (λ group e. e) (declared_by l) twice.0;
-        itself = twice.1;
-        short = none-passes (λ group. is_numbered group.0 && list_any (is_long d.version) group.1) _ (λ group e. e) (declared_by l) k.0;
-        limits = none-passed (own_limits d s) k.1;
-      },
-    )
+no-fault stage d s e = let l = line_of s in let none = no-cause stage d s (faults.limits d s) e in let r : IsRight d s = none.1 in
+    let k = passes-test (has_long_name d l) _ _ none.2 in let twice = or_parts (repeats_name d l) (repeats_itself d s) r.single in
+    let is : IsFaultless d s = record {
+      right = r;
+      order = stands-right d l r.order;
+      known = none-passes (λ w. not (has_name w.1 (names_here d w.0))) _ (λ w e. not-false _ e) (wanted_by l) (or_parts _ _ r.known).1;
+      single = none-passes (λ group. repeats (taken_here d group.0) group.1) _ (λ group e. e) (declared_by l) twice.0;
+      itself = twice.1;
+      short = none-passes (λ group. is_numbered group.0 && list_any (is_long d.version) group.1) _ (λ group e. e) (declared_by l) k.0;
+      limits = none-passed (own_limits d s) k.1;
+    } in (none.0, is)
 
 -- each line of version 1 is built in the whole language
 whole-built : (s : Statement) → is_unbuilt whole_language s ≡ false

@@ -1,20 +1,14 @@
 -- The parser reads exactly the forms of lines: each spelling back, and nothing else.
-use Rattle.std.specs.Fmt.{decimal}
+use Rattle.px_script.proofs.Common.{decimal, Lexeme, name, number, sign, Argument, Sign, WrittenAtom, SignedAtom, WrittenRoomEdit, named, bare, robot_to, door_to, spell, spell_argument, spell_sign, spell_atom, spell_room_edit, spell_binding, is_filled, is_parameter_number, parameter_name, open_word, with_commas, in_parentheses, Statement, Line, line_of, script, object, «axiom», operator, pre, delete, add, building, room, door, robot, end, fact, height, nodes, shapes, show, disturb_atoms, disturb_rooms, run, facts, spelling, time_word, is_word, Declared, has_building, Forms, begins_with_word, is_formed, is_signed, is_of_script, ◌≡◌, ℕ, zero, suc, ◌<◌, ◌≤◌, Bool, true, false, cond, not, ◌==◌, List, [], ◌∷◌, ◌++◌, map, length, drop, refl, sym, ap, ◌∙◌, subst, arith, append_assoc, append-nil, eqb-true, length-append, ltb-true, nat_lt, Option, None, Some, codes, list_all, flat_map, option_map, option_and_then, IfSome, bytes_eq, digits_value, and_parts, not-true, bytes_eq-Decides}
 use Rattle.std.proofs.lemmas.Fmt.{decimal_is_IsNumeral}
 use Rattle.std.proofs.lemmas.Option.{IfSome_then}
-use Rattle.px_script.specs.Lexemes.{Lexeme, name, number, sign}
-use Rattle.px_script.specs.Items.{Argument, Sign, WrittenAtom, SignedAtom, WrittenRoomEdit, named, bare, robot_to, box_to, door_to, spell, spell_argument, spell_sign, spell_atom, spell_room_edit, spell_binding, is_filled, is_parameter_number, parameter_name, open_word, with_commas, in_parentheses}
-use Rattle.px_script.specs.Statements.{Statement, Line, line_of, object, operator, door, plan, learn, disturb_atoms, disturb_rooms, run, spelling, time_word}
-use Rattle.px_script.specs.Limits.{is_word}
-use Rattle.px_script.specs.Declarations.{Declared, has_building}
 use Rattle.px_script.specs.Forms as spec
-use Rattle.px_script.specs.Forms.{Forms, begins_with_word, is_formed, is_signed, is_of_script}
-use Rattle.px_script.proofs.Common.{◌≡◌, ℕ, zero, suc, ◌<◌, ◌≤◌, Bool, true, false, cond, not, ◌==◌, List, [], ◌∷◌, ◌++◌, map, length, drop, refl, sym, ap, ◌∙◌, subst, arith, append_assoc, append-nil, eqb-true, length-append, ltb-true, nat_lt, Option, None, Some, codes, list_all, flat_map, option_map, option_and_then, IfSome, bytes_eq, digits_value, and_parts, not-true, bytes_eq-Decides}
-use Rattle.px_script.proofs.Parsing.{argument_of, items_after, items_at, all_within, all_of, atom_after, atom_at, sign_of, after_name, nothing_form, which, open_of, time_of, room_edit_at, parameter_of, binding_at, names_of, names_among, names_at, at_end, number_form, name_form, predicate_form, operator_form, plan_form, door_form, box_form, learn_form, run_form, edits_form, disturb_form, rest_form, formed_only, parse}
+use Rattle.px_script.proofs.Lists.{by_test}
+use Rattle.px_script.proofs.Parsing.{argument_of, items_after, items_at, all_within, all_of, atom_after, atom_at, sign_of, after_name, after_number, nothing_form, which, open_of, room_edit_at, parameter_of, binding_at, names_of, names_among, names_at, at_end, number_form, name_form, predicate_form, operator_form, plan_form, door_form, box_form, learn_form, run_form, edits_form, disturb_form, rest_form, formed_only, parse}
 
 -- ---- what is said of an answer, if there is one
 
-pub then-there : {A B : Type 0} {P : A → Type 0} (Q : B → Type 0) (f : A → Option B) (o : Option A) → IfSome o P
+then-there : {A B : Type 0} {P : A → Type 0} (Q : B → Type 0) (f : A → Option B) (o : Option A) → IfSome o P
     → ((a : A) → P a → IfSome (f a) Q) → IfSome (option_and_then f o) Q
 then-there Q f None is each = tt
 then-there Q f (Some a) is each = each a is
@@ -26,8 +20,7 @@ map-there Q f (Some a) is each = each a is
 
 if-there : {A : Type 0} (P : A → Type 0) (x y : Option A) (b : Bool) → (b ≡ true → IfSome x P) → (b ≡ false → IfSome y P)
     → IfSome (cond b x y) P
-if-there P x y true on_true on_false = on_true refl
-if-there P x y false on_true on_false = on_false refl
+if-there P x y b on_true on_false = by_test b (λ e. rw e (on_true e)) (λ e. rw e (on_false e))
 
 pub there : {A : Type 0} (P : A → Type 0) (o : Option A) (a : A) → IfSome o P → o ≡ Some a → P a
 there P o a is e = subst (λ t. IfSome t P) e is
@@ -66,8 +59,7 @@ module _ {A : Type 0} (good : A → Bool) (one : List Lexeme → Option (A × Li
   all-within-again zero [] short all = refl
   all-within-again (suc n) [] short all = refl
   all-within-again zero (a ∷ more) short all = let first = back.long a in absurd (omega (arith, short, first, length-append {A = Lexeme}))
-  all-within-again (suc n) (a ∷ more) short all =
-      let both = and_parts (good a) (list_all good more) all in
+  all-within-again (suc n) (a ∷ more) short all = let both = and_parts (good a) (list_all good more) all in
       let rest = flat_map spell more in
       let first = back.long a in
       all-step n (spell a ++ rest) (a, rest) (rw length-append (omega (arith, first))) (back.again a rest both.0 (all-closed more))
@@ -101,64 +93,54 @@ argument-sound (number n) = tt
 argument-sound (sign s) = if-there _ _ _ (s == 36) (λ e. ap sign (eqb-true s 36 e)) (λ e. tt)
 argument-sound _ = refl
 
-module _ {A : Type 0} (item : Lexeme → Option A) (spell : A → Lexeme) where
-  -- a list with commas and its closing parenthesis
-  items-again : ((a : A) → item (spell a) ≡ Some a) → (a : A) (more : List A) (rest : List Lexeme)
-      → items_after item (with_commas (map spell (a ∷ more)) ++ sign 41 ∷ rest) ≡ Some (a ∷ more, rest)
-  unfolding items_after
-  items-again again a [] rest = rw again refl
-  items-again again a (b ∷ more) rest = rw (again a, items-again again b more rest) refl
+-- a list with commas and its closing parenthesis
+items-again : (a : Argument) (more : List Argument) (rest : List Lexeme)
+    → items_after argument_of (with_commas (map spell_argument (a ∷ more)) ++ sign 41 ∷ rest) ≡ Some (a ∷ more, rest)
+unfolding items_after
+items-again a [] rest = rw argument-again refl
+items-again a (b ∷ more) rest = rw (argument-again a, items-again b more rest) refl
 
-  items-at-again : ((a : A) → item (spell a) ≡ Some a) → (items : List A) (rest : List Lexeme)
-      → not_open rest ≡ true → items_at item (in_parentheses (map spell items) ++ rest) ≡ Some (items, rest)
-  items-at-again again [] (sign s ∷ rest) closed = rw (not-true (s == 40) closed) refl
-  items-at-again again [] _ closed = refl
-  items-at-again again (a ∷ more) rest closed = rw append_assoc (items-again again a more rest)
+arguments-again : (items : List Argument) (rest : List Lexeme) → not_open rest ≡ true
+    → items_at argument_of (in_parentheses (map spell_argument items) ++ rest) ≡ Some (items, rest)
+arguments-again [] (sign s ∷ rest) closed = rw (not-true (s == 40) closed) refl
+arguments-again [] _ closed = refl
+arguments-again (a ∷ more) rest closed = rw append_assoc (items-again a more rest)
 
-  -- there is an item, and they are spelled so
-  abbrev AreRead : List Lexeme → List A → List Lexeme → Type 0
-  AreRead lexemes [] rest = ⊥
-  AreRead lexemes (a ∷ more) rest = lexemes ≡ with_commas (map spell (a ∷ more)) ++ sign 41 ∷ rest
+-- there is an item, and they are spelled so
+abbrev AreRead : List Lexeme → List Argument → List Lexeme → Type 0
+AreRead lexemes [] rest = ⊥
+AreRead lexemes (a ∷ more) rest = lexemes ≡ with_commas (map spell_argument (a ∷ more)) ++ sign 41 ∷ rest
 
-  items-sound : ((x : Lexeme) → IfSome (item x) (λ a. x ≡ spell a)) → (lexemes : List Lexeme)
-      → IfSome (items_after item lexemes) (λ r. AreRead lexemes r.0 r.1)
-  unfolding items_after
-  items-sound sound (x ∷ sign s ∷ rest) = then-there _ _ (item x) (sound x) (λ a is. if-there _ _ _ (s == 41)
-      (λ close. rw (is, eqb-true s 41 close) refl)
-      (λ e. if-there _ _ _ (s == 44)
-      (λ comma. map-there _ _ (items_after item rest) (items-sound sound rest) (λ r read. longer a is comma r.0 r.1 read))
-      (λ e. tt)))
-    where
-      longer : (a : A) → x ≡ spell a → (s == 44) ≡ true → (items : List A) (after : List Lexeme) → AreRead rest items after
-          → AreRead (x ∷ sign s ∷ rest) (a ∷ items) after
-      longer a is comma [] after read = absurd read
-      longer a is comma (b ∷ more) after read = rw (is, eqb-true s 44 comma, read) refl
-  items-sound sound _ = tt
+items-sound : (lexemes : List Lexeme) → IfSome (items_after argument_of lexemes) (λ r. AreRead lexemes r.0 r.1)
+unfolding items_after
+items-sound (x ∷ sign s ∷ rest) = then-there _ _ (argument_of x) (argument-sound x) (λ a is. if-there _ _ _ (s == 41)
+    (λ close. rw (is, eqb-true s 41 close) refl) (λ e. if-there _ _ _ (s == 44)
+    (λ comma. map-there _ _ (items_after argument_of rest) (items-sound rest) (λ r read. longer a is comma r.0 r.1 read)) (λ e. tt)))
+  where
+    longer : (a : Argument) → x ≡ spell_argument a → (s == 44) ≡ true → (items : List Argument) (after : List Lexeme)
+        → AreRead rest items after → AreRead (x ∷ sign s ∷ rest) (a ∷ items) after
+    longer a is comma [] after read = absurd read
+    longer a is comma (b ∷ more) after read = rw (is, eqb-true s 44 comma, read) refl
+items-sound _ = tt
 
-  -- items in parentheses, or none
-  items-at-sound : ((x : Lexeme) → IfSome (item x) (λ a. x ≡ spell a)) → (lexemes : List Lexeme)
-      → IfSome (items_at item lexemes) (λ r. lexemes ≡ in_parentheses (map spell r.0) ++ r.1)
-  items-at-sound sound (sign s ∷ rest) = if-there _ _ _ (s == 40)
-      (λ e. IfSome_then (items_after item rest) (items-sound sound rest) (λ r read. opened e r.0 r.1 read))
-      (λ e. refl)
-    where
-      opened : (s == 40) ≡ true → (items : List A) (after : List Lexeme) → AreRead rest items after
-          → sign s ∷ rest ≡ in_parentheses (map spell items) ++ after
-      opened e [] after read = absurd read
-      opened e (b ∷ more) after read = rw (eqb-true s 40 e, read, append_assoc) refl
-  items-at-sound sound _ = refl
+-- items in parentheses, or none
+arguments-sound : (lexemes : List Lexeme)
+    → IfSome (items_at argument_of lexemes) (λ r. lexemes ≡ in_parentheses (map spell_argument r.0) ++ r.1)
+arguments-sound (sign s ∷ rest) = if-there _ _ _ (s == 40)
+    (λ e. IfSome_then (items_after argument_of rest) (items-sound rest) (λ r read. opened e r.0 r.1 read)) (λ e. refl)
+  where
+    opened : (s == 40) ≡ true → (items : List Argument) (after : List Lexeme) → AreRead rest items after
+        → sign s ∷ rest ≡ in_parentheses (map spell_argument items) ++ after
+    opened e [] after read = absurd read
+    opened e (b ∷ more) after read = rw (eqb-true s 40 e, read, append_assoc) refl
+arguments-sound _ = refl
 
-names-spelled : (ns : List (List ℕ)) → map spell_argument (map named ns) ≡ map name ns
-names-spelled [] = refl
-names-spelled (n ∷ ns) = ap (λ t. name n ∷ t) (names-spelled ns)
-
-names-among-again : (ns : List (List ℕ)) → names_among (map named ns) ≡ Some ns
-names-among-again [] = refl
-names-among-again (n ∷ ns) = rw (names-among-again ns) refl
+names-spelled : (ns : List (List ℕ)) → (map spell_argument (map named ns) ≡ map name ns) × (names_among (map named ns) ≡ Some ns)
+names-spelled [] = (refl, refl)
+names-spelled (n ∷ ns) = let more = names-spelled ns in (ap (λ t. name n ∷ t) more.0, rw more.1 refl)
 
 parameters-again : (ps : List (List ℕ)) → names_at (in_parentheses (map name ps) ++ []) ≡ Some (ps, [])
-parameters-again ps =
-    rw (← names-spelled ps, items-at-again argument_of spell_argument argument-again (map named ps) [] refl, names-among-again ps) refl
+parameters-again ps = let both = names-spelled ps in rw (← both.0, arguments-again (map named ps) [] refl, both.1) refl
 
 names-among-sound : (arguments : List Argument) → IfSome (names_among arguments) (λ ns. map spell_argument arguments ≡ map name ns)
 names-among-sound [] = refl
@@ -166,9 +148,8 @@ names-among-sound (named n ∷ more) = map-there _ _ (names_among more) (names-a
 names-among-sound _ = tt
 
 names-at-sound : (lexemes : List Lexeme) → IfSome (names_at lexemes) (λ r. lexemes ≡ in_parentheses (map name r.0) ++ r.1)
-names-at-sound lexemes = then-there _ _ (items_at argument_of lexemes) (items-at-sound argument_of spell_argument argument-sound lexemes)
-    (λ front is. map-there _ _ (names_among front.0) (names-among-sound front.0)
-    (λ ns names. is ∙ ap (λ t. in_parentheses t ++ front.1) names))
+names-at-sound lexemes = then-there _ _ (items_at argument_of lexemes) (arguments-sound lexemes) (λ front is.
+    map-there _ _ (names_among front.0) (names-among-sound front.0) (λ ns names. is ∙ ap (λ t. in_parentheses t ++ front.1) names))
 
 names-again : (ns : List (List ℕ)) → names_of (map name ns ++ []) ≡ Some ns
 names-again [] = refl
@@ -189,16 +170,13 @@ all-each [] = refl
 all-each (a ∷ more) = all-each more
 
 pub atoms-back : ReadsBack each atom_at spell_atom
-atoms-back = record {
-  again = λ x rest good shut. again x.sign x.atom rest shut;
-  closed = λ x rest. (begins x.sign x.atom rest).0;
-  long = λ x. (begins x.sign x.atom []).1;
-}
+atoms-back =
+    record { again = λ x r _. again x.sign x.atom r; closed = λ x r. (begins x.sign x.atom r).0; long = λ x. (begins x.sign x.atom []).1 }
   where
     again : (before : Sign) (atom : WrittenAtom) (rest : List Lexeme) → not_open rest ≡ true
         → atom_at (spell_atom (record { sign = before; atom = atom }) ++ rest) ≡ Some (record { sign = before; atom = atom }, rest)
-    again bare atom rest shut = rw (items-at-again argument_of spell_argument argument-again atom.arguments rest shut) refl
-    again _ atom rest shut = rw (items-at-again argument_of spell_argument argument-again atom.arguments rest shut) refl
+    again bare atom rest shut = rw (arguments-again atom.arguments rest shut) refl
+    again _ atom rest shut = rw (arguments-again atom.arguments rest shut) refl
 
     begins : (before : Sign) (atom : WrittenAtom) (rest : List Lexeme) → let spelled = spell_atom (record { sign = before; atom = atom }) in
         (not_open (spelled ++ rest) ≡ true) × (0 < length spelled)
@@ -221,8 +199,7 @@ room-edits-back =
 
 -- a parameter's name tells its number
 parameter-again : (k : ℕ) → is_parameter_number k ≡ true → parameter_of (parameter_name k) ≡ Some k
-parameter-again k good =
-    let below : k < 10000 = ltb-true k 10000 (and_parts (nat_lt 0 k) (nat_lt k 10000) good).1 in
+parameter-again k good = let below : k < 10000 = ltb-true k 10000 (and_parts (nat_lt 0 k) (nat_lt k 10000) good).1 in
     let value : digits_value 10 (decimal k) ≡ k = (decimal_is_IsNumeral k (omega (arith, below))).1 in
     rw (value, (bytes_eq-Decides (parameter_name k) (parameter_name k)).1 refl, good) refl
 
@@ -237,15 +214,13 @@ which-sound word w = if-there _ _ _ (bytes_eq w (word true)) (same_word w (word 
     (λ e. if-there _ _ _ (bytes_eq w (word false)) (same_word w (word false)) (λ e. tt))
 
 sign-sound : (s : ℕ) → IfSome (sign_of s) (λ before. sign s ∷ [] ≡ spell_sign before)
-sign-sound s = if-there _ _ _ (s == 126) (is 126) (λ e. if-there _ _ _ (s == 43) (is 43) (λ e. if-there _ _ _ (s == 45) (is 45) (λ e. tt)))
-  where
-    is : (k : ℕ) → (s == k) ≡ true → sign s ∷ [] ≡ sign k ∷ []
-    is k e = ap (λ t. sign t ∷ []) (eqb-true s k e)
+sign-sound s = if-there _ _ _ (s == 126) (λ e. rw (eqb-true s 126 e) refl) (λ e. if-there _ _ _ (s == 43)
+    (λ e. rw (eqb-true s 43 e) refl) (λ e. if-there _ _ _ (s == 45) (λ e. rw (eqb-true s 45 e) refl) (λ e. tt)))
 
 atom-after-sound : (before : Sign) (lexemes : List Lexeme)
     → IfSome (atom_after before lexemes) (λ front. spell_sign before ++ lexemes ≡ spell_atom front.0 ++ front.1)
-atom-after-sound before (name p ∷ rest) = map-there _ _ (items_at argument_of rest)
-    (items-at-sound argument_of spell_argument argument-sound rest) (λ front is. rw (is, append_assoc) refl)
+atom-after-sound before (name p ∷ rest) =
+    map-there _ _ (items_at argument_of rest) (arguments-sound rest) (λ front is. rw (is, append_assoc) refl)
 atom-after-sound before _ = tt
 
 pub atom-sound : ReadsSpelled atom_at spell_atom
@@ -253,25 +228,15 @@ atom-sound (sign s ∷ rest) = then-there _ _ (sign_of s) (sign-sound s)
     (λ before is. IfSome_then (atom_after before rest) (atom-after-sound before rest) (λ front e. ap (λ t. t ++ rest) is ∙ e))
 atom-sound lexemes = atom-after-sound bare lexemes
 
--- what follows the name of a thing, in an edit of a box and in one of a door
-box-edit-sound : (thing : List ℕ) (rest : List Lexeme)
-    → IfSome {T = WrittenRoomEdit × List Lexeme} (after_name (λ r more. Some (box_to thing r, more)) rest)
-    (λ front. name (codes "box") ∷ name thing ∷ rest ≡ spell_room_edit front.0 ++ front.1)
-box-edit-sound thing (name r ∷ more) = refl
-box-edit-sound thing _ = tt
-
-door-edit-sound : (thing : List ℕ) (rest : List Lexeme)
-    → IfSome {T = WrittenRoomEdit × List Lexeme}
-    (after_name (λ state more. option_map (λ is_open. (door_to thing is_open, more)) (open_of state)) rest)
-    (λ front. name (codes "door") ∷ name thing ∷ rest ≡ spell_room_edit front.0 ++ front.1)
-door-edit-sound thing (name state ∷ more) = map-there _ _ (open_of state) (which-sound open_word state) (λ is_open is. rw is refl)
-door-edit-sound thing _ = tt
-
 pub room-edit-sound : ReadsSpelled room_edit_at spell_room_edit
+room-edit-sound (name w ∷ name thing ∷ name v ∷ rest) =
+    if-there _ _ _ (bytes_eq w (codes "robot")) (λ e. rw (same_word w (codes "robot") e) refl)
+    (λ e. if-there _ _ _ (bytes_eq w (codes "box")) (λ e. rw (same_word w (codes "box") e) refl)
+    (λ e. if-there _ _ _ (bytes_eq w (codes "door")) (λ e. rw (same_word w (codes "door") e)
+    (map-there _ _ (open_of v) (which-sound open_word v) (λ is_open is. rw is refl))) (λ e. tt)))
 room-edit-sound (name w ∷ name thing ∷ rest) =
     if-there _ _ _ (bytes_eq w (codes "robot")) (λ e. rw (same_word w (codes "robot") e) refl)
-    (λ e. if-there _ _ _ (bytes_eq w (codes "box")) (λ e. rw (same_word w (codes "box") e) (box-edit-sound thing rest))
-    (λ e. if-there _ _ _ (bytes_eq w (codes "door")) (λ e. rw (same_word w (codes "door") e) (door-edit-sound thing rest)) (λ e. tt)))
+    (λ e. if-there _ _ _ (bytes_eq w (codes "box")) (λ e. tt) (λ e. if-there _ _ _ (bytes_eq w (codes "door")) (λ e. tt) (λ e. tt)))
 room-edit-sound _ = tt
 
 parameter-sound : (w : List ℕ) → IfSome (parameter_of w) (λ k. w ≡ parameter_name k)
@@ -291,41 +256,34 @@ binding-sound _ = tt
 abbrev IsSpelled : List ℕ → List Lexeme → Option Statement → Type 0
 IsSpelled w rest read = IfSome read (λ s. name w ∷ rest ≡ spelling s)
 
--- the end of a line, after what stands in front
-ended : (front : List Lexeme) (a : Statement) → front ++ [] ≡ spelling a → (rest : List Lexeme)
-    → IfSome (nothing_form a rest) (λ s. front ++ rest ≡ spelling s)
-ended front a spelled [] = spelled
-ended front a spelled _ = tt
+-- What is read of lexemes is told by what is read of each that they may be: P is what has to be so of them and of what is read.
+module _ {A : Type 0} (P : List Lexeme → A → Type 0) where
+  named-there : (f : List ℕ → List Lexeme → Option A) → ((n : List ℕ) (more : List Lexeme) → IfSome (f n more) (P (name n ∷ more)))
+      → (rest : List Lexeme) → IfSome (after_name f rest) (P rest)
+  named-there f so (name n ∷ more) = so n more
+  named-there f so _ = tt
 
-number-sound : (w : List ℕ) (f : ℕ → Statement) → ((n : ℕ) → name w ∷ number n ∷ [] ≡ spelling (f n)) → (rest : List Lexeme)
-    → IsSpelled w rest (number_form f rest)
-number-sound w f spelled (number n ∷ rest) = ended (name w ∷ number n ∷ []) (f n) (spelled n) rest
-number-sound w f spelled _ = tt
+  numbered-there : (f : ℕ → List Lexeme → Option A) → ((n : ℕ) (more : List Lexeme) → IfSome (f n more) (P (number n ∷ more)))
+      → (rest : List Lexeme) → IfSome (after_number f rest) (P rest)
+  numbered-there f so (number n ∷ more) = so n more
+  numbered-there f so _ = tt
 
-name-sound : (w : List ℕ) (f : List ℕ → Statement) → ((n : List ℕ) → name w ∷ name n ∷ [] ≡ spelling (f n)) → (rest : List Lexeme)
-    → IsSpelled w rest (name_form f rest)
-name-sound w f spelled (name n ∷ rest) = ended (name w ∷ name n ∷ []) (f n) (spelled n) rest
-name-sound w f spelled _ = tt
+  chosen-there : (word : Bool → List ℕ) (f : Bool → List Lexeme → Option A)
+      → ((b : Bool) (more : List Lexeme) → IfSome (f b more) (P (name (word b) ∷ more))) → (rest : List Lexeme)
+      → IfSome (after_name (λ v more. option_and_then (λ b. f b more) (which (word true) (word false) v)) rest) (P rest)
+  chosen-there word f so (name v ∷ more) = then-there _ (λ b. f b more) _ (which-sound word v) (λ b is. rw is (so b more))
+  chosen-there word f so _ = tt
 
--- things of one kind up to the end of the line, after what stands in front
-list-sound : {A : Type 0} (one : List Lexeme → Option (A × List Lexeme)) (spell : A → List Lexeme) → ReadsSpelled one spell
-    → (front : List Lexeme) (f : List A → Statement) → ((xs : List A) → front ++ (flat_map spell xs ++ []) ≡ spelling (f xs))
-    → (rest : List Lexeme) → IfSome (option_map f (all_of one rest)) (λ s. front ++ rest ≡ spelling s)
-list-sound one spell are front f spelled rest = map-there _ _ (all_of one rest) (all-sound one spell are (length rest) rest)
-    (λ xs is. ap (λ t. front ++ t) (is ∙ sym (append-nil (flat_map spell xs))) ∙ spelled xs)
+  ended-there : (a : A) → P [] a → (rest : List Lexeme) → IfSome (nothing_form a rest) (P rest)
+  ended-there a is [] = is
+  ended-there a is _ = tt
 
-atoms-sound : (w : List ℕ) (f : List SignedAtom → Statement)
-    → ((xs : List SignedAtom) → name w ∷ (flat_map spell_atom xs ++ []) ≡ spelling (f xs)) → (rest : List Lexeme)
-    → IsSpelled w rest (option_map f (all_of atom_at rest))
-atoms-sound w f spelled = list-sound atom_at spell_atom atom-sound (name w ∷ []) f spelled
-
-object-sound : (rest : List Lexeme) → IsSpelled (codes "object") rest (option_map object (names_of rest))
-object-sound rest = map-there _ _ (names_of rest) (names-sound rest)
-    (λ ns is. ap (λ t. name (codes "object") ∷ t) (is ∙ sym (append-nil (map name ns))))
-
-predicate-sound : (rest : List Lexeme) → IsSpelled (codes "predicate") rest (predicate_form rest)
-predicate-sound (name n ∷ number arity ∷ []) = refl
-predicate-sound _ = tt
+  -- things of one kind up to the end of the line
+  all-there : {X : Type 0} (one : List Lexeme → Option (X × List Lexeme)) (spell : X → List Lexeme) → ReadsSpelled one spell
+      → (f : List X → A) → ((xs : List X) → P (flat_map spell xs ++ []) (f xs)) → (rest : List Lexeme)
+      → IfSome (option_map f (all_of one rest)) (P rest)
+  all-there one spell are f so rest = map-there _ _ (all_of one rest) (all-sound one spell are (length rest) rest)
+      (λ xs is. subst (λ t. P t (f xs)) (sym (is ∙ sym (append-nil (flat_map spell xs)))) (so xs))
 
 operator-sound : (rest : List Lexeme) → IsSpelled (codes "operator") rest (operator_form rest)
 operator-sound (name n ∷ rest) = then-there _ _ (names_at rest) (names-at-sound rest) (λ items is. at-end items.0 items.1 is)
@@ -336,67 +294,48 @@ operator-sound (name n ∷ rest) = then-there _ _ (names_at rest) (names-at-soun
     at-end ps _ is = tt
 operator-sound _ = tt
 
-door-sound : (rest : List Lexeme) → IsSpelled (codes "door") rest (door_form rest)
-door-sound (name n ∷ name one ∷ name other ∷ name state ∷ rest) = then-there _ _ (open_of state) (which-sound open_word state)
-    (λ is_open is. let front = name (codes "door") ∷ name n ∷ name one ∷ name other ∷ name (open_word is_open) ∷ [] in
-    rw is (ended front (door n one other is_open) refl rest))
-door-sound _ = tt
-
-box-sound : (rest : List Lexeme) → IsSpelled (codes "box") rest (box_form rest)
-box-sound (name n ∷ name r ∷ []) = refl
-box-sound _ = tt
-
-plan-sound : (rest : List Lexeme) → IsSpelled (codes "plan") rest (plan_form rest)
-plan-sound (name n ∷ rest) = list-sound atom_at spell_atom atom-sound (name (codes "plan") ∷ name n ∷ []) (plan n) (λ xs. refl) rest
-plan-sound _ = tt
-
 learn-sound : (rest : List Lexeme) → IsSpelled (codes "learn") rest (learn_form rest)
 learn-sound (name n ∷ name v ∷ name source ∷ rest) = if-there _ _ _ (bytes_eq v (codes "from")) (λ e. rw (same_word v (codes "from") e)
-    (ended (name (codes "learn") ∷ name n ∷ name (codes "from") ∷ name source ∷ []) (learn n source) refl rest)) (λ e. tt)
+    (ended-there (λ t s. name (codes "learn") ∷ name n ∷ name (codes "from") ∷ name source ∷ t ≡ spelling s) _ refl rest)) (λ e. tt)
 learn-sound _ = tt
 
-run-sound : (rest : List Lexeme) → IsSpelled (codes "run") rest (run_form rest)
-run-sound (name n ∷ rest) =
-    list-sound binding_at spell_binding binding-sound (name (codes "run") ∷ name n ∷ []) (run n) (λ bs. refl) rest
-run-sound _ = tt
-
-disturb-sound : (with_building : Bool) (rest : List Lexeme) → IsSpelled (codes "disturb") rest (disturb_form with_building rest)
-disturb-sound with_building (number turn ∷ name v ∷ rest) =
-    then-there _ _ (time_of v) (which-sound time_word v) (λ between is. rw is (edits with_building between))
-  where
-    edits : (with_building between : Bool)
-        → IsSpelled (codes "disturb") (number turn ∷ name (time_word between) ∷ rest) (edits_form with_building turn between rest)
-    edits true between = list-sound room_edit_at spell_room_edit room-edit-sound
-        (name (codes "disturb") ∷ number turn ∷ name (time_word between) ∷ []) (disturb_rooms turn between) (λ es. refl) rest
-    edits false between = list-sound atom_at spell_atom atom-sound
-        (name (codes "disturb") ∷ number turn ∷ name (time_word between) ∷ []) (disturb_atoms turn between) (λ xs. refl) rest
-disturb-sound with_building _ = tt
+edits-sound : (with_building between : Bool) (turn : ℕ) (rest : List Lexeme)
+    → IsSpelled (codes "disturb") (number turn ∷ name (time_word between) ∷ rest) (edits_form with_building turn between rest)
+edits-sound true between turn = all-there _ room_edit_at spell_room_edit room-edit-sound _ (λ es. refl)
+edits-sound false between turn = all-there _ atom_at spell_atom atom-sound _ (λ xs. refl)
 
 -- this word, and else another
-is : (w v : List ℕ) (rest : List Lexeme) (x y : Option Statement) → IsSpelled v rest x → IsSpelled w rest y
-    → IsSpelled w rest (cond (bytes_eq w v) x y)
-is w v rest x y here more = if-there _ _ _ (bytes_eq w v) (λ e. rw (same_word w v e) here) (λ e. more)
-
-nothing-sound : (w : List ℕ) (a : Statement) → name w ∷ [] ≡ spelling a → (rest : List Lexeme) → IsSpelled w rest (nothing_form a rest)
-nothing-sound w a = ended (name w ∷ []) a
+is : (w v : List ℕ) (f : List Lexeme → Option Statement) → ((rest : List Lexeme) → IsSpelled v rest (f rest)) → (rest : List Lexeme)
+    (y : Option Statement) → IsSpelled w rest y → IsSpelled w rest (cond (bytes_eq w v) (f rest) y)
+is w v f here rest y more = if-there _ _ _ (bytes_eq w v) (λ e. rw (same_word w v e) (here rest)) (λ e. more)
 
 rest-sound : (with_building : Bool) (w : List ℕ) (rest : List Lexeme) → IsSpelled w rest (rest_form with_building w rest)
-rest-sound with_building w rest = search (
-  is,
-  nothing-sound,
-  number-sound,
-  name-sound,
-  atoms-sound,
-  object-sound,
-  predicate-sound,
-  operator-sound,
-  door-sound,
-  box-sound,
-  plan-sound,
-  learn-sound,
-  run-sound,
-  disturb-sound,
-) depth 60
+rest-sound with_building w rest =
+    is w (codes "script") (number_form script) (numbered-there _ _ (λ n. ended-there _ _ refl)) rest _
+    (is w (codes "object") (λ t. option_map object (names_of t)) (λ t. map-there _ _ (names_of t) (names-sound t)
+    (λ ns is. ap (λ t. name (codes "object") ∷ t) (is ∙ sym (append-nil (map name ns))))) rest _
+    (is w (codes "predicate") predicate_form (named-there _ _ (λ n. numbered-there _ _ (λ k. ended-there _ _ refl))) rest _
+    (is w (codes "axiom") _ (all-there _ atom_at spell_atom atom-sound «axiom» (λ xs. refl)) rest _
+    (is w (codes "operator") _ operator-sound rest _
+    (is w (codes "pre") _ (all-there _ atom_at spell_atom atom-sound pre (λ xs. refl)) rest _
+    (is w (codes "delete") _ (all-there _ atom_at spell_atom atom-sound delete (λ xs. refl)) rest _
+    (is w (codes "add") _ (all-there _ atom_at spell_atom atom-sound add (λ xs. refl)) rest _
+    (is w (codes "building") (nothing_form building) (ended-there _ _ refl) rest _
+    (is w (codes "room") (name_form room) (named-there _ _ (λ n. ended-there _ _ refl)) rest _ (is w (codes "door") door_form
+    (named-there _ _ (λ n. named-there _ _ (λ k. named-there _ _ (λ m. chosen-there _ open_word _ (λ b. ended-there _ _ refl))))) rest _
+    (is w (codes "box") box_form (named-there _ _ (λ n. named-there _ _ (λ r. ended-there _ _ refl))) rest _
+    (is w (codes "robot") (name_form robot) (named-there _ _ (λ n. ended-there _ _ refl)) rest _
+    (is w (codes "end") (nothing_form end) (ended-there _ _ refl) rest _
+    (is w (codes "fact") _ (all-there _ atom_at spell_atom atom-sound fact (λ xs. refl)) rest _
+    (is w (codes "height") (number_form height) (numbered-there _ _ (λ n. ended-there _ _ refl)) rest _
+    (is w (codes "nodes") (number_form nodes) (numbered-there _ _ (λ n. ended-there _ _ refl)) rest _
+    (is w (codes "shapes") (number_form shapes) (numbered-there _ _ (λ n. ended-there _ _ refl)) rest _
+    (is w (codes "plan") plan_form (named-there _ _ (λ n. all-there _ atom_at spell_atom atom-sound _ (λ xs. refl))) rest _
+    (is w (codes "learn") _ learn-sound rest _ (is w (codes "show") (name_form show) (named-there _ _ (λ n. ended-there _ _ refl)) rest _
+    (is w (codes "disturb") (disturb_form with_building)
+    (numbered-there _ _ (λ n. chosen-there _ time_word _ (λ b. edits-sound with_building b n))) rest _
+    (is w (codes "run") run_form (named-there _ _ (λ n. all-there _ binding_at spell_binding binding-sound _ (λ bs. refl))) rest _
+    (is w (codes "facts") (nothing_form facts) (ended-there _ _ refl) rest _ tt)))))))))))))))))))))))
 
 -- ---- the whole line
 
@@ -408,8 +347,7 @@ pub record IsWellFormed (d : Declared) (l : Line) : Type 0 where
   pub of_script : is_of_script d l.manner ≡ true
 
 pub well-formed : (d : Declared) (l : Line) → is_formed d l ≡ true → IsWellFormed d l
-well-formed d l formed =
-    let a = and_parts _ (is_of_script d l.manner) formed in
+well-formed d l formed = let a = and_parts _ (is_of_script d l.manner) formed in
     let b = and_parts _ (list_all (λ x. is_signed l.manner x.sign) (spec.atoms_of l)) a.0 in
     let c = and_parts (is_word d.version l.word) (list_all is_filled l.items) b.0 in
     record { word = c.0; filled = c.1; signs = b.1; of_script = a.1 }
@@ -442,8 +380,7 @@ parse-complete d lexemes s forms =
     ap (parse d) forms.0 ∙ ap (option_and_then (formed_only d)) (rest-again d s (well-formed d (line_of s) forms.1)) ∙ rw forms.1 refl
 
 pub parse-sound : (d : Declared) (lexemes : List Lexeme) (s : Statement) → parse d lexemes ≡ Some s → Forms d lexemes s
-parse-sound d (name w ∷ rest) s e =
-    let P : Statement → Type 0 = Forms d (name w ∷ rest) in
+parse-sound d (name w ∷ rest) s e = let P : Statement → Type 0 = Forms d (name w ∷ rest) in
     there P (parse d (name w ∷ rest)) s (then-there P _ (rest_form (has_building d) w rest) (rest-sound (has_building d) w rest)
     (λ a is. if-there P _ _ (is_formed d (line_of a)) (λ formed. (is, formed)) (λ e. tt))) e
 parse-sound d _ s e = cc

@@ -2,18 +2,15 @@
 use Rattle.std.specs.List.Sorted.{IsStrictlySortedBy}
 use Rattle.px_rooms.proofs.Valid.{buildings_are_valid}
 use Rattle.px_rooms.proofs.Belonging.{facts-are-atoms}
-use Rattle.px_rooms.specs.Domain.{both_ways, building_problem, robot_name, room_schemas}
-use Rattle.px_rooms.specs.States.{building_rules, thing_at}
-use Rattle.px_terms.specs.Operators.{no_schema}
+use Rattle.px_script.proofs.Common.{both_ways, building_problem, robot_name, room_schemas, building_rules, thing_at, no_schema, ◌≡◌, ◌≢◌, ℕ, ◌+◌, ◌<◌, ◌≤◌, Bool, true, false, not, ◌||◌, List, [], ◌∷◌, ◌++◌, map, length, refl, sym, ap, ◌∙◌, subst, arith, leb-true, append-nil, length-append, nat_lt, Option, None, Some, is_some, IfSome, All, slice_index_or, list_any, option_map, not-false, not-true, length-map, All-append, All-from_recursion, All-nil, both_answers, has_name, bytes_eq, bytes_eq-itself, Standing, a_room, a_door, a_box, IsBoxAt, IsDoorAt, IsRoomAt, first_state, rendering, robot_rooms, standings, standings-more, Atom, Problem, IsAtomOf, IsPatternOf, Thing, codes, All-push, NameLists, IsSchemaOf, Lexeme, lines_of, SignedAtom, is_empty, Statement, Block, plain, inside, operator_block, building_block, line_of, script, object, predicate, «axiom», operator, pre, delete, add, building, room, door, box, robot, end, fact, height, nodes, shapes, plan, learn, show, disturb_atoms, disturb_rooms, run, greatest, of_height, of_nodes, of_shapes, of_version, Command, Declared, OpenBlock, BlockKind, OpenOperator, of_operator, of_building, kind_of_block, number_in, atom_of, nothing_declared, after_line, predicate_names, predicate_arities, operator_names, ScriptValue, own_problem, content_of, is_robot, may_stand, is_long, repeats, same_block, has_two_domains, fault_at, is_formed, AreNamesOf, AreNumbered, HasShortLists, IsInRange, IsThingAfter, PassesLexemes, PassAll, IsScript, IsBuiltCommand, IsOfStage, Stage, whole_language, is_built, facts, get_or-append}
 use Rattle.px_world.specs.declared.thing.Thing.TheVariants as thing
 use Rattle.px_script.specs.Limits as limit
-use Rattle.px_script.proofs.Common.{◌≡◌, ◌≢◌, ℕ, ◌+◌, ◌<◌, ◌≤◌, Bool, true, false, not, ◌||◌, List, [], ◌∷◌, ◌++◌, map, length, refl, sym, ap, ◌∙◌, subst, arith, leb-true, append-nil, length-append, nat_lt, Option, None, Some, is_some, IfSome, All, slice_index_or, list_any, option_map, not-false, not-true, length-map, All-append, All-from_recursion, All-nil, both_answers, has_name, bytes_eq, bytes_eq-itself, Standing, a_room, a_door, a_box, IsBoxAt, IsDoorAt, IsRoomAt, first_state, rendering, robot_rooms, standings, standings-more, Atom, Problem, Schema, IsAtomOf, IsPatternOf, Thing, codes, All-push, NameLists, IsSchemaOf, Lexeme, lines_of, SignedAtom, is_empty, Statement, Block, plain, inside, operator_block, building_block, line_of, script, object, predicate, «axiom», operator, pre, delete, add, building, room, door, box, robot, end, fact, height, nodes, shapes, plan, learn, show, disturb_atoms, disturb_rooms, run, greatest, of_height, of_nodes, of_shapes, of_version, Command, Declared, OpenBlock, BlockKind, OpenOperator, of_operator, of_building, kind_of_block, number_in, atom_of, nothing_declared, after_line, predicate_names, predicate_arities, operator_names, ScriptValue, own_problem, content_of, is_robot, may_stand, is_long, repeats, same_block, has_two_domains, fault_at, is_formed, AreNamesOf, AreNumbered, HasShortLists, IsInRange, IsThingAfter, PassesLexemes, PassAll, IsScript, IsBuiltCommand, IsOfStage, Stage, whole_language, is_built, facts, get_or-append}
 use Rattle.px_script.proofs.Atoms.{atoms-right, atoms-with, patterns-with, AreRight}
 use Rattle.px_script.proofs.Buildings.{rooms-kind, doors-kind, boxes-kind, IsKind, AreOfKind, kind-known, kind-more, roles-kept, standing-more, robots-none, robots-some, is-building}
 use Rattle.px_script.proofs.Commands.{commands-moved}
 use Rattle.px_script.proofs.Faultless.{IsFaultless, no-fault, stage-takes-away}
 use Rattle.px_script.proofs.Forms.{IsWellFormed, well-formed}
-use Rattle.px_script.proofs.KeptLines.{no-domain, no-facts, settings-kept, in-bounds, still-none, carried, Keeps, object-kept, predicate-kept, axiom-kept, fact-kept, operator-kept, show-kept, facts-kept, disturb-atoms-kept, disturb-rooms-kept, run-kept, learn-kept, plan-kept}
+use Rattle.px_script.proofs.KeptLines.{no-own, settings-kept, in-bounds, still-none, carried, Keeps, object-kept, predicate-kept, axiom-kept, fact-kept, operator-kept, show-kept, facts-kept, disturb-atoms-kept, disturb-rooms-kept, run-kept, learn-kept, plan-kept}
 use Rattle.px_script.proofs.Lists.{at-most, each-fails, same-number, at-name, is-new, each-pushed}
 use Rattle.px_script.proofs.Problems.{Grows, alike, atoms-kept, names-more, schema-kept}
 use Rattle.px_script.proofs.States.{AreInRange, AreRolesOf, IsBegun, OperatorsInRange, AreStanding}
@@ -31,11 +28,9 @@ module _ (n : ℕ) (d : Declared) (line : ℕ) (o : OpenOperator) where
 
   -- a list of the operator with the atoms of a line
   grown : (P : Atom → Type 0) (old : List Atom) (xs : List SignedAtom) → length old + length xs ≤ 16 → All P old
-      → All P (map (atom_of c []) xs)
-      → All P (old ++ map (atom_of c []) xs) × (length (old ++ map (atom_of c []) xs) ≤ 16)
+      → All P (map (atom_of c []) xs) → All P (old ++ map (atom_of c []) xs) × (length (old ++ map (atom_of c []) xs) ≤ 16)
       × (length (old ++ map (atom_of c []) xs) < 4294967295)
-  grown P old xs few all more =
-      let short : length (old ++ map (atom_of c []) xs) ≤ 16 = rw (length-append, length-map) few in
+  grown P old xs few all more = let short : length (old ++ map (atom_of c []) xs) ≤ 16 = rw (length-append, length-map) few in
       (All-append P old (map (atom_of c []) xs) all more, short, omega (arith, short))
 
   module _ (xs : List SignedAtom) (r : AreInRange c) where
@@ -44,53 +39,41 @@ module _ (n : ℕ) (d : Declared) (line : ℕ) (o : OpenOperator) where
 
     -- Alike: `delete-kept` and `add-kept`. Each is of another list of the schema, and its atoms are others in a delete list.
     pre-kept : Keeps n c (pre xs)
-    pre-kept f =
-        let right = atoms-right c (pre xs) xs (record { atoms = refl; arguments = refl }) f.right in
+    pre-kept f = let right = atoms-right c (pre xs) xs (record { atoms = refl; arguments = refl }) f.right in
         let all = grown (IsAtomOf (own_problem c) o.schema.params) o.schema.pre xs (at-most _ _ f.limits.0) r.operators.schema.pre
         (plain-atoms right) in assumption (still-none c r, all)
 
     delete-kept : Keeps n c (delete xs)
-    delete-kept f =
-        let right = atoms-right c (delete xs) xs (record { atoms = refl; arguments = refl }) f.right in
+    delete-kept f = let right = atoms-right c (delete xs) xs (record { atoms = refl; arguments = refl }) f.right in
         let all = grown (IsPatternOf (own_problem c) o.schema.params) o.schema.del xs (at-most _ _ f.limits.0) r.operators.schema.del
         (patterns-with c r xs o.schema.params (omega (arith, r.operators.params)) right) in assumption (still-none c r, all)
 
     add-kept : Keeps n c (add xs)
-    add-kept f =
-        let right = atoms-right c (add xs) xs (record { atoms = refl; arguments = refl }) f.right in
+    add-kept f = let right = atoms-right c (add xs) xs (record { atoms = refl; arguments = refl }) f.right in
         let all = grown (IsAtomOf (own_problem c) o.schema.params) o.schema.add xs (at-most _ _ f.limits.0) r.operators.schema.add
         (plain-atoms right) in assumption (still-none c r, all)
 
   end-operator : AreInRange c → Keeps n c end
-  end-operator r f =
-      let is = r.operators in
-      let all = d.schemas ++ o.schema ∷ [] in
-      let q : Problem = record (own_problem d) { schemas = all } in
-      let more = alike (own_problem d) q refl refl in
+  end-operator r f = let is = r.operators in let all = d.schemas ++ o.schema ∷ [] in
+      let q : Problem = record (own_problem d) { schemas = all } in let more = alike (own_problem d) q refl refl in
       let old = carried c q d.things r more f.order.after in
       let counts : length d.names.operators ≡ length all = omega (arith, length-append d.schemas (o.schema ∷ []), is.named) in
-      let few = r.names.few_operators in
-      let short : length all < 4294967295 = omega (arith, counts, few) in
-      let none : length d.names.objects ≡ 0 → All (λ schema. schema.params ≡ 0) all × All (λ clause. clause.vars ≡ 0) d.axioms = λ empty. (
-        All-push (λ schema. schema.params ≡ 0) d.schemas o.schema (old.no_objects empty).0 (is.no_objects empty),
-        (old.no_objects empty).1,
-      ) in
-      assumption (
-        still-none c r,
-        old,
-        each-pushed (IsSchemaOf q) d.schemas o.schema no_schema old.schemas (schema-kept (own_problem d) q more _ o.schema is.schema),
-        All-push (HasShortLists d.version) d.schemas o.schema r.problem.short_lists is.short_lists,
-        operators-named d.version d.names q d.things counts,
-      )
+      let few = r.names.few_operators in let short : length all < 4294967295 = omega (arith, counts, few) in
+      let none : length d.names.objects ≡ 0 → All (λ schema. schema.params ≡ 0) all × All (λ clause. clause.vars ≡ 0) d.axioms = λ empty.
+      let no = old.no_objects empty in (All-push (λ schema. schema.params ≡ 0) d.schemas o.schema no.0 (is.no_objects empty), no.1) in
+      let of = schema-kept (own_problem d) q more _ o.schema is.schema in
+      let each = each-pushed (IsSchemaOf q) d.schemas o.schema no_schema old.schemas of in
+      let shorts = All-push (HasShortLists d.version) d.schemas o.schema r.problem.short_lists is.short_lists in
+      assumption (still-none c r, old, each, shorts, operators-named d.version d.names q d.things counts)
 
 -- another block than an operator's is closed
 end-other : (d : Declared) (line : ℕ) (kind : BlockKind) → AreInRange (record d { block = Some (record { line = line; kind = kind }) })
     → OperatorsInRange d.version d.names (own_problem d) d.things None → IfSome d.things (λ things. list_any is_robot things ≡ true)
     → AreInRange (record d { schemas = d.schemas ++ []; block = None; own_domain = d.own_domain || false; begun = true })
 end-other d line kind r operators has_robot =
-    let P : List Schema → Type 0 = λ schemas. AreInRange
-    (record d { schemas = schemas; block = None; own_domain = d.own_domain || false; begun = true }) in
-    subst P (sym (append-nil d.schemas)) (assumption (still-none (record d { block = Some (record { line = line; kind = kind }) }) r))
+    let closed = record d { block = None; own_domain = d.own_domain || false; begun = true } in
+    subst (λ schemas. AreInRange (record closed { schemas = schemas })) (sym (append-nil d.schemas))
+    (assumption (still-none (record d { block = Some (record { line = line; kind = kind }) }) r))
 
 -- ---- buildings
 
@@ -99,44 +82,31 @@ small-arities version = each-fails (λ n. nat_lt 6 n) (λ n. n ≤ 6) (λ n e. a
 
 -- A building begins where no names are declared, but results.
 module _ (n : ℕ) (d : Declared) where
-  abbrev begins : List (List ℕ) → List (List ℕ) → List (List ℕ) → List ℕ → Declared
-  begins objects predicates operators arities = record d {
-    names = record d.names { objects = objects; predicates = predicates; operators = operators };
-    arities = arities;
-    things = None;
-    block = None;
-  }
-
   abbrev IsBegunBy : List (List ℕ) → List (List ℕ) → List (List ℕ) → List ℕ → Type 0
-  IsBegunBy objects predicates operators arities = let e = begins objects predicates operators arities in
+  IsBegunBy objects predicates operators arities =
+      let names = record d.names { objects = objects; predicates = predicates; operators = operators } in
+      let e = record d { names = names; arities = arities; things = None; block = None } in
       AreInRange e → AreInRange (after_line n e building)
 
   building-begun : not (is_empty d.commands) ≡ false → IsBegunBy [] [] [] []
-  building-begun early r =
-      let e = begins [] [] [] [] in
+  building-begun early r = let no_names = record d.names { objects = []; predicates = []; operators = [] } in
+      let e = record d { names = no_names; arities = []; things = None; block = None } in
       let q : Problem = record (own_problem e) { objects = 1; arities = predicate_arities } in
       let more : Grows (own_problem e) q = record { objects = omega arith; arities = λ k below. absurd (omega (arith, below)) } in
       let one : 1 ≤ greatest d.version limit.objects = subst (λ v. 1 ≤ greatest v limit.objects) (sym r.version) (omega arith) in
-      let few_predicates : length predicate_names ≤ 64 = omega arith in
-      let few_operators : length operator_names ≤ 32 = omega arith in
-      let short : length predicate_arities < 4294967295 = omega arith in
-      let standing : AreStanding [] = search (All-nil, leb-true) in
-      assumption (
-        names-more d.version [] (robot_name ∷ []) r.names.objects refl refl,
-        names-more d.version [] predicate_names r.names.predicates refl refl,
-        names-more d.version [] operator_names r.names.operators refl refl,
-        small-arities d.version,
-        carried e q (Some []) r more early,
-        roles-kept [] (robot_name ∷ []) (robot_name ∷ []) [] [] [] d.roles refl refl r.roles,
-        no-domain [] (d.own_domain || false)
-            (record d.names { objects = robot_name ∷ []; predicates = predicate_names; operators = operator_names }) predicate_arities,
-        no-facts [] d.facts (greatest d.version limit.facts),
-      )
+      let few_predicates : length predicate_names ≤ 64 = omega arith in let few_operators : length operator_names ≤ 32 = omega arith in
+      let short : length predicate_arities < 4294967295 = omega arith in let standing : AreStanding [] = search (All-nil, leb-true) in
+      let objects_are = names-more d.version [] (robot_name ∷ []) r.names.objects refl refl in
+      let predicates_are = names-more d.version [] predicate_names r.names.predicates refl refl in
+      let operators_are = names-more d.version [] operator_names r.names.operators refl refl in
+      let roles = roles-kept [] (robot_name ∷ []) (robot_name ∷ []) [] [] [] d.roles refl refl r.roles in
+      let names = record d.names { objects = robot_name ∷ []; predicates = predicate_names; operators = operator_names } in
+      let none = no-own [] (d.own_domain || false) names predicate_arities d.version d.facts in let small = small-arities d.version in
+      assumption (objects_are, predicates_are, operators_are, small, carried e q (Some []) r more early, roles, none)
 
   building-kept : AreInRange (record d { block = None; things = None }) → IsFaultless (record d { block = None; things = None }) building
       → AreInRange (after_line n (record d { block = None; things = None }) building)
-  building-kept r f =
-      let is = r.own_domain f.order.domains refl in
+  building-kept r f = let is = r.own_domain f.order.domains refl in
       subst (λ t. IsBegunBy t d.names.predicates d.names.operators d.arities) (sym is.objects)
       (subst (λ t. IsBegunBy [] t d.names.operators d.arities) (sym is.predicates)
       (subst (λ t. IsBegunBy [] [] t d.arities) (sym is.operators)
@@ -153,8 +123,7 @@ module _ (n : ℕ) (d : Declared) (line : ℕ) (things : List Thing) where
       → length (robot_rooms things) + length (robot_rooms (t ∷ [])) ≤ 1
       → length objects ≡ length d.names.objects + length (standings (t ∷ [])) → slice_index_or objects 0 [] ≡ robot_name
       → IsBegun objects d.names.predicates d.names.operators d.arities (things ++ t ∷ [])
-  begun-kept r objects t right single count first =
-      let is = r.building in
+  begun-kept r objects t right single count first = let is = r.building in
       let counts : length objects ≡ length (standings (things ++ t ∷ [])) + 1 =
       omega (arith, count, is.objects_are, ap length (standings-more things t), length-append (standings things) (standings (t ∷ []))) in
       assumption (standing-more things t is.standing right single)
@@ -173,20 +142,16 @@ module _ (n : ℕ) (d : Declared) (line : ℕ) (things : List Thing) where
         begun = true;
       })
   named-kept r name t one rooms doors boxes early stands no_robot single short full right of_things =
-      let objects = d.names.objects ++ name ∷ [] in
-      let q : Problem = record (own_problem d) { objects = length objects } in
+      let objects = d.names.objects ++ name ∷ [] in let q : Problem = record (own_problem d) { objects = length objects } in
       let count = length-append d.names.objects (name ∷ []) in
       let more : Grows (own_problem d) q = record { objects = omega (arith, count); arities = λ k below. (below, refl) } in
-      let few : length objects ≤ greatest d.version limit.objects = rw length-append (at-most _ _ full) in
-      let is = r.building in
-      assumption (
-        names-more d.version d.names.objects (name ∷ []) r.names.objects single short,
-        carried b q (Some (things ++ t ∷ [])) r more early,
-        begun-kept r objects t right (omega (arith, ap length no_robot, is.standing.one_robot)) (omega (arith, count, ap length stands))
-            (get_or-append d.names.objects (name ∷ []) [] 0 (omega (arith, is.objects_are)) ∙ is.robot_first),
-        no-domain (things ++ t ∷ []) (d.own_domain || false) (record d.names { objects = objects }) d.arities,
-        no-facts (things ++ t ∷ []) d.facts (greatest d.version limit.facts),
-      )
+      let few : length objects ≤ greatest d.version limit.objects = rw length-append (at-most _ _ full) in let is = r.building in
+      let begun = begun-kept r objects t right (omega (arith, ap length no_robot, is.standing.one_robot))
+      (omega (arith, count, ap length stands))
+      (get_or-append d.names.objects (name ∷ []) [] 0 (omega (arith, is.objects_are)) ∙ is.robot_first) in
+      let none = no-own (things ++ t ∷ []) (d.own_domain || false) (record d.names { objects = objects }) d.arities d.version d.facts in
+      let names = names-more d.version d.names.objects (name ∷ []) r.names.objects single short in
+      assumption (names, carried b q (Some (things ++ t ∷ [])) r more early, begun, none)
 
   -- a name of a room
   room-at : AreInRange b → (name : List ℕ) → has_name name d.roles.rooms ≡ true
@@ -208,53 +173,37 @@ module _ (n : ℕ) (d : Declared) (line : ℕ) (things : List Thing) where
 
   room-kept : (name : List ℕ) → AreInRange b → Keeps n b (room name)
   room-kept name r f =
+      let more = with-name r name thing.Room a_room refl f.single.0 IsRoomAt rooms-kind (λ xs k is. is) d.roles.rooms r.roles.rooms in
       named-kept r name thing.Room a_room (d.roles.rooms ++ name ∷ []) d.roles.doors d.roles.boxes f.order.after refl refl f.single.0
-      f.short.0 f.limits.0 tt (assumption (
-        still r name thing.Room a_room refl f.single.0,
-        with-name r name thing.Room a_room refl f.single.0 IsRoomAt rooms-kind (λ xs k is. is) d.roles.rooms r.roles.rooms,
-      ))
+      f.short.0 f.limits.0 tt (assumption (still r name thing.Room a_room refl f.single.0, more))
 
   door-kept : (name one other : List ℕ) (is_open : Bool) → AreInRange b → Keeps n b (door name one other is_open)
   door-kept name one other is_open r f =
-      let x = number_in one d.names.objects in
-      let y = number_in other d.names.objects in
-      let one_room = room-at r one f.known.0 in
-      let other_room = room-at r other f.known.1.0 in
+      let x = number_in one d.names.objects in let y = number_in other d.names.objects in
+      let one_room = room-at r one f.known.0 in let other_room = room-at r other f.known.1.0 in
+      let known = kind-known IsRoomAt rooms-kind d.names.objects (standings things) in
       let differ : x ≢ y = λ same.
-      let equal = same-number one other d.names.objects (kind-known IsRoomAt rooms-kind d.names.objects (standings things) one one_room)
-      (kind-known IsRoomAt rooms-kind d.names.objects (standings things) other other_room) same in
+      let equal = same-number one other d.names.objects (known one one_room) (known other other_room) same in
       both_answers (bytes_eq one other) f.itself (ap (bytes_eq one) (sym equal) ∙ bytes_eq-itself one) in
-      let t = thing.Door x y is_open in
-      let d_one = a_door x y is_open in
+      let t = thing.Door x y is_open in let d_one = a_door x y is_open in
+      let more = with-name r name t d_one refl f.single.0 IsDoorAt doors-kind (λ xs k is. (x, y, is_open, is)) _ r.roles.doors in
       named-kept r name t d_one d.roles.rooms (d.roles.doors ++ name ∷ []) d.roles.boxes f.order.after refl refl f.single.0
-      f.short.0 f.limits.0 (one_room, other_room, differ) (assumption (
-        still r name t d_one refl f.single.0,
-        with-name r name t d_one refl f.single.0 IsDoorAt doors-kind (λ xs k is. (x, y, is_open, is)) d.roles.doors r.roles.doors,
-      ))
+      f.short.0 f.limits.0 (one_room, other_room, differ) (assumption (still r name t d_one refl f.single.0, more))
 
   box-kept : (name in_room : List ℕ) → AreInRange b → Keeps n b (box name in_room)
-  box-kept name in_room r f =
-      let x = number_in in_room d.names.objects in
-      named-kept r name (thing.Box x) (a_box x None) d.roles.rooms d.roles.doors (d.roles.boxes ++ name ∷ []) f.order.after refl refl
-      f.single.0 f.short.0 f.limits.0 (room-at r in_room f.known.0) (assumption (
-        still r name (thing.Box x) (a_box x None) refl f.single.0,
-        with-name r name (thing.Box x) (a_box x None) refl f.single.0 IsBoxAt boxes-kind (λ xs k is. (x, None, is)) d.roles.boxes
-            r.roles.boxes,
-      ))
+  box-kept name in_room r f = let x = number_in in_room d.names.objects in let t = thing.Box x in let one = a_box x None in
+      let more = with-name r name t one refl f.single.0 IsBoxAt boxes-kind (λ xs k is. (x, None, is)) _ r.roles.boxes in
+      named-kept r name t one d.roles.rooms d.roles.doors (d.roles.boxes ++ name ∷ []) f.order.after refl refl
+      f.single.0 f.short.0 f.limits.0 (room-at r in_room f.known.0) (assumption (still r name t one refl f.single.0, more))
 
   robot-kept : (in_room : List ℕ) → AreInRange b → Keeps n b (robot in_room)
-  robot-kept in_room r f =
-      let t = thing.Robot (number_in in_room d.names.objects) in
-      let p : Problem = own_problem d in
-      assumption (
-        begun-kept r d.names.objects t (room-at r in_room f.known.0) (omega (arith, robots-none things f.itself)) (omega arith)
-            r.building.robot_first,
-        roles-kept d.names.objects [] d.names.objects things (things ++ t ∷ []) (standings (t ∷ [])) d.roles
-            (sym (append-nil d.names.objects)) (standings-more things t) r.roles,
-        carried b p (Some (things ++ t ∷ [])) r (alike p p refl refl) f.order.after,
-        no-domain (things ++ t ∷ []) (d.own_domain || false) d.names d.arities,
-        no-facts (things ++ t ∷ []) d.facts (greatest d.version limit.facts),
-      )
+  robot-kept in_room r f = let t = thing.Robot (number_in in_room d.names.objects) in let p : Problem = own_problem d in
+      let begun = begun-kept r d.names.objects t (room-at r in_room f.known.0) (omega (arith, robots-none things f.itself)) (omega arith)
+      r.building.robot_first in
+      let roles = roles-kept d.names.objects [] d.names.objects things (things ++ t ∷ []) (standings (t ∷ [])) d.roles
+      (sym (append-nil d.names.objects)) (standings-more things t) r.roles in
+      let none = no-own (things ++ t ∷ []) (d.own_domain || false) d.names d.arities d.version d.facts in
+      assumption (begun, roles, carried b p (Some (things ++ t ∷ [])) r (alike p p refl refl) f.order.after, none)
 
 -- ---- where lines stand
 
@@ -318,52 +267,42 @@ module _ (n : ℕ) (d : Declared) where
         (λ r f. both_answers (has_two_domains (record d { block = None; things = Some things }) (line_of s).place) f.order.domains
         (two things))
 
-  each-kept : (s : Statement) → IsWellFormed d (line_of s) → AreInRange d → Keeps n d s
-  each-kept (script version) w = λ r f.
-      let in_version = in-bounds of_version version f.limits.0 in
+  pub line-kept : (r : AreInRange d) (s : Statement) → IsWellFormed d (line_of s) → Keeps n d s
+  line-kept r (script version) w = λ f. let in_version = in-bounds of_version version f.limits.0 in
       let same : d.version ≡ version = omega (arith, r.version, in_version.0, in_version.1) in
-      let P : ℕ → Type 0 = λ v. AreInRange (record d { version = v; own_domain = d.own_domain || false; begun = true }) in
-      subst P same (assumption (still-none d r))
-  each-kept (object ns) w = alone (object ns) (λ b. refl) (λ t. refl) (λ r. object-kept n d r ns) d.things
-  each-kept (predicate name arity) w = alone (predicate name arity) (λ b. refl) (λ t. refl) (λ r. predicate-kept n d r name arity) d.things
-  each-kept («axiom» xs) w = alone («axiom» xs) (λ b. refl) (λ t. refl) (λ r. axiom-kept n d r xs w.filled) d.things
-  each-kept (operator name ps) w = alone (operator name ps) (λ b. refl) (λ t. refl) (λ r. operator-kept n d r name ps) d.things
-  each-kept (fact xs) w = alone (fact xs) (λ b. refl) (λ t. refl) (λ r. fact-kept n d r xs) d.things
-  each-kept building w = outside building (λ b. refl) d.block d.things (building-line d.things)
-  each-kept (pre xs) w = λ r f. inside-operator n d (pre xs) (λ line o. pre-kept n d line o xs) d.block f.order.stands r f
-  each-kept (delete xs) w = λ r f. inside-operator n d (delete xs) (λ line o. delete-kept n d line o xs) d.block f.order.stands r f
-  each-kept (add xs) w = λ r f. inside-operator n d (add xs) (λ line o. add-kept n d line o xs) d.block f.order.stands r f
-  each-kept (room name) w = λ r f.
-      inside-building n d (room name) (λ line things. room-kept n d line things name) d.block f.order.stands r f
-  each-kept (door name one other is_open) w = λ r f. inside-building n d (door name one other is_open)
-      (λ line things. door-kept n d line things name one other is_open) d.block f.order.stands r f
-  each-kept (box name in_room) w = λ r f.
-      inside-building n d (box name in_room) (λ line things. box-kept n d line things name in_room) d.block f.order.stands r f
-  each-kept (robot in_room) w = λ r f.
-      inside-building n d (robot in_room) (λ line things. robot-kept n d line things in_room) d.block f.order.stands r f
-  each-kept end w = end-kept n d d.block d.things
-  each-kept (height most) w = outside (height most) (λ b. refl) d.block d.things
-      (λ r f. settings-kept n d r (Some most) d.nodes d.shapes f.order.after (in-bounds of_height most f.limits.0)
-      r.problem.valid.nodes r.problem.valid.shapes)
-  each-kept (nodes most) w = outside (nodes most) (λ b. refl) d.block d.things
-      (λ r f. settings-kept n d r d.height (Some most) d.shapes f.order.after r.problem.valid.height
-      (in-bounds of_nodes most f.limits.0) r.problem.valid.shapes)
-  each-kept (shapes most) w = outside (shapes most) (λ b. refl) d.block d.things
-      (λ r f. settings-kept n d r d.height d.nodes (Some most) f.order.after r.problem.valid.height r.problem.valid.nodes
-      (in-bounds of_shapes most f.limits.0))
-  each-kept (plan name xs) w = outside (plan name xs) (λ b. refl) d.block d.things (λ r. plan-kept n d r name xs w.filled)
-  each-kept (learn name source) w = outside (learn name source) (λ b. refl) d.block d.things (λ r. learn-kept n d r name source)
-  each-kept (show name) w = outside (show name) (λ b. refl) d.block d.things (λ r. show-kept n d r name)
-  each-kept (disturb_atoms turn between xs) w = outside (disturb_atoms turn between xs) (λ b. refl) d.block d.things
-      (λ r. disturb-atoms-kept n d r turn between xs w.filled (not-true _ w.of_script))
-  each-kept (disturb_rooms turn between es) w = outside (disturb_rooms turn between es) (λ b. refl) d.block d.things
-      (λ r. disturb-rooms-kept n d r turn between es w.filled w.of_script)
-  each-kept (run name bs) w = outside (run name bs) (λ b. refl) d.block d.things (λ r. run-kept n d r name bs w.filled)
-  each-kept facts w = outside facts (λ b. refl) d.block d.things (λ r. facts-kept n d r)
-
-pub line-kept : (n : ℕ) (d : Declared) (r : AreInRange d) (s : Statement) → IsWellFormed d (line_of s) → IsFaultless d s
-    → AreInRange (after_line n d s)
-line-kept n d r s w f = each-kept n d s w r f
+      subst (λ v. AreInRange (record d { version = v; own_domain = d.own_domain || false; begun = true })) same
+      (assumption (still-none d r))
+  line-kept r (object ns) w = alone _ (λ b. refl) (λ t. refl) (λ r. object-kept n d r ns) d.things r
+  line-kept r (predicate name arity) w = alone _ (λ b. refl) (λ t. refl) (λ r. predicate-kept n d r name arity) d.things r
+  line-kept r («axiom» xs) w = alone _ (λ b. refl) (λ t. refl) (λ r. axiom-kept n d r xs w.filled) d.things r
+  line-kept r (operator name ps) w = alone _ (λ b. refl) (λ t. refl) (λ r. operator-kept n d r name ps) d.things r
+  line-kept r (fact xs) w = alone _ (λ b. refl) (λ t. refl) (λ r. fact-kept n d r xs) d.things r
+  line-kept r building w = outside _ (λ b. refl) d.block d.things (building-line d.things) r
+  line-kept r (pre xs) w = λ f. inside-operator n d _ (λ line o. pre-kept n d line o xs) d.block f.order.stands r f
+  line-kept r (delete xs) w = λ f. inside-operator n d _ (λ line o. delete-kept n d line o xs) d.block f.order.stands r f
+  line-kept r (add xs) w = λ f. inside-operator n d _ (λ line o. add-kept n d line o xs) d.block f.order.stands r f
+  line-kept r (room name) w = λ f. inside-building n d _ (λ line things. room-kept n d line things name) d.block f.order.stands r f
+  line-kept r (door name one other is_open) w = λ f.
+      inside-building n d _ (λ line things. door-kept n d line things name one other is_open) d.block f.order.stands r f
+  line-kept r (box name in_room) w = λ f.
+      inside-building n d _ (λ line things. box-kept n d line things name in_room) d.block f.order.stands r f
+  line-kept r (robot in_room) w = λ f. inside-building n d _ (λ line things. robot-kept n d line things in_room) d.block f.order.stands r f
+  line-kept r end w = end-kept n d d.block d.things r
+  line-kept r (height most) w = outside _ (λ b. refl) d.block d.things (λ r f. let v = r.problem.valid in settings-kept n d r
+      (Some most) d.nodes d.shapes f.order.after (in-bounds of_height most f.limits.0) v.nodes v.shapes) r
+  line-kept r (nodes most) w = outside _ (λ b. refl) d.block d.things (λ r f. let v = r.problem.valid in settings-kept n d r
+      d.height (Some most) d.shapes f.order.after v.height (in-bounds of_nodes most f.limits.0) v.shapes) r
+  line-kept r (shapes most) w = outside _ (λ b. refl) d.block d.things (λ r f. let v = r.problem.valid in settings-kept n d r
+      d.height d.nodes (Some most) f.order.after v.height v.nodes (in-bounds of_shapes most f.limits.0)) r
+  line-kept r (plan name xs) w = outside _ (λ b. refl) d.block d.things (λ r. plan-kept n d r name xs w.filled) r
+  line-kept r (learn name source) w = outside _ (λ b. refl) d.block d.things (λ r. learn-kept n d r name source) r
+  line-kept r (show name) w = outside _ (λ b. refl) d.block d.things (λ r. show-kept n d r name) r
+  line-kept r (disturb_atoms turn between xs) w = outside _ (λ b. refl) d.block d.things
+      (λ r. disturb-atoms-kept n d r turn between xs w.filled (not-true _ w.of_script)) r
+  line-kept r (disturb_rooms turn between es) w = outside _ (λ b. refl) d.block d.things
+      (λ r. disturb-rooms-kept n d r turn between es w.filled w.of_script) r
+  line-kept r (run name bs) w = outside _ (λ b. refl) d.block d.things (λ r. run-kept n d r name bs w.filled) r
+  line-kept r facts w = outside _ (λ b. refl) d.block d.things (λ r. facts-kept n d r) r
 
 -- what a line without a fault keeps, all lines keep
 
@@ -398,14 +337,8 @@ no-index k below = absurd (omega (arith, below))
 pub start-in-range : AreInRange nothing_declared
 unfolding IsStrictlySortedBy
 start-in-range =
-    let no_names : AreNamesOf 1 [] = record {
-      distinct = λ i j t before below. absurd (omega (arith, below));
-      short = All-nil (λ n. length n ≤ 64);
-    } in
+    let no_names : AreNamesOf 1 [] = record { distinct = λ i j t before below. no-index j below; short = All-nil (λ n. length n ≤ 64) } in
     search (no_names, All-nil, no-index, leb-true) depth 8
-
-few-atoms : (version : ℕ) → All (HasShortLists version) room_schemas
-few-atoms version = All-from_recursion (HasShortLists version) room_schemas (search leb-true depth 20)
 
 module _ (d : Declared) where
   -- without a building, and with one
@@ -413,36 +346,26 @@ module _ (d : Declared) where
       → AreInRange (record d { block = block; things = things }) → IsInRange (content_of (record d { block = block; things = things }))
   closed-in-range (Some block) things closed r = cc
   closed-in-range None None closed r = assumption
-  closed-in-range None (Some things) closed r =
-      let is = r.building in
-      let of_things = is-building things is.standing (robots-some things r.block) in
-      let p : Problem = own_problem d in
-      let limits = r.problem.valid in
-      let q : Problem = building_problem p.objects p.height p.nodes p.shapes in
-      let rules = building_rules (first_state things) in
-      let facts_are = facts-are-atoms (first_state things) of_things.1 in
-      assumption (
-        buildings_are_valid p.objects p.height p.nodes p.shapes (omega (arith, is.objects_are)) limits.height limits.nodes limits.shapes,
-        sym (ap length is.predicates_are),
-        small-arities d.version,
-        All-from_recursion (λ clause. AreNumbered clause.vars (map (λ lit. lit.atom) clause.lits)) (both_ways ∷ []) (refl, tt),
-        few-atoms d.version,
-        ap length is.operators_are,
-        facts_are.0,
-        no-facts things (rendering (first_state things)) (greatest d.version limit.facts),
-        atoms-kept rules q (alike rules q (sym is.objects_are) refl) 0 (rendering (first_state things)) facts_are.1,
-        of_things,
-        is.standing.earlier,
-        commands-moved d.version p q things (length d.names.results) refl (alike p q refl is.arities_are) d.commands r.commands,
-      )
+  closed-in-range None (Some things) closed r = let is = r.building in
+      let of_things = is-building things is.standing (robots-some things r.block) in let p : Problem = own_problem d in
+      let q : Problem = building_problem p.objects p.height p.nodes p.shapes in let rules = building_rules (first_state things) in
+      let facts_are = facts-are-atoms (first_state things) of_things.1 in let l = r.problem.valid in
+      let valid = buildings_are_valid p.objects p.height p.nodes p.shapes (omega (arith, is.objects_are)) l.height l.nodes l.shapes in
+      let laws = All-from_recursion (λ clause. AreNumbered clause.vars (map (λ lit. lit.atom) clause.lits)) (both_ways ∷ []) (refl, tt) in
+      let schemas = All-from_recursion (HasShortLists d.version) room_schemas (search leb-true depth 20) in
+      let count = sym (ap length is.predicates_are) in let operators = ap length is.operators_are in
+      let few = (no-own things true d.names [] d.version (rendering (first_state things))).1 in
+      let atoms = atoms-kept rules q (alike rules q (sym is.objects_are) refl) 0 (rendering (first_state things)) facts_are.1 in
+      let moved = commands-moved d.version p q things _ refl (alike p q refl is.arities_are) d.commands r.commands in
+      let small = small-arities d.version in
+      assumption (valid, laws, schemas, count, operators, few, atoms, moved, small, facts_are.0, is.standing.earlier, of_things)
 
 -- what lines have declared that leave no block open is in range
 pub declared-in-range : (d : Declared) → AreInRange d → d.block ≡ None → IsInRange (content_of d)
 declared-in-range d r closed = closed-in-range d d.block d.things closed r
 
 pub in-range : (stage : Stage) (bytes : List ℕ) (content : ScriptValue) → IsScript stage bytes content → IsInRange content
-in-range stage bytes content is =
-    let r = lines-kept stage 1 nothing_declared (lines_of bytes) is.last start-in-range is.spells.lines in
+in-range stage bytes content is = let r = lines-kept stage 1 nothing_declared (lines_of bytes) is.last start-in-range is.spells.lines in
     subst IsInRange (sym is.is) (declared-in-range is.last r is.spells.closed)
 
 -- ---- a script is one in the whole language, too
@@ -460,8 +383,7 @@ pass-there stage n d (line ∷ lines) after pass =
 
 pub script-there : (stage : Stage) (bytes : List ℕ) (content : ScriptValue) → IsScript stage bytes content
     → IsScript whole_language bytes content
-script-there stage bytes content is =
-    let lines = pass-there stage 1 nothing_declared (lines_of bytes) is.last is.spells.lines in
+script-there stage bytes content is = let lines = pass-there stage 1 nothing_declared (lines_of bytes) is.last is.spells.lines in
     record { last = is.last; spells = record { text = is.spells.text; lines = lines; closed = is.spells.closed }; is = is.is }
 
 -- ---- what lines keep as far as the language is built

@@ -1,12 +1,8 @@
 -- Each line of a domain, each setting and each command keeps what was declared in range.
 use Rattle.std.proofs.lemmas.List.Kept.{AllPairs-cons}
-use Rattle.std.proofs.lemmas.List.Sums.{fold-append}
-use Rattle.std.proofs.lemmas.Grind.{flat_map-append}
+use Rattle.px_script.proofs.Common.{fold-append, flat_map-append, IsClause, no_schema, ◌≡◌, ◌≢◌, ℕ, suc, ◌+◌, ◌<◌, ◌≤◌, Bool, true, false, not, ◌&&◌, ◌||◌, ◌==◌, List, [], ◌∷◌, ◌++◌, map, length, refl, sym, ap, ◌∙◌, subst, arith, leb-true, length-append, nat_lt, Option, None, Some, is_some, unwrap_or, All, AllPairs, AllByRecursion, slice_index_or, list_any, list_all, flat_map, filter, range_with_len, append_assoc, get_or-append, get_or-map, and_parts, or_parts, or_right, nat_tests, length-map, All-append, All-cons, All-map, All-nil, All-push, both_answers, All-at, All-each, set_of-is_sorted, set_of-members, has_name, IsBoxAt, IsDoorAt, IsRoomAt, first_state, standings, Clause, Problem, atom_set, atom_cmp, atom_cmp-total, atom_cmp-same, IsAtomOf, Thing, EachIndex, NameLists, IsAxiomOf, append-nil, IsSchemaOf, Standing, Atom, Named, SignedAtom, Sign, WrittenRoomEdit, Binding, bare, robot_to, box_to, door_to, is_empty, is_parameter_number, wanted_by_edit, an_object, plain, literals, goals, atom_changes, line_of, object, predicate, «axiom», operator, fact, plan, learn, disturb_atoms, disturb_rooms, run, Statement, show, Bounds, greatest, of_height, of_nodes, of_shapes, of_turn, facts, Command, Plan, Learn, DisturbAtoms, DisturbRooms, Run, Facts, Show, Declared, Roles, operator_here, parameters_here, parameters_of, names_here, number_in, variables_of, atom_of, literal_of, clause_of, atom_edit_of, edit_by, room_edit_of, binding_of, after_line, own_problem, is_long, repeats, disturbance_limits, AreNumbered, AreRoomEditsOf, CommandsInRange, HasTurn, IsAmong, IsBindingOf, IsCommandOf, IsEditOf, IsWithin, NamesEarlier, disturbs_after, plan_given, result_given, AreNamesOf, all_disturbs}
 use Rattle.px_rooms.specs.Changes.{IsAdmitted}
-use Rattle.px_terms.specs.Clauses.{IsClause}
-use Rattle.px_terms.specs.Operators.{no_schema}
 use Rattle.px_script.specs.Limits as limit
-use Rattle.px_script.proofs.Common.{◌≡◌, ◌≢◌, ℕ, suc, ◌+◌, ◌<◌, ◌≤◌, Bool, true, false, not, ◌&&◌, ◌||◌, ◌==◌, List, [], ◌∷◌, ◌++◌, map, length, refl, sym, ap, ◌∙◌, subst, arith, leb-true, length-append, nat_lt, Option, None, Some, is_some, unwrap_or, All, AllPairs, AllByRecursion, fold, slice_index_or, list_any, list_all, flat_map, filter, range_with_len, append_assoc, get_or-append, get_or-map, and_parts, or_parts, or_right, nat_tests, length-map, All-append, All-cons, All-map, All-nil, All-push, both_answers, All-at, All-each, set_of-is_sorted, set_of-members, has_name, IsBoxAt, IsDoorAt, IsRoomAt, first_state, standings, Clause, Problem, atom_set, atom_cmp, atom_cmp-total, atom_cmp-same, IsAtomOf, Thing, EachIndex, NameLists, IsAxiomOf, append-nil, IsSchemaOf, Standing, Atom, Named, SignedAtom, Sign, WrittenRoomEdit, Binding, bare, robot_to, box_to, door_to, is_empty, is_parameter_number, wanted_by_edit, an_object, plain, literals, goals, atom_changes, line_of, object, predicate, «axiom», operator, fact, plan, learn, disturb_atoms, disturb_rooms, run, Statement, show, Bounds, greatest, of_height, of_nodes, of_shapes, of_turn, facts, Command, Plan, Learn, DisturbAtoms, DisturbRooms, Run, Facts, Show, Declared, Roles, operator_here, parameters_here, parameters_of, names_here, number_in, variables_of, atom_of, literal_of, clause_of, atom_edit_of, edit_by, room_edit_of, binding_of, after_line, own_problem, is_long, repeats, disturbance_limits, AreNumbered, AreRoomEditsOf, CommandsInRange, HasTurn, IsAmong, IsBindingOf, IsCommandOf, IsEditOf, IsWithin, NamesEarlier, disturbs_after, plan_given, result_given, AreNamesOf, all_disturbs}
 use Rattle.px_script.proofs.Atoms.{HasAtoms, numbered, atoms-right, atoms-with, atoms-open, no-variables, empty-length}
 use Rattle.px_script.proofs.Buildings.{roles-kept, AreOfKind}
 use Rattle.px_script.proofs.Commands.{one-more-result, among-given, among-still, among-last, more-results, scan-more}
@@ -18,8 +14,7 @@ use Rattle.px_script.proofs.States.{AreInRange, AreRolesOf, HasNoDomain}
 -- ---- what tests say
 
 pub in-bounds : (bounds : Bounds) (n : ℕ) → (nat_lt n bounds.least || nat_lt bounds.most n) ≡ false → IsWithin bounds n
-in-bounds bounds n e =
-    let outside = or_parts (nat_lt n bounds.least) (nat_lt bounds.most n) e in
+in-bounds bounds n e = let outside = or_parts (nat_lt n bounds.least) (nat_lt bounds.most n) e in
     (not-below n bounds.least outside.0, at-most bounds.most n outside.1)
 
 pub some-items : {A : Type 0} (xs : List A) → (not (is_empty xs) && true) ≡ true → 1 ≤ length xs
@@ -46,12 +41,9 @@ pub still-none : (d : Declared) → AreInRange d → (d.own_domain || false) ≡
 still-none d r own none = r.own_domain (or_parts d.own_domain false own).0 none
 
 -- with a building the script has no domain or facts of its own
-pub no-domain : (things : List Thing) (own : Bool) (names : NameLists) (arities : List ℕ) → own ≡ false → Some things ≡ None
-    → HasNoDomain names arities
-no-domain things own names arities none is = cc
-
-pub no-facts : (things : List Thing) (atoms : List Atom) (most : ℕ) → Some things ≡ None → length atoms ≤ most
-no-facts things atoms most is = cc
+pub no-own : (things : List Thing) (own : Bool) (names : NameLists) (arities : List ℕ) (version : ℕ) (atoms : List Atom)
+    → (own ≡ false → Some things ≡ None → HasNoDomain names arities) × (Some things ≡ None → length atoms ≤ greatest version limit.facts)
+no-own things own names arities version atoms = ((λ is none. cc), λ none. cc)
 
 -- What a line before all commands leaves as it is, where the problem grows.
 pub record IsCarried (d : Declared) (q : Problem) (things : Option (List Thing)) : Type 0 where
@@ -63,8 +55,7 @@ pub record IsCarried (d : Declared) (q : Problem) (things : Option (List Thing))
 
 pub carried : (d : Declared) (q : Problem) (things : Option (List Thing)) → AreInRange d → Grows (own_problem d) q
     → not (is_empty d.commands) ≡ false → IsCarried d q things
-carried d q things r more early =
-    let p = own_problem d in
+carried d q things r more early = let p = own_problem d in
     let each : All (IsCommandOf d.version q things (length d.names.results)) d.commands =
     λ k c below. absurd (omega (arith, below, no-commands d.commands early)) in
     record {
@@ -102,24 +93,16 @@ module _ (n : ℕ) (d : Declared) where
 
   module _ (r : AreInRange alone) where
     pub object-kept : (ns : List (List ℕ)) → Keeps n alone (object ns)
-    object-kept ns f =
-        let all = d.names.objects ++ ns in
-        let q : Problem = record p { objects = length all } in
+    object-kept ns f = let all = d.names.objects ++ ns in let q : Problem = record p { objects = length all } in
         let more : Grows p q = record { objects = omega (arith, length-append d.names.objects ns); arities = λ k below. (below, refl) } in
         let few : length all ≤ greatest d.version limit.objects = rw length-append (at-most _ _ f.limits.0) in
-        assumption (
-          names-more d.version d.names.objects ns r.names.objects f.single.0 f.short.0,
-          carried alone q None r more f.order.after,
-          roles-kept d.names.objects ns all [] [] [] d.roles refl refl r.roles,
-          owned (record d.names { objects = all }) d.arities,
-        )
+        let names = names-more d.version d.names.objects ns r.names.objects f.single.0 f.short.0 in
+        let roles = roles-kept d.names.objects ns all [] [] [] d.roles refl refl r.roles in
+        assumption (names, carried alone q None r more f.order.after, roles, owned (record d.names { objects = all }) d.arities)
 
     pub predicate-kept : (name : List ℕ) (arity : ℕ) → Keeps n alone (predicate name arity)
-    predicate-kept name arity f =
-        let all = d.names.predicates ++ name ∷ [] in
-        let arities = d.arities ++ arity ∷ [] in
-        let q : Problem = record p { arities = arities } in
-        let count = length-append d.arities (arity ∷ []) in
+    predicate-kept name arity f = let all = d.names.predicates ++ name ∷ [] in let arities = d.arities ++ arity ∷ [] in
+        let q : Problem = record p { arities = arities } in let count = length-append d.arities (arity ∷ []) in
         let more : Grows p q = record {
           objects = omega arith;
           arities = λ k below. (omega (arith, below, count), get_or-append d.arities (arity ∷ []) 0 k below);
@@ -127,47 +110,32 @@ module _ (n : ℕ) (d : Declared) where
         let few : length all ≤ 64 = rw length-append (at-most _ _ f.limits.0) in
         let same : length arities ≡ length all = omega (arith, count, length-append d.names.predicates (name ∷ []), r.problem.predicates) in
         let short : length arities < 4294967295 = omega (arith, same, few) in
-        assumption (
-          names-more d.version d.names.predicates (name ∷ []) r.names.predicates f.single.0 f.short.0,
-          carried alone q None r more f.order.after,
-          All-push (λ k. k ≤ greatest d.version limit.arity) d.arities arity r.problem.arities (at-most _ _ f.limits.1.0),
-          owned (record d.names { predicates = all }) arities,
-        )
+        let names = names-more d.version d.names.predicates (name ∷ []) r.names.predicates f.single.0 f.short.0 in
+        let small = All-push (λ k. k ≤ greatest d.version limit.arity) d.arities arity r.problem.arities (at-most _ _ f.limits.1.0) in
+        assumption (names, carried alone q None r more f.order.after, small, owned (record d.names { predicates = all }) arities)
 
     pub axiom-kept : (xs : List SignedAtom) → (not (is_empty xs) && true) ≡ true → Keeps n alone («axiom» xs)
-    axiom-kept xs filled f =
-        let has : HasAtoms (line_of («axiom» xs)) xs = record { atoms = refl; arguments = refl } in
-        let c = clause_of alone xs in
-        let vars = variables_of xs in
-        let count : length c.lits ≡ length xs = length-map xs (literal_of alone vars) in
-        let least = some-items xs filled in
+    axiom-kept xs filled f = let has : HasAtoms (line_of («axiom» xs)) xs = record { atoms = refl; arguments = refl } in
+        let c = clause_of alone xs in let vars = variables_of xs in
+        let count : length c.lits ≡ length xs = length-map xs (literal_of alone vars) in let least = some-items xs filled in
         let most : length xs ≤ 6 = at-most _ _ f.limits.1.0 in
         let atoms = atoms-open alone r xs refl literals refl (atoms-right alone («axiom» xs) xs has f.right) in
-        let all = d.axioms ++ c ∷ [] in
-        let q : Problem = record p { axioms = all } in
-        let more = alike p q refl refl in
+        let all = d.axioms ++ c ∷ [] in let q : Problem = record p { axioms = all } in let more = alike p q refl refl in
         let few : length all ≤ 64 = rw length-append (at-most _ _ f.limits.0) in
-        let is : IsAxiomOf p c = record {
-          vars = at-most _ _ f.limits.1.1.0;
-          lits = All-map (λ lit. IsAtomOf p (length vars) lit.atom) (literal_of alone vars) xs
-              (unmap (atom_of alone vars) (IsAtomOf p (length vars)) xs atoms);
-        } in
+        let lits = All-map (λ lit. IsAtomOf p (length vars) lit.atom) (literal_of alone vars) xs
+        (unmap (atom_of alone vars) (IsAtomOf p (length vars)) xs atoms) in
+        let is : IsAxiomOf p c = record { vars = at-most _ _ f.limits.1.1.0; lits = lits } in
         let N : Clause → Type 0 = λ clause. AreNumbered clause.vars (map (λ lit. lit.atom) clause.lits) in
         let old = carried alone q None r more f.order.after in
-        let none : q.objects ≡ 0 → All (λ schema. schema.params ≡ 0) d.schemas × All (λ clause. clause.vars ≡ 0) all = λ empty. (
-          (old.no_objects empty).0,
-          All-push (λ clause. clause.vars ≡ 0) d.axioms c (old.no_objects empty).1
-              (no-variables alone (line_of («axiom» xs)) xs has f.order.early empty),
-        ) in
-        assumption (
-          old,
-          All-push (IsAxiomOf q) d.axioms c old.axioms (of-axiom-kept p q more c is),
-          All-push IsClause d.axioms c r.problem.valid.arena.each
-              (axiom-clause p c (omega (arith, count, least), omega (arith, count, most)) is),
-          All-push N d.axioms c r.problem.axiom_variables
-              (subst (AreNumbered (length vars)) (sym (literal-atoms vars xs)) (numbered alone xs refl)),
-          owned d.names d.arities,
-        )
+        let none : q.objects ≡ 0 → All (λ schema. schema.params ≡ 0) d.schemas × All (λ clause. clause.vars ≡ 0) all = λ empty.
+        let no = old.no_objects empty in let new = no-variables alone (line_of («axiom» xs)) xs has f.order.early empty in
+        (no.0, All-push (λ clause. clause.vars ≡ 0) d.axioms c no.1 new) in
+        let axioms = All-push (IsAxiomOf q) d.axioms c old.axioms (of-axiom-kept p q more c is) in
+        let clauses = All-push IsClause d.axioms c r.problem.valid.arena.each
+        (axiom-clause p c (omega (arith, count, least), omega (arith, count, most)) is) in
+        let in_order = All-push N d.axioms c r.problem.axiom_variables
+        (subst (AreNumbered (length vars)) (sym (literal-atoms vars xs)) (numbered alone xs refl)) in
+        assumption (old, axioms, clauses, in_order, owned d.names d.arities)
       where
         -- the literals of an axiom are atoms with signs
         literal-atoms : (variables : List (List ℕ)) (xs : List SignedAtom)
@@ -176,35 +144,25 @@ module _ (n : ℕ) (d : Declared) where
         literal-atoms variables (x ∷ xs) = ap (λ t. atom_of alone variables x ∷ t) (literal-atoms variables xs)
 
     pub fact-kept : (xs : List SignedAtom) → Keeps n alone (fact xs)
-    fact-kept xs f =
-        let right = atoms-right alone (fact xs) xs (record { atoms = refl; arguments = refl }) f.right in
+    fact-kept xs f = let right = atoms-right alone (fact xs) xs (record { atoms = refl; arguments = refl }) f.right in
+        let written = atoms-with alone r xs plain refl (λ v. refl) 0 (omega arith) right in
         let new = map (atom_of alone []) xs ++ d.facts in
-        let all = All-append (IsAtomOf p 0) (map (atom_of alone []) xs) d.facts
-        (atoms-with alone r xs plain refl (λ v. refl) 0 (omega arith) right) r.facts.atoms in
+        let all = All-append (IsAtomOf p 0) (map (atom_of alone []) xs) d.facts written r.facts.atoms in
         let few : ◌≡◌ {A = Option (List Thing)} None None → length (atom_set new) ≤ greatest d.version limit.facts =
         λ none. at-most _ _ f.limits.0 in
-        assumption (
-          set_of-is_sorted atom_cmp atom_cmp-total atom_cmp-same new,
-          All-each (IsAtomOf p 0) (atom_set new) (λ q there. All-at (IsAtomOf p 0) _ q all
-              ((set_of-members atom_cmp atom_cmp-total atom_cmp-same new q).0 there)),
-          owned d.names d.arities,
-        )
+        let each = All-each (IsAtomOf p 0) (atom_set new) (λ q there. All-at (IsAtomOf p 0) _ q all
+        ((set_of-members atom_cmp atom_cmp-total atom_cmp-same new q).0 there)) in
+        assumption (set_of-is_sorted atom_cmp atom_cmp-total atom_cmp-same new, each, owned d.names d.arities)
 
     pub operator-kept : (name : List ℕ) (ps : List (List ℕ)) → Keeps n alone (operator name ps)
-    operator-kept name ps f =
-        let all = d.names.operators ++ name ∷ [] in
-        let new = record d.names { operators = all } in
+    operator-kept name ps f = let all = d.names.operators ++ name ∷ [] in let new = record d.names { operators = all } in
         let named : length all ≡ length d.schemas + 1 = omega (arith, length-append d.names.operators (name ∷ []), r.operators) in
         let count : length all ≤ greatest d.version limit.operators = rw length-append (at-most _ _ f.limits.0) in
         let few : length ps ≤ 8 = at-most _ _ f.limits.1.0 in
         let none : length d.names.objects ≡ 0 → length ps ≡ 0 =
         λ empty. no-varying ps (is_empty d.names.objects) f.order.early (empty-length d.names.objects empty) in
-        search (
-          names-more d.version d.names.operators (name ∷ []) r.names.operators f.single.0 f.short.0,
-          owned new d.arities,
-          All-nil,
-          leb-true,
-        )
+        let names = names-more d.version d.names.operators (name ∷ []) r.names.operators f.single.0 f.short.0 in
+        search (names, owned new d.arities, All-nil, leb-true)
       where
         no-varying : (ps : List (List ℕ)) (empty : Bool) → ((false || (not (is_empty ps) || false)) && empty) ≡ false → empty ≡ true
             → length ps ≡ 0
@@ -221,35 +179,32 @@ module _ (n : ℕ) (d : Declared) where
         let q : Problem = record p { height = unwrap_or tall 4; nodes = unwrap_or many 10000; shapes = unwrap_or wide 10000 } in
         assumption (still-none top r, in_height, in_nodes, in_shapes, carried top q d.things r (alike p q refl refl) early)
 
+    -- what is declared after a command, with the results and the roles after it
+    abbrev given : Command → List (List ℕ) → Roles → Declared
+    given c names roles = record top {
+      names = record d.names { results = names };
+      roles = roles;
+      commands = d.commands ++ c ∷ [];
+      disturbs = disturbs_after d.disturbs c;
+      own_domain = d.own_domain || false;
+      begun = true;
+    }
+
     -- A command, with the results and the roles after it.
-    command-kept : (c : Command) (names : List (List ℕ)) (roles : Roles)
-        → disturbs_after d.disturbs c ≤ greatest d.version limit.disturbs
+    command-kept : (c : Command) (names : List (List ℕ)) (roles : Roles) → disturbs_after d.disturbs c ≤ greatest d.version limit.disturbs
         → nat_lt (greatest d.version limit.commands) (length d.commands + 1) ≡ false
         → AreNamesOf d.version names → range_with_len 0 results ++ result_given c ≡ range_with_len 0 (length names)
         → results ≤ length names → length names ≤ results + 1
         → IsCommandOf d.version p d.things (length names) c → NamesEarlier d.commands c
-        → AreRolesOf d.names.objects roles (unwrap_or d.things []) → roles.tables ≡ names
-        → All (λ m. has_name m names ≡ true) roles.plans
-        → All (λ m. IsAmong (flat_map plan_given (d.commands ++ c ∷ [])) (number_in m names)) roles.plans
-        → AreInRange (record top {
-          names = record d.names { results = names };
-          roles = roles;
-          commands = d.commands ++ c ∷ [];
-          disturbs = disturbs_after d.disturbs c;
-          own_domain = d.own_domain || false;
-          begun = true;
-        })
+        → AreRolesOf d.names.objects roles (unwrap_or d.things []) → roles.tables ≡ names → All (λ m. has_name m names ≡ true) roles.plans
+        → All (λ m. IsAmong (flat_map plan_given (d.commands ++ c ∷ [])) (number_in m names)) roles.plans → AreInRange (given c names roles)
     command-kept c names roles often full names_are given least most is_command earlier roles_are tables known plans =
-        let all = d.commands ++ c ∷ [] in
-        let count = length-append d.commands (c ∷ []) in
+        let all = d.commands ++ c ∷ [] in let count = length-append d.commands (c ∷ []) in
         let few : length all ≤ greatest d.version limit.commands = rw length-append (at-most _ _ full) in
         let few_results : length names ≤ length all = omega (arith, count, most, r.results.few) in
-        let counts : disturbs_after d.disturbs c ≡ disturbs_after (fold disturbs_after 0 d.commands) c =
-        ap (λ t. disturbs_after t c) r.results.disturbs in
-        let since : disturbs_after d.disturbs c ≡ fold disturbs_after 0 all =
-        counts ∙ sym (fold-append disturbs_after 0 d.commands (c ∷ [])) in
-        let C : Command → Type 0 = IsCommandOf d.version p d.things (length names) in
-        let each : All C all = All-push C d.commands c
+        let counts = ap (λ t. disturbs_after t c) r.results.disturbs in
+        let since = counts ∙ sym (fold-append disturbs_after 0 d.commands (c ∷ [])) in
+        let each = All-push (IsCommandOf d.version p d.things (length names)) d.commands c
         (λ k x below. more-results d.version p d.things results (length names) least _ (r.commands.each k x below)) is_command in
         let N : ℕ → Type 0 = λ m. m ≤ greatest d.version limit.disturbs in
         let few_disturbs : All N (all_disturbs all) = subst (All N) (sym (scan-more 0 d.commands c))
@@ -264,14 +219,8 @@ module _ (n : ℕ) (d : Declared) where
     -- a command that gives no result
     plain-kept : (c : Command) → result_given c ≡ [] → nat_lt (greatest d.version limit.commands) (length d.commands + 1) ≡ false
         → disturbs_after d.disturbs c ≤ greatest d.version limit.disturbs → IsCommandOf d.version p d.things results c
-        → NamesEarlier d.commands c → AreInRange (record top {
-          commands = d.commands ++ c ∷ [];
-          disturbs = disturbs_after d.disturbs c;
-          own_domain = d.own_domain || false;
-          begun = true;
-        })
-    plain-kept c no_result full often is_command earlier =
-        command-kept c d.names.results d.roles often full r.names.results
+        → NamesEarlier d.commands c → AreInRange (given c d.names.results d.roles)
+    plain-kept c no_result full often is_command earlier = command-kept c d.names.results d.roles often full r.names.results
         (ap (λ t. range_with_len 0 results ++ t) no_result ∙ append-nil (range_with_len 0 results)) (omega arith) (omega arith) is_command
         earlier r.roles r.results.tables r.results.plan_names (λ k x below. among-still d.commands c _ (r.results.plans k x below))
 
@@ -294,27 +243,23 @@ module _ (n : ℕ) (d : Declared) where
 
     turn-is : (turn edits written : ℕ) → edits ≡ written → 1 ≤ written
         → AllByRecursion (λ test. test.0 ≡ false) (disturbance_limits d turn written) → HasTurn d.version turn edits
-    turn-is turn edits written same some limits =
-        let few = at-most _ _ limits.1.1.0 in
+    turn-is turn edits written same some limits = let few = at-most _ _ limits.1.1.0 in
         (in-bounds of_turn turn limits.1.1.1.0, omega (arith, same, some), omega (arith, same, few))
 
-    edit-is : (x : SignedAtom) → IsAtomOf p 0 (atom_of top [] x) → IsEditOf p (atom_edit_of top x)
-    edit-is x is = by_sign x.sign
-      where
-        by_sign : (sign : Sign) → IsEditOf p (edit_by sign (atom_of top [] x))
-        by_sign bare = is
-        by_sign _ = is
+    edit-is : (sign : Sign) (atom : Atom) → IsAtomOf p 0 atom → IsEditOf p (edit_by sign atom)
+    edit-is bare atom is = is
+    edit-is _ atom is = is
 
     pub disturb-atoms-kept : (turn : ℕ) (between : Bool) (xs : List SignedAtom) → (not (is_empty xs) && true) ≡ true
         → is_some d.things ≡ false → Keeps n top (disturb_atoms turn between xs)
     disturb-atoms-kept turn between xs filled no_things f =
         let right = atoms-right top (disturb_atoms turn between xs) xs (record { atoms = refl; arguments = refl }) f.right in
         let atoms = atoms-with top r xs atom_changes refl (λ v. refl) 0 (omega arith) right in
-        plain-kept (DisturbAtoms turn between (map (atom_edit_of top) xs)) refl f.limits.0 (at-most _ _ f.limits.1.0) (
-          turn-is turn _ (length xs) (length-map xs (atom_edit_of top)) (some-items xs filled) f.limits,
-          no_things,
-          All-map (IsEditOf p) (atom_edit_of top) xs (λ k x below. edit-is _ (unmap (atom_of top []) (IsAtomOf p 0) xs atoms k x below)),
-        ) tt
+        let timed = turn-is turn _ (length xs) (length-map xs (atom_edit_of top)) (some-items xs filled) f.limits in
+        let each = All-map (IsEditOf p) (atom_edit_of top) xs
+        (λ k x below. edit-is _ _ (unmap (atom_of top []) (IsAtomOf p 0) xs atoms k x below)) in
+        plain-kept (DisturbAtoms turn between (map (atom_edit_of top) xs)) refl f.limits.0 (at-most _ _ f.limits.1.0)
+        (timed, no_things, each) tt
 
     abbrev IsThere : Named × List ℕ → Type 0
     IsThere w = has_name w.1 (names_here top w.0) ≡ true
@@ -326,10 +271,8 @@ module _ (n : ℕ) (d : Declared) where
     room-edit-is : (things : List Thing) → AreRolesOf d.names.objects d.roles things → (edit : WrittenRoomEdit)
         → AllByRecursion IsThere (wanted_by_edit edit) → IsAdmitted (first_state things) (room_edit_of top edit)
     room-edit-is things roles (robot_to place) known = numbered-as IsRoomAt things d.roles.rooms place roles.rooms known.0
-    room-edit-is things roles (box_to moved place) known = (
-      numbered-as IsBoxAt things d.roles.boxes moved roles.boxes known.0,
-      numbered-as IsRoomAt things d.roles.rooms place roles.rooms known.1.0,
-    )
+    room-edit-is things roles (box_to moved place) known =
+        (numbered-as IsBoxAt things _ moved roles.boxes known.0, numbered-as IsRoomAt things _ place roles.rooms known.1.0)
     room-edit-is things roles (door_to way is_open) known = numbered-as IsDoorAt things d.roles.doors way roles.doors known.0
 
     room-edits-are : (o : Option (List Thing)) → is_some o ≡ true → AreRolesOf d.names.objects d.roles (unwrap_or o [])
@@ -346,10 +289,9 @@ module _ (n : ℕ) (d : Declared) where
     pub disturb-rooms-kept : (turn : ℕ) (between : Bool) (es : List WrittenRoomEdit) → (not (is_empty es) && true) ≡ true
         → is_some d.things ≡ true → Keeps n top (disturb_rooms turn between es)
     disturb-rooms-kept turn between es filled with_things f =
-        plain-kept (DisturbRooms turn between (map (room_edit_of top) es)) refl f.limits.0 (at-most _ _ f.limits.1.0) (
-          turn-is turn _ (length es) (length-map es (room_edit_of top)) (some-items es filled) f.limits,
-          room-edits-are d.things with_things r.roles es f.known,
-        ) tt
+        let timed = turn-is turn _ (length es) (length-map es (room_edit_of top)) (some-items es filled) f.limits in
+        plain-kept (DisturbRooms turn between (map (room_edit_of top) es)) refl f.limits.0 (at-most _ _ f.limits.1.0)
+        (timed, room-edits-are d.things with_things r.roles es f.known) tt
 
     -- runs
 
@@ -359,8 +301,7 @@ module _ (n : ℕ) (d : Declared) where
     bound-once : (bs : List Binding) → All (λ b. length (filter (binds_as b) bs) ≤ 1) bs
         → AllPairs (λ one other. one.0 ≢ other.0) (map (binding_of top) bs)
     bound-once [] few = λ i j e before within. absurd (omega (arith, within))
-    bound-once (b ∷ bs) few =
-        let same : binds_as b b ≡ true = grind (arith, nat_tests) in
+    bound-once (b ∷ bs) few = let same : binds_as b b ≡ true = grind (arith, nat_tests) in
         let first : suc (length (filter (binds_as b) bs)) ≤ 1 = rw same at (few 0 b (omega arith)) in
         let others = each-fails (binds_as b) (λ x. binds_as b x ≡ false) (λ x e. e) bs
         (none-filtered (binds_as b) bs (omega (arith, first))) in
@@ -388,13 +329,10 @@ module _ (n : ℕ) (d : Declared) where
     pub run-kept : (name : List ℕ) (bs : List Binding) → (list_all (λ b. is_parameter_number b.parameter) bs && true) ≡ true
         → Keeps n top (run name bs)
     run-kept name bs filled f =
-        plain-kept (Run (number_in name d.names.results) (map (binding_of top) bs)) refl f.limits.0 (omega arith) (
-          known-result name f.known.0,
-          bindings-are bs (and_parts _ true filled).0 f.known.1,
-          bound-once bs
-              (each-fails (λ b. nat_lt 1 (length (filter (binds_as b) bs))) (λ b. length (filter (binds_as b) bs) ≤ 1)
-              (λ b e. at-most _ _ e) bs f.itself),
-        ) (named-earlier name f.known.0)
+        let once = each-fails _ (λ b. length (filter (binds_as b) bs) ≤ 1) (λ b e. at-most _ _ e) bs f.itself in
+        let are = bindings-are bs (and_parts _ true filled).0 f.known.1 in
+        plain-kept (Run (number_in name d.names.results) (map (binding_of top) bs)) refl f.limits.0 (omega arith)
+        (known-result name f.known.0, are, bound-once bs once) (named-earlier name f.known.0)
 
     -- commands that give a result: their names, what plans keep, and what a new plan has
 
@@ -409,9 +347,7 @@ module _ (n : ℕ) (d : Declared) where
       IsNamed m = has_name m named ≡ true
 
       plans-kept : All IsPlanAfter d.roles.plans
-      plans-kept = λ k e below.
-          let m = slice_index_or d.roles.plans k e in
-          subst (IsAmong (flat_map plan_given (d.commands ++ c ∷ [])))
+      plans-kept = λ k e below. let m = slice_index_or d.roles.plans k e in subst (IsAmong (flat_map plan_given (d.commands ++ c ∷ [])))
           (sym (number-kept m d.names.results (name ∷ []) (r.results.plan_names k e below)))
           (among-still d.commands c _ (r.results.plans k e below))
 
@@ -422,14 +358,7 @@ module _ (n : ℕ) (d : Declared) where
           → repeats d.names.results (name ∷ []) ≡ false → list_any (is_long d.version) (name ∷ []) ≡ false
           → nat_lt (greatest d.version limit.commands) (length d.commands + 1) ≡ false
           → IsCommandOf d.version p d.things (length named) c → NamesEarlier d.commands c → All IsNamed plans → All IsPlanAfter plans
-          → AreInRange (record top {
-            names = record d.names { results = named };
-            roles = record d.roles { plans = plans; tables = d.roles.tables ++ name ∷ [] };
-            commands = d.commands ++ c ∷ [];
-            disturbs = disturbs_after d.disturbs c;
-            own_domain = d.own_domain || false;
-            begun = true;
-          })
+          → AreInRange (given c named (record d.roles { plans = plans; tables = d.roles.tables ++ name ∷ [] }))
       result-kept plans gives disturbs single short full is_command earlier known numbers =
           let count = length-append d.names.results (name ∷ []) in
           command-kept c named (record d.roles { plans = plans; tables = d.roles.tables ++ name ∷ [] })
@@ -440,26 +369,21 @@ module _ (n : ℕ) (d : Declared) where
           known numbers
 
     pub learn-kept : (name source : List ℕ) → Keeps n top (learn name source)
-    learn-kept name source f =
-        let count = length-append d.names.results (name ∷ []) in
+    learn-kept name source f = let count = length-append d.names.results (name ∷ []) in
         let c = Learn results (number_in source d.names.results) in
         let among = at-name (λ m. IsAmong (flat_map plan_given d.commands) (number_in m d.names.results)) d.roles.plans source
         r.results.plans f.known.0 in
-        let below = number-below source d.names.results
-        (at-name (λ m. has_name m d.names.results ≡ true) d.roles.plans source r.results.plan_names f.known.0) in
+        let known = at-name (λ m. has_name m d.names.results ≡ true) d.roles.plans source r.results.plan_names f.known.0 in
+        let below = number-below source d.names.results known in
         result-kept name c d.roles.plans refl refl f.single.0 f.short.0 f.limits.0 (omega (arith, count), omega (arith, count, below)) among
         (names-kept name c) (plans-kept name c)
 
     pub plan-kept : (name : List ℕ) (xs : List SignedAtom) → (not (is_empty xs) && true) ≡ true → Keeps n top (plan name xs)
-    plan-kept name xs filled f =
-        let has : HasAtoms (line_of (plan name xs)) xs = record { atoms = refl; arguments = refl } in
-        let variables = variables_of xs in
-        let goal = map (atom_of top variables) xs in
-        let size : length goal ≡ length xs = length-map xs (atom_of top variables) in
-        let least = some-items xs filled in
+    plan-kept name xs filled f = let has : HasAtoms (line_of (plan name xs)) xs = record { atoms = refl; arguments = refl } in
+        let variables = variables_of xs in let goal = map (atom_of top variables) xs in
+        let size : length goal ≡ length xs = length-map xs (atom_of top variables) in let least = some-items xs filled in
         let most : length xs ≤ greatest d.version limit.goal_atoms = at-most _ _ f.limits.1.0 in
-        let count = length-append d.names.results (name ∷ []) in
-        let c = Plan results goal (length variables) in
+        let count = length-append d.names.results (name ∷ []) in let c = Plan results goal (length variables) in
         let number : results ≡ number_in name (d.names.results ++ name ∷ []) = sym
         (number-new name d.names.results [] (is-new d.names.results name f.single.0)) in
         result-kept name c (d.roles.plans ++ name ∷ []) refl refl f.single.0 f.short.0 f.limits.1.1.0 (

@@ -1,22 +1,11 @@
 -- Lists of names: tests of them, the numbers of names, names that stand twice, and names that stay distinct where a line adds new ones.
-use Rattle.std.specs.List.{prefix_len, position_or_len}
-use Rattle.std.proofs.lemmas.List.Elements.{All-head, All-tail}
+use Rattle.px_script.proofs.Common.{prefix_len, position_or_len, All-head, All-tail, passes_at_first, take-append-le, AreDistinct, has_name-decides, ◌≡◌, ◌≢◌, ℕ, suc, ◌+◌, ◌<◌, ◌≤◌, Bool, true, false, cond, not, ◌||◌, List, [], ◌∷◌, ◌++◌, length, get_or, refl, sym, ap, ◌∙◌, subst, inl, inr, arith, append_assoc, append-nil, nat_lt, Option, None, Some, is_some, All, AllByRecursion, Contains, slice_index_or, position, list_any, flat_map, filter, bytes_eq, if◌then◌else◌, nat_tests, or_parts, or_right, list_any-append, list_any_at, bytes_eq-Decides, both_answers, All-each, has_name, bytes_eq-itself, EachIndex, cases_lt, take, get_or-append, take-append_seam, length-append, get_or-append_seam, stands_twice, repeats, number_in, All-from_recursion}
 use Rattle.std.proofs.lemmas.List.Quantifiers.{all_pairs_push}
-use Rattle.std.proofs.lemmas.List.Sums.{passes_at_first}
-use Rattle.std.proofs.lemmas.List.{take-append-le}
-use Rattle.px_names.specs.Lists.{AreDistinct}
-use Rattle.px_names.specs.NameLaws.{has_name-decides}
-use Rattle.px_script.proofs.Common.{◌≡◌, ◌≢◌, ◌⊎◌, ℕ, suc, ◌+◌, ◌<◌, ◌≤◌, Bool, true, false, cond, not, ◌||◌, List, [], ◌∷◌, ◌++◌, length, get_or, refl, sym, ap, ◌∙◌, subst, inl, inr, arith, append_assoc, append-nil, nat_lt, Option, None, Some, is_some, All, AllByRecursion, Contains, slice_index_or, position, list_any, flat_map, filter, bytes_eq, if◌then◌else◌, nat_tests, or_parts, or_right, list_any-append, list_any_at, bytes_eq-Decides, both_answers, All-each, has_name, bytes_eq-itself, EachIndex, cases_lt, take, get_or-append, take-append_seam, length-append, get_or-append_seam, stands_twice, repeats, number_in, All-from_recursion}
 
 -- one case for each answer of a test
 pub by_test : {A : Type 0} (b : Bool) → (b ≡ true → A) → (b ≡ false → A) → A
 by_test true on_true on_false = on_true refl
 by_test false on_true on_false = on_false refl
-
--- which way a choice went
-pub chosen : {A : Type 0} (b : Bool) (x y z : A) → cond b x y ≡ z → ((b ≡ true) × (x ≡ z)) ⊎ ((b ≡ false) × (y ≡ z))
-chosen true x y z e = inl (refl, e)
-chosen false x y z e = inr (refl, e)
 
 -- a test that would have been answered
 pub passes-test : {A : Type 0} (b : Bool) (x : A) (more : Option A) → cond b (Some x) more ≡ None → (b ≡ false) × (more ≡ None)
@@ -72,8 +61,7 @@ each-more P xs x d each last = each-pushed (λ k y. P (take k (xs ++ x ∷ [])) 
 
 within : {A : Type 0} (p : A → Bool) (xs : List A) → nat_lt (prefix_len (λ x. not (p x)) xs) (length xs) ≡ list_any p xs
 within p [] = refl
-within p (x ∷ xs) = by_test (p x)
-    (λ e. rw e (grind (arith, nat_tests)))
+within p (x ∷ xs) = by_test (p x) (λ e. rw e (grind (arith, nat_tests)))
     (λ e. rw e (later (prefix_len (λ y. not (p y)) xs) (length xs) ∙ within p xs))
   where
     later : (m n : ℕ) → nat_lt (1 + m) (suc n) ≡ nat_lt m n
@@ -88,8 +76,7 @@ module _ {A : Type 0} (p : A → Bool) where
 
   place-front : (xs ys : List A) → list_any p xs ≡ true → position_or_len p (xs ++ ys) ≡ position_or_len p xs
   place-front [] ys some = cc
-  place-front (x ∷ xs) ys some = by_test (p x)
-      (λ e. rw e refl)
+  place-front (x ∷ xs) ys some = by_test (p x) (λ e. rw e refl)
       (λ e. let more : list_any p xs ≡ true = rw e at some in rw e (ap (λ k. 1 + k) (place-front xs ys more)))
 
   place-after : (xs ys : List A) → list_any p xs ≡ false → position_or_len p (xs ++ ys) ≡ length xs + position_or_len p ys
@@ -117,8 +104,7 @@ known-still n names more known = list_any-append (bytes_eq n) names more ∙ ap 
 
 -- more names leave the number of a name
 pub number-kept : (n : List ℕ) (names more : List (List ℕ)) → has_name n names ≡ true → number_in n (names ++ more) ≡ number_in n names
-number-kept n names more known =
-    number-known n (names ++ more) (known-still n names more known) ∙ place-front (bytes_eq n) names more known
+number-kept n names more known = number-known n (names ++ more) (known-still n names more known) ∙ place-front (bytes_eq n) names more known
     ∙ sym (number-known n names known)
 
 pub known-last : (n : List ℕ) (names more : List (List ℕ)) → has_name n (names ++ n ∷ more) ≡ true
@@ -127,8 +113,7 @@ known-last n names more = list_any-append (bytes_eq n) names (n ∷ more)
 
 -- a new name has the number of names before it
 pub number-new : (n : List ℕ) (names more : List (List ℕ)) → has_name n names ≡ false → number_in n (names ++ n ∷ more) ≡ length names
-number-new n names more unknown =
-    let first : position_or_len (bytes_eq n) (n ∷ more) ≡ 0 = rw (bytes_eq-itself n) refl in
+number-new n names more unknown = let first : position_or_len (bytes_eq n) (n ∷ more) ≡ 0 = rw (bytes_eq-itself n) refl in
     let all = number-known n (names ++ n ∷ more) (known-last n names more) ∙ place-after (bytes_eq n) names (n ∷ more) unknown in
     omega (arith, all, first)
 
@@ -149,8 +134,7 @@ same_any p q (x ∷ xs) same = rw (All-head (λ y. p y ≡ q y) x xs same, same_
 
 more_any : {A : Type 0} (p q : A → Bool) (xs : List A) → ((x : A) → p x ≡ true → q x ≡ true) → list_any p xs ≡ true → list_any q xs ≡ true
 more_any p q [] implied some = some
-more_any p q (x ∷ xs) implied some = by_test (p x)
-    (λ e. rw (implied x e) refl)
+more_any p q (x ∷ xs) implied some = by_test (p x) (λ e. rw (implied x e) refl)
     (λ e. rw (more_any p q xs implied (rw e at some)) (or_right (q x) true refl))
 
 some_filtered : {A : Type 0} (p : A → Bool) (xs : List A) → nat_lt 0 (length (filter p xs)) ≡ list_any p xs
@@ -171,9 +155,6 @@ module _ (others : List (List ℕ)) (n : List ℕ) (ns : List (List ℕ)) where
   abbrev of_rest : List ℕ → Bool
   of_rest m = has_name m (others ++ n ∷ []) || stands_twice ns m
 
-  one-more : (m : List ℕ) → has_name m (others ++ n ∷ []) ≡ (has_name m others || (bytes_eq m n || false))
-  one-more m = list_any-append (bytes_eq m) others (n ∷ [])
-
   by-name : (m : List ℕ) (is_n is_other : Bool) → list_any (bytes_eq m) ns ≡ true
       → (is_other || nat_lt 1 (length (if is_n then n ∷ filter (bytes_eq m) ns else filter (bytes_eq m) ns)))
       ≡ ((is_other || (is_n || false)) || stands_twice ns m)
@@ -182,10 +163,9 @@ module _ (others : List (List ℕ)) (n : List ℕ) (ns : List (List ℕ)) where
   by-name m false false among = refl
 
   same-of : All (λ m. of_whole m ≡ of_rest m) ns
-  same-of k d below =
-      let m = get_or ns k d in
+  same-of k d below = let m = get_or ns k d in
       by-name m (bytes_eq m n) (has_name m others) (list_any_at (bytes_eq m) ns k d below (bytes_eq-itself m))
-      ∙ ap (λ b. b || stands_twice ns m) (sym (one-more m))
+      ∙ ap (λ b. b || stands_twice ns m) (sym (list_any-append (bytes_eq m) others (n ∷ [])))
 
   -- a name of the rest that is the first one
   is-first : (m : List ℕ) → bytes_eq n m ≡ true → of_rest m ≡ true
@@ -197,14 +177,12 @@ module _ (others : List (List ℕ)) (n : List ℕ) (ns : List (List ℕ)) where
   joined false false r later = refl
 
   first-twice : stands_twice (n ∷ ns) n ≡ list_any (bytes_eq n) ns
-  first-twice =
-      ap (λ b. nat_lt 1 (length (if b then n ∷ filter (bytes_eq n) ns else filter (bytes_eq n) ns))) (bytes_eq-itself n)
+  first-twice = ap (λ b. nat_lt 1 (length (if b then n ∷ filter (bytes_eq n) ns else filter (bytes_eq n) ns))) (bytes_eq-itself n)
       ∙ one-longer (length (filter (bytes_eq n) ns)) ∙ some_filtered (bytes_eq n) ns
 
   -- The first name is one of the others, or a later one is one of these or the first, or stands twice.
   pub repeats-cons : repeats others (n ∷ ns) ≡ (has_name n others || repeats (others ++ n ∷ []) ns)
-  repeats-cons =
-      ap (λ r. (has_name n others || stands_twice (n ∷ ns) n) || r) (same_any of_whole of_rest ns same-of)
+  repeats-cons = ap (λ r. (has_name n others || stands_twice (n ∷ ns) n) || r) (same_any of_whole of_rest ns same-of)
       ∙ ap (λ b. (has_name n others || b) || list_any of_rest ns) first-twice
       ∙ joined (has_name n others) (list_any (bytes_eq n) ns) (list_any of_rest ns) (more_any (bytes_eq n) of_rest ns is-first)
 
@@ -219,13 +197,10 @@ is-new names n none = (repeats-none names n [] none).0
 
 -- a name that isn't in the list is none of its names
 others-differ : (names : List (List ℕ)) (name : List ℕ) → has_name name names ≡ false → All (λ earlier. earlier ≢ name) names
-others-differ names name new =
-    All-each (λ earlier. earlier ≢ name) names
+others-differ names name new = All-each (λ earlier. earlier ≢ name) names
     (λ earlier there same. both_answers (has_name name names) new ((has_name-decides name names).1 (subst (Contains names) same there)))
 
 pub more-distinct : (names ns : List (List ℕ)) → AreDistinct names → repeats names ns ≡ false → AreDistinct (names ++ ns)
 more-distinct names [] are none = subst AreDistinct (sym (append-nil names)) are
-more-distinct names (n ∷ ns) are none =
-    let both = repeats-none names n ns none in
-    subst AreDistinct (append_assoc names (n ∷ []) ns)
+more-distinct names (n ∷ ns) are none = let both = repeats-none names n ns none in subst AreDistinct (append_assoc names (n ∷ []) ns)
     (more-distinct (names ++ n ∷ []) ns (all_pairs_push ◌≢◌ names n are (others-differ names n both.0)) both.1)

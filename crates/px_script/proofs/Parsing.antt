@@ -1,13 +1,5 @@
 -- A plain parser of lexemes.
-use Rattle.std.specs.Prelude.{ℕ, Bool, true, false, List, [], ◌∷◌, length, drop, Option, None, Some, codes, if◌then◌else◌, ◌==◌, zero, suc}
-use Rattle.std.specs.Option.{option_map, option_and_then}
-use Rattle.std.specs.Str.{bytes_eq}
-use Rattle.std.specs.Str.Parse.{digits_value}
-use Rattle.px_script.specs.Lexemes.{Lexeme, name, variable, number, sign}
-use Rattle.px_script.specs.Items.{Argument, Sign, SignedAtom, WrittenRoomEdit, Binding, named, open_variable, anything, bare, negated, added, removed, robot_to, box_to, door_to, parameter_name, is_parameter_number}
-use Rattle.px_script.specs.Statements.{Statement, line_of, script, object, predicate, «axiom», operator, pre, delete, add, building, room, door, box, robot, end, fact, height, nodes, shapes, plan, learn, show, disturb_atoms, disturb_rooms, run, facts}
-use Rattle.px_script.specs.Declarations.{Declared, has_building}
-use Rattle.px_script.specs.Forms.{is_formed}
+use Rattle.px_script.proofs.Common.{ℕ, Bool, true, false, List, [], ◌∷◌, length, drop, Option, None, Some, codes, if◌then◌else◌, ◌==◌, zero, suc, option_map, option_and_then, bytes_eq, digits_value, Lexeme, name, variable, number, sign, Argument, Sign, SignedAtom, WrittenRoomEdit, Binding, named, open_variable, anything, bare, negated, added, removed, robot_to, box_to, door_to, parameter_name, is_parameter_number, Statement, line_of, script, object, predicate, «axiom», operator, pre, delete, add, building, room, door, box, robot, end, fact, height, nodes, shapes, plan, learn, show, disturb_atoms, disturb_rooms, run, facts, Declared, has_building, is_formed}
 
 abbrev pub argument_of : Lexeme → Option Argument
 argument_of (name n) = Some (named n)
@@ -49,17 +41,13 @@ all_within one (suc n) (x ∷ xs) = option_and_then (λ front. option_map (λ mo
 abbrev pub all_of : {A : Type 0} → (List Lexeme → Option (A × List Lexeme)) → List Lexeme → Option (List A)
 all_of one lexemes = all_within one (length lexemes) lexemes
 
--- what was read in front, changed
-abbrev pub read_as : {A B : Type 0} → (A → B) → Option (A × List Lexeme) → Option (B × List Lexeme)
-read_as f found = option_map (λ front. (f front.0, front.1)) found
-
 abbrev pub sign_of : ℕ → Option Sign
 sign_of s = if s == 126 then Some negated else (if s == 43 then Some added else (if s == 45 then Some removed else None))
 
 -- the atom after a sign
 abbrev pub atom_after : Sign → List Lexeme → Option (SignedAtom × List Lexeme)
 atom_after before (name p ∷ rest) =
-    read_as (λ arguments. record { sign = before; atom = record { predicate = p; arguments = arguments } }) (items_at argument_of rest)
+    option_map (λ r. (record { sign = before; atom = record { predicate = p; arguments = r.0 } }, r.1)) (items_at argument_of rest)
 atom_after before _ = None
 
 -- an atom with a sign or none
@@ -118,9 +106,6 @@ abbrev pub binding_at : List Lexeme → Option (Binding × List Lexeme)
 binding_at =
     after_name (λ p. after_sign 61 (after_name (λ o rest. option_map (λ k. (record { parameter = k; object = o }, rest)) (parameter_of p))))
 
-abbrev pub atoms_of : List Lexeme → Option (List SignedAtom)
-atoms_of = all_of atom_at
-
 abbrev pub names_of : List Lexeme → Option (List (List ℕ))
 names_of [] = Some []
 names_of (name n ∷ rest) = option_map (λ more. n ∷ more) (names_of rest)
@@ -153,7 +138,7 @@ abbrev pub operator_form : List Lexeme → Option Statement
 operator_form = after_name (λ n rest. option_and_then (λ items. at_end (operator n items.0, items.1)) (names_at rest))
 
 abbrev pub plan_form : List Lexeme → Option Statement
-plan_form = after_name (λ n rest. option_map (plan n) (atoms_of rest))
+plan_form = after_name (λ n rest. option_map (plan n) (all_of atom_at rest))
 
 abbrev pub door_form : List Lexeme → Option Statement
 door_form = after_name (λ n. after_name (λ one. after_name (λ other. after_name (λ state rest.
@@ -172,7 +157,7 @@ run_form = after_name (λ n rest. option_map (run n) (all_of binding_at rest))
 -- edits of the script's kind
 abbrev pub edits_form : Bool → ℕ → Bool → List Lexeme → Option Statement
 edits_form with_building turn between rest = if with_building then option_map (disturb_rooms turn between) (all_of room_edit_at rest)
-    else option_map (disturb_atoms turn between) (atoms_of rest)
+    else option_map (disturb_atoms turn between) (all_of atom_at rest)
 
 abbrev pub disturb_form : Bool → List Lexeme → Option Statement
 disturb_form with_building =
@@ -183,18 +168,18 @@ abbrev pub rest_form : Bool → List ℕ → List Lexeme → Option Statement
 rest_form with_building w rest = if bytes_eq w (codes "script") then number_form script rest
     else (if bytes_eq w (codes "object") then option_map object (names_of rest)
     else (if bytes_eq w (codes "predicate") then predicate_form rest
-    else (if bytes_eq w (codes "axiom") then option_map «axiom» (atoms_of rest)
+    else (if bytes_eq w (codes "axiom") then option_map «axiom» (all_of atom_at rest)
     else (if bytes_eq w (codes "operator") then operator_form rest
-    else (if bytes_eq w (codes "pre") then option_map pre (atoms_of rest)
-    else (if bytes_eq w (codes "delete") then option_map delete (atoms_of rest)
-    else (if bytes_eq w (codes "add") then option_map add (atoms_of rest)
+    else (if bytes_eq w (codes "pre") then option_map pre (all_of atom_at rest)
+    else (if bytes_eq w (codes "delete") then option_map delete (all_of atom_at rest)
+    else (if bytes_eq w (codes "add") then option_map add (all_of atom_at rest)
     else (if bytes_eq w (codes "building") then nothing_form building rest
     else (if bytes_eq w (codes "room") then name_form room rest
     else (if bytes_eq w (codes "door") then door_form rest
     else (if bytes_eq w (codes "box") then box_form rest
     else (if bytes_eq w (codes "robot") then name_form robot rest
     else (if bytes_eq w (codes "end") then nothing_form end rest
-    else (if bytes_eq w (codes "fact") then option_map fact (atoms_of rest)
+    else (if bytes_eq w (codes "fact") then option_map fact (all_of atom_at rest)
     else (if bytes_eq w (codes "height") then number_form height rest
     else (if bytes_eq w (codes "nodes") then number_form nodes rest
     else (if bytes_eq w (codes "shapes") then number_form shapes rest

@@ -1,8 +1,7 @@
 -- Names and a problem stay in range where there are more of them, and what is of a problem is of one with more objects and predicates.
-use Rattle.px_terms.specs.Clauses.{IsClause, HasClauseLength}
+use Rattle.px_script.proofs.Common.{IsClause, HasClauseLength, ◌≡◌, ℕ, ◌<◌, ◌≤◌, false, List, ◌++◌, length, refl, sym, ◌∙◌, arith, list_any, All, slice_index, All-append, Atom, Clause, Problem, Schema, Term, Obj, HasArity, IsTermOf, IsPatternTermOf, IsAtomOf, IsPatternOf, IsSchemaOf, IsAxiomOf, greatest, repeats, is_long, AreNamesOf}
 use Rattle.px_terms.specs.Language.{IsPlainBelow}
 use Rattle.px_script.specs.Limits as limit
-use Rattle.px_script.proofs.Common.{◌≡◌, ℕ, ◌<◌, ◌≤◌, false, List, ◌++◌, length, refl, sym, ◌∙◌, arith, list_any, All, slice_index, All-append, Atom, Clause, Problem, Schema, Term, Obj, HasArity, IsTermOf, IsPatternTermOf, IsAtomOf, IsPatternOf, IsSchemaOf, IsAxiomOf, greatest, repeats, is_long, AreNamesOf}
 use Rattle.px_script.proofs.Lists.{at-most, each-fails, more-distinct}
 
 -- ---- names
@@ -13,8 +12,7 @@ pub names-more : (version : ℕ) (old ns : List (List ℕ)) → AreNamesOf versi
 names-more version old ns r new short = record {
   distinct = more-distinct old ns r.distinct new;
   short = All-append (λ n. length n ≤ greatest version limit.name_bytes) old ns r.short
-      (each-fails (is_long version) (λ n. length n ≤ greatest version limit.name_bytes)
-      (λ n long. at-most _ _ long) ns short);
+      (each-fails (is_long version) _ (λ n long. at-most _ _ long) ns short);
 }
 
 -- ---- what is of a problem
@@ -47,11 +45,8 @@ module _ (p q : Problem) (more : Grows p q) where
       λ k d below. (arity-kept _ (h k d below).0, λ j t inner. pattern_term-kept vars _ ((h k d below).1 j t inner))
 
   pub schema-kept : (place : ℕ) (schema : Schema) → IsSchemaOf p place schema → IsSchemaOf q place schema
-  schema-kept place schema h = assumption (
-    atoms-kept schema.params schema.pre h.pre,
-    patterns-kept schema.params schema.del h.del,
-    atoms-kept schema.params schema.add h.add,
-  )
+  schema-kept place schema h = let deletes = patterns-kept schema.params schema.del h.del in
+      assumption (atoms-kept schema.params schema.pre h.pre, deletes, atoms-kept schema.params schema.add h.add)
 
   pub of-axiom-kept : (clause : Clause) → IsAxiomOf p clause → IsAxiomOf q clause
   of-axiom-kept clause is = record {

@@ -1,7 +1,6 @@
 -- What the lines so far keep: that what they have declared is in range. No part of what a script is, but of how that is shown.
 use Rattle.px_script.specs.Limits as limit
-use Rattle.px_script.proofs.Common.{greatest, ◌≡◌, ◌≤◌, ◌+◌, ℕ, true, false, List, [], length, take, Option, None, Some, All, IfSome, EachIndex, is_some, fold, slice_index_or, unwrap_or, flat_map, list_any, NameLists, has_name, IsBoxAt, IsDoorAt, IsRoomAt, StandsRight, robot_rooms, standings, IsSchemaOf, Problem, Thing, Command, Declared, OpenOperator, Roles, operator_here, number_in, block_here, predicate_names, predicate_arities, operator_names, Block, building_block, is_robot, own_problem, NamesInRange, ProblemInRange, FactsInRange, CommandsInRange, HasShortLists, IsAmong, IsThingAfter, plan_given, disturbs_after}
-use Rattle.px_rooms.specs.Domain.{robot_name}
+use Rattle.px_script.proofs.Common.{greatest, ◌≡◌, ◌≤◌, ◌+◌, ℕ, true, false, List, [], length, take, Option, None, Some, All, IfSome, EachIndex, is_some, fold, slice_index_or, unwrap_or, flat_map, list_any, NameLists, has_name, IsBoxAt, IsDoorAt, IsRoomAt, StandsRight, robot_rooms, standings, IsSchemaOf, Problem, Thing, Command, Declared, OpenOperator, Roles, operator_here, number_in, block_here, predicate_names, predicate_arities, operator_names, Block, building_block, is_robot, own_problem, NamesInRange, ProblemInRange, FactsInRange, CommandsInRange, HasShortLists, IsAmong, IsThingAfter, plan_given, disturbs_after, robot_name}
 use Rattle.px_world.specs.declared.thing.Thing.TheVariants.{Room}
 
 -- The operator is in range, and has the number that its schema will have.

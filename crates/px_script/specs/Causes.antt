@@ -3,8 +3,7 @@ use Rattle.std.specs.Prelude.{ℕ, Bool, true, false, List, ◌∷◌, length, O
 use Rattle.std.specs.Fmt.{decimal}
 use Rattle.std.specs.List.{list_any, flat_map, filter, range_with_len}
 use Rattle.std.specs.Str.{bytes_eq}
-use Rattle.px_names.specs.Lists.{has_name}
-use Rattle.px_world.specs.declared.thing.Thing.{Thing}
+use Rattle.px_script.specs.Common.{has_name, Thing}
 use Rattle.px_world.specs.declared.thing.Thing.TheVariants as thing
 use Rattle.px_script.specs.Items.{Named, Argument, named, open_variable, anything, a_parameter, a_room, a_door, a_box, a_plan, a_table, is_variable, has_parameter, wanted_in, is_empty}
 use Rattle.px_script.specs.Statements.{Line, Place, Block, Manner, first, opens, inside, closes, command, operator_block, building_block, table_steps, table_rows, patterns, literals, goals, table_terms, table_goals}
@@ -73,8 +72,6 @@ is_out_of_order d l = declares_after_command d l.place
     || varies_too_early d l
     || lacks_robot d (block_here d) l.place
 
--- names that no earlier line declared, in the kind that the place wants
-
 abbrev pub is_known_argument : Declared → Argument → Bool
 is_known_argument d (named n) = has_name n d.names.objects || has_name n (parameters_here d)
 is_known_argument d _ = true
@@ -83,12 +80,11 @@ is_known_argument d _ = true
 abbrev pub wanted_by : Line → List (Named × List ℕ)
 wanted_by l = flat_map wanted_in l.items
 
+-- names that no earlier line declared, in the kind that the place wants
 abbrev pub has_unknown_name : Declared → Line → Bool
 has_unknown_name d l = list_any (λ x. not (has_name x.atom.predicate d.names.predicates)) (atoms_of l)
     || list_any (λ a. not (is_known_argument d a)) (arguments_of l)
     || list_any (λ w. not (has_name w.1 (names_here d w.0))) (wanted_by l)
-
--- names that are declared twice
 
 -- the names that a new one of a kind may not be
 abbrev pub taken_here : Declared → Named → List (List ℕ)
@@ -108,17 +104,14 @@ stands_twice ns n = nat_lt 1 (length (filter (bytes_eq n) ns))
 abbrev pub repeats : List (List ℕ) → List (List ℕ) → Bool
 repeats others ns = list_any (λ n. has_name n others || stands_twice ns n) ns
 
--- No line declares names of two kinds of which one may not be like the other.
+-- Names that are declared twice. No line declares names of two kinds of which one may not be like the other.
 abbrev pub repeats_name : Declared → Line → Bool
 repeats_name d l = list_any (λ group. repeats (taken_here d group.0) group.1) (declared_by l)
 
 -- arities
-
 abbrev pub has_wrong_arity : Declared → Line → Bool
 has_wrong_arity d l =
     list_any (λ x. not (length x.atom.arguments == slice_index d.arities (number_in x.atom.predicate d.names.predicates))) (atoms_of l)
-
--- variables and wild cards
 
 -- the letter directly followed by a number from 1 to this, without a leading zero
 abbrev pub is_numbered_by : ℕ → ℕ → List ℕ → Bool
@@ -132,7 +125,7 @@ is_table_parameter d v = is_numbered_by 112 (table_parameters_here d.block) v
 abbrev pub is_goal_variable : Declared → List ℕ → Bool
 is_goal_variable d v = is_numbered_by 103 (greatest d.version variables) v
 
--- whether an argument may stand in a line
+-- variables and wild cards: whether an argument may stand in a line
 abbrev pub takes : Declared → Manner → Argument → Bool
 takes d _ (named n) = true
 takes d literals (open_variable v) = true
@@ -144,8 +137,6 @@ takes d _ _ = false
 
 abbrev pub is_unbound : Declared → Line → Bool
 is_unbound d l = list_any (λ a. not (takes d l.manner a)) (arguments_of l)
-
--- long names
 
 -- names of parameters may have any length: they have no number in a kind of their own
 abbrev pub is_numbered : Named → Bool

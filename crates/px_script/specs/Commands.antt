@@ -1,8 +1,6 @@
 -- The commands of a script, by numbers.
 use Rattle.std.specs.Prelude.{ℕ, Bool, List}
-use Rattle.px_terms.specs.declared.atom.Atom.{Atom}
-use Rattle.px_world.specs.declared.edits.AtomEdit.{AtomEdit}
-use Rattle.px_world.specs.declared.edits.RoomEdit.{RoomEdit}
+use Rattle.px_script.specs.Common.{Atom, AtomEdit, RoomEdit}
 
 -- Names are numbers of results. Of a goal its atoms and the number of its variables are told, of a disturbance
 -- the turn and whether it stands between sensing and acting, of a run its pairs of a parameter and an object.

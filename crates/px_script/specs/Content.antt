@@ -1,11 +1,6 @@
 -- What a script is about: what its lines declared, with the limits that they leave at their defaults.
 use Rattle.std.specs.Prelude.{ℕ, List, length, Option, None, Some, unwrap_or}
-use Rattle.px_names.specs.Lists.{NameLists}
-use Rattle.px_rooms.specs.Domain.{building_problem}
-use Rattle.px_rooms.specs.States.{first_state, rendering}
-use Rattle.px_terms.specs.declared.atom.Atom.{Atom}
-use Rattle.px_terms.specs.declared.problem.Problem.{Problem}
-use Rattle.px_world.specs.declared.thing.Thing.{Thing}
+use Rattle.px_script.specs.Common.{NameLists, building_problem, first_state, rendering, Atom, Problem, Thing}
 use Rattle.px_script.specs.Commands.{Command}
 use Rattle.px_script.specs.Declarations.{Declared}
 
@@ -30,7 +25,6 @@ own_problem d = record {
 }
 
 -- A building has the axiom and the operators of every building, and the facts of its first state (`px_rooms`).
-
 abbrev pub problem_of : Problem → Option (List Thing) → Problem
 problem_of own None = own
 problem_of own (Some things) = building_problem own.objects own.height own.nodes own.shapes

@@ -3,20 +3,10 @@ use Rattle.std.specs.Prelude.{ℕ, ◌+◌, Bool, true, false, List, [], ◌∷�
 use Rattle.std.specs.List.{flat_map}
 use Rattle.std.specs.Option.{option_map}
 use Rattle.std.specs.Str.{bytes_eq}
-use Rattle.px_names.specs.Lists.{NameLists, no_names, has_name}
-use Rattle.px_rooms.specs.Domain.{RoomOperator, RoomPredicate, robot_name, room_operators, room_predicates}
-use Rattle.px_terms.specs.declared.atom.Atom.{Atom}
+use Rattle.px_script.specs.Common.{NameLists, no_names, has_name, RoomOperator, RoomPredicate, robot_name, room_operators, room_predicates, Atom, Lit, Schema, Term, Obj, Var, Any, atom_set, AtomEdit, RoomEdit, Thing}
 use Rattle.px_terms.specs.declared.clause.Clause.{Clause}
-use Rattle.px_terms.specs.declared.clause.Lit.{Lit}
-use Rattle.px_terms.specs.declared.problem.Schema.{Schema}
-use Rattle.px_terms.specs.declared.term.Term.{Term}
-use Rattle.px_terms.specs.declared.term.Term.TheVariants.{Obj, Var, Any}
-use Rattle.px_terms.specs.AtomSets.{atom_set}
-use Rattle.px_world.specs.declared.edits.AtomEdit.{AtomEdit}
 use Rattle.px_world.specs.declared.edits.AtomEdit.TheVariants as atom_edit
-use Rattle.px_world.specs.declared.edits.RoomEdit.{RoomEdit}
 use Rattle.px_world.specs.declared.edits.RoomEdit.TheVariants as room_edit
-use Rattle.px_world.specs.declared.thing.Thing.{Thing}
 use Rattle.px_world.specs.declared.thing.Thing.TheVariants as thing
 use Rattle.px_script.specs.Items.{Named, Argument, SignedAtom, Sign, WrittenRoomEdit, Binding, named, open_variable, anything, bare, added, robot_to, box_to, door_to, declared_in, an_object, a_predicate, an_operator, a_result, a_parameter, a_sort, a_room, a_door, a_box, a_plan, a_table}
 use Rattle.px_script.specs.Statements.{Statement, Line, Place, Block, line_of, domain, opens, operator_block, building_block, table_steps, table_rows, script, object, predicate, «axiom», operator, pre, delete, add, building, room, door, box, robot, end, fact, height, nodes, shapes, plan, learn, show, disturb_atoms, disturb_rooms, run, facts}
@@ -238,11 +228,9 @@ abbrev pub change_schema : (Schema → Schema) → BlockKind → BlockKind
 change_schema change (of_operator o) = of_operator (record o { schema = change o.schema })
 change_schema change kind = kind
 
-abbrev pub change_block : (Schema → Schema) → OpenBlock → OpenBlock
-change_block change block = record block { kind = change_schema change block.kind }
-
 abbrev pub in_schema : (Schema → Schema) → Declared → Declared
-in_schema change d = record d { block = option_map (change_block change) d.block }
+in_schema change d =
+    record d { block = option_map {T = OpenBlock} (λ block. record block { kind = change_schema change block.kind }) d.block }
 
 -- the block closed: an operator's schema is the script's from its `end` on
 abbrev pub schema_closed : Option OpenOperator → List Schema
@@ -277,14 +265,8 @@ operator_names = map (λ (o : RoomOperator). o.name) room_operators
 
 -- the names that a building gives to its script: the robot's, and those of predicates and operators
 abbrev pub with_domain : Declared → Declared
-with_domain d =
-    record (with_names an_operator operator_names (with_names a_predicate predicate_names (with_objects (robot_name ∷ []) d))) {
-      arities = d.arities ++ predicate_arities;
-    }
-
--- an operator's schema before its lists
-abbrev pub empty_schema : ℕ → ℕ → Schema
-empty_schema number parameters = record { op = number; params = parameters; pre = []; del = []; add = [] }
+with_domain d = record (with_names an_operator operator_names (with_names a_predicate predicate_names (with_objects (robot_name ∷ []) d)))
+    { arities = d.arities ++ predicate_arities }
 
 -- what a line without a fault leaves, where it is line number n, but for the names that it declares
 abbrev pub declares : ℕ → Declared → Statement → Declared
@@ -293,7 +275,8 @@ declares n d (object ns) = d
 declares n d (predicate p arity) = record d { arities = d.arities ++ arity ∷ [] }
 declares n d («axiom» xs) = record d { axioms = d.axioms ++ clause_of d xs ∷ [] }
 declares n d (operator o ps) =
-    open_block n (of_operator (record { parameters = ps; schema = empty_schema (length d.schemas) (length ps) })) d
+    let schema : Schema = record { op = length d.schemas; params = length ps; pre = []; del = []; add = [] } in
+    open_block n (of_operator (record { parameters = ps; schema = schema })) d
 declares n d (pre xs) = in_schema (λ schema. record schema { pre = schema.pre ++ map (atom_of d []) xs }) d
 declares n d (delete xs) = in_schema (λ schema. record schema { del = schema.del ++ map (atom_of d []) xs }) d
 declares n d (add xs) = in_schema (λ schema. record schema { add = schema.add ++ map (atom_of d []) xs }) d

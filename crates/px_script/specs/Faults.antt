@@ -2,8 +2,7 @@
 use Rattle.std.specs.Prelude.{◌≡◌, ◌⊎◌, ℕ, ◌+◌, Bool, false, List, [], ◌∷◌, ◌++◌, map, length, Option, None, Some, is_some, if◌then◌else◌, ◌||◌, ◌==◌, nat_lt}
 use Rattle.std.specs.List.{list_any, filter}
 use Rattle.std.specs.Str.{bytes_eq}
-use Rattle.px_terms.specs.declared.problem.Schema.{Schema}
-use Rattle.px_terms.specs.AtomSets.{atom_set}
+use Rattle.px_script.specs.Common.{Schema, atom_set}
 use Rattle.px_script.specs.Items.{SignedAtom, Binding}
 use Rattle.px_script.specs.Statements.{Statement, line_of, script, object, predicate, «axiom», operator, pre, delete, add, building, room, door, box, robot, end, fact, height, nodes, shapes, plan, learn, show, disturb_atoms, disturb_rooms, run, facts}
 use Rattle.px_script.specs.Limits as limit
@@ -16,12 +15,11 @@ pub record Refusal : Type 0 where
   pub code : ℕ
   pub limit : ℕ
 
--- the duplicates of single words
-
 -- some parameter is bound more than once
 abbrev pub binds_twice : List Binding → Bool
 binds_twice bs = list_any (λ b. nat_lt 1 (length (filter (λ other. other.parameter == b.parameter) bs))) bs
 
+-- the duplicates of single words
 abbrev pub repeats_itself : Declared → Statement → Bool
 repeats_itself d building = has_building d
 repeats_itself d (door n one other is_open) = bytes_eq one other
@@ -35,14 +33,12 @@ repeats_itself d _ = false
 abbrev pub has_duplicate : Declared → Statement → Bool
 has_duplicate d s = repeats_name d (line_of s) || repeats_itself d s
 
--- limits
-
 -- the atoms that a list of the open operator has with the line
 abbrev pub grown : Option OpenOperator → (Schema → ℕ) → List SignedAtom → ℕ
 grown None count xs = 0
 grown (Some o) count xs = count o.schema + length xs
 
--- a limit that the count is above, or a number that a script gives; with the number of the limit
+-- whether the count is above the limit, and the limit's number
 abbrev pub over : Declared → Limit → ℕ → Bool × ℕ
 over d limit n = (nat_lt (greatest d.version limit) n, number_of limit)
 
@@ -70,12 +66,9 @@ own_limits d (operator o ps) = over d limit.operators (length d.names.operators 
 own_limits d (pre xs) = over d limit.operator_atoms (grown (operator_here d.block) (λ schema. length schema.pre) xs) ∷ []
 own_limits d (delete xs) = over d limit.operator_atoms (grown (operator_here d.block) (λ schema. length schema.del) xs) ∷ []
 own_limits d (add xs) = over d limit.operator_atoms (grown (operator_here d.block) (λ schema. length schema.add) xs) ∷ []
-own_limits d building = []
 own_limits d (room r) = one_more_object d ∷ []
 own_limits d (door n one other is_open) = one_more_object d ∷ []
 own_limits d (box b r) = one_more_object d ∷ []
-own_limits d (robot r) = []
-own_limits d end = []
 own_limits d (fact xs) = over d limit.facts (length (atom_set (map (atom_of d []) xs ++ d.facts))) ∷ []
 own_limits d (height n) = outside of_height n ∷ []
 own_limits d (nodes n) = outside of_nodes n ∷ []
@@ -87,11 +80,12 @@ own_limits d (disturb_atoms turn between xs) = disturbance_limits d turn (length
 own_limits d (disturb_rooms turn between es) = disturbance_limits d turn (length es)
 own_limits d (run n bs) = one_more_command d ∷ []
 own_limits d facts = one_more_command d ∷ []
+own_limits d building = []
+own_limits d (robot r) = []
+own_limits d end = []
 
 abbrev pub limits : Declared → Statement → List (Bool × ℕ)
 limits d s = (has_long_name d (line_of s), number_of limit.name_bytes) ∷ own_limits d s
-
--- the causes in their order
 
 abbrev pub coded : ℕ → Refusal
 coded code = record { code = code; limit = 0 }
@@ -102,13 +96,8 @@ passed test = (test.0, record { code = 8; limit = test.1 })
 -- the causes of what a line says, in their order, and whether they are there, where this much is built; after them these limits
 abbrev pub causes_with : Stage → Declared → Statement → List (Bool × ℕ) → List (Bool × Refusal)
 causes_with stage d s last = let l = line_of s in
-    (is_out_of_order d l, coded 9)
-    ∷ (is_unbuilt stage s, coded 11)
-    ∷ (has_unknown_name d l, coded 4)
-    ∷ (has_duplicate d s, coded 5)
-    ∷ (has_wrong_arity d l, coded 6)
-    ∷ (is_unbound d l, coded 7)
-    ∷ map passed last
+    (is_out_of_order d l, coded 9) ∷ (is_unbuilt stage s, coded 11) ∷ (has_unknown_name d l, coded 4)
+    ∷ (has_duplicate d s, coded 5) ∷ (has_wrong_arity d l, coded 6) ∷ (is_unbound d l, coded 7) ∷ map passed last
 
 abbrev pub causes : Stage → Declared → Statement → List (Bool × Refusal)
 causes stage d s = causes_with stage d s (limits d s)

@@ -7,8 +7,7 @@ use Rattle.px_script.specs.Lexemes.{Lexeme, name, variable, number, sign}
 -- What a name is the name of. Rooms, doors and boxes are objects; a plan is a table, and a table is a result.
 pub data Named : Type 0 where
   an_object a_predicate an_operator a_result a_parameter a_sort : Named
-  a_room a_door a_box : Named
-  a_plan a_table : Named
+  a_room a_door a_box a_plan a_table : Named
 
 pub data Argument : Type 0 where
   named : List ℕ → Argument
@@ -74,8 +73,6 @@ new kind n = declared kind (n ∷ [])
 abbrev pub known : Named → List ℕ → Item
 known kind n = wanted kind (n ∷ [])
 
--- how items are spelled
-
 -- x, x, .. x, with commas between
 abbrev pub with_commas : List Lexeme → List Lexeme
 with_commas [] = []
@@ -122,6 +119,7 @@ spell_binding binding = name (parameter_name binding.parameter) ∷ sign 61 ∷ 
 abbrev pub spell_pair : ℕ × ℕ → List Lexeme
 spell_pair pair = number pair.0 ∷ sign 61 ∷ number pair.1 ∷ []
 
+-- how an item is spelled
 abbrev pub spell : Item → List Lexeme
 spell (the word) = name word ∷ []
 spell (amounts ns) = map number ns
@@ -135,8 +133,6 @@ spell (arguments ts) = in_parentheses (map spell_argument ts)
 spell (terms ts) = sign 40 ∷ (with_commas (map spell_argument ts) ++ sign 41 ∷ [])
 spell (pairs ps) = flat_map spell_pair ps
 
--- Where an item is one or more things, there is one, and parameters have numbers from 1 to the last.
-
 abbrev pub is_empty : {A : Type 0} → List A → Bool
 is_empty [] = true
 is_empty (x ∷ xs) = false
@@ -147,6 +143,7 @@ last_parameter = 9999
 abbrev pub is_parameter_number : ℕ → Bool
 is_parameter_number k = nat_lt 0 k && nat_lt k (last_parameter + 1)
 
+-- Where an item is one or more things, there is one, and parameters have numbers from 1 to the last.
 abbrev pub is_filled : Item → Bool
 is_filled (amounts ns) = not (is_empty ns)
 is_filled (declared kind ns) = not (is_empty ns)

@@ -1,3 +1,4 @@
+pub mod Common
 -- the definition of a script, in the order in which it reads
 pub mod Lines
 pub mod Lexemes
@@ -18,5 +19,4 @@ pub mod WorkedLater
 pub mod Worked
 -- what a script keeps
 pub mod Ranges
-pub mod StageRanges
 pub mod RangeLaws

@@ -12,8 +12,7 @@ words_of_all =
     ∷ codes "plan" ∷ codes "learn" ∷ codes "show" ∷ codes "disturb" ∷ codes "run" ∷ codes "facts" ∷ []
 
 abbrev pub words_of_two : List (List ℕ)
-words_of_two =
-    codes "sort" ∷ codes "param" ∷ codes "table" ∷ codes "step" ∷ codes "goal" ∷ codes "proof"
+words_of_two = codes "sort" ∷ codes "param" ∷ codes "table" ∷ codes "step" ∷ codes "goal" ∷ codes "proof"
     ∷ codes "save" ∷ codes "edit" ∷ codes "certify" ∷ codes "duo" ∷ codes "pursue" ∷ []
 
 -- every word that may begin a line of a script of a version

@@ -5,19 +5,10 @@ use Rattle.std.proofs.Props.{props}
 use mathlib.Core.Sum.{⊎_set}
 use Rattle.px_rooms.specs.declared.standing.Standing.{Standing}
 use Rattle.px_rooms.specs.declared.standing.Standing.TheVariants.{Room as a_room, Door as a_door, Box as a_box}
-use Rattle.px_rooms.specs.Changes.{IsAdmitted}
-use Rattle.px_rooms.specs.States.{IsBoxAt, IsBuilding, IsDoorAt, IsDoorOrNone, RoomState, StandsRight, thing_at}
-use Rattle.px_terms.specs.declared.atom.Atom.{Atom}
-use Rattle.px_terms.specs.declared.problem.Problem.{Problem}
-use Rattle.px_terms.specs.declared.term.Term.{Term}
-use Rattle.px_terms.specs.declared.term.Term.TheVariants.{Obj}
+use Rattle.px_script.specs.Common.{IsAdmitted, IsBoxAt, IsBuilding, IsDoorAt, IsDoorOrNone, RoomState, StandsRight, thing_at, Atom, Problem, Term, Obj, IsTermOf, IsPatternTermOf, IsAtomOf, IsValid, AtomEdit, RoomEdit, Thing}
 use Rattle.px_terms.specs.Language.{IsPlainBelow}
-use Rattle.px_terms.specs.Validity.{IsTermOf, IsPatternTermOf, IsAtomOf, IsValid}
-use Rattle.px_world.specs.declared.edits.AtomEdit.{AtomEdit}
 use Rattle.px_world.specs.declared.edits.AtomEdit.TheVariants as atom_edit
-use Rattle.px_world.specs.declared.edits.RoomEdit.{RoomEdit}
 use Rattle.px_world.specs.declared.edits.RoomEdit.TheVariants as room_edit
-use Rattle.px_world.specs.declared.thing.Thing.{Thing}
 use Rattle.px_world.specs.declared.thing.Thing.TheVariants as thing
 use Rattle.px_script.specs.Commands.{Command, Plan, DisturbRooms}
 use Rattle.px_script.specs.Content.{ScriptValue}
@@ -53,7 +44,6 @@ IsEditOf-prop problem (atom_edit.Add atom) = IsAtomOf-prop problem 0 atom
 IsEditOf-prop problem (atom_edit.Remove atom) = IsAtomOf-prop problem 0 atom
 
 -- rooms, doors and boxes of a building, each by one thing that stands there
-
 Standing-set : IsSet (Option Standing)
 Standing-set = Prim.hlevel sums
 
@@ -82,17 +72,13 @@ IsDoorOrNone-prop : (things : List Standing) (beside : Option ℕ) → IsProp (I
 IsDoorOrNone-prop things None = Prim.hlevel rooms
 IsDoorOrNone-prop things (Some k) = IsDoorAt-prop things k
 
-ruleset beside_too = (IsDoorOrNone-prop, rooms)
-
 StandsRight-prop : (things : List Standing) (one : Standing) → IsProp (StandsRight things one)
 StandsRight-prop things a_room = Prim.hlevel rooms
 StandsRight-prop things (a_door x y is_open) = Prim.hlevel rooms
-StandsRight-prop things (a_box r beside) = Prim.hlevel beside_too
-
-ruleset standing = (StandsRight-prop, rooms)
+StandsRight-prop things (a_box r beside) = Prim.hlevel (IsDoorOrNone-prop, rooms)
 
 IsBuilding-prop : (things : List Thing) → IsProp (IsBuilding things)
-IsBuilding-prop things = Prim.hlevel standing
+IsBuilding-prop things = Prim.hlevel (StandsRight-prop, rooms)
 
 IsThingAfter-prop : (before : List Thing) (t : Thing) → IsProp (IsThingAfter before t)
 IsThingAfter-prop before thing.Room = Prim.hlevel rooms
@@ -108,18 +94,14 @@ AreRoomEditsOf-prop : (building : Option (List Thing)) (edits : List RoomEdit) �
 AreRoomEditsOf-prop None edits = Prim.hlevel parts
 AreRoomEditsOf-prop (Some things) edits = Prim.hlevel parts
 
-ruleset edits_too = (AreRoomEditsOf-prop, parts)
-
 IsCommandOf-prop : (version : ℕ) (problem : Problem) (building : Option (List Thing)) (results : ℕ) (command : Command)
     → IsProp (IsCommandOf version problem building results command)
-IsCommandOf-prop version problem building results (DisturbRooms turn between edits) = Prim.hlevel edits_too
+IsCommandOf-prop version problem building results (DisturbRooms turn between edits) = Prim.hlevel (AreRoomEditsOf-prop, parts)
 IsCommandOf-prop version problem building results _ = Prim.hlevel parts
 
 NamesEarlier-prop : (before : List Command) (command : Command) → IsProp (NamesEarlier before command)
 NamesEarlier-prop before (Plan name goal vars) = Prim.hlevel props
 NamesEarlier-prop before _ = Prim.hlevel props
 
-ruleset all_parts = (IsCommandOf-prop, NamesEarlier-prop, IsValid-prop, Term-set, parts)
-
 pub IsInRange-prop : (script : ScriptValue) → IsProp (IsInRange script)
-IsInRange-prop script = Prim.hlevel all_parts
+IsInRange-prop script = Prim.hlevel (IsCommandOf-prop, NamesEarlier-prop, IsValid-prop, Term-set, parts)

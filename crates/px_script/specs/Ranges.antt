@@ -1,21 +1,8 @@
 -- The numbers of a script are in range, by subject.
-use Rattle.std.specs.Prelude.{◌≡◌, ◌≢◌, ◌<◌, ◌≤◌, ℕ, ◌+◌, true, false, List, [], ◌∷◌, map, length, take, Option, None, Some, is_some, All, AllPairs, IfSome, slice_index_or, EachIndex, ◌==◌, not}
+use Rattle.std.specs.Prelude.{◌≡◌, ◌≢◌, ◌<◌, ◌≤◌, ℕ, ◌+◌, true, false, List, [], ◌∷◌, map, length, take, Option, None, Some, is_some, All, AllPairs, IfSome, slice_index_or, EachIndex, ◌==◌, not, codes}
 use Rattle.std.specs.List.{flat_map, filter, filter_map, list_any, range_with_len, scan}
-use Rattle.px_names.specs.Lists.{NameLists, AreDistinct}
-use Rattle.px_rooms.specs.Changes.{IsAdmitted}
-use Rattle.px_rooms.specs.Domain.{building_problem, robot_name}
-use Rattle.px_rooms.specs.States.{IsBuilding, IsRoomAt, first_state, rendering, standings}
-use Rattle.px_terms.specs.AtomSets.{IsAtomSet}
-use Rattle.px_terms.specs.Validity.{IsValid, IsAtomOf}
-use Rattle.px_terms.specs.declared.atom.Atom.{Atom}
-use Rattle.px_terms.specs.declared.problem.Problem.{Problem}
-use Rattle.px_terms.specs.declared.problem.Schema.{Schema}
-use Rattle.px_terms.specs.declared.term.Term.{Term}
-use Rattle.px_terms.specs.declared.term.Term.TheVariants.{Var}
-use Rattle.px_world.specs.declared.edits.AtomEdit.{AtomEdit}
+use Rattle.px_script.specs.Common.{NameLists, AreDistinct, IsAdmitted, building_problem, robot_name, IsBuilding, IsRoomAt, first_state, rendering, standings, IsAtomSet, IsValid, IsAtomOf, Atom, Problem, Schema, Term, Var, AtomEdit, RoomEdit, Thing}
 use Rattle.px_world.specs.declared.edits.AtomEdit.TheVariants as atom_edit
-use Rattle.px_world.specs.declared.edits.RoomEdit.{RoomEdit}
-use Rattle.px_world.specs.declared.thing.Thing.{Thing}
 use Rattle.px_world.specs.declared.thing.Thing.TheVariants.{Room, Door, Box, Robot}
 use Rattle.px_script.specs.Items.{last_parameter}
 use Rattle.px_script.specs.Limits as limit
@@ -23,8 +10,7 @@ use Rattle.px_script.specs.Limits.{Bounds, greatest, of_turn}
 use Rattle.px_script.specs.Commands.{Command, Plan, Learn, Show, DisturbAtoms, DisturbRooms, Run, Facts}
 use Rattle.px_script.specs.Declarations.{operator_names, predicate_names}
 use Rattle.px_script.specs.Content.{ScriptValue}
-
--- names
+use Rattle.px_script.specs.Stages.{Stage, is_built}
 
 -- No name of a kind stands twice, and none is too long.
 pub record AreNamesOf (version : ℕ) (names : List (List ℕ)) : Type 0 where
@@ -72,19 +58,15 @@ pub record ProblemInRange (version : ℕ) (names : NameLists) (problem : Problem
   pub short_lists : All (HasShortLists version) problem.schemas
 
 -- facts
-
 pub record FactsInRange (version : ℕ) (problem : Problem) (building : Option (List Thing)) (facts : List Atom) : Type 0 where
   pub fact_set : IsAtomSet facts
   pub atoms : All (IsAtomOf problem 0) facts
   pub few : building ≡ None → length facts ≤ greatest version limit.facts
 
--- a building
-
 -- A door stands between two rooms, and a box and the robot are in a room: rooms of the things before it.
 abbrev pub IsThingAfter : List Thing → Thing → Type 0
 IsThingAfter before Room = Unit {0}
-IsThingAfter before (Door one other is_open) =
-    IsRoomAt (standings before) one × IsRoomAt (standings before) other × (one ≢ other)
+IsThingAfter before (Door one other is_open) = IsRoomAt (standings before) one × IsRoomAt (standings before) other × (one ≢ other)
 IsThingAfter before (Box r) = IsRoomAt (standings before) r
 IsThingAfter before (Robot r) = IsRoomAt (standings before) r
 
@@ -195,3 +177,21 @@ pub record IsInRange (script : ScriptValue) : Type 0 where
   pub facts : FactsInRange script.version script.problem script.building script.facts
   pub building : IfSome script.building (IsBuildingOf script.names script.problem script.facts)
   pub commands : CommandsInRange script.version script.problem script.building (length script.names.results) script.commands
+
+-- the word of a command
+abbrev pub word_of : Command → List ℕ
+word_of (Plan name goal vars) = codes "plan"
+word_of (Learn name source) = codes "learn"
+word_of (Show name) = codes "show"
+word_of (Run name bindings) = codes "run"
+word_of (DisturbAtoms turn between edits) = codes "disturb"
+word_of (DisturbRooms turn between edits) = codes "disturb"
+word_of Facts = codes "facts"
+
+abbrev pub IsBuiltCommand : Stage → Command → Type 0
+IsBuiltCommand stage command = is_built stage (word_of command) ≡ true
+
+-- The script has built commands alone, and a building only where buildings are built.
+pub record IsOfStage (stage : Stage) (script : ScriptValue) : Type 0 where
+  pub building : is_some script.building ≡ true → is_built stage (codes "building") ≡ true
+  pub commands : All (IsBuiltCommand stage) script.commands

@@ -1,6 +1,6 @@
 -- How much of the language is built.
 use Rattle.std.specs.Prelude.{ℕ, Bool, List, not}
-use Rattle.px_names.specs.Lists.{has_name}
+use Rattle.px_script.specs.Common.{has_name}
 use Rattle.px_script.specs.Limits.{words_of_all}
 use Rattle.px_script.specs.Statements.{Statement, line_of}
 

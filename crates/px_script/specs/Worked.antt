@@ -1,11 +1,7 @@
 -- Small texts, and what the definitions say of them.
 use Rattle.std.specs.Prelude.{ℕ, false, List, [], ◌∷◌, ◌++◌, codes, None, Some}
 use Rattle.std.specs.List.{AllByRecursion}
-use Rattle.px_names.specs.Lists.{no_names}
-use Rattle.px_rooms.specs.Domain.{building_problem, closed, connects, in_room, is_box, is_door, is_room}
-use Rattle.px_terms.specs.declared.atom.Atom.{Atom}
-use Rattle.px_terms.specs.declared.term.Term.{Term}
-use Rattle.px_terms.specs.declared.term.Term.TheVariants.{Obj, Var}
+use Rattle.px_script.specs.Common.{no_names, building_problem, closed, connects, in_room, is_box, is_door, is_room, Obj, Var}
 use Rattle.px_world.specs.declared.edits.RoomEdit.TheVariants as room_edit
 use Rattle.px_world.specs.declared.thing.Thing.TheVariants as thing
 use Rattle.px_script.specs.Commands.{Plan, Show, DisturbRooms, Facts}
@@ -14,15 +10,11 @@ use Rattle.px_script.specs.Lines.{mark}
 use Rattle.px_script.specs.Declarations.{predicate_names, operator_names}
 use Rattle.px_script.specs.Stages.{stage_now}
 use Rattle.px_script.specs.Scripts.{IsScript, FirstFault}
-use Rattle.px_script.specs.WorkedLines.{asserted, denied}
+use Rattle.px_script.specs.WorkedLines.{asserted, denied, long_name, numbered}
 
 -- the first fault of the bytes: its line, its code and its limit
 abbrev pub IsRefused : List ℕ → ℕ → ℕ → ℕ → Type 0
 IsRefused bytes line code limit = FirstFault stage_now bytes line (record { code = code; limit = limit })
-
--- The predicate of this number, with one argument.
-abbrev pub of_one : ℕ → Term → Atom
-of_one p x = record { pred = p; args = x ∷ [] }
 
 -- what a script that declares nothing is about
 abbrev pub nothing : ScriptValue
@@ -35,112 +27,73 @@ nothing = record {
   commands = [];
 }
 
--- two objects, two operators, the second of which needs what the first may delete, two facts, and two commands
-abbrev pub danger_text : List ℕ
-danger_text = codes "object a b\npredicate P 1\npredicate Q 1\npredicate R 1\npredicate G 1\n"
-    ++ codes "operator A(x)\npre P(x)\ndelete Q(x)\nadd R(x)\nend\noperator B(x,y)\npre R(x) Q(y)\nadd G(x)\nend\n"
-    ++ codes "fact P(a) Q(b)\nplan N G(a)\nfacts\n"
-
-abbrev pub danger : ScriptValue
-danger = record nothing {
-  names = record {
-    objects = codes "a" ∷ codes "b" ∷ [];
-    predicates = codes "P" ∷ codes "Q" ∷ codes "R" ∷ codes "G" ∷ [];
-    operators = codes "A" ∷ codes "B" ∷ [];
-    results = codes "N" ∷ [];
-  };
-  problem = record nothing.problem {
-    objects = 2;
-    arities = 1 ∷ 1 ∷ 1 ∷ 1 ∷ [];
-    schemas =
-        record { op = 0; params = 1; pre = of_one 0 (Var 0) ∷ []; del = of_one 1 (Var 0) ∷ []; add = of_one 2 (Var 0) ∷ [] }
-        ∷ record { op = 1; params = 2; pre = of_one 2 (Var 0) ∷ of_one 1 (Var 1) ∷ []; del = []; add = of_one 3 (Var 0) ∷ [] }
-        ∷ [];
-  };
-  facts = of_one 0 (Obj 0) ∷ of_one 1 (Obj 1) ∷ [];
-  commands = Plan 0 (of_one 3 (Obj 0) ∷ []) 0 ∷ Facts ∷ [];
-}
-
--- Carriage returns, an empty line, comments, tabs, zeros in front of a number, a fact that is told twice, and no line feed at the end.
-abbrev pub blanks_text : List ℕ
-blanks_text = codes "script 1\r\n\r\n# object c\nobject\ta b#c\npredicate P 01\nfact P(b)P( a )\nfact P (a)\nnodes 007\r"
-
-abbrev pub blanks : ScriptValue
-blanks = record nothing {
-  names = record no_names { objects = codes "a" ∷ codes "b" ∷ []; predicates = codes "P" ∷ [] };
-  problem = record nothing.problem { objects = 2; arities = 1 ∷ []; nodes = 7 };
-  facts = of_one 0 (Obj 0) ∷ of_one 0 (Obj 1) ∷ [];
-}
-
--- a byte order mark in front
-abbrev pub marked_text : List ℕ
-marked_text = mark ++ codes "object a\nfacts\n"
-
-abbrev pub marked : ScriptValue
-marked = record nothing {
-  names = record no_names { objects = codes "a" ∷ [] };
-  problem = record nothing.problem { objects = 1 };
-  commands = Facts ∷ [];
-}
-
--- an axiom, the numbers of the search, a goal with a variable, and a plan that is shown
-abbrev pub shown_text : List ℕ
-shown_text = codes "object a b\npredicate P 2\naxiom ~P(?x,?y) P(?y,?x)\nheight 3\nshapes 900\nfact P(a,b)\nplan N P(?z,a)\nshow N"
-
-abbrev pub of_two : Term → Term → Atom
-of_two x y = record { pred = 0; args = x ∷ y ∷ [] }
-
-abbrev pub shown : ScriptValue
-shown = record nothing {
-  names = record no_names { objects = codes "a" ∷ codes "b" ∷ []; predicates = codes "P" ∷ []; results = codes "N" ∷ [] };
-  problem = record nothing.problem {
-    objects = 2;
-    arities = 2 ∷ [];
-    axioms = record { vars = 2; lits = denied (of_two (Var 0) (Var 1)) ∷ asserted (of_two (Var 1) (Var 0)) ∷ [] } ∷ [];
-    height = 3;
-    shapes = 900;
-  };
-  facts = of_two (Obj 0) (Obj 1) ∷ [];
-  commands = Plan 0 (of_two (Var 0) (Obj 0) ∷ []) 1 ∷ Show 0 ∷ [];
-}
-
--- a building of two rooms with a closed door, a box in the second room and the robot in the first; and three commands
-abbrev pub door_text : List ℕ
-door_text = codes "nodes 500\nbuilding\nroom R1\nroom R2\ndoor D1 R1 R2 closed\nbox B1 R2\nrobot R1\nend\n"
-    ++ codes "plan Q INROOM(ROBOT,R2)\ndisturb 3 before door D1 closed\nfacts\n"
-
-abbrev pub door : ScriptValue
-door = record {
-  version = 1;
-  names = record {
-    objects = codes "ROBOT" ∷ codes "R1" ∷ codes "R2" ∷ codes "D1" ∷ codes "B1" ∷ [];
-    predicates = predicate_names;
-    operators = operator_names;
-    results = codes "Q" ∷ [];
-  };
-  problem = building_problem 5 4 500 10000;
-  facts =
-      in_room (Obj 0) (Obj 1)
-      ∷ in_room (Obj 4) (Obj 2)
-      ∷ connects (Obj 3) (Obj 1) (Obj 2)
-      ∷ connects (Obj 3) (Obj 2) (Obj 1)
-      ∷ closed (Obj 3)
-      ∷ is_room (Obj 1)
-      ∷ is_room (Obj 2)
-      ∷ is_door (Obj 3)
-      ∷ is_box (Obj 4)
-      ∷ [];
-  building = Some (thing.Room ∷ thing.Room ∷ thing.Door 1 2 false ∷ thing.Box 2 ∷ thing.Robot 1 ∷ []);
-  commands = Plan 0 (in_room (Obj 0) (Obj 2) ∷ []) 0 ∷ DisturbRooms 3 false (room_edit.Door 3 false ∷ []) ∷ Facts ∷ [];
-}
-
 -- texts that are scripts, with what they are about
 pub record WorkedScripts : Type 0 where
-  pub danger : IsScript stage_now danger_text danger
-  pub blanks : IsScript stage_now blanks_text blanks
-  pub marked : IsScript stage_now marked_text marked
-  pub shown : IsScript stage_now shown_text shown
-  pub door : IsScript stage_now door_text door
+  -- two objects, two operators, the second of which needs what the first may delete, two facts, and two commands
+  pub danger : IsScript stage_now (codes "object a b\npredicate P 1\npredicate Q 1\npredicate R 1\npredicate G 1\n"
+      ++ codes "operator A(x)\npre P(x)\ndelete Q(x)\nadd R(x)\nend\noperator B(x,y)\npre R(x) Q(y)\nadd G(x)\nend\n"
+      ++ codes "fact P(a) Q(b)\nplan N G(a)\nfacts\n") (record nothing {
+        names = record {
+          objects = codes "a" ∷ codes "b" ∷ [];
+          predicates = codes "P" ∷ codes "Q" ∷ codes "R" ∷ codes "G" ∷ [];
+          operators = codes "A" ∷ codes "B" ∷ [];
+          results = codes "N" ∷ [];
+        };
+        problem = record nothing.problem {
+          objects = 2;
+          arities = 1 ∷ 1 ∷ 1 ∷ 1 ∷ [];
+          schemas = record { op = 0; params = 1; pre = numbered 0 (Var 0 ∷ []) ∷ []; del = numbered 1 (Var 0 ∷ []) ∷ []; add = numbered 2 (Var 0 ∷ []) ∷ [] }
+              ∷ record { op = 1; params = 2; pre = numbered 2 (Var 0 ∷ []) ∷ numbered 1 (Var 1 ∷ []) ∷ []; del = []; add = numbered 3 (Var 0 ∷ []) ∷ [] } ∷ [];
+        };
+        facts = numbered 0 (Obj 0 ∷ []) ∷ numbered 1 (Obj 1 ∷ []) ∷ [];
+        commands = Plan 0 (numbered 3 (Obj 0 ∷ []) ∷ []) 0 ∷ Facts ∷ [];
+      })
+  -- Carriage returns, an empty line, comments, tabs, zeros in front of a number, a fact that is told twice, and no line feed at the end.
+  pub blanks : IsScript stage_now
+      (codes "script 1\r\n\r\n# object c\nobject\ta b#c\npredicate P 01\nfact P(b)P( a )\nfact P (a)\nnodes 007\r") (record nothing {
+        names = record no_names { objects = codes "a" ∷ codes "b" ∷ []; predicates = codes "P" ∷ [] };
+        problem = record nothing.problem { objects = 2; arities = 1 ∷ []; nodes = 7 };
+        facts = numbered 0 (Obj 0 ∷ []) ∷ numbered 0 (Obj 1 ∷ []) ∷ [];
+      })
+  -- a byte order mark in front
+  pub marked : IsScript stage_now (mark ++ codes "object a\nfacts\n") (record nothing {
+    names = record no_names { objects = codes "a" ∷ [] };
+    problem = record nothing.problem { objects = 1 };
+    commands = Facts ∷ [];
+  })
+  -- an axiom, the numbers of the search, a goal with a variable, and a plan that is shown
+  pub shown : IsScript stage_now (codes "object a b\npredicate P 2\naxiom ~P(?x,?y) P(?y,?x)\nheight 3\nshapes 900\nfact P(a,b)\n"
+      ++ codes "plan N P(?z,a)\nshow N") (record nothing {
+        names = record no_names { objects = codes "a" ∷ codes "b" ∷ []; predicates = codes "P" ∷ []; results = codes "N" ∷ [] };
+        problem = record nothing.problem {
+          objects = 2;
+          arities = 2 ∷ [];
+          height = 3;
+          shapes = 900;
+          axioms = record {
+            vars = 2;
+            lits = denied (numbered 0 (Var 0 ∷ Var 1 ∷ [])) ∷ asserted (numbered 0 (Var 1 ∷ Var 0 ∷ [])) ∷ [];
+          } ∷ [];
+        };
+        facts = numbered 0 (Obj 0 ∷ Obj 1 ∷ []) ∷ [];
+        commands = Plan 0 (numbered 0 (Var 0 ∷ Obj 0 ∷ []) ∷ []) 1 ∷ Show 0 ∷ [];
+      })
+  -- a building of two rooms with a closed door, a box in the second room and the robot in the first; and three commands
+  pub door : IsScript stage_now (codes "nodes 500\nbuilding\nroom R1\nroom R2\ndoor D1 R1 R2 closed\nbox B1 R2\nrobot R1\nend\n"
+      ++ codes "plan Q INROOM(ROBOT,R2)\ndisturb 3 before door D1 closed\nfacts\n") (record {
+        version = 1;
+        names = record {
+          objects = codes "ROBOT" ∷ codes "R1" ∷ codes "R2" ∷ codes "D1" ∷ codes "B1" ∷ [];
+          predicates = predicate_names;
+          operators = operator_names;
+          results = codes "Q" ∷ [];
+        };
+        problem = building_problem 5 4 500 10000;
+        facts = in_room (Obj 0) (Obj 1) ∷ in_room (Obj 4) (Obj 2) ∷ connects (Obj 3) (Obj 1) (Obj 2) ∷ connects (Obj 3) (Obj 2) (Obj 1)
+            ∷ closed (Obj 3) ∷ is_room (Obj 1) ∷ is_room (Obj 2) ∷ is_door (Obj 3) ∷ is_box (Obj 4) ∷ [];
+        building = Some (thing.Room ∷ thing.Room ∷ thing.Door 1 2 false ∷ thing.Box 2 ∷ thing.Robot 1 ∷ []);
+        commands = Plan 0 (in_room (Obj 0) (Obj 2) ∷ []) 0 ∷ DisturbRooms 3 false (room_edit.Door 3 false ∷ []) ∷ Facts ∷ [];
+      })
 
 -- Each text has its first fault in the line of this number, with this code.
 pub record AreRefused (texts : List (ℕ × ℕ × List ℕ)) : Type 0 where
@@ -163,12 +116,8 @@ pub record WorkedRefusals : Type 0 where
       ∷ (4, 5, codes "object a\npredicate P 1\nplan N P(a)\nplan N P(a,a)") ∷ (2, 5, codes "nodes 5\nnodes 0") ∷ [])
   -- arities, also before a variable; variables and wild cards, also before a long name
   pub arity : AreRefused ((3, 6, codes "object a\npredicate P 1\nfact P(a,a)") ∷ (3, 6, codes "object a\npredicate P 1\nfact P(?x,a)")
-      ∷ (3, 7, codes "object a\npredicate P 1\nfact P(?x)") ∷ (
-        3,
-        7,
-        codes "object a\npredicate P 1\n"
-            ++ codes "plan aaaaaaaaaaaaaaaaaaaaaaaaaaaaaaaaaaaaaaaaaaaaaaaaaaaaaaaaaaaaaaaaa P($)",
-      ) ∷ [])
+      ∷ (3, 7, codes "object a\npredicate P 1\nfact P(?x)")
+      ∷ (3, 7, codes "object a\npredicate P 1\nplan " ++ long_name ++ codes " P($)") ∷ [])
   pub wide_predicate : IsRefused (codes "predicate P 7") 1 8 4
   pub other_version : IsRefused (codes "script 2") 1 8 16
   -- late lines, and blocks that are cut off

@@ -72,8 +72,7 @@ pursue n xs = line (codes "pursue") command goals (new a_result n ∷ atoms xs �
 -- the first fault that follows from a line's description
 abbrev fault : Declared → Line → Option Refusal
 fault d l = first_of ((is_out_of_order d l, coded 9) ∷ (has_unknown_name d l, coded 4) ∷ (repeats_name d l, coded 5)
-    ∷ (has_wrong_arity d l, coded 6)
-    ∷ (is_unbound d l, coded 7) ∷ passed (has_long_name d l, 1) ∷ [])
+    ∷ (has_wrong_arity d l, coded 6) ∷ (is_unbound d l, coded 7) ∷ passed (has_long_name d l, 1) ∷ [])
 
 -- After these lines, and with what they leave changed, each of these lines has this first fault, or none.
 abbrev Have : List ℕ → (Declared → Declared) → Option Refusal → List Line → Type 0
@@ -114,13 +113,6 @@ in_rows d = open_block 6 (of_table_rows (record { parameters = 2 })) d
 abbrev p_of : List Argument → SignedAtom
 p_of ts = with_sign bare (codes "P") ts
 
--- `proof s 0 0 0 (t)` and `proof f 0 0 P(t)`
-abbrev proof_of_axiom : Argument → Line
-proof_of_axiom t = proof (an_axiom 0 0 0 (t ∷ []) ∷ [])
-
-abbrev proof_of_fact : Argument → Line
-proof_of_fact t = proof (a_fact 0 0 (p_of (t ∷ [])) ∷ [])
-
 pub record WorkedLater : Type 0 where
   pub later_limits : greatest 2 limit.objects ≡ 1024
   pub same_limits : greatest 2 limit.disturbs ≡ greatest 1 limit.disturbs
@@ -146,8 +138,7 @@ pub record WorkedLater : Type 0 where
   pub step_of_unknown : Have with_operator in_steps (Some (coded 4))
       (step (codes "MAKE") [] ∷ step (codes "O") (named (codes "c") ∷ []) ∷ [])
   pub no_table : Have small with_results (Some (coded 4))
-      (save (codes "L") ∷ certify (codes "L") ∷ edit (codes "E") (codes "L") 2 ((1, 0) ∷ [])
-      ∷ duo n (codes "L") (1 ∷ []) ∷ [])
+      (save (codes "L") ∷ certify (codes "L") ∷ edit (codes "E") (codes "L") 2 ((1, 0) ∷ []) ∷ duo n (codes "L") (1 ∷ []) ∷ [])
   -- duplicates
   pub known_sort : Have small sorted (Some (coded 5)) (sort (codes "S") (codes "c" ∷ []) ∷ sort n (codes "a" ∷ []) ∷ [])
   pub known_result : Have small with_results (Some (coded 5)) (table n 2 ∷ edit (codes "M") n 2 ((1, 0) ∷ []) ∷ pursue n (q ∷ []) ∷ [])
@@ -156,7 +147,9 @@ pub record WorkedLater : Type 0 where
   pub unbound_in_steps : Have with_operator in_steps (Some (coded 7)) (step (codes "O") (p 3 ∷ []) ∷ step (codes "O") (p 0 ∷ [])
       ∷ step (codes "O") (open_variable (codes "p01") ∷ []) ∷ step (codes "O") (g 1 ∷ []) ∷ goal (p_of (g 13 ∷ []) ∷ [])
       ∷ goal (p_of (open_variable (codes "x") ∷ []) ∷ []) ∷ goal (p_of (anything ∷ []) ∷ []) ∷ [])
-  pub unbound_in_proofs : Have small in_rows (Some (coded 7)) (proof_of_axiom (p 3) ∷ proof_of_fact (g 1) ∷ [])
+  -- `proof s 0 0 0 (?p3)` and `proof f 0 0 P(?g1)`
+  pub unbound_in_proofs : Have small in_rows (Some (coded 7))
+      (proof (an_axiom 0 0 0 (p 3 ∷ []) ∷ []) ∷ proof (a_fact 0 0 (p_of (g 1 ∷ [])) ∷ []) ∷ [])
   -- lines out of order
   pub sort_beside_building : Have closed_building (λ d. d) (Some (coded 9)) (sort n (codes "c" ∷ []) ∷ [])
   pub late : Have (codes "facts") (λ d. d) (Some (coded 9)) (sort n (codes "c" ∷ []) ∷ table n 2 ∷ [])
@@ -167,16 +160,14 @@ pub record WorkedLater : Type 0 where
   pub early_proof : Have with_operator in_steps (Some (coded 9)) (proof [] ∷ [])
   pub long_sort : Have small sorted (Some (record { code = 8; limit = 1 })) (sort long_name (codes "c" ∷ []) ∷ [])
   -- `step O(?p1,a)`, `step MAKE`, `proof s 0 1 2 () f 1 0 Q a 1` and `edit E from N 2 1=0`
-  pub step_spelled : spelling_of (step (codes "O") (p 1 ∷ named (codes "a") ∷ [])) ≡ name (codes "step") ∷ name (codes "O") ∷ sign 40
-      ∷ variable (codes "p1") ∷ sign 44
-      ∷ name (codes "a") ∷ sign 41 ∷ []
+  pub step_spelled : spelling_of (step (codes "O") (p 1 ∷ named (codes "a") ∷ []))
+      ≡ name (codes "step") ∷ name (codes "O") ∷ sign 40 ∷ variable (codes "p1") ∷ sign 44 ∷ name (codes "a") ∷ sign 41 ∷ []
   pub plain_step_spelled : spelling_of (step (codes "MAKE") []) ≡ name (codes "step") ∷ name (codes "MAKE") ∷ []
-  pub proof_spelled : spelling_of (proof (an_axiom 0 1 2 [] ∷ a_fact 1 0 q ∷ an_ancestor 1 ∷ [])) ≡ name (codes "proof") ∷ name (codes "s")
-      ∷ number 0 ∷ number 1 ∷ number 2 ∷ sign 40 ∷ sign 41
+  pub proof_spelled : spelling_of (proof (an_axiom 0 1 2 [] ∷ a_fact 1 0 q ∷ an_ancestor 1 ∷ [])) ≡ name (codes "proof")
+      ∷ name (codes "s") ∷ number 0 ∷ number 1 ∷ number 2 ∷ sign 40 ∷ sign 41
       ∷ name (codes "f") ∷ number 1 ∷ number 0 ∷ name (codes "Q") ∷ name (codes "a") ∷ number 1 ∷ []
-  pub edit_spelled : spelling_of (edit (codes "E") n 2 ((1, 0) ∷ [])) ≡ name (codes "edit") ∷ name (codes "E") ∷ name (codes "from")
-      ∷ name n ∷ number 2 ∷ number 1
-      ∷ sign 61 ∷ number 0 ∷ []
+  pub edit_spelled : spelling_of (edit (codes "E") n 2 ((1, 0) ∷ []))
+      ≡ name (codes "edit") ∷ name (codes "E") ∷ name (codes "from") ∷ name n ∷ number 2 ∷ number 1 ∷ sign 61 ∷ number 0 ∷ []
   pub whole_proofs : are_proofs (a_fact 0 0 q ∷ an_axiom 0 1 2 [] ∷ a_fact 1 0 q ∷ an_ancestor 1 ∷ []) ≡ true
   pub no_proofs : are_proofs [] ≡ true
   pub cut_proof : are_proofs (an_axiom 0 1 2 [] ∷ a_fact 1 0 q ∷ []) ≡ false

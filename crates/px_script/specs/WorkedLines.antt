@@ -1,11 +1,7 @@
 -- How small lines are worked: after lines that have no fault, what the next ones leave, or their fault, where all of version 1 is built.
 use Rattle.std.specs.Prelude.{◌≡◌, ℕ, ◌==◌, true, false, List, [], ◌∷◌, map, replicate, codes, Some, ◌++◌}
 use Rattle.std.specs.List.{AllByRecursion, flat_map, range_with_len, slice_split}
-use Rattle.px_terms.specs.declared.atom.Atom.{Atom}
-use Rattle.px_terms.specs.declared.clause.Lit.{Lit}
-use Rattle.px_terms.specs.declared.problem.Schema.{Schema}
-use Rattle.px_terms.specs.declared.term.Term.{Term}
-use Rattle.px_terms.specs.declared.term.Term.TheVariants.{Obj, Var, Any}
+use Rattle.px_script.specs.Common.{Atom, Lit, Term, Obj, Var, Any}
 use Rattle.px_world.specs.declared.edits.AtomEdit.TheVariants as atom_edit
 use Rattle.px_world.specs.declared.edits.RoomEdit.TheVariants as room_edit
 use Rattle.px_world.specs.declared.thing.Thing.TheVariants as thing
@@ -85,22 +81,8 @@ abbrev pub closed_building : List ℕ
 closed_building = open_building ++ codes "\nend"
 
 -- ---- lines of a script's own domain, and of its settings
-
 abbrev pub in_operator : List ℕ
 in_operator = small ++ codes "\noperator O(x)"
-
--- its three lists, and its end
-abbrev whole_operator : List ℕ
-whole_operator = in_operator ++ codes "\npre P(x)\npre Q\ndelete P($)\nadd P(a)\nend"
-
-abbrev the_operator : Schema
-the_operator = record {
-  op = 0;
-  params = 1;
-  pre = numbered 0 (Var 0 ∷ []) ∷ numbered 1 [] ∷ [];
-  del = numbered 0 (Any ∷ []) ∷ [];
-  add = numbered 0 (Obj 0 ∷ []) ∷ [];
-}
 
 -- an object, and a predicate of six arguments; atoms of twelve variables, and of thirteen
 abbrev of_six : List ℕ
@@ -127,7 +109,13 @@ pub record WorkedDomains : Type 0 where
     vars = 3;
     lits = asserted (numbered 0 (Var 0 ∷ Var 1 ∷ [])) ∷ asserted (numbered 0 (Var 1 ∷ Var 2 ∷ [])) ∷ [];
   } ∷ [])
-  pub operators : LeaveBoth whole_operator (λ d. d.names.operators) (codes "O" ∷ []) (λ d. d.schemas) (the_operator ∷ [])
+  pub operators : LeaveBoth (in_operator ++ codes "\npre P(x)\npre Q\ndelete P($)\nadd P(a)\nend") (λ d. d.names.operators) (codes "O" ∷ []) (λ d. d.schemas) (record {
+    op = 0;
+    params = 1;
+    pre = numbered 0 (Var 0 ∷ []) ∷ numbered 1 [] ∷ [];
+    del = numbered 0 (Any ∷ []) ∷ [];
+    add = numbered 0 (Obj 0 ∷ []) ∷ [];
+  } ∷ [])
   pub without_parameters : Leave (codes "operator a\nend\noperator x\nend") (λ d. map (λ schema. schema.op) d.schemas) (0 ∷ 1 ∷ [])
   pub like_its_operator : Leave (codes "object a\noperator x(x)") (λ d. d.names.operators) (codes "x" ∷ [])
   pub long_parameter : Leave (codes "object a\noperator x(" ++ long_name ++ codes ")") (λ d. d.names.operators) (codes "x" ∷ [])
@@ -141,7 +129,7 @@ pub record WorkedDomains : Type 0 where
   pub unknown : Refuse 4 ((small, codes "axiom R\naxiom P(x)\nfact P(x)") ∷ (in_operator, codes "pre P(y)") ∷ [])
   -- duplicates
   pub duplicates : Refuse 5 (([], codes "object a a") ∷ (codes "object a", codes "object x a")
-      ∷ (small, codes "predicate P 0\noperator a(x,x)\noperator x(a)") ∷ (whole_operator, codes "operator O")
+      ∷ (small, codes "predicate P 0\noperator a(x,x)\noperator x(a)") ∷ (in_operator ++ codes "\nend", codes "operator O")
       ∷ (codes "height 4\nnodes 4\nshapes 4", codes "height 9\nnodes 0\nshapes 1") ∷ [])
   -- arities, and arguments that may not stand there
   pub arity : Refuse 6 ((small, codes "axiom Q(a)\nfact P(a,a)") ∷ [])
@@ -155,8 +143,7 @@ pub record WorkedDomains : Type 0 where
   -- limits
   pub limits : Exceed ((1, [], codes "object " ++ long_name ++ codes "\npredicate " ++ long_name ++ codes " 0\noperator " ++ long_name)
       ∷ (4, [], codes "predicate a 7") ∷ (6, small, codes "axiom Q Q Q Q Q Q Q") ∷ (7, of_six, codes "axiom" ++ thirteen)
-      ∷ (9, small, codes "operator a(ya,yb,yc,yd,ye,yf,yg,yh,yi)")
-      ∷ (
+      ∷ (9, small, codes "operator a(ya,yb,yc,yd,ye,yf,yg,yh,yi)") ∷ (
         10,
         in_operator ++ times 10 (codes "\npre Q\ndelete Q\nadd Q"),
         codes "pre Q Q Q Q Q Q Q\ndelete Q Q Q Q Q Q Q\nadd Q Q Q Q Q Q Q",
@@ -164,14 +151,12 @@ pub record WorkedDomains : Type 0 where
       ∷ (16, [], codes "script 2\nscript 0\nheight 0\nheight 9\nnodes 0\nnodes 50001\nshapes 1\nshapes 70001") ∷ [])
 
 -- ---- lines of a building
-
 abbrev one_room : List ℕ
 one_room = codes "building\nroom R"
 
 pub record WorkedBuildings : Type 0 where
   -- what lines leave
-  pub names : LeaveBoth (codes "building") (λ d. d.names.objects) (codes "ROBOT" ∷ [])
-      (λ d. d.arities) (2 ∷ 2 ∷ 3 ∷ 1 ∷ 1 ∷ 1 ∷ 1 ∷ 1 ∷ [])
+  pub names : LeaveBoth (codes "building") (λ d. d.names.objects) (codes "ROBOT" ∷ []) (λ d. d.arities) (2 ∷ 2 ∷ 3 ∷ 1 ∷ 1 ∷ 1 ∷ 1 ∷ 1 ∷ [])
   pub predicates : Leave (codes "building") (λ d. d.names.predicates) (codes "INROOM" ∷ codes "NEXTTO" ∷ codes "CONNECTS" ∷ codes "OPENED"
       ∷ codes "CLOSED" ∷ codes "ROOM" ∷ codes "DOOR" ∷ codes "BOX" ∷ [])
   pub operators : Leave (codes "building") (λ d. d.names.operators) (codes "GOTOB" ∷ codes "GOTOD" ∷ codes "OPEN" ∷ codes "CLOSE"
@@ -200,7 +185,6 @@ pub record WorkedBuildings : Type 0 where
       ∷ (1, open_building, codes "door " ++ long_name ++ codes " R1 R2 open") ∷ [])
 
 -- ---- lines at the limits: the greatest that may be, and the least limit of those that are passed
-
 -- these numbers of objects, predicates, operators, axioms, facts of which P(a) is one, commands, disturbances
 abbrev objects : ℕ → Declared → Declared
 objects n d = record d { names = record d.names { objects = replicate n (codes "x") } }
@@ -248,10 +232,9 @@ pub record WorkedLimits : Type 0 where
   pub last_disturbance : Fit small (disturbs 63) (codes "disturb 9999 before" ++ times 16 (codes "+Q"))
   pub last_room_edits : Fit closed_building (disturbs 63) (codes "disturb 1 between" ++ times 16 (codes " robot R1"))
   pub least_numbers : LeaveBoth (codes "height 1\nnodes 1\nshapes 2") (λ d. d.height) (Some 1) (λ d. d.shapes) (Some 2)
-  -- that is one too many
+  -- one more than there may be
   pub many_objects : RefuseWhere [] (objects 256) 8 2 (codes "object a")
-  pub many_things : RefuseWhere (codes "building\nroom R\nroom S") (objects 256) 8 2
-      (codes "room a\ndoor a R S open\nbox a R")
+  pub many_things : RefuseWhere (codes "building\nroom R\nroom S") (objects 256) 8 2 (codes "room a\ndoor a R S open\nbox a R")
   pub many_axioms : RefuseWhere small (axioms 64) 8 5 (codes "axiom Q\naxiom Q Q Q Q Q Q Q")
   pub many_predicates : RefuseWhere [] (predicates 64) 8 3 (codes "predicate a 0\npredicate a 7")
   pub many_operators : RefuseWhere (codes "object o") (operators 32) 8 8 (codes "operator a\noperator a(xa,xb,xc,xd,xe,xf,xg,xh,xi)")
@@ -265,15 +248,13 @@ pub record WorkedLimits : Type 0 where
   pub disturbs_first : RefuseWhere small (disturbs 64) 8 14 edits
 
 -- ---- commands
-
 abbrev learned : List ℕ
 learned = small ++ codes "\nplan N Q\nlearn M from N"
 
 pub record WorkedCommands : Type 0 where
   -- what lines leave
   pub plans : LeaveBoth (small ++ codes "\nplan N P(?x) P(b) P(?x)\nplan M Q") (λ d. d.names.results) (codes "N" ∷ codes "M" ∷ [])
-      (λ d. d.commands)
-      (Plan 0 (numbered 0 (Var 0 ∷ []) ∷ numbered 0 (Obj 1 ∷ []) ∷ numbered 0 (Var 0 ∷ []) ∷ []) 1 ∷ Plan 1 (numbered 1 [] ∷ []) 0 ∷ [])
+      (λ d. d.commands) (Plan 0 (map (numbered 0) ((Var 0 ∷ []) ∷ (Obj 1 ∷ []) ∷ (Var 0 ∷ []) ∷ [])) 1 ∷ Plan 1 (numbered 1 [] ∷ []) 0 ∷ [])
   pub numbers_variables : Leave (codes "object a\npredicate R 2\nplan N R(?y,?x) R(?x,?z)") (λ d. d.commands)
       (Plan 0 (numbered 0 (Var 0 ∷ Var 1 ∷ []) ∷ numbered 0 (Var 1 ∷ Var 2 ∷ []) ∷ []) 3 ∷ [])
   pub learns : LeaveBoth learned (λ d. d.names.results) (codes "N" ∷ codes "M" ∷ [])
@@ -317,7 +298,6 @@ pub record WorkedCommands : Type 0 where
       ∷ (16, closed_building, codes "disturb 10000 before robot R1") ∷ [])
 
 -- ---- how lines are written, from their characters
-
 -- The characters spell the statement.
 pub record Spell (characters : List ℕ) (s : Statement) : Type 0 where
   pub lexes : Lexes characters (spelling s)

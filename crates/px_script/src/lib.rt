@@ -16,7 +16,7 @@
 //!    (`FirstFault`). A building gives its script the names, the problem and the first facts that `px_rooms` defines.
 //!
 //! Beside it stand small lines and small texts with what the definition says of them (`Worked..`), and what each script keeps
-//! (`Ranges`, `StageRanges`; `RangeLaws` has that these are facts with one proof at most, so that a type can keep them).
+//! (`Ranges`; `RangeLaws` has that these are facts with one proof at most, so that a type can keep them).
 //!
 //! # Calling it
 //!
@@ -40,8 +40,7 @@ ghost use Rattle.std.specs.Prelude.{List, ℕ};
 ghost use Rattle.px_script.specs.Content.{ScriptValue};
 ghost use Rattle.px_script.specs.Declarations.{Declared};
 ghost use Rattle.px_script.specs.Faults.{OnlyTakesAway};
-ghost use Rattle.px_script.specs.Ranges.{IsInRange};
-ghost use Rattle.px_script.specs.StageRanges.{IsOfStage};
+ghost use Rattle.px_script.specs.Ranges.{IsInRange, IsOfStage};
 ghost use Rattle.px_script.specs.Stages.{Stage, whole_language};
 ghost use Rattle.px_script.specs.Statements.{Statement};
 ghost use Rattle.px_script.specs.Scripts.{ReadsOneWay, IsScript};

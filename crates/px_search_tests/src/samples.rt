@@ -22,7 +22,8 @@ pub fn there_and_back(alloc: Global, rt: &impl Abort) -> Table {
     moving(alloc, 0, objects()).expect(rt, "memory")
 }
 
-/// The table that is learned of it: going through door 1 from room 0 into room 2, and pushing box 3 through door 4 from there into room 5.
+/// The table that is learned of it: going through a door into a room, and pushing a box from there through a door into another room. Its
+/// six parameters are these two doors, three rooms and the box.
 pub fn learned(alloc: Global, rt: &impl Abort) -> Table {
     moving(alloc, 6, parameters()).expect(rt, "memory")
 }

@@ -1,26 +1,23 @@
-use Rattle.std.proofs.Common.{◌≡◌, ℕ, List}
-use Rattle.std.specs.Prelude.{Some}
+use Rattle.px_script.proofs.Common.{◌≡◌, ℕ, List, Some, Statement, spelling, Spell}
 use Rattle.std.specs.Fmt.{digits}
 use Rattle.px_base.specs.Sets.{with_item, set_of}
-use Rattle.px_script.specs.Statements.{Statement, spelling}
-use Rattle.px_script.specs.WorkedLines.{Spell}
-use Rattle.px_script.proofs.Computed.{after-so, fit-so, refuse-so, all_read}
+use Rattle.px_script.proofs.Computed.{after-so, fit-so, refuse-so}
 use Rattle.unicode_ident.proofs.Computing.{unicode_ident}
 use lib.Utf8.{encode}
-use Rattle.px_script.proofs.Law.{scan_by, scan, scan-lexes}
+use Rattle.px_script.proofs.Law.{lines_read, scan_by, scan, scan-lexes}
 use Rattle.px_script.proofs.Parsing.{all_within, items_after}
 use Rattle.px_script.proofs.worked_lines.Goals as goal
 
 pub returns-clause-domains : goal.returns-clause-domains
-unfolding all_read scan_by unicode_ident encode all_within items_after with_item set_of
+unfolding lines_read scan_by unicode_ident encode all_within items_after with_item set_of
 returns-clause-domains c = search (after-so, refuse-so) depth 14
 
 pub returns-clause-buildings : goal.returns-clause-buildings
-unfolding all_read scan_by unicode_ident encode all_within items_after with_item set_of
+unfolding lines_read scan_by unicode_ident encode all_within items_after with_item set_of
 returns-clause-buildings c = search (after-so, refuse-so) depth 14
 
 pub returns-clause-commands : goal.returns-clause-commands
-unfolding all_read scan_by unicode_ident encode all_within items_after with_item set_of digits
+unfolding lines_read scan_by unicode_ident encode all_within items_after with_item set_of digits
 returns-clause-commands c = search (after-so, refuse-so) depth 14
 
 -- the plain scan finds its spelling
@@ -32,9 +29,9 @@ unfolding scan_by unicode_ident encode digits
 returns-clause-spellings c = search spell
 
 pub returns-clause-limits : goal.returns-clause-limits
-unfolding all_read scan_by unicode_ident encode all_within items_after with_item set_of
+unfolding lines_read scan_by unicode_ident encode all_within items_after with_item set_of
 returns-clause-limits c = search (after-so, fit-so, refuse-so) depth 14
 
 pub returns-clause-later : goal.returns-clause-later
-unfolding all_read scan_by unicode_ident encode all_within items_after with_item set_of digits
+unfolding lines_read scan_by unicode_ident encode all_within items_after with_item set_of digits
 returns-clause-later c = search after-so depth 14

@@ -1,19 +1,12 @@
-use Rattle.std.specs.Prelude.{◌≡◌, ℕ, List, Option, None, Some}
-use Rattle.std.specs.List.{AllByRecursion}
+use Rattle.px_script.proofs.Common.{◌≡◌, ℕ, List, Option, None, Some, AllByRecursion, subst, AllByRecursion-map, ScriptValue, content_of, Refusal, coded, Stage, stage_now, FirstFault, IsScript}
 use Rattle.std.specs.Str.{chars, is_utf8}
 use Rattle.std.specs.Str.Lossy.{utf8_valid_len}
 use Rattle.std.specs.Fmt.{digits}
-use Rattle.std.proofs.Common.{subst}
 use Rattle.unicode_ident.proofs.Computing.{unicode_ident}
 use lib.Utf8.{encode}
-use Rattle.px_base.specs.ListLaws.{AllByRecursion-map}
 use Rattle.px_base.specs.Sets.{with_item, set_of}
-use Rattle.px_script.specs.Content.{ScriptValue, content_of}
-use Rattle.px_script.specs.Faults.{Refusal, coded}
-use Rattle.px_script.specs.Stages.{Stage, stage_now}
-use Rattle.px_script.specs.Scripts.{FirstFault, IsScript}
 use Rattle.px_script.specs.Worked.{AreRefused}
-use Rattle.px_script.proofs.Law.{Reading, passes, fails, lines_read, scan_by, text_read, TextSays, text-says}
+use Rattle.px_script.proofs.Law.{Reading, passes, fails, by_reading, lines_read, scan_by, text_read, TextSays, text-says}
 use Rattle.px_script.proofs.Parsing.{all_within, items_after}
 use Rattle.px_script.proofs.worked_texts.Goals as goal
 
@@ -24,11 +17,9 @@ content_in (passes last) = Some (content_of last)
 content_in (fails at refusal) = None
 
 script-so : (bytes : List ℕ) (script : ScriptValue) → content_in (text_read stage_now bytes) ≡ Some script → IsScript stage_now bytes script
-script-so bytes script e = by (text_read stage_now bytes) (text-says stage_now bytes) e
-  where
-    by : (r : Reading) → TextSays stage_now bytes r → content_in r ≡ Some script → IsScript stage_now bytes script
-    by (passes last) says e = record { last = last; spells = says; is = cc }
-    by (fails at refusal) says e = cc
+script-so bytes script e = by_reading (λ r. TextSays stage_now bytes r × (content_in r ≡ Some script))
+    (λ last so. record { last = last; spells = so.0; is = let e = so.1 in cc }) (λ at refusal so. let e = so.1 in cc)
+    (text_read stage_now bytes) (text-says stage_now bytes, e)
 
 refused-so : (stage : Stage) (bytes : List ℕ) (line : ℕ) (refusal : Refusal) → text_read stage bytes ≡ fails line refusal
     → FirstFault stage bytes line refusal

@@ -8,9 +8,9 @@ things-preserved c = things-more signed_view atom_at atom-advances c.args.tokens
     (rw c.in-Some.is at c.in_ok-atom.ensures.within) _
     (grind (arith, common_steps))
 
-pub returns-in-None : goal.returns-in-None
-returns-in-None c = things-none signed_view atom_at atom-advances c.args.tokens.now c.things.at c.things.atoms.items c.things.invariant.0
-    c.things-test.true (rw c.in-None.is at c.in_ok-atom.ensures.found)
+pub returns-in_default : goal.returns-in_default
+returns-in_default c = things-none signed_view atom_at atom-advances c.args.tokens.now c.things.at c.things.atoms.items c.things.invariant.0
+    c.things-test.true (rw c.in_default.is at c.in_ok-atom.ensures.found)
 
 pub returns : goal.returns
 returns c = things-end signed_view atom_at atom-advances c.args.tokens.now c.things.at c.things.atoms.items c.things.invariant.0

@@ -8,10 +8,10 @@ things-preserved c = things-more binding_view binding_at binding-advances c.args
     c.things-test.true c.in-Some.binding c.in-Some.count c.in-Some.ensures.found c.in-Some.ensures.within _
     (grind (arith, common_steps))
 
-pub returns-in-None : goal.returns-in-None
-returns-in-None c = things-none binding_view binding_at binding-advances c.args.tokens.now c.things.at c.things.bindings.items
+pub returns-in_default : goal.returns-in_default
+returns-in_default c = things-none binding_view binding_at binding-advances c.args.tokens.now c.things.at c.things.bindings.items
     c.things.invariant.0
-    c.things-test.true c.in-None.ensures.found
+    c.things-test.true c.in_default.ensures.found
 
 pub returns : goal.returns
 returns c = things-end binding_view binding_at binding-advances c.args.tokens.now c.things.at c.things.bindings.items c.things.invariant.0

@@ -8,10 +8,10 @@ things-preserved c = things-more room_edit_view room_edit_at room-edit-advances 
     c.things-test.true c.in-Some.edit c.in-Some.count c.in-Some.ensures.found c.in-Some.ensures.within _
     (grind (arith, common_steps))
 
-pub returns-in-None : goal.returns-in-None
-returns-in-None c = things-none room_edit_view room_edit_at room-edit-advances c.args.tokens.now c.things.at c.things.edits.items
+pub returns-in_default : goal.returns-in_default
+returns-in_default c = things-none room_edit_view room_edit_at room-edit-advances c.args.tokens.now c.things.at c.things.edits.items
     c.things.invariant.0
-    c.things-test.true c.in-None.ensures.found
+    c.things-test.true c.in_default.ensures.found
 
 pub returns : goal.returns
 returns c = things-end room_edit_view room_edit_at room-edit-advances c.args.tokens.now c.things.at c.things.edits.items
