@@ -25,7 +25,8 @@ AllBefore {X} P xs i = (k : ℕ) (d : X) → k < i → P (get_or xs k d)
 pub level_or_below : (i j : ℕ) → i < j + 1 → (i < j) ⊎ (i ≡ j)
 level_or_below i j h = grind (arith, h)
 
-pub all_before_next : {X : Type 0} (P : X → Type 0) (xs : List X) (i : ℕ) (x : X) → AllBefore P xs i → i < length xs → x ≡ get_or xs i x → P x → AllBefore P xs (i + 1)
+pub all_before_next : {X : Type 0} (P : X → Type 0) (xs : List X) (i : ℕ) (x : X) → AllBefore P xs i → i < length xs → x ≡ get_or xs i x
+    → P x → AllBefore P xs (i + 1)
 all_before_next P xs i x before below is here k d next =
     elim (level_or_below k i next) [
       | inl earlier ↦ before k d earlier
@@ -55,7 +56,8 @@ ok_map P Q f (Err e) h = tt
 pub take_next : {X : Type 0} (xs : List X) (i : ℕ) (x : X) → i < length xs → x ≡ get_or xs i x → take (i + 1) xs ≡ take i xs ++ x ∷ []
 take_next xs i x below is = take_more xs i x below ∙ ap (λ y. take i xs ++ y ∷ []) (sym is)
 
-pub next_taken : {X : Type 0} (xs made after : List X) (i : ℕ) (x : X) → i < length xs → x ≡ get_or xs i x → made ≡ take i xs → after ≡ made ++ x ∷ [] → after ≡ take (i + 1) xs
+pub next_taken : {X : Type 0} (xs made after : List X) (i : ℕ) (x : X) → i < length xs → x ≡ get_or xs i x → made ≡ take i xs
+    → after ≡ made ++ x ∷ [] → after ≡ take (i + 1) xs
 next_taken xs made after i x below is was put = put ∙ ap (λ l. l ++ x ∷ []) was ∙ sym (take_next xs i x below is)
 
 pub whole_taken : {X : Type 0} (xs made : List X) (i : ℕ) → made ≡ take i xs → length xs ≤ i → made ≡ xs

@@ -1,4 +1,6 @@
+-- The files of definitions and laws.
 pub mod Answers
+pub mod Counting
 pub mod formers
 pub mod ListLaws
 pub mod Sets

@@ -3,7 +3,7 @@ use Rattle.std.specs.Prelude.{List, [], ◌∷◌}
 use Rattle.std.specs.declared.cmp.Ordering.{Ordering}
 use Rattle.std.specs.declared.cmp.Ordering.TheVariants.{Less, Equal, Greater}
 
--- the list `first ∷ rest` with one more item, which compares so to the first; `placed` is `rest` with the item
+-- the list `first ∷ rest` with one more item, whose comparison with `first` is given; `placed` is `rest` with the item
 abbrev pub place_item : {K : Type 0} → Ordering → K → K → List K → List K → List K
 place_item Less item first rest placed = item ∷ first ∷ rest
 place_item Equal item first rest placed = first ∷ rest

@@ -1,5 +1,5 @@
 //! Adding an item to a `Vec`.
-ghost use Rattle.std.specs.Prelude.{◌≡◌, ◌++◌, ◌∷◌, [], OnOk, OnErr};
+ghost use Rattle.std.specs.Prelude.{◌≡◌, ◌<◌, ◌≤◌, ◌++◌, ◌∷◌, [], OnOk, OnErr, vec_len, vec_capacity};
 
 use crate::no_memory::NoMemory;
 
@@ -15,5 +15,17 @@ pub fn push<T: Drop>(items: &mut Vec<T>, item: T) -> Result<(), NoMemory>
     match items.push(item) {
         Ok(()) => Ok(()),
         Err(_refused) => Err(NoMemory),
+    }
+}
+
+/// Puts the item at the end of the list, which has room for it. Does not allocate.
+pub fn push_within<T: Drop>(items: &mut Vec<T>, item: T)
+    requires room { vec_len items.old < vec_capacity items.old }
+    ensures put { items.new.items ≡ items.old.items ++ item ∷ [] }
+    ensures capacity { vec_capacity items.old ≤ vec_capacity items.new }
+{
+    match items.push(item) {
+        Ok(()) => {}
+        Err(_) => unreachable!(),
     }
 }

@@ -23,7 +23,7 @@ impl<T> Model for Sequence<T> {
 }
 
 impl<T> Sequence<T> {
-    /// The sequence of the items of `items`. Does not allocate.
+    /// Returns the sequence of the items of `items`. Does not allocate.
     pub fn from_vec(items: Vec<T>) -> Sequence<T>
         ensures { result ≡ items.items }
     {
@@ -38,7 +38,7 @@ impl<T> Sequence<T> {
         items
     }
 
-    /// Borrows the items.
+    /// Returns the items, borrowed.
     pub fn as_slice(&self) -> &[T]
         ensures { result.now ≡ self.now }
     {
@@ -59,7 +59,7 @@ impl<T> Sequence<T> {
 }
 
 impl<T: Copy> Sequence<T> {
-    /// A sequence of copies of the items.
+    /// Returns a sequence of copies of the items.
     ///
     /// # Errors
     /// `NoMemory` where there is no memory for the copies.
@@ -71,7 +71,7 @@ impl<T: Copy> Sequence<T> {
         Ok(Sequence { items: copies })
     }
 
-    /// A sequence of the same items, in memory of the same allocator.
+    /// Returns a sequence of the same items, in memory of the same allocator.
     ///
     /// # Errors
     /// `NoMemory` where there is no memory for the copy.

@@ -1,4 +1,4 @@
-//! Does a matcher answer what a plain one does?
+//! Whether a matcher answers what a plain one does.
 ghost use Rattle.std.specs.Prelude.{◌≡◌, ◌≢◌, ◌<◌, ◌≤◌, All, AllPairs};
 ghost use Rattle.px_terms.specs.Validity.{IsValid};
 ghost use Rattle.px_table.specs.Tables.{IsTable};
@@ -54,7 +54,7 @@ fn change_all(model: &mut Model, atoms: &[Atom]) -> Result<(), NoMemory> {
     Ok(())
 }
 
-/// All the atoms come, then they go one after the other, and come back in the same order.
+/// Returns what changes: all the atoms come, then they go one after the other, and come back in the same order.
 fn changes_of(alloc: Global, atoms: &[Atom]) -> Result<Vec<Vec<Atom>>, NoMemory> {
     let mut changes = Vec::new(alloc);
     changes.push(atoms.to_vec(alloc)?)?;
@@ -124,7 +124,7 @@ fn compare_drawn(
     compare(alloc, tally, problem, table, bind, &changes)
 }
 
-/// The same where no parameter, one or two are bound.
+/// Asks about such models where no parameter, one or two are bound.
 fn compare_bound(
     alloc: Global,
     dice: &mut Dice,
@@ -165,7 +165,7 @@ fn agree_of(alloc: Global, seed: u64, tally: &mut Tally) -> Result<(), NoMemory>
     compare_bound(alloc, &mut dice, tally, &problem, &table)
 }
 
-/// Asks about the tables of `count` seeds.
+/// Asks about the tables of `count` seeds, and returns the tally.
 pub fn agree(alloc: Global, from: u64, count: u32) -> Result<Tally, NoMemory> {
     let mut tally = Tally::new();
     for seed in 0..count {
@@ -174,7 +174,7 @@ pub fn agree(alloc: Global, from: u64, count: u32) -> Result<Tally, NoMemory> {
     Ok(tally)
 }
 
-/// Asks about the case: with all its atoms, after each of them went, and after each came back.
+/// Asks about the case: with all its atoms, after each of them went, and after each came back. Returns the tally.
 pub fn agree_on(alloc: Global, case: &Case) -> Result<Tally, NoMemory> {
     let mut tally = Tally::new();
     if !is_valid(&case.problem) || !check_table(&case.problem, &case.table) {

@@ -27,7 +27,7 @@ const Y: Term = Term::Var(1);
 
 const Z: Term = Term::Var(2);
 
-/// What rows and cases of three objects are made of.
+/// Returns the case of a table of three objects, with a bound parameter and atoms.
 fn case_of(
     alloc: Global,
     table: Table,
@@ -42,7 +42,7 @@ fn case_of(
     })
 }
 
-/// The table of no step in which these atoms are wanted at first.
+/// Returns the table of no step in which these atoms are wanted at first.
 fn wanted_at_first(alloc: Global, params: u32, atoms: &[Atom]) -> Result<Table, NoMemory> {
     let mut last = Vec::new(alloc);
     for atom in atoms {
@@ -51,7 +51,7 @@ fn wanted_at_first(alloc: Global, params: u32, atoms: &[Atom]) -> Result<Table, 
     table_of(alloc, params, Vec::new(alloc), Vec::new(alloc), last)
 }
 
-/// The table of one step over the first parameter, which needs it given, with this last row.
+/// Returns the table of one step over the first parameter, which needs it given, with this last row.
 fn after_step(alloc: Global, params: u32, op: u32, last: Vec<Proof>) -> Result<Table, NoMemory> {
     let mut steps = Vec::new(alloc);
     put_step(&mut steps, op, &[X])?;
@@ -62,7 +62,7 @@ fn after_step(alloc: Global, params: u32, op: u32, last: Vec<Proof>) -> Result<T
     table_of(alloc, params, steps, rows, last)
 }
 
-/// A parameter twice in a mark, and in three marks.
+/// Returns the case of a parameter twice in a mark, and in three marks.
 fn merged(alloc: Global) -> Result<Case, NoMemory> {
     let table = wanted_at_first(alloc, 2, &[next(X, X), next(Y, X), wanted(Y)])?;
     let atoms = [
@@ -76,7 +76,7 @@ fn merged(alloc: Global) -> Result<Case, NoMemory> {
     case_of(alloc, table, (0, 0), &atoms)
 }
 
-/// A step that deletes a mark by the wild card, where two parameters have one object.
+/// Returns the case of a step that deletes a mark by the wild card, where two parameters have one object.
 fn wild(alloc: Global) -> Result<Case, NoMemory> {
     let mut last = Vec::new(alloc);
     last.push(fact(1, spoiled(X)))?;
@@ -92,7 +92,7 @@ fn wild(alloc: Global) -> Result<Case, NoMemory> {
     case_of(alloc, table, (0, 0), &atoms)
 }
 
-/// Objects in marks, beside a parameter and alone.
+/// Returns the case of objects in marks, beside a parameter and alone.
 fn objects(alloc: Global) -> Result<Case, NoMemory> {
     let table = wanted_at_first(alloc, 1, &[next(TWO, X), next(X, THREE), wanted(ONE)])?;
     let atoms = [
@@ -105,20 +105,20 @@ fn objects(alloc: Global) -> Result<Case, NoMemory> {
     case_of(alloc, table, (0, 0), &atoms)
 }
 
-/// Parameters that stand in no mark, one of them bound.
+/// Returns the case of parameters that stand in no mark, one of them bound.
 fn free(alloc: Global) -> Result<Case, NoMemory> {
     let table = wanted_at_first(alloc, 3, &[wanted(Y)])?;
     let atoms = [wanted(TWO), wanted(THREE)];
     case_of(alloc, table, (3, 2), &atoms)
 }
 
-/// A kernel without marks, which is the last one, after a step whose parameter is bound.
+/// Returns the case of a kernel without marks, which is the last one, after a step whose parameter is bound.
 fn bare(alloc: Global) -> Result<Case, NoMemory> {
     let table = after_step(alloc, 1, SPOIL, Vec::new(alloc))?;
     case_of(alloc, table, (1, 1), &[given(ONE), given(TWO)])
 }
 
-/// The case of that name.
+/// Returns the case of that name.
 pub fn named(alloc: Global, name: &str) -> Result<Option<Case>, NoMemory> {
     let case = match name {
         "merged" => merged(alloc)?,

@@ -1,5 +1,5 @@
 //! Numbers that look random.
-// Alike: `roll` of px_rooms' `drawing`, which belongs to tests: these lend nothing to other crates.
+// Alike: `roll` of px_rooms' `drawing`, which belongs to tests: other crates can't use these.
 ghost use Rattle.std.specs.Prelude.{◌<◌, ◌≤◌};
 
 /// Numbers that look random, and are the same for the same seed.
@@ -13,7 +13,7 @@ impl Dice {
         Dice { state: seed }
     }
 
-    /// A number below `sides`.
+    /// Returns a number below `sides`.
     pub fn roll(&mut self, sides: u32) -> u32
         requires { 1 ≤ sides }
         ensures { result < sides }

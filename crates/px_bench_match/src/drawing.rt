@@ -3,7 +3,6 @@ ghost use Rattle.std.specs.Prelude.{◌≡◌, ◌≤◌, IfOk};
 
 use crate::dice::Dice;
 use crate::tables::table_of;
-use crate::walking::atom;
 use px_base::Sequence;
 use px_proof::{Leaf, Proof};
 use px_table::{Row, Table};
@@ -32,17 +31,17 @@ fn draw_term(dice: &mut Dice, letters: Letters) -> Term
     Term::Obj(dice.roll(letters.objects))
 }
 
-/// An atom of predicate 0 with two arguments, of 1 or 2 with one, or of 3 with none.
+/// Returns an atom of predicate 0 with two arguments, of 1 or 2 with one, or of 3 with none.
 fn draw_atom(dice: &mut Dice, letters: Letters) -> Atom
     requires { 1 ≤ letters.objects }
 {
     let one = draw_term(dice, letters);
     let other = draw_term(dice, letters);
     match dice.roll(6) {
-        0 => atom(3, &[]),
-        1 => atom(1, &[one]),
-        2 => atom(2, &[one]),
-        _ => atom(0, &[one, other]),
+        0 => Atom::of(3, &[]),
+        1 => Atom::of(1, &[one]),
+        2 => Atom::of(2, &[one]),
+        _ => Atom::of(0, &[one, other]),
     }
 }
 
@@ -64,7 +63,7 @@ fn draw_atoms(
     Ok(atoms)
 }
 
-/// Atoms that change, twelve times: other ones, or the same once more.
+/// Returns atoms that change, twelve times: other ones, or the same once more.
 pub fn draw_changes(
     alloc: Global,
     dice: &mut Dice,
@@ -87,7 +86,7 @@ pub fn draw_changes(
     Ok(changes)
 }
 
-/// An operator of up to three parameters.
+/// Returns an operator of up to three parameters.
 fn draw_schema(alloc: Global, dice: &mut Dice, op: u32, objects: u32) -> Result<Schema, NoMemory>
     requires { 1 ≤ objects }
 {
@@ -130,7 +129,7 @@ pub fn draw_problem(alloc: Global, dice: &mut Dice, objects: u32) -> Result<Prob
     })
 }
 
-/// The fact that the atom is: one of those given, or there at first.
+/// Returns the fact that the atom is: one of those given, or there at first.
 fn draw_fact(dice: &mut Dice, given: &[Leaf], atom: Atom) -> Proof {
     let mut found = Leaf {
         column: 0,
@@ -145,7 +144,7 @@ fn draw_fact(dice: &mut Dice, given: &[Leaf], atom: Atom) -> Proof {
     Proof::Fact(found)
 }
 
-/// Facts for the atoms.
+/// Returns facts for the atoms.
 fn draw_row(
     alloc: Global,
     dice: &mut Dice,
@@ -159,7 +158,7 @@ fn draw_row(
     Ok(row)
 }
 
-/// The atoms with these terms for their variables.
+/// Returns the atoms with these terms for their variables.
 fn with_terms(alloc: Global, args: &[Term], atoms: &[Atom]) -> Result<Vec<Atom>, NoMemory> {
     let mut made = Vec::new(alloc);
     for atom in atoms {
@@ -200,7 +199,7 @@ fn draw_terms(
     Ok(terms)
 }
 
-/// The atoms of a goal: drawn ones, and some of those given.
+/// Returns the atoms of a goal: drawn ones, and some of those given.
 fn draw_goal(
     alloc: Global,
     dice: &mut Dice,
@@ -218,7 +217,7 @@ fn draw_goal(
     Ok(goal)
 }
 
-/// A table of the problem, of up to three steps and up to five parameters.
+/// Returns a table of the problem, of up to three steps and up to five parameters.
 pub fn draw_table(alloc: Global, dice: &mut Dice, problem: &Problem) -> Result<Table, NoMemory>
     requires { 1 ≤ problem.now.objects }
 {

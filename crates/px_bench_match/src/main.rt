@@ -5,8 +5,8 @@
 //! Each line of standard input is a question, which makes its problem, facts, table and matcher anew, and is answered by a line.
 //!
 //! - `pairs`: twelve pairs of 24 parameters over 256 objects and 255 facts. The answer is the kernel, here and below.
-//! - `far`: no object is the last one for the first two parameters, and each pair between is free.
-//! - `nested`: eight groups of three parameters, the one within the other, each of which is met by the last of its objects alone.
+//! - `far`: no object is the last one for the first two parameters, and each pair between them is free.
+//! - `nested`: eight groups of three parameters, the one within the other, each of which is met only by the last of its objects.
 //! - `chain` and `nochain`: a chain of 23 parameters to an end that is reached, and to one that isn't.
 //! - `improper`: the first proper choice, after all those that share one bad pair.
 //! - `steps`: a table of 64 steps over 500 facts.
@@ -48,7 +48,7 @@ struct Scene {
     table: Table,
 }
 
-/// The kernel that is found in the scene.
+/// Returns the kernel that is found in the scene.
 fn found(alloc: Global, scene: &Scene) -> Option<u32> {
     if !is_valid(&scene.problem) || !check_table(&scene.problem, &scene.table) {
         return None;
@@ -59,7 +59,7 @@ fn found(alloc: Global, scene: &Scene) -> Option<u32> {
     }
 }
 
-/// What comes of the walk to object 64, and of the changes if they are asked for.
+/// Returns what comes of the walk to object 64, and of the changes if they are asked for.
 fn walked(alloc: Global, are_changes: bool) -> Result<Option<u32>, NoMemory> {
     let problem = problem_of(alloc, 500)?;
     let table = walk(alloc)?;
@@ -79,7 +79,7 @@ fn walked(alloc: Global, are_changes: bool) -> Result<Option<u32>, NoMemory> {
     }
 }
 
-/// A scene of 256 objects.
+/// Returns a scene of 256 objects.
 fn scene_of(alloc: Global, model: Model, table: Table) -> Result<Scene, NoMemory> {
     Ok(Scene {
         problem: problem_of(alloc, 256)?,
@@ -88,7 +88,7 @@ fn scene_of(alloc: Global, model: Model, table: Table) -> Result<Scene, NoMemory
     })
 }
 
-/// What comes of the question, if it is one.
+/// Returns what comes of the question, if it is one.
 fn answer(alloc: Global, question: &str) -> Result<Option<u32>, NoMemory> {
     let scene = match question {
         "pairs" => scene_of(alloc, links(alloc, 256)?, pairs(alloc)?)?,
@@ -104,13 +104,13 @@ fn answer(alloc: Global, question: &str) -> Result<Option<u32>, NoMemory> {
     Ok(found(alloc, &scene))
 }
 
-/// The numbers of `FROM COUNT`.
+/// Returns the numbers of `FROM COUNT`.
 fn range_of(line: &str) -> Option<(u64, u32)> {
     let (from, count) = line.split_once(' ')?;
     Some((from.parse().ok()?, count.parse().ok()?))
 }
 
-/// How often both matchers agree over the tables of these seeds, or over the case of that name.
+/// Returns how often both matchers agree over the tables of these seeds, or over the case of that name.
 fn tally_of(alloc: Global, question: &str) -> Result<Option<Tally>, NoMemory> {
     if let Some((from, count)) = range_of(question) {
         return Ok(Some(agree(alloc, from, count)?));

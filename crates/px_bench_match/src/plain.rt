@@ -6,7 +6,7 @@ use px_ops::Model;
 use px_table::{Mark, Table};
 use px_terms::{Atom, OpInst, Problem, Term};
 
-/// The object that the term is under the objects for the parameters.
+/// Returns the object that the term is under the objects for the parameters.
 fn object_of(term: Term, objects: &[u32]) -> Option<u32> {
     match term {
         Term::Obj(object) => Some(object),
@@ -15,7 +15,7 @@ fn object_of(term: Term, objects: &[u32]) -> Option<u32> {
     }
 }
 
-/// Is that the object that the term is under the objects for the parameters?
+/// Returns whether that is the object that the term is under the objects for the parameters.
 fn is_object_of(term: Term, there: Term, objects: &[u32]) -> bool {
     match object_of(term, objects) {
         Some(object) => there == Term::Obj(object),
@@ -23,7 +23,7 @@ fn is_object_of(term: Term, there: Term, objects: &[u32]) -> bool {
     }
 }
 
-/// Does the mark become the atom?
+/// Returns whether the mark becomes the atom.
 fn becomes(mark: &Atom, atom: &Atom, objects: &[u32]) -> bool {
     let found = atom.args();
     mark.pred() == atom.pred()
@@ -35,19 +35,19 @@ fn becomes(mark: &Atom, atom: &Atom, objects: &[u32]) -> bool {
             .all(|(term, there)| is_object_of(*term, *there, objects))
 }
 
-/// Does the mark become one of the atoms?
+/// Returns whether the mark becomes one of the atoms.
 fn is_true(mark: &Atom, objects: &[u32], atoms: &[Atom]) -> bool {
     atoms.iter().any(|atom| becomes(mark, atom, objects))
 }
 
-/// Are all marks of the kernel true?
+/// Returns whether all marks of the kernel are true.
 fn holds(table: &Table, number: u32, objects: &[u32], atoms: &[Atom]) -> bool {
     table.marks.as_slice().iter().all(|mark| {
         mark.row < number || number <= mark.column || is_true(&mark.atom, objects, atoms)
     })
 }
 
-/// Does the term of a delete pattern stand for the object, with the step's arguments for the operator's parameters?
+/// Returns whether the term of a delete pattern stands for the object, with the step's arguments for the operator's parameters.
 fn stands_for(pattern: Term, args: &[Term], object: Option<u32>, objects: &[u32]) -> bool {
     match pattern {
         Term::Any => true,
@@ -59,7 +59,7 @@ fn stands_for(pattern: Term, args: &[Term], object: Option<u32>, objects: &[u32]
     }
 }
 
-/// Does the pattern of the step stand for the mark?
+/// Returns whether the pattern of the step stands for the mark.
 fn covers(pattern: &Atom, step: &OpInst, mark: &Atom, objects: &[u32]) -> bool {
     let terms = mark.args();
     pattern.pred() == mark.pred()
@@ -69,7 +69,7 @@ fn covers(pattern: &Atom, step: &OpInst, mark: &Atom, objects: &[u32]) -> bool {
         })
 }
 
-/// Does the step delete the mark?
+/// Returns whether the step deletes the mark.
 fn deletes(problem: &Problem, step: &OpInst, mark: &Atom, objects: &[u32]) -> bool {
     match problem.schemas.as_slice().get(step.op() as usize) {
         Some(schema) => schema
@@ -81,7 +81,7 @@ fn deletes(problem: &Problem, step: &OpInst, mark: &Atom, objects: &[u32]) -> bo
     }
 }
 
-/// Does no step from the one of that number on delete the mark between its column and its row?
+/// Returns whether no step from the one of that number on deletes the mark between its column and its row.
 fn is_kept(problem: &Problem, table: &Table, number: u32, mark: &Mark, objects: &[u32]) -> bool {
     for (before, step) in table.steps.as_slice().iter().enumerate() {
         let is_left = number as usize <= before + 1;
@@ -93,7 +93,7 @@ fn is_kept(problem: &Problem, table: &Table, number: u32, mark: &Mark, objects: 
     true
 }
 
-/// Is the instance of the kernel proper?
+/// Returns whether the instance of the kernel is proper.
 fn is_proper(problem: &Problem, table: &Table, number: u32, objects: &[u32]) -> bool {
     let marks = table.marks.as_slice();
     marks
@@ -101,7 +101,7 @@ fn is_proper(problem: &Problem, table: &Table, number: u32, objects: &[u32]) -> 
         .all(|mark| is_kept(problem, table, number, mark, objects))
 }
 
-/// Have the bound parameters, counted from 1, their objects?
+/// Returns whether the bound parameters, counted from 1, have their objects.
 fn extends(bind: &[(u32, u32)], objects: &[u32]) -> bool {
     for (at, object) in objects.iter().enumerate() {
         for pair in bind {
@@ -113,7 +113,7 @@ fn extends(bind: &[(u32, u32)], objects: &[u32]) -> bool {
     true
 }
 
-/// The next list of objects up to the last one; false after the last list.
+/// Goes on to the next list of objects up to the last one; returns false after the last list.
 fn step(objects: &mut [u32], last: u32) -> bool {
     for at in (0..objects.len()).rev() {
         if objects[at] < last {
@@ -125,7 +125,7 @@ fn step(objects: &mut [u32], last: u32) -> bool {
     false
 }
 
-/// Writes the first objects with which the kernel fits to `objects`; false where there are none among the first million lists.
+/// Writes the first objects with which the kernel fits to `objects`; returns false where there are none among the first million lists.
 fn finds(
     problem: &Problem,
     table: &Table,
@@ -149,7 +149,7 @@ fn finds(
     false
 }
 
-/// Writes the first objects of the highest kernel that fits to `objects`, which has a place for each parameter.
+/// Writes the first objects of the highest kernel that fits to `objects`, which has a place for each parameter. Returns that kernel.
 pub fn slow_best(
     problem: &Problem,
     table: &Table,

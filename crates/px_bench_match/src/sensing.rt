@@ -9,7 +9,7 @@ use px_terms::{NoMemory, Term};
 /// How many atoms a model may have.
 pub const ROOM: usize = 1_000;
 
-/// The kernel that is found.
+/// Returns the kernel that is found.
 pub fn sense(matcher: &mut Matcher, model: &Model) -> Option<u32>
     requires room { 1000 ≤ matcher.old.room }
     ensures room { matcher.new.room ≡ matcher.old.room }
@@ -20,7 +20,7 @@ pub fn sense(matcher: &mut Matcher, model: &Model) -> Option<u32>
     matcher.best(model)
 }
 
-/// How many of a hundred sensings find a kernel, before each of which an atom changes.
+/// Returns how many of a hundred sensings find a kernel, before each of which an atom changes.
 pub fn sense_changes(matcher: &mut Matcher, model: &mut Model) -> Result<u32, NoMemory>
     requires room { 1000 ≤ matcher.old.room }
 {

@@ -20,7 +20,7 @@ pub fn fact(column: u32, atom: Atom) -> Proof {
     })
 }
 
-/// The step with these arguments, if they are few enough.
+/// Appends the step with these arguments, if they are few enough.
 pub fn put_step(steps: &mut Vec<OpInst>, op: u32, args: &[Term]) -> Result<(), NoMemory> {
     if let Some(step) = OpInst::new(op, args) {
         steps.push(step)?;
@@ -28,7 +28,7 @@ pub fn put_step(steps: &mut Vec<OpInst>, op: u32, args: &[Term]) -> Result<(), N
     Ok(())
 }
 
-/// Facts that say that the parameters from that number on are next to each other, two by two.
+/// Appends facts that say that the parameters from that number on are next to each other, two by two.
 fn put_pairs(row: &mut Vec<Proof>, first: u32, count: u32) -> Result<(), NoMemory> {
     let mut number = first;
     for _pair in 0..count {
@@ -39,7 +39,7 @@ fn put_pairs(row: &mut Vec<Proof>, first: u32, count: u32) -> Result<(), NoMemor
     Ok(())
 }
 
-/// The atoms of the facts.
+/// Returns the atoms of the facts.
 fn atoms_of(alloc: Global, row: &[Proof]) -> Result<Sequence<Atom>, NoMemory> {
     let mut atoms = Vec::new(alloc);
     for proof in row {
@@ -50,7 +50,7 @@ fn atoms_of(alloc: Global, row: &[Proof]) -> Result<Sequence<Atom>, NoMemory> {
     Ok(Sequence::from_vec(atoms))
 }
 
-/// The table of these steps with their rows, and of the goal that the last row proves by facts.
+/// Returns the table of these steps with their rows, and of the goal that the last row proves by facts.
 pub fn table_of(
     alloc: Global,
     params: u32,
@@ -75,14 +75,14 @@ pub fn table_of(
     })
 }
 
-/// Twelve pairs of 24 parameters.
+/// Returns the table of twelve pairs of 24 parameters.
 pub fn pairs(alloc: Global) -> Result<Table, NoMemory> {
     let mut row = Vec::new(alloc);
     put_pairs(&mut row, 0, 12)?;
     table_of(alloc, 24, Vec::new(alloc), Vec::new(alloc), row)
 }
 
-/// Eleven pairs, and two parameters before them that would have to meet in the last one.
+/// Returns the table of eleven pairs, and two parameters before them that would have to meet in the last one.
 pub fn far(alloc: Global) -> Result<Table, NoMemory> {
     let mut row = Vec::new(alloc);
     row.push(fact(0, left(Term::Var(0), Term::Var(24))))?;
@@ -91,8 +91,8 @@ pub fn far(alloc: Global) -> Result<Table, NoMemory> {
     table_of(alloc, 25, Vec::new(alloc), Vec::new(alloc), row)
 }
 
-/// Eight groups of three parameters, of which the first two have to meet in the third one. All the first ones stand in order, and
-/// after them the second ones in the other order, so that each group lies within the one before.
+/// Returns the table of eight groups of three parameters, of which the first two have to meet in the third one. All the first ones stand
+/// in order, and after them the second ones in the other order, so that each group lies within the one before.
 pub fn nested(alloc: Global) -> Result<Table, NoMemory> {
     let mut row = Vec::new(alloc);
     for group in 0..GROUPS {
@@ -104,7 +104,7 @@ pub fn nested(alloc: Global) -> Result<Table, NoMemory> {
     table_of(alloc, 3 * GROUPS, Vec::new(alloc), Vec::new(alloc), row)
 }
 
-/// A chain of 23 parameters that ends at the object.
+/// Returns the table of a chain of 23 parameters that ends at the object.
 pub fn chain(alloc: Global, end: u32) -> Result<Table, NoMemory> {
     let mut row = Vec::new(alloc);
     for number in 0..22u32 {
@@ -114,7 +114,8 @@ pub fn chain(alloc: Global, end: u32) -> Result<Table, NoMemory> {
     table_of(alloc, 23, Vec::new(alloc), Vec::new(alloc), row)
 }
 
-/// A step over the first parameter that spoils what the last one is wanted for, if they have one object, and eleven pairs between.
+/// Returns the table of a step over the first parameter that spoils what the last one is wanted for, if they have one object, and
+/// eleven pairs between.
 pub fn improper(alloc: Global) -> Result<Table, NoMemory> {
     let first = Term::Var(0);
     let mut steps = Vec::new(alloc);
@@ -130,7 +131,7 @@ pub fn improper(alloc: Global) -> Result<Table, NoMemory> {
     table_of(alloc, 24, steps, rows, last)
 }
 
-/// A walk from one parameter to the next, 64 times.
+/// Returns the table of a walk from one parameter to the next, 64 times.
 pub fn walk(alloc: Global) -> Result<Table, NoMemory> {
     let mut steps = Vec::new(alloc);
     let mut rows = Vec::new(alloc);

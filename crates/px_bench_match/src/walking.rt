@@ -1,5 +1,4 @@
 //! The problem that is asked about, its facts, and its atoms.
-ghost use Rattle.std.specs.Prelude.{◌≤◌, length};
 
 use px_base::Sequence;
 use px_ops::Model;
@@ -29,48 +28,39 @@ pub const WALK: u32 = 1;
 
 pub const LOSE: u32 = 2;
 
-pub fn atom(pred: u32, args: &[Term]) -> Atom
-    requires { length args.now ≤ 6 }
-{
-    match Atom::new(pred, args) {
-        Some(atom) => atom,
-        None => unreachable!(),
-    }
-}
-
 pub fn next(one: Term, other: Term) -> Atom {
-    atom(NEXT, &[one, other])
+    Atom::of(NEXT, &[one, other])
 }
 
 pub fn left(one: Term, other: Term) -> Atom {
-    atom(LEFT, &[one, other])
+    Atom::of(LEFT, &[one, other])
 }
 
 pub fn right(one: Term, other: Term) -> Atom {
-    atom(RIGHT, &[one, other])
+    Atom::of(RIGHT, &[one, other])
 }
 
 pub fn wanted(one: Term) -> Atom {
-    atom(WANTED, &[one])
+    Atom::of(WANTED, &[one])
 }
 
 pub fn given(one: Term) -> Atom {
-    atom(GIVEN, &[one])
+    Atom::of(GIVEN, &[one])
 }
 
 pub fn spoiled(one: Term) -> Atom {
-    atom(SPOILED, &[one])
+    Atom::of(SPOILED, &[one])
 }
 
 pub fn at(one: Term) -> Atom {
-    atom(AT, &[one])
+    Atom::of(AT, &[one])
 }
 
 const X: Term = Term::Var(0);
 
 const Y: Term = Term::Var(1);
 
-/// SPOIL(x) needs GIVEN(x), deletes WANTED(x) and adds SPOILED(x).
+/// Returns SPOIL(x), which needs GIVEN(x), deletes WANTED(x) and adds SPOILED(x).
 fn spoil(alloc: Global) -> Result<Schema, NoMemory> {
     Ok(Schema {
         op: SPOIL,
@@ -81,7 +71,7 @@ fn spoil(alloc: Global) -> Result<Schema, NoMemory> {
     })
 }
 
-/// WALK(x,y) needs AT(x) and NEXT(x,y), deletes AT(x) and adds AT(y).
+/// Returns WALK(x,y), which needs AT(x) and NEXT(x,y), deletes AT(x) and adds AT(y).
 fn walk(alloc: Global) -> Result<Schema, NoMemory> {
     Ok(Schema {
         op: WALK,
@@ -92,7 +82,7 @@ fn walk(alloc: Global) -> Result<Schema, NoMemory> {
     })
 }
 
-/// LOSE(x) needs GIVEN(x), deletes NEXT(x,$) and adds SPOILED(x).
+/// Returns LOSE(x), which needs GIVEN(x), deletes NEXT(x,$) and adds SPOILED(x).
 fn lose(alloc: Global) -> Result<Schema, NoMemory> {
     Ok(Schema {
         op: LOSE,
@@ -128,7 +118,7 @@ pub fn change(model: &mut Model, atom: Atom) -> Result<(), NoMemory> {
     Ok(())
 }
 
-/// Each of `count` objects is followed by the next one.
+/// Returns the model in which each of `count` objects is followed by the next one.
 pub fn links(alloc: Global, count: u32) -> Result<Model, NoMemory> {
     let mut model = Model::new(alloc);
     for here in 1..count {
@@ -137,7 +127,7 @@ pub fn links(alloc: Global, count: u32) -> Result<Model, NoMemory> {
     Ok(model)
 }
 
-/// Beside these, 16 objects have a left one and a right one, and no two of these are the same.
+/// Returns the model of links in which 16 objects also have a left one and a right one, and no two of these are the same.
 pub fn links_apart(alloc: Global) -> Result<Model, NoMemory> {
     let mut model = links(alloc, 256)?;
     for here in 0..16u32 {
@@ -147,14 +137,14 @@ pub fn links_apart(alloc: Global) -> Result<Model, NoMemory> {
     Ok(model)
 }
 
-/// Beside these, one more object has the right one that the last of the 16 has for its left one.
+/// Returns the model of `links_apart` in which one more object has the right one that the last of the 16 has for its left one.
 pub fn links_met(alloc: Global) -> Result<Model, NoMemory> {
     let mut model = links_apart(alloc)?;
     change(&mut model, right(Term::Obj(16), Term::Obj(30)))?;
     Ok(model)
 }
 
-/// Beside these, object 3 is wanted and given, and object 4 is given.
+/// Returns the model of links in which object 3 is also wanted and given, and object 4 is given.
 pub fn links_and_gifts(alloc: Global) -> Result<Model, NoMemory> {
     let mut model = links(alloc, 256)?;
     change(&mut model, wanted(Term::Obj(3)))?;
@@ -163,7 +153,7 @@ pub fn links_and_gifts(alloc: Global) -> Result<Model, NoMemory> {
     Ok(model)
 }
 
-/// Beside these, the walker is at the first of 500 objects.
+/// Returns the model of links in which the walker is also at the first of 500 objects.
 pub fn links_and_walker(alloc: Global) -> Result<Model, NoMemory> {
     let mut model = links(alloc, 500)?;
     change(&mut model, at(Term::Obj(0)))?;

@@ -1,5 +1,4 @@
 //! A large building. The robot is object 0, the rooms are 1 to 40, the doors 41 to 140, and the boxes 141 to 199.
-ghost use Rattle.std.specs.Prelude.{◌≤◌, length};
 
 use px_base::Sequence;
 use px_ops::Model;
@@ -30,16 +29,7 @@ const X: Term = Term::Var(2);
 
 const Y: Term = Term::Var(3);
 
-pub fn atom(pred: u32, args: &[Term]) -> Atom
-    requires { length args.now ≤ 6 }
-{
-    match Atom::new(pred, args) {
-        Some(atom) => atom,
-        None => unreachable!(),
-    }
-}
-
-// As in `px_rooms`, which has it for its own operators, with a contract.
+// As in `px_rooms`, which has this function for its own operators, with a contract.
 /// Returns the operator of that number.
 pub fn schema_of(
     alloc: Global,
@@ -77,37 +67,37 @@ pub fn problem_of(
     })
 }
 
-// The parameters of both operators are a box, a door, the room before it and the one behind it.
+// The parameters of both operators are a box, a door, and the rooms before and behind it.
 
-/// Pushing a box through an open door that it stands at.
+/// Returns the operator of pushing a box through an open door that it stands at.
 fn push_through(alloc: Global, op: u32) -> Result<Schema, NoMemory> {
     let pre = [
-        atom(BOX, &[B]),
-        atom(INROOM, &[B, X]),
-        atom(INROOM, &[ROBOT, X]),
-        atom(CONNECTS, &[D, X, Y]),
-        atom(OPENED, &[D]),
-        atom(NEXTTO, &[B, D]),
+        Atom::of(BOX, &[B]),
+        Atom::of(INROOM, &[B, X]),
+        Atom::of(INROOM, &[ROBOT, X]),
+        Atom::of(CONNECTS, &[D, X, Y]),
+        Atom::of(OPENED, &[D]),
+        Atom::of(NEXTTO, &[B, D]),
     ];
     let del = [
-        atom(INROOM, &[ROBOT, Term::Any]),
-        atom(INROOM, &[B, Term::Any]),
-        atom(NEXTTO, &[B, Term::Any]),
+        Atom::of(INROOM, &[ROBOT, Term::Any]),
+        Atom::of(INROOM, &[B, Term::Any]),
+        Atom::of(NEXTTO, &[B, Term::Any]),
     ];
-    let add = [atom(INROOM, &[ROBOT, Y]), atom(INROOM, &[B, Y])];
+    let add = [Atom::of(INROOM, &[ROBOT, Y]), Atom::of(INROOM, &[B, Y])];
     schema_of(alloc, op, 4, &pre, &del, &add)
 }
 
-/// Pushing a box to a door.
+/// Returns the operator of pushing a box to a door.
 fn push_to_door(alloc: Global, op: u32) -> Result<Schema, NoMemory> {
     let pre = [
-        atom(BOX, &[B]),
-        atom(INROOM, &[B, X]),
-        atom(INROOM, &[ROBOT, X]),
-        atom(CONNECTS, &[D, X, Y]),
+        Atom::of(BOX, &[B]),
+        Atom::of(INROOM, &[B, X]),
+        Atom::of(INROOM, &[ROBOT, X]),
+        Atom::of(CONNECTS, &[D, X, Y]),
     ];
-    let del = [atom(NEXTTO, &[B, Term::Any])];
-    let add = [atom(NEXTTO, &[B, D])];
+    let del = [Atom::of(NEXTTO, &[B, Term::Any])];
+    let add = [Atom::of(NEXTTO, &[B, D])];
     schema_of(alloc, op, 4, &pre, &del, &add)
 }
 
@@ -131,14 +121,14 @@ pub fn insert(model: &mut Model, pred: u32, numbers: &[u32]) -> Result<(), NoMem
             terms[k] = Term::Obj(*number);
         }
     }
-    let fact = atom(pred, &terms[..numbers.len().min(3)]);
+    let fact = Atom::of(pred, &terms[..numbers.len().min(3)]);
     if is_ground(&fact) {
         model.insert(fact)?;
     }
     Ok(())
 }
 
-/// What each door is and connects: rooms one, two or three apart, both ways.
+/// Adds what each door is and connects: rooms one, two or three apart, both ways.
 fn insert_doors(model: &mut Model) -> Result<(), NoMemory> {
     for k in 0..100 {
         let (door, from, to) = (41 + k, 1 + k % 40, 1 + (k + 1 + k / 40) % 40);
@@ -150,7 +140,7 @@ fn insert_doors(model: &mut Model) -> Result<(), NoMemory> {
     Ok(())
 }
 
-/// Each box is in a room, and next to four doors; 59 boxes.
+/// Puts each of 59 boxes into a room, and next to four doors.
 fn insert_boxes(model: &mut Model) -> Result<(), NoMemory> {
     for k in 0..59 {
         let thing = 141 + k;
@@ -163,7 +153,7 @@ fn insert_boxes(model: &mut Model) -> Result<(), NoMemory> {
     Ok(())
 }
 
-/// 800 facts: 400 of the doors, 354 of the boxes, 40 of the rooms, and six of the robot.
+/// Returns 800 facts: 400 of the doors, 354 of the boxes, 40 of the rooms, and six of the robot.
 pub fn facts(alloc: Global) -> Result<Model, NoMemory> {
     let mut model = Model::new(alloc);
     insert_doors(&mut model)?;

@@ -2,7 +2,7 @@
 //! from one room to the next, and has a key; the last door has two. A learned table has the robot go through twelve doors.
 ghost use Rattle.std.specs.Prelude.{◌≤◌, length};
 
-use crate::building::{atom, insert, problem_of, schema_of};
+use crate::building::{insert, problem_of, schema_of};
 use px_base::Sequence;
 use px_ops::Model;
 use px_proof::{Leaf, Proof};
@@ -25,23 +25,23 @@ const ROBOT: Term = Term::Obj(0);
 /// How many doors the table goes through.
 const DOORS: u32 = 12;
 
-/// The robot is in the room.
+/// Returns the atom that the robot is in the room.
 fn robot_in(room: Term) -> Atom {
-    atom(IN, &[ROBOT, room])
+    Atom::of(IN, &[ROBOT, room])
 }
 
-/// The robot is in the first room.
+/// Returns the atom that the robot is in the first room.
 pub fn in_first_room() -> Atom {
     robot_in(Term::Obj(1))
 }
 
-/// Going through a door from one room to another needs a key of the door.
+/// Returns the operator of going through a door from one room to another, which needs a key of the door.
 fn pass(alloc: Global) -> Result<Schema, NoMemory> {
     let [key, door, from, to] = [Term::Var(0), Term::Var(1), Term::Var(2), Term::Var(3)];
     let pre = [
         robot_in(from),
-        atom(CONNECTS, &[door, from, to]),
-        atom(KEY, &[key, door]),
+        Atom::of(CONNECTS, &[door, from, to]),
+        Atom::of(KEY, &[key, door]),
     ];
     schema_of(alloc, 0, 4, &pre, &[robot_in(Term::Any)], &[robot_in(to)])
 }
@@ -58,7 +58,7 @@ pub fn corridor(alloc: Global) -> Result<Problem, NoMemory> {
     )
 }
 
-/// 800 facts: 66 each of the rooms, of the doors and of their keys, one more key, the robot's, and 600 of what is seen.
+/// Returns 800 facts: 66 each of the rooms, of the doors and of their keys, one more key, the robot's, and 600 of what is seen.
 pub fn corridor_facts(alloc: Global) -> Result<Model, NoMemory> {
     let mut model = Model::new(alloc);
     for k in 0..66 {
@@ -74,7 +74,7 @@ pub fn corridor_facts(alloc: Global) -> Result<Model, NoMemory> {
     Ok(model)
 }
 
-/// Parameters of a step: the key, the door, the room before it, and the one behind it.
+/// Returns the parameters of a step: the key, the door, the room before it, and the one behind it.
 fn parameters(step: u32) -> [Term; 4]
     requires { step ≤ 100 }
 {
@@ -104,7 +104,7 @@ fn leaf(column: u32, atom: Atom) -> Leaf {
     }
 }
 
-/// Puts the row of that number last, and its marks.
+/// Appends the row of that number, and its marks.
 fn put_row(
     alloc: Global,
     rows: &mut Vec<Row>,
@@ -126,7 +126,7 @@ fn put_row(
     Ok(())
 }
 
-/// A table of twelve steps with 39 parameters, the last two of which stand in its goal alone.
+/// Returns a table of twelve steps with 39 parameters, the last two of which stand in its goal alone.
 pub fn long_way(alloc: Global) -> Result<Table, NoMemory> {
     let mut steps = Vec::new(alloc);
     let mut rows = Vec::new(alloc);
@@ -135,15 +135,15 @@ pub fn long_way(alloc: Global) -> Result<Table, NoMemory> {
         let [key, door, from, to] = parameters(step);
         let leaves = [
             leaf(step, robot_in(from)),
-            leaf(0, atom(CONNECTS, &[door, from, to])),
-            leaf(0, atom(KEY, &[key, door])),
+            leaf(0, Atom::of(CONNECTS, &[door, from, to])),
+            leaf(0, Atom::of(KEY, &[key, door])),
         ];
         put_row(alloc, &mut rows, &mut marks, step + 1, &leaves)?;
         steps.push(step_of(&[key, door, from, to]))?;
     }
     let goal = [
         robot_in(Term::Var(36)),
-        atom(SEES, &[Term::Var(37), Term::Var(38)]),
+        Atom::of(SEES, &[Term::Var(37), Term::Var(38)]),
     ];
     let leaves = [leaf(DOORS, goal[0]), leaf(0, goal[1])];
     put_row(alloc, &mut rows, &mut marks, DOORS + 1, &leaves)?;

@@ -8,15 +8,15 @@
 //!   with a learned table of 39 parameters and 12 steps. The answer is as for the following two.
 //! - `robot` and `box`: which entries may be pushed for the robot, or for a box, to be in room 1 of a building of 200
 //!   objects and 800 facts. The answer is the number of these entries, and how many questions to the prover that took.
-//! - `pushes N`: the same for one thing to stand on another, of N things, where standing on is transitive.
-//! - `gaps N`: there, what is missing for it. The answer is the number of gaps.
+//! - `pushes N`: which entries may be pushed for one thing to stand on another, of N things, where standing on is transitive.
+//! - `gaps N`: what is missing for this. The answer is the number of gaps.
 #![tactic(auto)]
 
 mod building;
 mod corridor;
 mod standing;
 
-use building::{atom, building, facts};
+use building::{building, facts};
 use corridor::{corridor, corridor_facts, in_first_room, long_way};
 use px_diff::relevant_measured;
 use px_entries::are_learned;
@@ -29,7 +29,7 @@ use standing::{first_on_second, standing};
 use std::alloc::Global;
 use std::io;
 
-/// What is asked of: the building, what holds in it, and a box and the robot that are to be in another room; and the corridor,
+/// What the questions are about: the building, what holds in it, and a box and the robot that are to be in another room; and the corridor,
 /// what holds there, and the learned table.
 #[derive(Drop)]
 struct Asked {
@@ -48,8 +48,8 @@ fn large_problems(alloc: Global) -> Result<Asked, NoMemory> {
     Ok(Asked {
         problem: building(alloc)?,
         model: facts(alloc)?,
-        for_box: atom(0, &[Term::Obj(141), Term::Obj(1)]),
-        for_robot: atom(0, &[Term::Obj(0), Term::Obj(1)]),
+        for_box: Atom::of(0, &[Term::Obj(141), Term::Obj(1)]),
+        for_robot: Atom::of(0, &[Term::Obj(0), Term::Obj(1)]),
         corridor: corridor(alloc)?,
         corridor_model: corridor_facts(alloc)?,
         tables,
@@ -66,7 +66,7 @@ enum Question {
     Gaps(u32),
 }
 
-/// What the line asks, if it is a question.
+/// Returns what the line asks, if it is a question.
 fn question_of(line: &str) -> Option<Question> {
     match line {
         "macros" => return Some(Question::Macros),
@@ -90,7 +90,7 @@ struct Pushes {
     questions: u64,
 }
 
-/// What may be pushed for the atom. None where there is no answer.
+/// Returns what may be pushed for the atom. `None` where there is no answer.
 fn count_pushes(
     alloc: Global,
     problem: &Problem,
@@ -114,13 +114,13 @@ fn count_pushes(
     }
 }
 
-/// What may be pushed for the robot to be in the first room of the corridor.
+/// Returns what may be pushed for the robot to be in the first room of the corridor.
 fn count_macros(alloc: Global, asked: &Asked) -> Option<Pushes> {
     let (problem, model) = (&asked.corridor, &asked.corridor_model);
     count_pushes(alloc, problem, model, in_first_room(), &asked.tables)
 }
 
-/// How many gaps the atom has. None where it has a proof, or where there is no answer.
+/// Returns how many gaps the atom has. `None` where it has a proof, or where there is no answer.
 fn count_gaps(alloc: Global, problem: &Problem, model: &Model, atom: Atom) -> Option<usize> {
     let formula = [atom];
     if !is_valid(problem) || !are_atoms_of(problem, 0, &formula) {
@@ -135,7 +135,7 @@ fn count_gaps(alloc: Global, problem: &Problem, model: &Model, atom: Atom) -> Op
     }
 }
 
-/// What may be pushed for one thing to stand on another, where nothing stands on anything.
+/// Returns what may be pushed for one thing to stand on another, where nothing stands on anything.
 fn pushes_of_things(alloc: Global, objects: u32) -> Option<Pushes> {
     match standing(alloc, objects) {
         Ok(problem) => { count_pushes(alloc, &problem, &Model::new(alloc), first_on_second(), &[]) }
@@ -143,7 +143,7 @@ fn pushes_of_things(alloc: Global, objects: u32) -> Option<Pushes> {
     }
 }
 
-/// How many gaps there are for that.
+/// Returns how many gaps there are for one thing to stand on another.
 fn gaps_of_things(alloc: Global, objects: u32) -> Option<usize> {
     match standing(alloc, objects) {
         Ok(problem) => count_gaps(alloc, &problem, &Model::new(alloc), first_on_second()),

@@ -1,6 +1,6 @@
 //! What stands on what. An operator puts one thing on another, a second one does so where the lower thing stands on a third
 //! one, and an axiom says that standing on is transitive.
-use crate::building::{atom, problem_of, schema_of};
+use crate::building::{problem_of, schema_of};
 use px_terms::{Atom, ClauseArena, Lit, NoMemory, Problem, Schema, Term, are_plain_below};
 use std::alloc::Global;
 
@@ -12,20 +12,20 @@ const Y: Term = Term::Var(1);
 
 const Z: Term = Term::Var(2);
 
-/// The first object stands on the second.
+/// Returns the atom that the first object stands on the second.
 pub fn first_on_second() -> Atom {
-    atom(ON, &[Term::Obj(0), Term::Obj(1)])
+    Atom::of(ON, &[Term::Obj(0), Term::Obj(1)])
 }
 
-/// That one thing stands on another, or that it doesn't.
+/// Returns the literal that one thing stands on another, or that it doesn't.
 fn literal(positive: bool, upper: Term, lower: Term) -> Lit {
     Lit {
         positive,
-        atom: atom(ON, &[upper, lower]),
+        atom: Atom::of(ON, &[upper, lower]),
     }
 }
 
-/// What stands on what stands on a thing stands on it.
+/// Returns the axiom that what stands on something which stands on a thing stands on this thing, too.
 fn transitive(alloc: Global) -> Result<ClauseArena, NoMemory> {
     let mut axioms = ClauseArena::new(alloc);
     let lits = [
@@ -42,15 +42,15 @@ fn transitive(alloc: Global) -> Result<ClauseArena, NoMemory> {
     }
 }
 
-/// The operator of that number, which puts one thing on another.
+/// Returns the operator of that number, which puts one thing on another.
 fn put_on(alloc: Global, op: u32, params: u32, pre: &[Atom]) -> Result<Schema, NoMemory> {
-    schema_of(alloc, op, params, pre, &[], &[atom(ON, &[X, Y])])
+    schema_of(alloc, op, params, pre, &[], &[Atom::of(ON, &[X, Y])])
 }
 
 /// Returns the problem of this number of things.
 pub fn standing(alloc: Global, objects: u32) -> Result<Problem, NoMemory> {
     let mut schemas = Vec::new(alloc);
     schemas.push(put_on(alloc, 0, 2, &[])?)?;
-    schemas.push(put_on(alloc, 1, 3, &[atom(ON, &[Y, Z])])?)?;
+    schemas.push(put_on(alloc, 1, 3, &[Atom::of(ON, &[Y, Z])])?)?;
     problem_of(alloc, objects, &[2], transitive(alloc)?, schemas)
 }

@@ -6,7 +6,7 @@ use Rattle.std.specs.List.{flat_map, range_with_len}
 use Rattle.std.proofs.lemmas.Bool.{cond_both}
 use Rattle.std.proofs.lemmas.Fmt.{length-decimal-le}
 use Rattle.px_demo.specs.Errands.{distance, number_after, room_after, target, turned_back}
-use Rattle.px_demo.specs.Script.{Line, building_lines, demo_script, door_line, errand_lines, errands, learn_line, line_text, plan_line, room_line, run_line, text_of}
+use Rattle.px_demo.specs.Script.{DemoLine, building_lines, demo_script, door_line, errand_lines, errands, learn_line, line_text, plan_line, room_line, run_line, text_of_lines}
 use Rattle.px_demo.proofs.Texts.{doors-text, rooms-text, text-append, things-text, start-text, building-text}
 
 -- ---- where the robot is sent is a room
@@ -45,7 +45,7 @@ spaced-short (word ∷ words) =
     let rest = spaced-short words in
     omega (arith, sum, rest)
 
-line-short : (words : Line) → length (line_text words) ≤ words-size words + 1
+line-short : (words : DemoLine) → length (line_text words) ≤ words-size words + 1
 line-short [] = omega arith
 line-short (word ∷ words) =
     let spaced = flat_map (λ (w : List ℕ). codes " " ++ w) words in
@@ -69,16 +69,16 @@ door-short i below =
 
 -- ---- lists of lines
 
-lines-short : (f : ℕ → Line) → ((i : ℕ) → i ≤ 12 → length (line_text (f i)) ≤ 50) → (first count : ℕ) → first + count ≤ 13
-    → length (text_of (map f (range_with_len first count))) ≤ count * 50
+lines-short : (f : ℕ → DemoLine) → ((i : ℕ) → i ≤ 12 → length (line_text (f i)) ≤ 50) → (first count : ℕ) → first + count ≤ 13
+    → length (text_of_lines (map f (range_with_len first count))) ≤ count * 50
 lines-short f each first zero within = omega arith
 lines-short f each first (suc count) within =
     let one = each first (omega (arith, within)) in
     let rest = lines-short f each (first + 1) count (omega (arith, within)) in
-    let sum = length-append (line_text (f first)) (text_of (map f (range_with_len (first + 1) count))) in
+    let sum = length-append (line_text (f first)) (text_of_lines (map f (range_with_len (first + 1) count))) in
     omega (arith, one, rest, sum)
 
-errand-short : (j room : ℕ) → j ≤ 12 → room ≤ 12 → length (text_of (errand_lines j room)) ≤ 150
+errand-short : (j room : ℕ) → j ≤ 12 → room ≤ 12 → length (text_of_lines (errand_lines j room)) ≤ 150
 errand-short j room below there =
     let digits = two-digits j (omega (arith, below)) in
     let more = two-digits room (omega (arith, there)) in
@@ -86,23 +86,23 @@ errand-short j room below there =
     let plan = line-short (plan_line j room) in
     let learn = line-short (learn_line j) in
     let run = line-short (run_line j) in
-    let first = length-append (line_text (plan_line j room)) (text_of (learn_line j ∷ run_line j ∷ [])) in
-    let second = length-append (line_text (learn_line j)) (text_of (run_line j ∷ [])) in
+    let first = length-append (line_text (plan_line j room)) (text_of_lines (learn_line j ∷ run_line j ∷ [])) in
+    let second = length-append (line_text (learn_line j)) (text_of_lines (run_line j ∷ [])) in
     let third = length-append (line_text (run_line j)) [] in
     omega (arith, digits, more, closed, plan, learn, run, first, second, third)
 
 errands-short : (rooms seed first count : ℕ) → rooms ≤ 12 → first + count ≤ 13
-    → length (text_of (flat_map (λ (j : ℕ). errand_lines j (room_after rooms seed j)) (range_with_len first count))) ≤ count * 150
+    → length (text_of_lines (flat_map (λ (j : ℕ). errand_lines j (room_after rooms seed j)) (range_with_len first count))) ≤ count * 150
 errands-short rooms seed first zero few within = omega arith
 errands-short rooms seed first (suc count) few within =
     let one = errand-short first (room_after rooms seed first) (omega (arith, within)) (low-room rooms seed first few) in
     let rest = errands-short rooms seed (first + 1) count few (omega (arith, within)) in
     let others = flat_map (λ (j : ℕ). errand_lines j (room_after rooms seed j)) (range_with_len (first + 1) count) in
     let whole = text-append (errand_lines first (room_after rooms seed first)) others in
-    let sum = length-append (text_of (errand_lines first (room_after rooms seed first))) (text_of others) in
+    let sum = length-append (text_of_lines (errand_lines first (room_after rooms seed first))) (text_of_lines others) in
     subst (λ (text : List ℕ). length text ≤ suc count * 150) (sym whole) (omega (arith, one, rest, sum))
 
-building-short : (rooms : ℕ) → rooms ≤ 12 → length (text_of (building_lines rooms)) ≤ 1300
+building-short : (rooms : ℕ) → rooms ≤ 12 → length (text_of_lines (building_lines rooms)) ≤ 1300
 building-short rooms few =
     let rows = lines-short room_line (λ i below. room-short i (omega (arith, below))) 1 rooms (omega (arith, few)) in
     let doors = lines-short door_line door-short 1 (rooms - 1) (omega (arith, few)) in
@@ -116,7 +116,7 @@ script-short rooms seed few =
     let building = building-short rooms few in
     let rest = errands-short rooms seed 1 rooms few (omega (arith, few)) in
     let whole = text-append (building_lines rooms) (errands rooms seed) in
-    let sum = length-append (text_of (building_lines rooms)) (text_of (errands rooms seed)) in
+    let sum = length-append (text_of_lines (building_lines rooms)) (text_of_lines (errands rooms seed)) in
     subst (λ (text : List ℕ). length text ≤ 3200) (sym whole) (omega (arith, few, building, rest, sum))
 
 pub text_short : (rooms seed : ℕ) (text : List ℕ) → text ≡ demo_script rooms seed → rooms ≤ 12 → length text ≤ 3200

@@ -1,3 +1,4 @@
+-- The files of lemmas.
 pub mod Steps
 pub mod Texts
 pub mod WorkedOut

@@ -23,7 +23,7 @@ abbrev pub target : ℕ → ℕ → ℕ → ℕ
 target rooms here far =
     if nat_le (here + far) rooms then here + far else turned_back rooms here far
 
--- the room where the robot is after an errand: at first it is in room 1, and each errand's number tells how far it goes
+-- the room where the robot is after an errand: at first it is in room 1, and each errand's number says how far it goes
 abbrev pub room_after : ℕ → ℕ → ℕ → ℕ
 room_after rooms seed zero = 1
 room_after rooms seed (suc errand) = target rooms (room_after rooms seed errand) (distance (number_after seed (suc errand)))

@@ -1,3 +1,4 @@
+-- The files of definitions and laws.
 pub mod Errands
 pub mod Script
 pub mod Worked

@@ -7,9 +7,9 @@
 //! - The building is a row of rooms, `R1` and on, with an open door `D1`, `D2` and on between each two neighbours, a box
 //!   `B1` in the second and the robot in the first room. Then there are as many errands as rooms: each asks for a plan to
 //!   a room, learns it and runs it.
-//! - Where an errand goes is told by numbers that follow from the seed (`room_after` in `specs/Errands.antt`). Each is at
-//!   most two rooms on, or back where there is no such room.
-//! - That the bytes are a script, no clause here says.
+//! - The target of an errand follows from numbers that the seed determines (`room_after` in `specs/Errands.antt`). Each is at most
+//!   two rooms on, or back where there is no such room.
+//! - No clause here says that the bytes are a script.
 #![tactic(auto)]
 
 mod errands;

@@ -1,7 +1,7 @@
 //! The text of the script, line by line.
 ghost use Rattle.std.specs.Prelude.{◌≡◌, ◌≤◌, ◌-◌, ◌++◌, ◌∷◌, [], IfOk, OnOk, codes, length, map, string_bytes};
 ghost use Rattle.std.specs.List.{flat_map, range_with_len};
-ghost use Rattle.px_demo.specs.Script.{building_lines, demo_script, door_line, errand_lines, errands, learn_line, plan_line, room_line, run_line, text_of, things_lines};
+ghost use Rattle.px_demo.specs.Script.{building_lines, demo_script, door_line, errand_lines, errands, learn_line, plan_line, room_line, run_line, text_of_lines, things_lines};
 
 use crate::errands::{distance, next_number, target};
 use px_base::NoMemory;
@@ -28,7 +28,7 @@ pub fn demo_script(alloc: Global, rooms: u32, seed: u32) -> Result<Vec<u8>, NoMe
 /// Appends the building: the rooms in a row, an open door between each two, a box and the robot.
 fn push_building(text: &mut String, rooms: u32) -> Result<(), AllocError>
     requires rooms { (3 ≤ rooms) × (rooms ≤ 12) }
-    ensures { OnOk result (string_bytes text.new ≡ string_bytes text.old ++ text_of (building_lines rooms)) }
+    ensures { OnOk result (string_bytes text.new ≡ string_bytes text.old ++ text_of_lines (building_lines rooms)) }
 {
     push_start(text)?;
     push_rooms(text, rooms)?;
@@ -38,14 +38,14 @@ fn push_building(text: &mut String, rooms: u32) -> Result<(), AllocError>
 
 /// Appends the line that opens the building.
 fn push_start(text: &mut String) -> Result<(), AllocError>
-    ensures { OnOk result (string_bytes text.new ≡ string_bytes text.old ++ text_of ((codes "building" ∷ []) ∷ [])) }
+    ensures { OnOk result (string_bytes text.new ≡ string_bytes text.old ++ text_of_lines ((codes "building" ∷ []) ∷ [])) }
 {
     text.push_str("building\n")
 }
 
 /// Appends the lines of the box and the robot, and the one that closes the building.
 fn push_things(text: &mut String) -> Result<(), AllocError>
-    ensures { OnOk result (string_bytes text.new ≡ string_bytes text.old ++ text_of things_lines) }
+    ensures { OnOk result (string_bytes text.new ≡ string_bytes text.old ++ text_of_lines things_lines) }
 {
     text.push_str("box B1 R2\nrobot R1\nend\n")
 }
@@ -53,7 +53,7 @@ fn push_things(text: &mut String) -> Result<(), AllocError>
 /// Appends the lines of the first `count` rooms.
 fn push_rooms(text: &mut String, count: u32) -> Result<(), AllocError>
     requires { count ≤ 12 }
-    ensures { OnOk result (string_bytes text.new ≡ string_bytes text.old ++ text_of (map room_line (range_with_len 1 count))) }
+    ensures { OnOk result (string_bytes text.new ≡ string_bytes text.old ++ text_of_lines (map room_line (range_with_len 1 count))) }
 {
     for room in 1..=count {
         push_room(text, room)?;
@@ -63,7 +63,7 @@ fn push_rooms(text: &mut String, count: u32) -> Result<(), AllocError>
 
 /// Appends the line of a room.
 fn push_room(text: &mut String, room: u32) -> Result<(), AllocError>
-    ensures { OnOk result (string_bytes text.new ≡ string_bytes text.old ++ text_of (room_line room ∷ [])) }
+    ensures { OnOk result (string_bytes text.new ≡ string_bytes text.old ++ text_of_lines (room_line room ∷ [])) }
 {
     write!(text, "room R{room}\n")
 }
@@ -71,7 +71,7 @@ fn push_room(text: &mut String, room: u32) -> Result<(), AllocError>
 /// Appends the lines of the first `count` doors.
 fn push_doors(text: &mut String, count: u32) -> Result<(), AllocError>
     requires { count ≤ 12 }
-    ensures { OnOk result (string_bytes text.new ≡ string_bytes text.old ++ text_of (map door_line (range_with_len 1 count))) }
+    ensures { OnOk result (string_bytes text.new ≡ string_bytes text.old ++ text_of_lines (map door_line (range_with_len 1 count))) }
 {
     for door in 1..=count {
         push_door(text, door)?;
@@ -82,7 +82,7 @@ fn push_doors(text: &mut String, count: u32) -> Result<(), AllocError>
 /// Appends the line of a door, which leads from the room of its number to the next.
 fn push_door(text: &mut String, door: u32) -> Result<(), AllocError>
     requires { door ≤ 12 }
-    ensures { OnOk result (string_bytes text.new ≡ string_bytes text.old ++ text_of (door_line door ∷ [])) }
+    ensures { OnOk result (string_bytes text.new ≡ string_bytes text.old ++ text_of_lines (door_line door ∷ [])) }
 {
     let next = door + 1;
     write!(text, "door D{door} R{door} R{next} open\n")
@@ -92,7 +92,7 @@ fn push_door(text: &mut String, door: u32) -> Result<(), AllocError>
 fn push_errands(text: &mut String, rooms: u32, seed: u32) -> Result<(), AllocError>
     requires rooms { (3 ≤ rooms) × (rooms ≤ 12) }
     requires seed { seed ≤ 2147483647 }
-    ensures { OnOk result (string_bytes text.new ≡ string_bytes text.old ++ text_of (errands rooms seed)) }
+    ensures { OnOk result (string_bytes text.new ≡ string_bytes text.old ++ text_of_lines (errands rooms seed)) }
 {
     let mut number = u64::from(seed);
     let mut room = 1;
@@ -107,7 +107,7 @@ fn push_errands(text: &mut String, rooms: u32, seed: u32) -> Result<(), AllocErr
 
 /// Appends an errand: a plan to the room, which is learned and run.
 fn push_errand(text: &mut String, errand: u32, room: u32) -> Result<(), AllocError>
-    ensures { OnOk result (string_bytes text.new ≡ string_bytes text.old ++ text_of (errand_lines errand room)) }
+    ensures { OnOk result (string_bytes text.new ≡ string_bytes text.old ++ text_of_lines (errand_lines errand room)) }
 {
     push_plan(text, errand, room)?;
     push_learn(text, errand)?;
@@ -116,21 +116,21 @@ fn push_errand(text: &mut String, errand: u32, room: u32) -> Result<(), AllocErr
 
 /// Appends the line that asks for an errand's plan.
 fn push_plan(text: &mut String, errand: u32, room: u32) -> Result<(), AllocError>
-    ensures { OnOk result (string_bytes text.new ≡ string_bytes text.old ++ text_of (plan_line errand room ∷ [])) }
+    ensures { OnOk result (string_bytes text.new ≡ string_bytes text.old ++ text_of_lines (plan_line errand room ∷ [])) }
 {
     write!(text, "plan G{errand} INROOM(ROBOT,R{room})\n")
 }
 
 /// Appends the line that learns an errand's plan.
 fn push_learn(text: &mut String, errand: u32) -> Result<(), AllocError>
-    ensures { OnOk result (string_bytes text.new ≡ string_bytes text.old ++ text_of (learn_line errand ∷ [])) }
+    ensures { OnOk result (string_bytes text.new ≡ string_bytes text.old ++ text_of_lines (learn_line errand ∷ [])) }
 {
     write!(text, "learn M{errand} from G{errand}\n")
 }
 
 /// Appends the line that runs an errand's plan.
 fn push_run(text: &mut String, errand: u32) -> Result<(), AllocError>
-    ensures { OnOk result (string_bytes text.new ≡ string_bytes text.old ++ text_of (run_line errand ∷ [])) }
+    ensures { OnOk result (string_bytes text.new ≡ string_bytes text.old ++ text_of_lines (run_line errand ∷ [])) }
 {
     write!(text, "run G{errand}\n")
 }

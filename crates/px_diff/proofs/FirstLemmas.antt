@@ -9,7 +9,7 @@ use Rattle.std.proofs.lemmas.List.Sorted.{Contains-permutation, IsPermutation-sy
 use Rattle.px_base.specs.Answers.{both_answers}
 use Rattle.px_base.specs.ListLaws.{All-at, All-each, Contains-none}
 use Rattle.px_proof.specs.PlaceLaws.{Contains-mapped}
-use Rattle.px_table.specs.EntryOrder.{order_of}
+use Rattle.px_table.specs.EntryOrder.{order_of_entries}
 use Rattle.px_table.specs.declared.entry.Entry.{Entry}
 use Rattle.px_table.specs.declared.entry.Entry.TheVariants.{Macro, Op}
 use Rattle.px_table.specs.declared.table.Table.{Table}
@@ -52,9 +52,13 @@ below-or-from : (m n : ℕ) → (m < n) ⊎ (n ≤ m)
 below-or-from m n = grind arith
 
 -- the same partial instances in another order
-pub covers-permuted : (problem : Problem) (W : OpInst → Type 0) (made new : List PartialInstance) → IsPermutation made new → Covers problem W [] made → Covers problem W [] new
+pub covers-permuted : (problem : Problem) (W : OpInst → Type 0) (made new : List PartialInstance) → IsPermutation made new
+    → Covers problem W [] made → Covers problem W [] new
 covers-permuted problem W made new permuted c = record {
-  form = λ all. All-each (IsPartialInstance problem) new (λ partial has. All-at (IsPartialInstance problem) made partial (c.form all) (Contains-permutation new made partial (IsPermutation-sym made new permuted) has));
+  form =
+      λ all. All-each (IsPartialInstance problem) new
+      (λ partial has. All-at (IsPartialInstance problem) made partial (c.form all)
+      (Contains-permutation new made partial (IsPermutation-sym made new permuted) has));
   kept = λ full one. absurd (one_none (λ partial. StandsFor problem partial full) one);
   only = λ full one. c.only full (one.0, Contains-permutation new made one.0 (IsPermutation-sym made new permuted) one.1, one.2);
   all = λ full is w. let one = c.all full is w in (one.0, Contains-permutation made new one.0 permuted one.1, one.2);
@@ -71,12 +75,14 @@ module _ (problem : Problem) (tables : List Table) (wanted : List Atom) (stack :
   BringsInsts = BringsFirst instance_cmp (λ inst. Pushable (Op inst)) enough
 
   abbrev Brings : (Entry → Type 0) → List Entry → List Entry → Type 0
-  Brings = BringsFirst order_of Pushable enough
+  Brings = BringsFirst order_of_entries Pushable enough
 
   -- ---- instances of operators
 
   -- those of the first matches are gathered, and those of the others come after them
-  pub left-off : (matches : List PartialInstance) (place : ℕ) (old new : List OpInst) → GathersInsts (IsCovered problem (take place matches)) old new → ((full : OpInst) → IsCovered problem (drop place matches) full → ComeBefore new full)
+  pub left-off : (matches : List PartialInstance) (place : ℕ) (old new : List OpInst)
+      → GathersInsts (IsCovered problem (take place matches)) old new
+      → ((full : OpInst) → IsCovered problem (drop place matches) full → ComeBefore new full)
       → AreEnough instance_cmp enough new → BringsInsts (IsCovered problem matches) old new
   left-off matches place old new g after are_enough = record {
     kept = g.kept;
@@ -88,7 +94,8 @@ module _ (problem : Problem) (tables : List Table) (wanted : List Atom) (stack :
     are_enough = are_enough;
   }
 
-  pub operators-brought : (matches : List PartialInstance) (found : List OpInst) → Covers problem (λ full. OneOf wanted (Contains (adds problem full))) [] matches → BringsInsts (IsCovered problem matches) [] found
+  pub operators-brought : (matches : List PartialInstance) (found : List OpInst)
+      → Covers problem (λ full. OneOf wanted (Contains (adds problem full))) [] matches → BringsInsts (IsCovered problem matches) [] found
       → Brings (λ entry. Unit {0}) [] (map Op found)
   operators-brought matches found covers b = record {
     kept = λ entry there. absurd (Contains-none entry there);
@@ -100,40 +107,53 @@ module _ (problem : Problem) (tables : List Table) (wanted : List Atom) (stack :
   }
     where
       Answer : Entry → Type 0
-      Answer entry = Contains (map Op found) entry ⊎ All (λ earlier. order_of earlier entry ≡ Less) (map Op found)
+      Answer entry = Contains (map Op found) entry ⊎ All (λ earlier. order_of_entries earlier entry ≡ Less) (map Op found)
 
-      after-all : (entry : Entry) → ((inst : OpInst) → Contains found inst → order_of (Op inst) entry ≡ Less) → All (λ earlier. order_of earlier entry ≡ Less) (map Op found)
-      after-all entry each = All-each (λ (earlier : Entry). order_of earlier entry ≡ Less) (map Op found) (λ earlier there.
+      after-all : (entry : Entry) → ((inst : OpInst) → Contains found inst → order_of_entries (Op inst) entry ≡ Less)
+          → All (λ earlier. order_of_entries earlier entry ≡ Less) (map Op found)
+      after-all entry each = All-each (λ (earlier : Entry). order_of_entries earlier entry ≡ Less) (map Op found) (λ earlier there.
           let from = Contains-from_map Op found earlier there in
-          subst (λ (e : Entry). order_of e entry ≡ Less) from.2 (each from.0 from.1))
+          subst (λ (e : Entry). order_of_entries e entry ≡ Less) from.2 (each from.0 from.1))
 
       others : (entry : Entry) → Pushable entry → Answer entry
-      others (Op inst) p = elim (b.others inst (covers.all inst p.relevant.is_entry (operator_adds problem tables wanted stack model inst p.relevant)) p) [
-        | inl there ↦ inl (Contains-mapped Op found inst there)
-        | inr later ↦ inr (after-all (Op inst) (λ other has. All-at (λ (e : OpInst). instance_cmp e inst ≡ Less) found other later has))
-      ]
+      others (Op inst) p =
+          elim (b.others inst (covers.all inst p.relevant.is_entry (operator_adds problem tables wanted stack model inst p.relevant)) p) [
+            | inl there ↦ inl (Contains-mapped Op found inst there)
+            | inr later ↦ inr (after-all (Op inst) (λ other has. All-at (λ (e : OpInst). instance_cmp e inst ≡ Less) found other later has))
+          ]
       others (Macro number prefix sigma) p = inr (after-all (Macro number prefix sigma) (λ other has. refl))
 
   -- the entries of the instances that are found
-  pub operators-told : (b : Bool) (matches lent : List PartialInstance) (start found : List OpInst) (entries : List Entry) → Covers problem (λ full. OneOf wanted (Contains (adds problem full))) [] matches → lent ≡ matches → start ≡ [] → entries ≡ map Op found
+  pub operators-told : (b : Bool) (matches lent : List PartialInstance) (start found : List OpInst) (entries : List Entry)
+      → Covers problem (λ full. OneOf wanted (Contains (adds problem full))) [] matches → lent ≡ matches → start ≡ []
+      → entries ≡ map Op found
       → MatchBool b (GathersInsts (IsCovered problem lent) start found) (BringsInsts (IsCovered problem lent) start found)
       → MatchBool b (GathersEntries problem tables wanted stack model IsOperatorEntry [] entries) (Brings (λ entry. Unit {0}) [] entries)
   operators-told true matches lent start found entries covers same none is g =
-      subst (λ (l : List Entry). GathersEntries problem tables wanted stack model IsOperatorEntry [] l) (sym is) (operators_gather problem tables wanted stack model matches found covers
-      (subst (λ (l : List OpInst). GathersInsts (IsCovered problem matches) l found) none (subst (λ (l : List PartialInstance). GathersInsts (IsCovered problem l) start found) same g)))
+      subst (λ (l : List Entry). GathersEntries problem tables wanted stack model IsOperatorEntry [] l) (sym is)
+      (operators_gather problem tables wanted stack model matches found covers
+      (subst (λ (l : List OpInst). GathersInsts (IsCovered problem matches) l found) none
+      (subst (λ (l : List PartialInstance). GathersInsts (IsCovered problem l) start found) same g)))
   operators-told false matches lent start found entries covers same none is b =
       subst (λ (l : List Entry). Brings (λ entry. Unit {0}) [] l) (sym is) (operators-brought matches found covers
-      (subst (λ (l : List OpInst). BringsInsts (IsCovered problem matches) l found) none (subst (λ (l : List PartialInstance). BringsInsts (IsCovered problem l) start found) same b)))
+      (subst (λ (l : List OpInst). BringsInsts (IsCovered problem matches) l found) none
+      (subst (λ (l : List PartialInstance). BringsInsts (IsCovered problem l) start found) same b)))
 
   -- ---- first steps
 
-  after-front : (number count n prefix : ℕ) (sigma : List ℕ) (entry : Entry) (found : List Entry) → Macro n prefix sigma ≡ entry → All (IsBeforeFront number count) found → (number < n) ⊎ ((number ≡ n) × (count ≤ prefix)) → All (λ earlier. order_of earlier entry ≡ Less) found
-  after-front number count n prefix sigma entry found same before from = All-each (λ (earlier : Entry). order_of earlier entry ≡ Less) found (λ earlier has.
-      subst (λ (e : Entry). order_of earlier e ≡ Less) same (before_front-order number count n prefix sigma earlier (All-at (IsBeforeFront number count) found earlier before has) from))
+  after-front : (number count n prefix : ℕ) (sigma : List ℕ) (entry : Entry) (found : List Entry) → Macro n prefix sigma ≡ entry
+      → All (IsBeforeFront number count) found → (number < n) ⊎ ((number ≡ n) × (count ≤ prefix))
+      → All (λ earlier. order_of_entries earlier entry ≡ Less) found
+  after-front number count n prefix sigma entry found same before from =
+      All-each (λ (earlier : Entry). order_of_entries earlier entry ≡ Less) found (λ earlier has.
+      subst (λ (e : Entry). order_of_entries earlier e ≡ Less) same
+      (before_front-order number count n prefix sigma earlier (All-at (IsBeforeFront number count) found earlier before has) from))
 
   -- fewer first steps are gathered, and all that is there comes before those of that many first steps
-  pub fronts-left : (number count : ℕ) (old new : List Entry) → GathersEntries problem tables wanted stack model (IsShorter problem tables wanted stack model number count) old new → All (IsBeforeFront number count) new
-      → AreEnough order_of enough new → Brings (IsOfTableFrom number) old new
+  pub fronts-left : (number count : ℕ) (old new : List Entry)
+      → GathersEntries problem tables wanted stack model (IsShorter problem tables wanted stack model number count) old new
+      → All (IsBeforeFront number count) new
+      → AreEnough order_of_entries enough new → Brings (IsOfTableFrom number) old new
   fronts-left number count old new g before are_enough = record {
     kept = g.kept;
     only = g.only;
@@ -150,7 +170,9 @@ module _ (problem : Problem) (tables : List Table) (wanted : List Atom) (stack :
   }
 
   -- earlier tables are gathered, and then some of this one
-  pub tables-left : (number : ℕ) (old made new : List Entry) → GathersEntries problem tables wanted stack model (IsEarlier problem tables wanted stack model number) old made → Brings (IsOfTableFrom number) made new → Brings IsMacroEntry old new
+  pub tables-left : (number : ℕ) (old made new : List Entry)
+      → GathersEntries problem tables wanted stack model (IsEarlier problem tables wanted stack model number) old made
+      → Brings (IsOfTableFrom number) made new → Brings IsMacroEntry old new
   tables-left number old made new g b = record {
     kept = λ entry there. b.kept entry (g.kept entry there);
     only = λ entry there. elim (b.only entry there) [ inl before ↦ g.only entry before | inr p ↦ inr p ];
@@ -164,7 +186,8 @@ module _ (problem : Problem) (tables : List Table) (wanted : List Atom) (stack :
   -- ---- all
 
   -- operators are gathered, and then some first steps
-  pub macros-brought : (made new : List Entry) → GathersEntries problem tables wanted stack model IsOperatorEntry [] made → Brings IsMacroEntry made new → Brings (λ entry. Unit {0}) [] new
+  pub macros-brought : (made new : List Entry) → GathersEntries problem tables wanted stack model IsOperatorEntry [] made
+      → Brings IsMacroEntry made new → Brings (λ entry. Unit {0}) [] new
   macros-brought made new g b = record {
     kept = λ entry there. absurd (Contains-none entry there);
     only = λ entry there. elim (b.only entry there) [ inl before ↦ g.only entry before | inr p ↦ inr p ];
@@ -176,8 +199,10 @@ module _ (problem : Problem) (tables : List Table) (wanted : List Atom) (stack :
   }
 
 -- where no question about an entry is ever limited, none about a relevant one meets the limit
-pub never-met : (problem : Problem) (tables : List Table) (facts wanted formula : List Atom) (shapes : List (List Tick)) → IsNeverLimited problem tables → IsAtomSet facts → ¬ LimitsRelevant problem tables wanted [] facts formula shapes
-never-met problem tables facts wanted formula shapes never is_set l = never facts is_set l.entry l.relevant.is_entry l.question formula shapes l.asked l.met
+pub never-met : (problem : Problem) (tables : List Table) (facts wanted formula : List Atom) (shapes : List (List Tick))
+    → IsNeverLimited problem tables → IsAtomSet facts → ¬ LimitsRelevant problem tables wanted [] facts formula shapes
+never-met problem tables facts wanted formula shapes never is_set l =
+    never facts is_set l.entry l.relevant.is_entry l.question formula shapes l.asked l.met
 
 module _ (request : Request) (enough : ℕ) where
   abbrev IsFor : Entry → Type 0
@@ -187,7 +212,7 @@ module _ (request : Request) (enough : ℕ) where
   GathersFor = GathersEntries request.problem.now request.tables.now request.wanted.now request.stack.now request.model.now.atoms
 
   abbrev BringsFor : (Entry → Type 0) → List Entry → List Entry → Type 0
-  BringsFor = BringsFirst order_of IsFor enough
+  BringsFor = BringsFirst order_of_entries IsFor enough
 
   first-brought : (entries : List Entry) → BringsFor (λ entry. Unit {0}) [] entries → AreFirstEntries request enough false entries
   first-brought entries b = record {
@@ -198,30 +223,40 @@ module _ (request : Request) (enough : ℕ) where
   }
 
   -- some operators
-  pub first-operators : (b : Bool) (entries : List Entry) → not b ≡ true → MatchBool b (GathersFor IsOperatorEntry [] entries) (BringsFor (λ entry. Unit {0}) [] entries) → AreFirstEntries request enough b entries
+  pub first-operators : (b : Bool) (entries : List Entry) → not b ≡ true
+      → MatchBool b (GathersFor IsOperatorEntry [] entries) (BringsFor (λ entry. Unit {0}) [] entries)
+      → AreFirstEntries request enough b entries
   first-operators true entries is h = absurd (cc)
   first-operators false entries is h = first-brought entries h
 
   -- all operators, and MACROPs
-  pub first-macros : (every b : Bool) (made new : List Entry) → not every ≡ false → MatchBool every (GathersFor IsOperatorEntry [] made) (BringsFor (λ entry. Unit {0}) [] made) → MatchBool b (GathersFor IsMacroEntry made new) (BringsFor IsMacroEntry made new) → AreFirstEntries request enough b new
+  pub first-macros : (every b : Bool) (made new : List Entry) → not every ≡ false
+      → MatchBool every (GathersFor IsOperatorEntry [] made) (BringsFor (λ entry. Unit {0}) [] made)
+      → MatchBool b (GathersFor IsMacroEntry made new) (BringsFor IsMacroEntry made new) → AreFirstEntries request enough b new
   first-macros false b made new is h k = absurd (cc)
   first-macros true true made new is h k =
-      let exact = whole-exact request.problem.now request.tables.now request.wanted.now request.stack.now request.model.now.atoms made new h k in record {
+      let exact =
+      whole-exact request.problem.now request.tables.now request.wanted.now request.stack.now request.model.now.atoms made new h k in
+      record {
         sound = λ entry there. (exact entry).0 there;
         all = λ yes' entry p. (exact entry).1 p;
         others = λ entry p. inl ((exact entry).1 p);
         are_enough = λ part. absurd (cc);
       }
-  first-macros true false made new is h k = first-brought new (macros-brought request.problem.now request.tables.now request.wanted.now request.stack.now request.model.now.atoms enough made new h k)
+  first-macros true false made new is h k =
+      first-brought new (macros-brought request.problem.now request.tables.now request.wanted.now request.stack.now request.model.now.atoms
+      enough made new h k)
 
   -- all of them in another order
-  pub first-ordered : (b : Bool) (made new : List Entry) → b ≡ true → ((entry : Entry) → Contains new entry ↔ Contains made entry) → AreFirstEntries request enough b made → AreFirstEntries request enough b new
+  pub first-ordered : (b : Bool) (made new : List Entry) → b ≡ true → ((entry : Entry) → Contains new entry ↔ Contains made entry)
+      → AreFirstEntries request enough b made → AreFirstEntries request enough b new
   first-ordered b made new are_all members f = record {
     sound = λ entry there. f.sound entry ((members entry).0 there);
     all = λ is entry p. (members entry).1 (f.all is entry p);
     are_enough = λ part. both_answers b part are_all;
     others = λ entry p. elim (f.others entry p) [
       | inl there ↦ inl ((members entry).1 there)
-      | inr later ↦ inr (All-each (λ (kept : Entry). order_of kept entry ≡ Less) new (λ kept has. All-at (λ (kept : Entry). order_of kept entry ≡ Less) made kept later ((members kept).0 has)))
+      | inr later ↦ inr (All-each (λ (kept : Entry). order_of_entries kept entry ≡ Less) new
+          (λ kept has. All-at (λ (kept : Entry). order_of_entries kept entry ≡ Less) made kept later ((members kept).0 has)))
     ];
   }

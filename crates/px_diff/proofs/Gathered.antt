@@ -14,11 +14,20 @@ use Rattle.px_diff.specs.Pushes.{IsPushable}
 use Rattle.px_gaps.specs.Questions.{AreUnlimited}
 
 module _ (problem : Problem) (tables : List Table) (wanted : List Atom) (stack : List Entry) (model : List Atom) where
-  pub gathers_less : (V W : OpInst → Type 0) (old new : List OpInst) → ((inst : OpInst) → W inst → V inst) → Gathers problem tables wanted stack model V old new → Gathers problem tables wanted stack model W old new
-  gathers_less V W old new f g = record { kept = g.kept; only = g.only; all = λ inst w p. g.all inst (f inst w) p; unlimited = λ inst w r. g.unlimited inst (f inst w) r }
+  pub gathers_less : (V W : OpInst → Type 0) (old new : List OpInst) → ((inst : OpInst) → W inst → V inst)
+      → Gathers problem tables wanted stack model V old new → Gathers problem tables wanted stack model W old new
+  gathers_less V W old new f g =
+      record {
+        kept =
+            g.kept;
+        only = g.only;
+        all = λ inst w p. g.all inst (f inst w) p;
+        unlimited = λ inst w r. g.unlimited inst (f inst w) r;
+      }
 
   -- the same instances in another order
-  pub gathers_reordered : (V : OpInst → Type 0) (old made new : List OpInst) → ((inst : OpInst) → Contains new inst ↔ Contains made inst) → Gathers problem tables wanted stack model V old made → Gathers problem tables wanted stack model V old new
+  pub gathers_reordered : (V : OpInst → Type 0) (old made new : List OpInst) → ((inst : OpInst) → Contains new inst ↔ Contains made inst)
+      → Gathers problem tables wanted stack model V old made → Gathers problem tables wanted stack model V old new
   gathers_reordered V old made new members g = record {
     kept = λ inst there. (members inst).1 (g.kept inst there);
     only = λ inst there. g.only inst ((members inst).0 there);
@@ -27,7 +36,9 @@ module _ (problem : Problem) (tables : List Table) (wanted : List Atom) (stack :
   }
 
   -- one more part
-  pub gathers_part : (V U W : OpInst → Type 0) (old made new : List OpInst) → ((inst : OpInst) → W inst → V inst ⊎ U inst) → Gathers problem tables wanted stack model V old made → Gathers problem tables wanted stack model U made new → Gathers problem tables wanted stack model W old new
+  pub gathers_part : (V U W : OpInst → Type 0) (old made new : List OpInst) → ((inst : OpInst) → W inst → V inst ⊎ U inst)
+      → Gathers problem tables wanted stack model V old made → Gathers problem tables wanted stack model U made new
+      → Gathers problem tables wanted stack model W old new
   gathers_part V U W old made new f g h = record {
     kept = λ inst there. h.kept inst (g.kept inst there);
     only = λ inst there. elim (h.only inst there) [ inl before ↦ g.only inst before | inr p ↦ inr p ];
@@ -36,10 +47,16 @@ module _ (problem : Problem) (tables : List Table) (wanted : List Atom) (stack :
   }
 
   -- one instance that may be pushed, and whose questions don't meet the limit
-  pub gathers_one : (inst : OpInst) (old new : List OpInst) → new ≡ old ++ inst ∷ [] → IsPushable problem tables wanted stack model (Op inst) → AreUnlimited problem (obligations_of problem tables model (Op inst)) → Gathers problem tables wanted stack model (λ other. inst ≡ other) old new
+  pub gathers_one : (inst : OpInst) (old new : List OpInst) → new ≡ old ++ inst ∷ []
+      → IsPushable problem tables wanted stack model (Op inst) → AreUnlimited problem (obligations_of problem tables model (Op inst))
+      → Gathers problem tables wanted stack model (λ other. inst ≡ other) old new
   gathers_one inst old new put pushable unlimited = record {
     kept = λ other there. subst (λ (l : List OpInst). Contains l other) (sym put) ((Contains-pushed old inst other).1 (inl there));
-    only = λ other there. elim ((Contains-pushed old inst other).0 (subst (λ (l : List OpInst). Contains l other) put there)) [ inl before ↦ inl before | inr is ↦ inr (subst (λ (i : OpInst). IsPushable problem tables wanted stack model (Op i)) is pushable) ];
+    only =
+        λ other there. elim ((Contains-pushed old inst other).0 (subst (λ (l : List OpInst). Contains l other) put there)) [
+          | inl before ↦ inl before
+          | inr is ↦ inr (subst (λ (i : OpInst). IsPushable problem tables wanted stack model (Op i)) is pushable)
+        ];
     all = λ other is p. subst (λ (l : List OpInst). Contains l other) (sym put) ((Contains-pushed old inst other).1 (inr is));
     unlimited = λ other is relevant. subst (λ (i : OpInst). AreUnlimited problem (obligations_of problem tables model (Op i))) is unlimited;
   }

@@ -1,3 +1,4 @@
+-- The files of lemmas.
 mod StackLaws
 mod SameInstance
 mod Gathered

@@ -19,7 +19,7 @@ use Rattle.px_terms.specs.declared.instance.OpInst.{OpInst}
 use Rattle.px_terms.specs.declared.problem.Problem.{Problem}
 use Rattle.px_terms.specs.declared.term.Term.{Term}
 use Rattle.px_terms.specs.declared.term.Term.TheVariants.{Obj, Var, Any as Wild}
-use Rattle.px_gaps.specs.Bindings.{Extends, IsPlain, first_values}
+use Rattle.px_gaps.specs.Bindings.{ExtendsTerms, IsPlain, first_values}
 use Rattle.px_gaps.specs.Closings.{OneOf}
 use Rattle.px_diff.specs.Macros.{IsMacroBefore, IsMacroBy, IsOfFront}
 use Rattle.px_entries.specs.Parameters.{AreFirstTerms, Matches}
@@ -34,13 +34,21 @@ use Rattle.px_table.specs.KernelLaws.{Contains-from_map}
 -- ---- the objects of one parameter, one after the other
 
 module _ (limit number prefix : ℕ) (terms : List Term) (v : ℕ) (is_open : slice_get terms v ≡ Some (Var v)) where
-  pub macro_before-next : (object : ℕ) (passed : List Term) → passed ≡ set terms v (Obj object) → (entry : Entry) → IsMacroBefore limit number prefix terms v (object + 1) entry → IsMacroBefore limit number prefix terms v object entry ⊎ IsMacroBy limit number prefix passed entry
+  pub macro_before-next : (object : ℕ) (passed : List Term) → passed ≡ set terms v (Obj object) → (entry : Entry)
+      → IsMacroBefore limit number prefix terms v (object + 1) entry
+      → IsMacroBefore limit number prefix terms v object entry ⊎ IsMacroBy limit number prefix passed entry
   macro_before-next object passed is entry w = elim (level_or_below (slice_index w.0 v) object w.2) [
     | inl earlier ↦ inl (w.0, w.1, earlier, w.3)
-    | inr level ↦ inr (w.0, subst (λ (ts : List Term). Extends limit ts w.0) (sym is) (bound-extends limit terms v is_open object w.0 w.1 level), w.3)
+    | inr level ↦ inr (
+      w.0,
+      subst (λ (ts : List Term). ExtendsTerms limit ts w.0) (sym is)
+          (bound-extends limit terms v is_open object w.0 w.1 level),
+      w.3,
+    )
   ]
 
-  pub macro_before-all : (object : ℕ) → limit ≤ object → (entry : Entry) → IsMacroBy limit number prefix terms entry → IsMacroBefore limit number prefix terms v object entry
+  pub macro_before-all : (object : ℕ) → limit ≤ object → (entry : Entry) → IsMacroBy limit number prefix terms entry
+      → IsMacroBefore limit number prefix terms v object entry
   macro_before-all object past entry w =
       let within : v < length terms = slice_get_within terms v (Var v) is_open in
       let below : slice_index w.0 v < limit = w.1.below v 0 (omega (arith, within, w.1.count)) in
@@ -51,7 +59,8 @@ module _ (limit number prefix : ℕ) (terms : List Term) (v : ℕ) (is_open : sl
 
 -- ---- the instances of the first steps
 
-used-first : (table : Table) (prefix v : ℕ) (inst : OpInst) → Contains (take prefix table.steps) inst → Contains inst.args (Var v) → IsUsed table prefix v
+used-first : (table : Table) (prefix v : ℕ) (inst : OpInst) → Contains (take prefix table.steps) inst → Contains inst.args (Var v)
+    → IsUsed table prefix v
 used-first table prefix v inst has inside = inl (has.0, inst, has.1, has.2, inside)
 
 among-taken : {X : Type 0} (n : ℕ) (xs : List X) (x : X) → Contains (take n xs) x → Contains xs x
@@ -62,37 +71,52 @@ among-taken (suc n) (y ∷ xs) x has = elim (Contains-cases y (take n xs) x has)
   | inr later ↦ Contains-later y xs x (among-taken n xs x later)
 ]
 
-module _ (problem : Problem) (table : Table) (prefix : ℕ) (sigma : List ℕ) (is_table : IsTable problem table) (is : IsMacro problem table prefix sigma) where
-  term-instance : (inst : OpInst) → Contains (take prefix table.steps) inst → (t : Term) → IsTermOf problem table.params t → Contains inst.args t → IsTermOf problem 0 (substitute (map Obj sigma) t)
+module _ (problem : Problem) (table : Table) (prefix : ℕ) (sigma : List ℕ) (is_table : IsTable problem table)
+    (is : IsMacro problem table prefix sigma) where
+  term-instance : (inst : OpInst) → Contains (take prefix table.steps) inst → (t : Term) → IsTermOf problem table.params t
+      → Contains inst.args t → IsTermOf problem 0 (substitute (map Obj sigma) t)
   term-instance inst has (Obj n) of inside = of
-  term-instance inst has (Var v) of inside = subst (IsTermOf problem 0) (sym (term-at sigma v (omega (arith, of, is.count)))) (is.used v of (used-first table prefix v inst has inside))
+  term-instance inst has (Var v) of inside =
+      subst (IsTermOf problem 0) (sym (term-at sigma v (omega (arith, of, is.count))))
+      (is.used v of (used-first table prefix v inst has inside))
   term-instance inst has Wild of inside = absurd of
 
   step-instance : (inst : OpInst) → Contains (take prefix table.steps) inst → IsInstanceOf problem (instance_under sigma inst)
   step-instance inst has =
-      let step : IsStepOf problem table.params inst = All-at (IsStepOf problem table.params) table.steps inst is_table.in_range.steps (among-taken prefix table.steps inst has) in record {
+      let step : IsStepOf problem table.params inst =
+      All-at (IsStepOf problem table.params) table.steps inst is_table.in_range.steps (among-taken prefix table.steps inst has) in
+      record {
         op = step.op;
         count = length-map inst.args (substitute (map Obj sigma)) ∙ step.count;
         objects = All-each (IsTermOf problem 0) (map (substitute (map Obj sigma)) inst.args) (λ t there.
             let from = Contains-from_map (substitute (map Obj sigma)) inst.args t there in
-            subst (IsTermOf problem 0) from.2 (term-instance inst has from.0 (All-at (IsTermOf problem table.params) inst.args from.0 step.terms from.1) from.1));
+            subst (IsTermOf problem 0) from.2 (term-instance inst has from.0
+            (All-at (IsTermOf problem table.params) inst.args from.0 step.terms from.1) from.1));
       }
 
   pub prefix-instances : All (IsInstanceOf problem) (take prefix (steps_under table sigma))
-  prefix-instances = subst (All (IsInstanceOf problem)) (sym (take-map (instance_under sigma) prefix table.steps)) (All-each (IsInstanceOf problem) (map (instance_under sigma) (take prefix table.steps)) (λ inst there.
+  prefix-instances =
+      subst (All (IsInstanceOf problem)) (sym (take-map (instance_under sigma) prefix table.steps))
+      (All-each (IsInstanceOf problem) (map (instance_under sigma) (take prefix table.steps)) (λ inst there.
       let from = Contains-from_map (instance_under sigma) (take prefix table.steps) inst there in
       subst (IsInstanceOf problem) from.2 (step-instance from.0 from.1)))
 
 -- the marks' atoms have parameters for variables
-pub marks-plain : (problem : Problem) (table : Table) (terms : List Term) → IsTable problem table → length terms ≡ table.params → All (λ (mark : Mark). IsPlain (length terms) mark.atom) table.marks
+pub marks-plain : (problem : Problem) (table : Table) (terms : List Term) → IsTable problem table → length terms ≡ table.params
+    → All (λ (mark : Mark). IsPlain (length terms) mark.atom) table.marks
 marks-plain problem table terms is_table long = All-each (λ (mark : Mark). IsPlain (length terms) mark.atom) table.marks (λ mark has.
-    subst (λ (n : ℕ). IsPlain n mark.atom) (sym long) (atom-plain problem table.params mark.atom (All-at (λ (m : Mark). IsAtomOf problem table.params m.atom) table.marks mark is_table.atoms has)))
+    subst (λ (n : ℕ). IsPlain n mark.atom) (sym long)
+    (atom-plain problem table.params mark.atom (All-at
+    (λ (m : Mark). IsAtomOf problem table.params m.atom) table.marks mark is_table.atoms has)))
 
 -- ---- parts of the entries of first steps
 
-module _ (problem : Problem) (tables : List Table) (wanted : List Atom) (stack : List Entry) (number prefix : ℕ) (table : Table) (at : slice_get tables number ≡ Some table) (is_table : IsTable problem table) where
+module _ (problem : Problem) (tables : List Table) (wanted : List Atom) (stack : List Entry) (number prefix : ℕ) (table : Table)
+    (at : slice_get tables number ≡ Some table) (is_table : IsTable problem table) where
   -- a MACROP is relevant where it isn't on the stack and its steps add a wanted atom
-  pub relevance_macro : (sigma : List ℕ) → IsMacro problem table prefix sigma → (¬ Contains stack (Macro number prefix sigma)) → OneOf wanted (IsAdded problem (take prefix (steps_under table sigma))) → IsRelevant problem tables wanted stack (Macro number prefix sigma)
+  pub relevance_macro : (sigma : List ℕ) → IsMacro problem table prefix sigma → (¬ Contains stack (Macro number prefix sigma))
+      → OneOf wanted (IsAdded problem (take prefix (steps_under table sigma)))
+      → IsRelevant problem tables wanted stack (Macro number prefix sigma)
   relevance_macro sigma is fresh one = record {
     is_entry = macro_entry problem tables number prefix table at sigma is;
     fresh = fresh;
@@ -101,29 +125,47 @@ module _ (problem : Problem) (tables : List Table) (wanted : List Atom) (stack :
     added = subst (λ (l : List OpInst). IsAdded problem l one.0) (sym (effect_is problem tables number prefix table at sigma)) one.2;
   }
 
-  pub macro_adds : (sigma : List ℕ) → IsRelevant problem tables wanted stack (Macro number prefix sigma) → OneOf wanted (IsAdded problem (take prefix (steps_under table sigma)))
-  macro_adds sigma relevant = (relevant.atom, relevant.is_wanted, subst (λ (l : List OpInst). IsAdded problem l relevant.atom) (effect_is problem tables number prefix table at sigma) relevant.added)
+  pub macro_adds : (sigma : List ℕ) → IsRelevant problem tables wanted stack (Macro number prefix sigma)
+      → OneOf wanted (IsAdded problem (take prefix (steps_under table sigma)))
+  macro_adds sigma relevant = (
+    relevant.atom,
+    relevant.is_wanted,
+    subst (λ (l : List OpInst). IsAdded problem l relevant.atom) (effect_is problem tables number prefix table at sigma) relevant.added,
+  )
 
   -- what is relevant of the first steps is of the matches
   module _ (start : List Term) (first : AreFirstTerms table prefix start) where
     pub of_matches : (matches : List (List Term)) → 0 < problem.objects
-        → Matches problem.objects (length start) start (λ sigma. OneOf wanted (IsAdded problem (map (instance_under sigma) (take prefix table.steps)))) [] matches
-        → (entry : Entry) → IsRelevant problem tables wanted stack entry → IsOfFront number prefix entry → OneOf matches (λ (terms : List Term). IsMacroBy problem.objects number prefix terms entry)
+        → Matches problem.objects (length start) start
+        (λ sigma. OneOf wanted (IsAdded problem (map (instance_under sigma) (take prefix table.steps)))) [] matches
+        → (entry : Entry) → IsRelevant problem tables wanted stack entry → IsOfFront number prefix entry
+        → OneOf matches (λ (terms : List Term). IsMacroBy problem.objects number prefix terms entry)
     of_matches matches some matched entry relevant (sigma, same) =
         let here = subst (IsRelevant problem tables wanted stack) (sym same) relevant in
         let is = relevant_macro problem tables number prefix table at sigma wanted stack here in
         let extends = first-extends problem table prefix start first sigma is some in
         let adds_one = macro_adds sigma here in
-        let one = matched.all sigma extends (adds_one.0, adds_one.1, subst (λ (l : List OpInst). IsAdded problem l adds_one.0) (take-map (instance_under sigma) prefix table.steps) adds_one.2) in
+        let one =
+        matched.all sigma extends (
+          adds_one.0,
+          adds_one.1,
+          subst (λ (l : List OpInst). IsAdded problem l adds_one.0) (take-map (instance_under sigma) prefix table.steps) adds_one.2,
+        ) in
         (one.0, one.1, (sigma, one.2, same))
 
     -- without objects there is one at most
-    pub of_zeros : problem.objects ≡ 0 → (entry : Entry) → IsRelevant problem tables wanted stack entry → IsOfFront number prefix entry → Macro number prefix (first_values start) ≡ entry
+    pub of_zeros : problem.objects ≡ 0 → (entry : Entry) → IsRelevant problem tables wanted stack entry → IsOfFront number prefix entry
+        → Macro number prefix (first_values start) ≡ entry
     of_zeros none entry relevant (sigma, same) =
-        let is = relevant_macro problem tables number prefix table at sigma wanted stack (subst (IsRelevant problem tables wanted stack) (sym same) relevant) in
+        let is =
+        relevant_macro problem tables number prefix table at sigma wanted stack
+        (subst (IsRelevant problem tables wanted stack) (sym same) relevant) in
         ap (λ (l : List ℕ). Macro number prefix l) (sym (zero-values problem table prefix start first sigma is none)) ∙ same
 
-  pub front-range : (entry : Entry) → IsRelevant problem tables wanted stack entry → IsOfFront number prefix entry → (2 ≤ prefix) × (prefix ≤ length table.steps)
+  pub front-range : (entry : Entry) → IsRelevant problem tables wanted stack entry → IsOfFront number prefix entry
+      → (2 ≤ prefix) × (prefix ≤ length table.steps)
   front-range entry relevant (sigma, same) =
-      let is = relevant_macro problem tables number prefix table at sigma wanted stack (subst (IsRelevant problem tables wanted stack) (sym same) relevant) in
+      let is =
+      relevant_macro problem tables number prefix table at sigma wanted stack
+      (subst (IsRelevant problem tables wanted stack) (sym same) relevant) in
       (is.several, is.within)

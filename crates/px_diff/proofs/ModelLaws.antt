@@ -36,17 +36,30 @@ use Rattle.std.proofs.lemmas.List.{nil_from_length}
 
 -- ---- a formula without variables has an answer or none
 
-first-or-none : {X : Type 0} (P : X → Type 0) (xs : List X) → ((x : X) → P x → Contains xs x) → ((x : X) → Contains xs x → P x) → ((x : X) × P x) ⊎ ((x : X) → ¬ P x)
+first-or-none : {X : Type 0} (P : X → Type 0) (xs : List X) → ((x : X) → P x → Contains xs x) → ((x : X) → Contains xs x → P x)
+    → ((x : X) × P x) ⊎ ((x : X) → ¬ P x)
 first-or-none P [] all each = inr (λ x is. Contains-none x (all x is))
 first-or-none P (x ∷ xs) all each = inl (x, each x (Contains-first x xs))
 
 pub answer-decided : (s : Setting) (formula : List Atom) → Decided (IsAnswer s formula 0)
 answer-decided s formula =
     let proofs = listed-proofs (proofs_in s) s.axioms s.objects (finite-proofs s) s.height [] (literals_of formula []) in
-    elim (first-or-none (AreProofs (proofs_in s) s.axioms s.objects (finite-proofs s) s.height [] (literals_of formula [])) proofs.items proofs.all proofs.each) [
-      | inl one ↦ inl ([], one.0, record { count = refl; below = λ k d within. absurd (omega (arith, within)); proved = one.1.0; low = one.1.1 })
+    elim (first-or-none (AreProofs (proofs_in s) s.axioms s.objects (finite-proofs s) s.height [] (literals_of formula [])) proofs.items
+    proofs.all proofs.each) [
+      | inl one ↦ inl (
+        [],
+        one.0,
+        record {
+          count =
+              refl;
+          below = λ k d within. absurd (omega (arith, within));
+          proved = one.1.0;
+          low = one.1.1;
+        },
+      )
       | inr never ↦ inr (λ answer. never answer.1 (
-        subst (λ (objects : List ℕ). ProvesEach (proofs_in s) s.axioms [] (literals_of formula objects) answer.1) (nil_from_length answer.0 answer.2.count) answer.2.proved,
+        subst (λ (objects : List ℕ). ProvesEach (proofs_in s) s.axioms [] (literals_of formula objects) answer.1)
+            (nil_from_length answer.0 answer.2.count) answer.2.proved,
         answer.2.low,
       ))
     ]
@@ -60,17 +73,27 @@ abbrev needed_from : List Atom → List Atom → Obligation
 needed_from formula facts = record { formula = formula; vars = 0; facts = facts }
 
 module _ (problem : Problem) (valid : IsValid problem) where
-  open-alike : (formula facts others : List Atom) → All (IsAtomOf problem 0) formula → DecideAlike problem facts others → IsOpenOne problem (needed_from formula facts) → IsOpenOne problem (needed_from formula others)
+  open-alike : (formula facts others : List Atom) → All (IsAtomOf problem 0) formula → DecideAlike problem facts others
+      → IsOpenOne problem (needed_from formula facts) → IsOpenOne problem (needed_from formula others)
   open-alike formula facts others of alike is_open =
       let list = open-gaps problem (needed_from formula facts) is_open in
       let literals = literals-are problem valid facts formula 0 list.0 of list.2.count list.2.below in
-      let made = all-regapped problem facts others alike list.0 formula (λ k d below. atom_of-is_ground problem _ (literals k d below)) list.1 list.2.proved in
+      let made =
+      all-regapped problem facts others alike list.0 formula
+      (λ k d below. atom_of-is_ground problem _ (literals k d below)) list.1 list.2.proved in
       gaps-open problem (needed_from formula others) (answer-decided (setting_of problem others) formula) list.0 made.0
-      (record { count = list.2.count; below = list.2.below; proved = made.1; low = subst (λ (n : ℕ). n ≤ problem.height) (sym made.2) list.2.low })
+      (record {
+        count =
+            list.2.count;
+        below = list.2.below;
+        proved = made.1;
+        low = subst (λ (n : ℕ). n ≤ problem.height) (sym made.2) list.2.low;
+      })
 
   -- ---- MACROPs
 
-  left-alike : (steps : List OpInst) (facts others : List Atom) → DecideAlike problem facts others → DecideAlike problem (left_after problem steps facts) (left_after problem steps others)
+  left-alike : (steps : List OpInst) (facts others : List Atom) → DecideAlike problem facts others
+      → DecideAlike problem (left_after problem steps facts) (left_after problem steps others)
   left-alike steps facts others alike atom decides =
       let is_left = λ (a : Atom). not (list_any (λ step. deletes problem step a) steps) in
       let here = Contains-filter is_left facts atom in
@@ -79,14 +102,16 @@ module _ (problem : Problem) (valid : IsValid problem) where
         λ has. let h = there.0 has in here.1 ((alike atom decides).1 h.0, h.1),
       )
 
-  module _ (table : Table) (prefix : ℕ) (sigma : List ℕ) (is : IsTable problem table) (m : IsMacro problem table prefix sigma) (facts others : List Atom) (alike : DecideAlike problem facts others) where
+  module _ (table : Table) (prefix : ℕ) (sigma : List ℕ) (is : IsTable problem table) (m : IsMacro problem table prefix sigma)
+      (facts others : List Atom) (alike : DecideAlike problem facts others) where
     abbrev first_steps : List OpInst
     first_steps = take prefix (steps_under table sigma)
 
     abbrev needed_in : List Atom → ℕ → Obligation
     needed_in model row = needed_from (initial_atoms table sigma row) (left_after problem (take (row - 1) first_steps) model)
 
-    rows-alike : IsOpen problem (row_needs problem table sigma facts first_steps) → IsOpen problem (row_needs problem table sigma others first_steps)
+    rows-alike : IsOpen problem (row_needs problem table sigma facts first_steps)
+        → IsOpen problem (row_needs problem table sigma others first_steps)
     rows-alike all =
         let rows = range_with_len 1 (length first_steps) in
         All-each (IsOpenOne problem) (map (needed_in others) rows) (λ needed has.
@@ -94,15 +119,19 @@ module _ (problem : Problem) (valid : IsValid problem) where
         let early = subst (λ (n : ℕ). row.0 ≤ n) (steps-count table sigma prefix m.within) (row-early (length first_steps) row.0 row.1) in
         let before = take (row.0 - 1) first_steps in
         subst (IsOpenOne problem) row.2
-        (open-alike (initial_atoms table sigma row.0) (left_after problem before facts) (left_after problem before others) (initial-are_of problem table prefix sigma is m row.0 early) (left-alike before facts others alike)
-        (All-at (IsOpenOne problem) (map (needed_in facts) rows) (needed_in facts row.0) all (Contains-mapped (needed_in facts) rows row.0 row.1))))
+        (open-alike (initial_atoms table sigma row.0) (left_after problem before facts) (left_after problem before others)
+        (initial-are_of problem table prefix sigma is m row.0 early) (left-alike before facts others alike)
+        (All-at (IsOpenOne problem) (map (needed_in facts) rows) (needed_in facts row.0) all
+        (Contains-mapped (needed_in facts) rows row.0 row.1))))
 
   -- ---- entries
 
-  pub entry-alike : (tables : List Table) (facts others : List Atom) (entry : Entry) → AreLearned problem tables → DecideAlike problem facts others → IsEntry problem tables entry
+  pub entry-alike : (tables : List Table) (facts others : List Atom) (entry : Entry) → AreLearned problem tables
+      → DecideAlike problem facts others → IsEntry problem tables entry
       → IsOpen problem (obligations_of problem tables facts entry) → IsOpen problem (obligations_of problem tables others entry)
   entry-alike tables facts others (Op inst) learned alike is_entry is_open =
-      open_one problem others inst (open-alike (precondition problem inst) facts others (precondition-is_of problem inst valid is_entry) alike (one_open problem facts inst is_open))
+      open_one problem others inst (open-alike (precondition problem inst) facts others
+      (precondition-is_of problem inst valid is_entry) alike (one_open problem facts inst is_open))
   entry-alike tables facts others (Macro number prefix sigma) learned alike (table, at, m) is_open =
       let same = sym (table_is tables number table at) in
       rows-alike (table_at tables number) prefix sigma
@@ -121,7 +150,17 @@ relevance-over_models = record {
     entry-alike problem are.valid tables others facts entry are.learned (alike-back problem facts others are.alike) is_entry,
   );
   pushable = λ problem tables wanted stack facts others entry are. (
-    λ p. record { relevant = p.relevant; open_entry = entry-alike problem are.valid tables facts others entry are.learned are.alike p.relevant.is_entry p.open_entry },
-    λ p. record { relevant = p.relevant; open_entry = entry-alike problem are.valid tables others facts entry are.learned (alike-back problem facts others are.alike) p.relevant.is_entry p.open_entry },
+    λ p. record {
+      relevant =
+          p.relevant;
+      open_entry =
+          entry-alike problem are.valid tables facts others entry are.learned are.alike p.relevant.is_entry p.open_entry;
+    },
+    λ p. record {
+      relevant = p.relevant;
+      open_entry =
+          entry-alike problem are.valid tables others facts entry are.learned
+          (alike-back problem facts others are.alike) p.relevant.is_entry p.open_entry;
+    },
   );
 }

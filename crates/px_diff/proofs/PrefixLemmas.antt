@@ -34,17 +34,21 @@ module _ (problem : Problem) (table : Table) (sigma : List ℕ) (model : List At
   left step facts = filter (λ atom. not (deletes problem step atom)) facts
 
   left-among : (step : OpInst) (facts : List Atom) → All (Contains model) facts → All (Contains model) (left step facts)
-  left-among step facts among = All-each (Contains model) (left step facts) (λ q has. All-at (Contains model) facts q among ((Contains-filter (λ atom. not (deletes problem step atom)) facts q).0 has).0)
+  left-among step facts among =
+      All-each (Contains model) (left step facts) (λ q has. All-at (Contains model) facts q among
+      ((Contains-filter (λ atom. not (deletes problem step atom)) facts q).0 has).0)
 
   left-set : (step : OpInst) (facts : List Atom) → IsAtomSet facts → IsAtomSet (left step facts)
   left-set step facts set = IsStrictlySortedBy-filter atom_cmp (λ atom. not (deletes problem step atom)) facts set
 
   -- each part is what a row needs
-  pub part-row : (steps : List OpInst) (row : ℕ) (facts : List Atom) → All (Contains model) facts → IsAtomSet facts → (needed : Obligation) → Contains (row_obligations problem table sigma facts row steps) needed
+  pub part-row : (steps : List OpInst) (row : ℕ) (facts : List Atom) → All (Contains model) facts → IsAtomSet facts → (needed : Obligation)
+      → Contains (row_obligations problem table sigma facts row steps) needed
       → (at : ℕ) × (row ≤ at) × (at < row + length steps) × IsRowOf table sigma model at needed
   part-row [] row facts among set needed has = absurd (Contains-none needed has)
   part-row (step ∷ steps) row facts among set needed has =
-      elim (Contains-cases (record { formula = initial_atoms table sigma row; vars = 0; facts = facts }) (row_obligations problem table sigma (left step facts) (suc row) steps) needed has) [
+      elim (Contains-cases (record { formula = initial_atoms table sigma row; vars = 0; facts = facts })
+      (row_obligations problem table sigma (left step facts) (suc row) steps) needed has) [
         | inl here ↦ (row, omega arith, omega arith, record { facts = facts; among = among; set = set; same = sym here })
         | inr later ↦
             let r = part-row steps (suc row) (left step facts) (left-among step facts among) (left-set step facts set) needed later in
@@ -52,24 +56,40 @@ module _ (problem : Problem) (table : Table) (sigma : List ℕ) (model : List At
       ]
 
   -- and each row has a part
-  pub row-part : (steps : List OpInst) (row : ℕ) (facts : List Atom) → All (Contains model) facts → IsAtomSet facts → (at : ℕ) → row ≤ at → at < row + length steps
+  pub row-part : (steps : List OpInst) (row : ℕ) (facts : List Atom) → All (Contains model) facts → IsAtomSet facts → (at : ℕ) → row ≤ at
+      → at < row + length steps
       → (needed : Obligation) × Contains (row_obligations problem table sigma facts row steps) needed × IsRowOf table sigma model at needed
   row-part [] row facts among set at low high = absurd (omega (arith, low, high))
   row-part (step ∷ steps) row facts among set at low high = elim (first_or_later row at low) [
     | inl here ↦ (
       record { formula = initial_atoms table sigma row; vars = 0; facts = facts },
-      Contains-first (record { formula = initial_atoms table sigma row; vars = 0; facts = facts }) (row_obligations problem table sigma (left step facts) (suc row) steps),
-      record { facts = facts; among = among; set = set; same = ap (λ (n : ℕ). record { formula = initial_atoms table sigma n; vars = 0; facts = facts }) here },
+      Contains-first (record { formula = initial_atoms table sigma row; vars = 0; facts = facts })
+          (row_obligations problem table sigma (left step facts) (suc row) steps),
+      record {
+        facts =
+            facts;
+        among =
+            among;
+        set = set;
+        same = ap (λ (n : ℕ). record { formula = initial_atoms table sigma n; vars = 0; facts = facts }) here;
+      },
     )
     | inr later ↦
-        let r = row-part steps (suc row) (left step facts) (left-among step facts among) (left-set step facts set) at later (omega (arith, high)) in
-        (r.0, Contains-later (record { formula = initial_atoms table sigma row; vars = 0; facts = facts }) (row_obligations problem table sigma (left step facts) (suc row) steps) r.0 r.1, r.2)
+        let r =
+        row-part steps (suc row) (left step facts) (left-among step facts among) (left-set step facts set) at later
+        (omega (arith, high)) in (
+          r.0,
+          Contains-later (record { formula = initial_atoms table sigma row; vars = 0; facts = facts })
+              (row_obligations problem table sigma (left step facts) (suc row) steps) r.0 r.1,
+          r.2,
+        )
   ]
     where
       first_or_later : (row at : ℕ) → row ≤ at → (row ≡ at) ⊎ (suc row ≤ at)
       first_or_later row at low = grind (arith, low)
 
-  module _ (set : IsAtomSet model) (prefix : ℕ) (within : prefix ≤ length table.steps) (rows : List (List (List Term))) (count : length rows ≡ prefix)
+  module _ (set : IsAtomSet model) (prefix : ℕ) (within : prefix ≤ length table.steps) (rows : List (List (List Term)))
+      (count : length rows ≡ prefix)
       (known : (k : ℕ) → k < prefix → IsInstanceKnown (setting_of problem model) table (k + 1) (get_or rows k []) sigma) where
     steps_long : length (take prefix (steps_under table sigma)) ≡ prefix
     steps_long = omega (arith, length-take prefix (steps_under table sigma), within, shorter)
@@ -87,37 +107,55 @@ module _ (problem : Problem) (table : Table) (sigma : List ℕ) (model : List At
     row-known : (at : ℕ) → 1 ≤ at → at < 1 + prefix → IsInstanceKnown (setting_of problem model) table at (get_or rows (at - 1) []) sigma
     row-known at low high =
         let back : at - 1 + 1 ≡ at = omega (arith, low) in
-        subst (λ (n : ℕ). IsInstanceKnown (setting_of problem model) table n (get_or rows (at - 1) []) sigma) back (known (at - 1) (omega (arith, low, high)))
+        subst (λ (n : ℕ). IsInstanceKnown (setting_of problem model) table n (get_or rows (at - 1) []) sigma) back
+        (known (at - 1) (omega (arith, low, high)))
 
     pub rows-unlimited : AreUnlimited problem (row_obligations problem table sigma model 1 (take prefix (steps_under table sigma)))
     rows-unlimited question formula shapes asks met =
-        let one = any-of (λ (needed : Obligation). (question ≡ Proving needed) ⊎ ((¬ HasAnswer problem needed) × (question ≡ FindingGaps needed))) needs asks in
+        let one =
+        any-of (λ (needed : Obligation). (question ≡ Proving needed) ⊎ ((¬ HasAnswer problem needed) × (question ≡ FindingGaps needed)))
+        needs asks in
         let part = part-row (take prefix (steps_under table sigma)) 1 model all-among set one.0 one.1 in
         let row = row-known part.0 part.1 (omega (arith, part.2, steps_long)) in
         let choices = get_or rows (part.0 - 1) [] in
         let is = part.3 in
         elim one.2 [
           | inl proving ↦
-              let here = subst (λ (needed : Obligation). MeetsLimit problem (Proving needed) formula shapes) is.same (subst (λ q. MeetsLimit problem q formula shapes) proving met) in
+              let here =
+              subst (λ (needed : Obligation). MeetsLimit problem (Proving needed) formula shapes) is.same
+              (subst (λ q. MeetsLimit problem q formula shapes) proving met) in
               proving-unlimited (setting_of problem model) is.facts is.among is.set table sigma part.0 choices row shapes here.1
           | inr finding ↦
-              let here = subst (λ (needed : Obligation). MeetsLimit problem (FindingGaps needed) formula shapes) is.same (subst (λ q. MeetsLimit problem q formula shapes) finding.1 met) in
+              let here =
+              subst (λ (needed : Obligation). MeetsLimit problem (FindingGaps needed) formula shapes) is.same
+              (subst (λ q. MeetsLimit problem q formula shapes) finding.1 met) in
               finding-unlimited (setting_of problem model) is.facts is.among is.set table sigma part.0 choices row formula shapes here
         ]
 
-    row-open : (needed : Obligation) → IsOpen problem needs → Contains needs needed → HasAnswer problem needed ⊎ ((gap : Atom) × HasGap problem needed gap)
-    row-open needed is_open has = All-at (λ (n : Obligation). HasAnswer problem n ⊎ ((gap : Atom) × HasGap problem n gap)) needs needed is_open has
+    row-open : (needed : Obligation) → IsOpen problem needs → Contains needs needed
+        → HasAnswer problem needed ⊎ ((gap : Atom) × HasGap problem needed gap)
+    row-open needed is_open has =
+        All-at (λ (n : Obligation). HasAnswer problem n ⊎ ((gap : Atom) × HasGap problem n gap)) needs needed is_open has
 
-    row-fits : IsOpen problem (row_obligations problem table sigma model 1 (take prefix (steps_under table sigma))) → (k : ℕ) → k < prefix → FitsOne (get_or rows k []) sigma
+    row-fits : IsOpen problem (row_obligations problem table sigma model 1 (take prefix (steps_under table sigma))) → (k : ℕ) → k < prefix
+        → FitsOne (get_or rows k []) sigma
     row-fits is_open k below =
-        let part = row-part (take prefix (steps_under table sigma)) 1 model all-among set (k + 1) (omega arith) (omega (arith, below, steps_long)) in
+        let part =
+        row-part (take prefix (steps_under table sigma)) 1 model all-among set (k + 1) (omega arith)
+        (omega (arith, below, steps_long)) in
         let row = known k below in
         let choices = get_or rows k [] in
         let is = part.2 in
-        elim (subst (λ (n : Obligation). HasAnswer problem n ⊎ ((gap : Atom) × HasGap problem n gap)) is.same (row-open part.0 is_open part.1)) [
-          | inl answer ↦ answer-fits (setting_of problem model) is.facts is.among is.set table sigma (k + 1) choices row answer.0 answer.1 answer.2
-          | inr missing ↦ gap-fits (setting_of problem model) is.facts is.among is.set table sigma (k + 1) choices row missing.1.1.0 missing.1.1.1 missing.1.1.2
+        elim (subst (λ (n : Obligation). HasAnswer problem n ⊎ ((gap : Atom) × HasGap problem n gap)) is.same
+        (row-open part.0 is_open part.1)) [
+          | inl answer ↦ answer-fits (setting_of problem model) is.facts is.among is.set table sigma
+              (k + 1) choices row answer.0 answer.1 answer.2
+          | inr missing ↦ gap-fits (setting_of problem model) is.facts is.among is.set table sigma
+              (k + 1) choices row missing.1.1.0 missing.1.1.1 missing.1.1.2
         ]
 
-    pub rows-fit : IsOpen problem (row_obligations problem table sigma model 1 (take prefix (steps_under table sigma))) → FitsEach rows sigma
-    rows-fit is_open k d below = subst (λ (l : List (List Term)). FitsOne l sigma) (get_or_default rows k [] d below) (row-fits is_open k (omega (arith, below, count)))
+    pub rows-fit : IsOpen problem (row_obligations problem table sigma model 1 (take prefix (steps_under table sigma)))
+        → FitsEach rows sigma
+    rows-fit is_open k d below =
+        subst (λ (l : List (List Term)). FitsOne l sigma) (get_or_default rows k [] d below)
+        (row-fits is_open k (omega (arith, below, count)))

@@ -15,7 +15,8 @@ module _ (problem : Problem) (tables : List Table) (wanted : List Atom) (stack :
   over-stack : (¬ Contains stack entry) → IsRelevant problem tables wanted [] entry → IsRelevant problem tables wanted stack entry
   over-stack fresh r = record { is_entry = r.is_entry; fresh = fresh; atom = r.atom; is_wanted = r.is_wanted; added = r.added }
 
-  push-over : (model : List Atom) → IsPushable problem tables wanted stack model entry ↔ (IsPushable problem tables wanted [] model entry × ¬ Contains stack entry)
+  push-over : (model : List Atom) → IsPushable problem tables wanted stack model entry
+      ↔ (IsPushable problem tables wanted [] model entry × ¬ Contains stack entry)
   push-over model = (
     λ p. (record { relevant = over-none p.relevant; open_entry = p.open_entry }, p.relevant.fresh),
     λ p. record { relevant = over-stack p.1 p.0.relevant; open_entry = p.0.open_entry },
@@ -35,7 +36,19 @@ relevance-over_stacks = record {
   unlimited = λ problem tables wanted model stack free entry r. free entry (over-none problem tables wanted stack entry r);
   below = λ problem tables wanted model stack free entry r. free entry (over-none problem tables wanted stack entry r);
   limited = λ problem tables wanted model stack formula shapes. (
-    λ l. (l.entry, over-none problem tables wanted stack l.entry l.relevant, l.relevant.fresh, record { question = l.question; asked = l.asked; met = l.met }),
-    λ l. record { entry = l.0; relevant = over-stack problem tables wanted stack l.0 l.2 l.1; question = l.3.question; asked = l.3.asked; met = l.3.met },
+    λ l. (
+      l.entry,
+      over-none problem tables wanted stack l.entry l.relevant,
+      l.relevant.fresh,
+      record { question = l.question; asked = l.asked; met = l.met },
+    ),
+    λ l. record {
+      entry =
+          l.0;
+      relevant = over-stack problem tables wanted stack l.0 l.2 l.1;
+      question = l.3.question;
+      asked = l.3.asked;
+      met = l.3.met;
+    },
   );
 }

@@ -7,7 +7,7 @@ use Rattle.std.specs.declared.cmp.Ordering.{Ordering}
 use Rattle.std.proofs.lemmas.List.Kept.{IsStrictlySortedBy-dedup}
 use Rattle.px_table.specs.contracts.entry.EntryOrd.TheImpl.Laws as entry_order
 use Rattle.px_table.specs.EntryLaws.{entry_cmp-is, entry_eq-decides}
-use Rattle.px_table.specs.EntryOrder.{entry_cmp, entry_eq, order_of}
+use Rattle.px_table.specs.EntryOrder.{entry_cmp, entry_eq, order_of_entries}
 use Rattle.px_base.specs.ListLaws.{Contains-none}
 use Rattle.px_proof.specs.PlaceLaws.{Contains-mapped}
 use Rattle.px_table.specs.declared.entry.Entry.{Entry}
@@ -34,26 +34,35 @@ module _ (problem : Problem) (tables : List Table) (wanted : List Atom) (stack :
   pub operator_adds : (inst : OpInst) → IsRelevant problem tables wanted stack (Op inst) → OneOf wanted (Contains (adds problem inst))
   operator_adds inst relevant = (relevant.atom, relevant.is_wanted, elim relevant.added [ inl now ↦ now.0 | inr never ↦ absurd never ])
 
-  pub operators_gather : (matches : List PartialInstance) (found : List OpInst) → Covers problem (λ full. OneOf wanted (Contains (adds problem full))) [] matches → Gathers problem tables wanted stack model (IsCovered problem matches) [] found
+  pub operators_gather : (matches : List PartialInstance) (found : List OpInst)
+      → Covers problem (λ full. OneOf wanted (Contains (adds problem full))) [] matches
+      → Gathers problem tables wanted stack model (IsCovered problem matches) [] found
       → GathersEntries problem tables wanted stack model IsOperatorEntry [] (map Op found)
   operators_gather matches found covers gathers = record {
     kept = λ entry there. absurd (Contains-none entry there);
     only = λ entry there.
         let from = Contains-from_map Op found entry there in
-        elim (gathers.only from.0 from.1) [ inl never ↦ absurd (Contains-none from.0 never) | inr p ↦ inr (subst (IsPushable problem tables wanted stack model) from.2 p) ];
+        elim (gathers.only from.0 from.1) [
+          | inl never ↦ absurd (Contains-none from.0 never)
+          | inr p ↦ inr
+              (subst (IsPushable problem tables wanted stack model) from.2 p)
+        ];
     all = λ entry (inst, same) p.
         let here = subst (IsPushable problem tables wanted stack model) (sym same) p in
-        subst (Contains (map Op found)) same (Contains-mapped Op found inst (gathers.all inst (covers.all inst here.relevant.is_entry (operator_adds inst here.relevant)) here));
+        subst (Contains (map Op found)) same (Contains-mapped Op found inst
+        (gathers.all inst (covers.all inst here.relevant.is_entry (operator_adds inst here.relevant)) here));
     unlimited = λ entry (inst, same) relevant.
         let here = subst (IsRelevant problem tables wanted stack) (sym same) relevant in
-        subst (λ (e : Entry). AreUnlimited problem (obligations_of problem tables model e)) same (gathers.unlimited inst (covers.all inst here.is_entry (operator_adds inst here)) here);
+        subst (λ (e : Entry). AreUnlimited problem (obligations_of problem tables model e)) same
+        (gathers.unlimited inst (covers.all inst here.is_entry (operator_adds inst here)) here);
   }
 
   pub either : (entry : Entry) → IsOperatorEntry entry ⊎ IsMacroEntry entry
   either (Op inst) = inl (inst, refl)
   either (Macro number prefix sigma) = inr (number, (prefix, (sigma, refl)))
 
-  module _ (made new : List Entry) (operators : GathersEntries problem tables wanted stack model IsOperatorEntry [] made) (macros : GathersEntries problem tables wanted stack model IsMacroEntry made new) where
+  module _ (made new : List Entry) (operators : GathersEntries problem tables wanted stack model IsOperatorEntry [] made)
+      (macros : GathersEntries problem tables wanted stack model IsMacroEntry made new) where
     abbrev Whole : Entry → Type 0
     Whole entry = IsOperatorEntry entry ⊎ IsMacroEntry entry
 
@@ -66,17 +75,22 @@ module _ (problem : Problem) (tables : List Table) (wanted : List Atom) (stack :
       λ p. whole.all entry (either entry) p,
     )
 
-    pub whole-unlimited : (entry : Entry) → IsRelevant problem tables wanted stack entry → AreUnlimited problem (obligations_of problem tables model entry)
+    pub whole-unlimited : (entry : Entry) → IsRelevant problem tables wanted stack entry
+        → AreUnlimited problem (obligations_of problem tables model entry)
     whole-unlimited entry relevant = whole.unlimited entry (either entry) relevant
 
 -- ---- in order, each once
 
-pub entries-members : (old sorted new : List Entry) → IsPermutation old sorted → new ≡ dedup entry_eq sorted → (entry : Entry) → Contains old entry ↔ Contains new entry
+pub entries-members : (old sorted new : List Entry) → IsPermutation old sorted → new ≡ dedup entry_eq sorted → (entry : Entry)
+    → Contains old entry ↔ Contains new entry
 entries-members old sorted new permuted is = sorted_members entry_eq entry_eq-decides old sorted new permuted is
 
-pub entries-ascend : (sorted new : List Entry) → IsSorted entry_cmp sorted → new ≡ dedup entry_eq sorted → IsStrictlySortedBy order_of new
+pub entries-ascend : (sorted new : List Entry) → IsSorted entry_cmp sorted → new ≡ dedup entry_eq sorted
+    → IsStrictlySortedBy order_of_entries new
 entries-ascend sorted new ascends is =
-    subst (λ (R : Entry → Entry → Ordering). IsStrictlySortedBy R new) same (subst (IsStrictlySortedBy entry_cmp) (sym is) (IsStrictlySortedBy-dedup entry_order.total-law entry_order.matches_eq-law sorted ascends))
+    subst (λ (R : Entry → Entry → Ordering). IsStrictlySortedBy R new) same
+    (subst (IsStrictlySortedBy entry_cmp) (sym is)
+    (IsStrictlySortedBy-dedup entry_order.total-law entry_order.matches_eq-law sorted ascends))
   where
-    same : entry_cmp ≡ order_of
+    same : entry_cmp ≡ order_of_entries
     same = λ i first second. entry_cmp-is first second i

@@ -4,7 +4,7 @@ use Rattle.std.specs.List.Sorted.{IsStrictlySortedBy}
 use Rattle.std.specs.declared.cmp.Ordering.{Ordering}
 use Rattle.std.specs.declared.cmp.Ordering.TheVariants.{Less}
 use Rattle.std.specs.Ordering.{is_gt}
-use Rattle.px_table.specs.EntryOrder.{order_of}
+use Rattle.px_table.specs.EntryOrder.{order_of_entries}
 use Rattle.px_table.specs.declared.entry.Entry.{Entry}
 use Rattle.px_table.specs.declared.entry.Entry.TheVariants.{Macro, Op}
 use Rattle.px_terms.specs.Order.{instance_cmp}
@@ -18,8 +18,8 @@ pub record AreEnough {X : Type 0} (order : X → X → Ordering) (enough : ℕ) 
   pub ordered : IsStrictlySortedBy order xs
   pub many : enough ≤ length xs
 
--- The new list has what the old one had, and beside that only what is wanted: enough, in order. What is wanted of the part and isn't in
--- it comes after all that it has.
+-- The new list has what the old one had, and besides only what is wanted: enough, in order. Everything of the part that is wanted and
+-- isn't in it comes after all that it has.
 pub record BringsFirst {X : Type 0} (order : X → X → Ordering) (IsWanted : X → Type 0) (enough : ℕ) (IsPart : X → Type 0) (old new : List X)
     : Type 0 where
   pub kept : (x : X) → Contains old x → Contains new x
@@ -27,17 +27,17 @@ pub record BringsFirst {X : Type 0} (order : X → X → Ordering) (IsWanted : X
   pub others : (x : X) → IsPart x → IsWanted x → Contains new x ⊎ All (λ earlier. order earlier x ≡ Less) new
   pub are_enough : AreEnough order enough new
 
--- of the entries that may be pushed
+-- `BringsFirst` for the entries that may be pushed
 abbrev pub BringsFirstEntries : Request → ℕ → (Entry → Type 0) → List Entry → List Entry → Type 0
-BringsFirstEntries request = BringsFirst order_of (IsPushableFor request)
+BringsFirstEntries request = BringsFirst order_of_entries (IsPushableFor request)
 
--- of the instances that may be pushed
+-- `BringsFirst` for the instances that may be pushed
 abbrev pub BringsFirstInstances : Request → ℕ → (OpInst → Type 0) → List OpInst → List OpInst → Type 0
 BringsFirstInstances request = BringsFirst instance_cmp (λ inst. IsPushableFor request (Op inst))
 
 -- the first instance doesn't come after the second
-abbrev pub IsAtMost : OpInst → OpInst → Type 0
-IsAtMost first second = is_gt (instance_cmp first second) ≡ false
+abbrev pub IsNotAfter : OpInst → OpInst → Type 0
+IsNotAfter first second = is_gt (instance_cmp first second) ≡ false
 
 -- all of them come before the instance
 abbrev pub ComeBefore : List OpInst → OpInst → Type 0
@@ -57,5 +57,6 @@ IsOfTableFrom number entry = (n : ℕ) × (number ≤ n) × IsOfTable n entry
 pub record AreFirstEntries (request : Request) (enough : ℕ) (is_all : Bool) (entries : List Entry) : Type 0 where
   pub sound : (entry : Entry) → Contains entries entry → IsPushableFor request entry
   pub all : IsTrue is_all → (entry : Entry) → IsPushableFor request entry → Contains entries entry
-  pub others : (entry : Entry) → IsPushableFor request entry → Contains entries entry ⊎ All (λ kept. order_of kept entry ≡ Less) entries
-  pub are_enough : is_all ≡ false → AreEnough order_of enough entries
+  pub others : (entry : Entry) → IsPushableFor request entry
+      → Contains entries entry ⊎ All (λ kept. order_of_entries kept entry ≡ Less) entries
+  pub are_enough : is_all ≡ false → AreEnough order_of_entries enough entries

@@ -15,8 +15,8 @@ use Rattle.px_diff.specs.Pushes.{IsRelevant, IsPushable}
 use Rattle.px_gaps.specs.Questions.{AreUnlimited}
 use Rattle.px_entries.specs.declared.partial.PartialInstance.{PartialInstance}
 
--- The new list has what the old one had, and beside that only what may be pushed, among it all of the part. No question about a
--- relevant instance of the part meets the limit.
+-- The new list has what the old one had, and besides only what may be pushed, including all such instances of the part. No question about
+-- a relevant instance of the part meets the limit.
 pub record Gathers (problem : Problem) (tables : List Table) (wanted : List Atom) (stack : List Entry) (model : List Atom)
     (IsPart : OpInst → Type 0) (old new : List OpInst) : Type 0 where
   pub kept : (inst : OpInst) → Contains old inst → Contains new inst

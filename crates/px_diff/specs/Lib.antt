@@ -1,3 +1,4 @@
+-- The files of definitions and laws.
 pub mod Firsts
 pub mod Gathering
 pub mod MacroOpen

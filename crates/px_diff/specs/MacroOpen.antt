@@ -1,4 +1,4 @@
--- MACROPs of which the facts of the whole world model tell whether they are open, though each row is proved from what the steps before
+-- MACROPs for which the facts of the whole world model decide whether they are open, though each row is proved from what the steps before
 -- leave of it: these delete only atoms that operators add, which are facts or gaps close them.
 use Rattle.std.specs.Prelude.{◌≡◌, ◌≤◌, ℕ, List, All}
 use Rattle.px_table.specs.Kernels.{atom_under}
@@ -25,6 +25,6 @@ pub record IsNeeded (prefix : ℕ) (mark : Mark) : Type 0 where
   pub early : mark.row ≤ prefix
   pub initial : mark.column ≡ 0
 
--- if the mark is one of these, its atom with the objects for the parameters is one that operators add, or provable
+-- if the mark is one of the first rows from the initial model, its atom with the objects is one that operators add, or provable
 abbrev pub IsSettledMark : Problem → List Atom → ℕ → List ℕ → Mark → Type 0
 IsSettledMark problem facts prefix sigma mark = IsNeeded prefix mark → IsSettled problem facts (atom_under sigma mark.atom)

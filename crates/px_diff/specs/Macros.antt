@@ -8,20 +8,20 @@ use Rattle.px_terms.specs.declared.atom.Atom.{Atom}
 use Rattle.px_terms.specs.declared.instance.OpInst.{OpInst}
 use Rattle.px_terms.specs.declared.problem.Problem.{Problem}
 use Rattle.px_terms.specs.declared.term.Term.{Term}
-use Rattle.px_gaps.specs.Bindings.{Extends}
+use Rattle.px_gaps.specs.Bindings.{ExtendsTerms}
 use Rattle.px_gaps.specs.Closings.{OneOf}
 use Rattle.px_entries.specs.Entries.{obligations_of}
 use Rattle.px_entries.specs.Learned.{AreLearned}
 use Rattle.px_diff.specs.MacroOpen.{FactsSuffice}
 use Rattle.px_entries.specs.Unlimited.{IsNeverLimited}
-use Rattle.px_entries.specs.Parameters.{Fits}
+use Rattle.px_entries.specs.Parameters.{FitsTerms}
 use Rattle.px_diff.specs.RowQuestions.{FitsEach}
 use Rattle.px_diff.specs.Pushes.{IsPushable, IsRelevant}
 use Rattle.px_gaps.specs.Questions.{AreUnlimited}
 use Rattle.px_diff.specs.declared.front.Front.{Front}
 use Rattle.px_diff.specs.declared.request.Request.{Request}
 
--- The new list has what the old one had, and beside that only what may be pushed, among it all of the part. No question about a
+-- The new list has what the old one had, and besides only what may be pushed, including all such entries of the part. No question about a
 -- relevant entry of the part meets the limit.
 pub record GathersEntries (problem : Problem) (tables : List Table) (wanted : List Atom) (stack : List Entry) (model : List Atom)
     (IsPart : Entry → Type 0) (old new : List Entry) : Type 0 where
@@ -37,24 +37,25 @@ GathersEntriesFor request = GathersEntries request.problem.now request.tables.no
 
 -- `prefix` steps of the table of that number, with objects that extend the terms
 abbrev pub IsMacroBy : ℕ → ℕ → ℕ → List Term → Entry → Type 0
-IsMacroBy limit number prefix terms entry = (sigma : List ℕ) × Extends limit terms sigma × (Macro number prefix sigma ≡ entry)
+IsMacroBy limit number prefix terms entry = (sigma : List ℕ) × ExtendsTerms limit terms sigma × (Macro number prefix sigma ≡ entry)
 
--- the same, where the object of the parameter is before this one
+-- `prefix` steps with such objects, where that of the parameter is before this one
 abbrev pub IsMacroBefore : ℕ → ℕ → ℕ → List Term → ℕ → ℕ → Entry → Type 0
-IsMacroBefore limit number prefix terms v object entry = (sigma : List ℕ) × Extends limit terms sigma × (slice_index sigma v < object)
+IsMacroBefore limit number prefix terms v object entry = (sigma : List ℕ) × ExtendsTerms limit terms sigma × (slice_index sigma v < object)
     × (Macro number prefix sigma ≡ entry)
 
 -- `prefix` steps of the table of that number, with objects that extend the terms and fit one of the choices of each row
 abbrev pub IsMacroFitting : ℕ → ℕ → ℕ → List Term → List (List (List Term)) → Entry → Type 0
-IsMacroFitting limit number prefix terms rows entry = (sigma : List ℕ) × Extends limit terms sigma × FitsEach rows sigma
+IsMacroFitting limit number prefix terms rows entry = (sigma : List ℕ) × ExtendsTerms limit terms sigma × FitsEach rows sigma
     × (Macro number prefix sigma ≡ entry)
 
--- the same, where the objects fit one of the terms at which some row meets the limit
+-- `prefix` steps with objects that extend the terms and fit one of the terms at which some row meets the limit
 abbrev pub IsMacroLimited : ℕ → ℕ → ℕ → List Term → List (List (List Term)) → Entry → Type 0
 IsMacroLimited limit number prefix terms limited entry = OneOf limited
     (λ (row : List (List Term)). IsMacroFitting limit number prefix terms (row ∷ []) entry)
 
--- the same, where the objects fit one of the choices of each row, or one of the terms at which some row meets the limit
+-- `prefix` steps with objects that extend the terms and fit one of the choices of each row, or one of the terms at which some row meets
+-- the limit
 abbrev pub IsMacroTold : ℕ → ℕ → ℕ → List (List (List Term)) → List (List (List Term)) → List Term → Entry → Type 0
 IsMacroTold limit number prefix rows limited terms entry = IsMacroLimited limit number prefix terms limited entry
     ⊎ IsMacroFitting limit number prefix terms rows entry
@@ -62,7 +63,7 @@ IsMacroTold limit number prefix rows limited terms entry = IsMacroLimited limit 
 -- `prefix` steps with objects that extend the terms, and fit one of these choices and one of the choices of each row
 abbrev pub IsMacroAmong : ℕ → ℕ → ℕ → List Term → List (List Term) → List (List (List Term)) → Entry → Type 0
 IsMacroAmong limit number prefix terms choices rows entry =
-    (sigma : List ℕ) × Extends limit terms sigma × OneOf choices (λ (choice : List Term). Fits choice sigma) × FitsEach rows sigma
+    (sigma : List ℕ) × ExtendsTerms limit terms sigma × OneOf choices (λ (choice : List Term). FitsTerms choice sigma) × FitsEach rows sigma
     × (Macro number prefix sigma ≡ entry)
 
 -- two or more of the first steps of the table of that number, which is learned; where it is said that the facts suffice, they do

@@ -1,4 +1,4 @@
--- What questions of gaps tell of a row of a table, where some of its parameters have objects.
+-- What questions of gaps say of a row of a table, where some of its parameters have objects.
 use Rattle.std.specs.Prelude.{◌≡◌, ◌⊎◌, ◌<◌, ◌≤◌, ◌+◌, ℕ, List, [], ◌∷◌, length, get_or, All}
 use Rattle.px_prover.specs.PatternLists.{lists_of}
 use Rattle.px_prover.specs.Patterns.{AreGapPatterns}
@@ -14,13 +14,13 @@ use Rattle.px_terms.specs.declared.atom.Atom.{Atom}
 use Rattle.px_terms.specs.declared.problem.Problem.{Problem}
 use Rattle.px_terms.specs.declared.term.Term.{Term}
 use Rattle.px_gaps.specs.Closings.{IsClosedIn, OneOf}
-use Rattle.px_gaps.specs.Bindings.{AreUnbound, Extends, IsBinding}
+use Rattle.px_gaps.specs.Bindings.{AreUnbound, ExtendsTerms, IsBinding}
 use Rattle.px_entries.specs.Entries.{initial_atoms}
-use Rattle.px_entries.specs.Parameters.{Fits}
+use Rattle.px_entries.specs.Parameters.{FitsTerms}
 use Rattle.px_diff.specs.declared.row_choices.TableChoices.{TableChoices}
 
--- All patterns of the formula, which has fewer unfinished gap proofs than the limit, by their shapes; and so has each atom that they
--- close.
+-- All patterns of the formula, which has fewer unfinished gap proofs than the limit, by their shapes; and each atom that they close has
+-- fewer, too.
 pub record IsRowAnswer (s : Setting) (formula : List Atom) (vars : ℕ) (patterns : List GapPattern) : Type 0 where
   pub all : AreGapPatterns s formula vars patterns
   pub few : AreFewGapShapes s formula vars
@@ -36,7 +36,7 @@ pub record CanAskRows (problem : Problem) (table : Table) (terms : List Term) : 
 
 -- the objects fit one of the choices
 abbrev pub FitsOne : List (List Term) → List ℕ → Type 0
-FitsOne choices sigma = OneOf choices (λ (choice : List Term). Fits choice sigma)
+FitsOne choices sigma = OneOf choices (λ (choice : List Term). FitsTerms choice sigma)
 
 -- The row with these objects for the parameters: fewer unfinished gap proofs of it exist than the limit, and fewer of each atom that a
 -- loose gap proof of it closes. Where it has a list of loose gap proofs, the objects fit one of the choices.
@@ -59,20 +59,22 @@ pub record Widens (params : ℕ) (old new : List (List Term)) : Type 0 where
   pub long : All (λ choice. length choice ≡ params) old → All (λ choice. length choice ≡ params) new
   pub kept : (sigma : List ℕ) → FitsOne old sigma → FitsOne new sigma
 
--- Choices of terms for the parameters, and terms at which the row meets the limit: all objects that extend the given terms are asked of.
+-- Choices of terms for the parameters, and terms at which the row meets the limit, where all objects that extend the given terms were
+-- asked about.
 pub record IsRowKnown (s : Setting) (table : Table) (terms : List Term) (row : ℕ) (choices limited : List (List Term)) : Type 0 where
   pub long : All (λ choice. length choice ≡ table.params) choices
   pub limited_long : All (λ choice. length choice ≡ table.params) limited
-  pub asked : AreAskedOf s table row (Extends s.objects terms) choices limited
+  pub asked : AreAskedOf s table row (ExtendsTerms s.objects terms) choices limited
 
--- the same of each of the first rows
+-- such choices and terms for each of the first rows
 pub record AreRowsKnown (s : Setting) (table : Table) (terms : List Term) (prefix : ℕ) (rows limited : List (List (List Term))) : Type 0
   where
     pub count : length rows ≡ prefix
     pub limited_count : length limited ≡ prefix
     pub each : (k : ℕ) → k < prefix → IsRowKnown s table terms (k + 1) (get_or rows k []) (get_or limited k [])
 
--- the same of all rows of the table, where the terms are variables, the problem has an object, and the facts are a set
+-- such choices and terms for all rows of the table, where the given terms are variables, the problem has an object, and the facts are a
+-- set
 pub record AreTableChoices (problem : Problem) (facts : List Atom) (table : Table) (found : TableChoices) : Type 0 where
   pub terms : List Term
   pub unbound : AreUnbound table.params terms
@@ -82,4 +84,4 @@ pub record AreTableChoices (problem : Problem) (facts : List Atom) (table : Tabl
 
 -- the objects fit one of the choices of each row
 abbrev pub FitsEach : List (List (List Term)) → List ℕ → Type 0
-FitsEach rows sigma = All (λ choices. OneOf choices (λ (choice : List Term). Fits choice sigma)) rows
+FitsEach rows sigma = All (λ choices. OneOf choices (λ (choice : List Term). FitsTerms choice sigma)) rows

@@ -1,4 +1,4 @@
--- What is relevant and may be pushed over the empty stack tells it over each stack.
+-- What is relevant and may be pushed over the empty stack decides it for each stack.
 use Rattle.std.specs.Prelude.{◌↔◌, List, [], Contains}
 use Rattle.px_terms.specs.declared.atom.Atom.{Atom}
 use Rattle.px_terms.specs.declared.problem.Problem.{Problem}
@@ -22,8 +22,8 @@ AreBelowOver problem tables wanted model stack = (entry : Entry) → IsRelevant 
 
 -- What is relevant over a stack, and what may be pushed over it, is what is so over the empty stack and isn't on it. So a list of what
 -- may be pushed over the empty stack, without the stack's entries, is that of what may be pushed over the stack. Where no question
--- meets the limit over the empty stack, none does over any stack. A question about an entry that is relevant over a stack meets the
--- limit just where one about an entry does that is relevant over the empty stack and isn't on it.
+-- meets the limit over the empty stack, none does over any stack. A question about an entry that is relevant over a stack meets the limit
+-- exactly where one does about an entry that is relevant over the empty stack and isn't on it.
 pub record RelevanceOverStacks : Type 0 where
   pub relevant : (problem : Problem) (tables : List Table) (wanted : List Atom) (stack : List Entry) (entry : Entry)
       → IsRelevant problem tables wanted stack entry ↔ (IsRelevant problem tables wanted [] entry × ¬ Contains stack entry)

@@ -5,6 +5,6 @@ use px_table::Entry;
 #[derive(Drop)]
 pub struct First {
     pub entries: Vec<Entry>,
-    /// Are they all that may be pushed? If not, the others come after these, if there are any.
+    /// Whether they are all that may be pushed. If not, the others come after these, if there are any.
     pub is_all: bool,
 }

@@ -5,7 +5,7 @@ ghost use Rattle.px_terms.specs.Order.{instance_cmp};
 ghost use Rattle.px_terms.specs.declared.instance.OpInst.{OpInst as InstanceValue};
 ghost use Rattle.px_terms.specs.Validity.{IsValid};
 ghost use Rattle.px_gaps.specs.Bounds.{AreBounds};
-ghost use Rattle.px_diff.specs.Firsts.{AreEnough, BringsFirstInstances, ComeBefore, IsAtMost};
+ghost use Rattle.px_diff.specs.Firsts.{AreEnough, BringsFirstInstances, ComeBefore, IsNotAfter};
 ghost use Rattle.px_entries.specs.Instances.{IsCovered, IsPartialInstance, StandsFor};
 ghost use Rattle.px_gaps.specs.Outcomes.{IfLimit};
 ghost use Rattle.px_diff.specs.Requests.{GathersFor, LimitsFor};
@@ -16,28 +16,28 @@ use px_entries::{PartialInstance, filled};
 use px_gaps::{AskErr, Asker, Bounds};
 use px_terms::{OpInst, Problem};
 
-/// The least of the instances that the partial one stands for: object 0 for each variable.
+/// Returns the least of the instances that the partial one stands for: object 0 for each variable.
 fn least_of(problem: &Problem, partial: &PartialInstance) -> OpInst
     requires partial { IsPartialInstance problem.now partial.now }
-    ensures { (full : InstanceValue) → StandsFor problem.now partial.now full → IsAtMost result full }
+    ensures { (full : InstanceValue) → StandsFor problem.now partial.now full → IsNotAfter result full }
 {
     let _objects = problem.objects;
     filled(partial, &[0; 8][..partial.vars as usize])
 }
 
-/// The lesser of the two.
+/// Returns the lesser of the two.
 fn lesser(first: OpInst, second: OpInst) -> OpInst
-    ensures first { IsAtMost result first }
-    ensures second { IsAtMost result second }
+    ensures first { IsNotAfter result first }
+    ensures second { IsNotAfter result second }
 {
     if first < second { first } else { second }
 }
 
-/// The least of the instance and of all that the partial ones stand for.
+/// Returns the least of the instance and of all that the partial ones stand for.
 fn least_of_all(problem: &Problem, inst: OpInst, partials: &[PartialInstance]) -> OpInst
     requires partials { All (IsPartialInstance problem.now) partials.now }
-    ensures inst { IsAtMost result inst }
-    ensures partials { (full : InstanceValue) → IsCovered problem.now partials.now full → IsAtMost result full }
+    ensures inst { IsNotAfter result inst }
+    ensures partials { (full : InstanceValue) → IsCovered problem.now partials.now full → IsNotAfter result full }
 {
     let mut least = inst;
     for partial in partials {
@@ -46,14 +46,14 @@ fn least_of_all(problem: &Problem, inst: OpInst, partials: &[PartialInstance]) -
     least
 }
 
-/// Do all of the instances come before the other one?
+/// Returns whether all of the instances come before the other one.
 fn come_before(insts: &[OpInst], other: &OpInst) -> bool
     ensures { IsTrue result → ComeBefore insts.now other.now }
 {
     insts.iter().all(|inst| inst < other)
 }
 
-/// Do all of the instances come before each that one of the partial ones stands for?
+/// Returns whether all of the instances come before each that one of the partial ones stands for.
 fn come_before_all(problem: &Problem, insts: &[OpInst], later: &[PartialInstance]) -> bool
     requires later { All (IsPartialInstance problem.now) later.now }
     ensures { IsTrue result → (full : InstanceValue) → IsCovered problem.now later.now full → ComeBefore insts.now full }
@@ -75,7 +75,7 @@ fn order(found: &mut Vec<OpInst>)
     found.dedup();
 }
 
-/// Are there enough instances, and do all come before each that one of the partial ones stands for? They are in order then,
+/// Returns whether there are enough instances, and all come before each that one of the partial ones stands for. If so, they are in order,
 /// each once.
 fn can_leave_off(
     found: &mut Vec<OpInst>,
@@ -95,8 +95,8 @@ fn can_leave_off(
     found.len() >= enough && come_before_all(problem, found, later)
 }
 
-/// Adds the instances that the matches stand for and that may be pushed, match by match. It leaves off where there are enough, and
-/// each that a later match stands for comes after them. Does it get to the end?
+/// Adds the instances that the matches stand for and that may be pushed, match by match. It stops where there are enough, and each that a
+/// later match stands for comes after them. Returns whether it gets to the end.
 pub fn gather_first(
     asker: &mut Asker,
     found: &mut Vec<OpInst>,

@@ -1,6 +1,6 @@
 //! The first of the MACROPs that may be pushed, after the instances of operators.
 ghost use Rattle.std.specs.Prelude.{◌<◌, ◌↔◌, All, Contains, IfOk, IsTrue, MatchBool, length};
-ghost use Rattle.px_table.specs.EntryOrder.{order_of};
+ghost use Rattle.px_table.specs.EntryOrder.{order_of_entries};
 ghost use Rattle.px_table.specs.declared.entry.Entry.{Entry as EntryValue};
 ghost use Rattle.px_terms.specs.Validity.{IsValid};
 ghost use Rattle.px_diff.specs.Firsts.{AreEnough, BringsFirstEntries, IsBeforeFront, IsOfTableFrom};
@@ -18,7 +18,7 @@ use crate::request::Request;
 use px_gaps::{AskErr, Asker};
 use px_table::Entry;
 
-/// Does the entry come before this many first steps of the table of this number, whatever their objects are?
+/// Returns whether the entry comes before this many first steps of the table of this number, whatever their objects are.
 fn is_before_front(entry: &Entry, number: u32, count: u32) -> bool
     ensures { IsTrue result → IsBeforeFront number count entry.now }
 {
@@ -32,7 +32,7 @@ fn is_before_front(entry: &Entry, number: u32, count: u32) -> bool
     }
 }
 
-/// Do all entries?
+/// Returns whether all entries come before this many first steps of the table of this number, whatever their objects are.
 fn are_before_front(entries: &[Entry], number: u32, count: u32) -> bool
     ensures { IsTrue result → All (IsBeforeFront number count) entries.now }
 {
@@ -41,11 +41,11 @@ fn are_before_front(entries: &[Entry], number: u32, count: u32) -> bool
         .all(|entry| is_before_front(entry, number, count))
 }
 
-/// Are there enough entries, and do all come before this many first steps of the table of this number? They are in order then, each
-/// once.
+/// Returns whether there are enough entries, and all come before this many first steps of the table of this number. If so, they are in
+/// order, each once.
 fn can_leave_off(found: &mut Vec<Entry>, number: u32, count: u32, enough: usize) -> bool
     ensures members { (entry : EntryValue) → Contains found.new.items entry ↔ Contains found.old.items entry }
-    ensures enough { IsTrue result → AreEnough order_of enough found.new.items }
+    ensures enough { IsTrue result → AreEnough order_of_entries enough found.new.items }
     ensures before { IsTrue result → All (IsBeforeFront number count) found.new.items }
 {
     if found.len() < enough || !are_before_front(found, number, count) {
@@ -56,8 +56,8 @@ fn can_leave_off(found: &mut Vec<Entry>, number: u32, count: u32, enough: usize)
 }
 
 // Alike: `gather_table` of `macros` goes through the same first steps, and through all of them.
-/// Adds those of the table's entries that may be pushed, by the number of steps. It leaves off where there are enough, and
-/// those of more steps come after them. Does it get to the end?
+/// Adds those of the table's entries that may be pushed, by the number of steps. It stops where there are enough, and those of more steps
+/// come after them. Returns whether it gets to the end.
 fn gather_first_table(
     asker: &mut Asker,
     found: &mut Vec<Entry>,
@@ -99,8 +99,8 @@ fn gather_first_table(
     Ok(true)
 }
 
-/// Adds the MACROPs that may be pushed for the request, table by table. It leaves off where there are enough, and the others come
-/// after them. Does it get to the end?
+/// Adds the MACROPs that may be pushed for the request, table by table. It stops where there are enough, and the others come after them.
+/// Returns whether it gets to the end.
 pub fn gather_first_tables(
     asker: &mut Asker,
     found: &mut Vec<Entry>,

@@ -3,7 +3,7 @@ ghost use Rattle.std.specs.Prelude.{◌≡◌, ◌≤◌, ◌⊎◌, [], false, 
 ghost use Rattle.std.specs.List.Sorted.{IsStrictlySortedBy};
 ghost use Rattle.std.specs.declared.cmp.Ordering.TheVariants.{Less};
 ghost use Rattle.px_table.specs.declared.entry.Entry.{Entry as EntryValue};
-ghost use Rattle.px_table.specs.EntryOrder.{order_of};
+ghost use Rattle.px_table.specs.EntryOrder.{order_of_entries};
 ghost use Rattle.px_terms.specs.Operators.{adds};
 ghost use Rattle.px_terms.specs.Validity.{IsValid};
 ghost use Rattle.px_gaps.specs.Closings.{OneOf};
@@ -29,7 +29,7 @@ use px_terms::{Atom, NoMemory, Problem};
 use std::alloc::Global;
 
 // Alike: `matches_of` of px_entries, whose promise it repeats; these are in order.
-/// The matches of what the operators add with the wanted atoms, in order.
+/// Returns the matches of what the operators add with the wanted atoms, in order.
 fn ordered_matches(
     alloc: Global,
     problem: &Problem,
@@ -43,8 +43,8 @@ fn ordered_matches(
     Ok(matches)
 }
 
-/// The entries of operators that may be pushed for the request. Where it isn't said that they are all, there are enough of them, and all
-/// others that may be pushed come after them.
+/// Returns the entries of operators that may be pushed for the request. Where it isn't said that they are all, there are enough of them,
+/// and all others that may be pushed come after them.
 fn first_operators(asker: &mut Asker, request: &Request, enough: usize) -> Result<First, AskErr>
     requires problem { IsValid request.now.problem.now }
     ensures gathers { IfOk result (λ first. MatchBool first.is_all (GathersEntriesFor request.now IsOperatorEntry [] first.entries.items)
@@ -59,13 +59,13 @@ fn first_operators(asker: &mut Asker, request: &Request, enough: usize) -> Resul
     Ok(First { entries, is_all })
 }
 
-/// The first of the entries that may be pushed for the request.
+/// Returns the first of the entries that may be pushed for the request.
 fn first_for(asker: &mut Asker, request: &Request, enough: usize) -> Result<First, AskErr>
     requires problem { IsValid request.now.problem.now }
     requires tables { AreLearned request.now.problem.now request.now.tables.now }
     requires never { IsNeverLimited request.now.problem.now request.now.tables.now }
     ensures first { IfOk result (λ first. AreFirstEntries request.now enough first.is_all first.entries.items) }
-    ensures order { IfOk result (λ first. IsStrictlySortedBy order_of first.entries.items) }
+    ensures order { IfOk result (λ first. IsStrictlySortedBy order_of_entries first.entries.items) }
     ensures limited { IfLimit result (LimitsFor request.now) }
 {
     let first = first_operators(asker, request, enough)?;
@@ -81,8 +81,8 @@ fn first_for(asker: &mut Asker, request: &Request, enough: usize) -> Result<Firs
     Ok(First { entries, is_all })
 }
 
-/// Returns the first of the entries that [`relevant`](crate::relevant) answers for an empty stack, where no question about an entry is ever
-/// limited: all that may be pushed, or at least `enough` of them, and each other one comes after these.
+/// Returns the first of the entries that [`relevant`](crate::relevant) returns for an empty stack, where no question about an entry is
+/// ever limited: all that may be pushed, or at least `enough` of them, and each other one comes after these.
 ///
 /// # Errors
 /// `NoMemory` if there isn't enough memory.
@@ -99,12 +99,12 @@ pub fn relevant_first(
     requires never { IsNeverLimited problem.now tables.now }
     ensures sound { IfOk result (λ first. (entry : EntryValue) → Contains first.entries.items entry
         → IsPushable problem.now tables.now wanted.now [] model.now.atoms entry) }
-    ensures order { IfOk result (λ first. IsStrictlySortedBy order_of first.entries.items) }
+    ensures order { IfOk result (λ first. IsStrictlySortedBy order_of_entries first.entries.items) }
     ensures all { IfOk result (λ first. IsTrue first.is_all → (entry : EntryValue)
         → IsPushable problem.now tables.now wanted.now [] model.now.atoms entry → Contains first.entries.items entry) }
     ensures enough { IfOk result (λ first. first.is_all ≡ false → enough ≤ length first.entries.items) }
     ensures others { IfOk result (λ first. (entry : EntryValue) → IsPushable problem.now tables.now wanted.now [] model.now.atoms entry
-        → Contains first.entries.items entry ⊎ All (λ kept. order_of kept entry ≡ Less) first.entries.items) }
+        → Contains first.entries.items entry ⊎ All (λ kept. order_of_entries kept entry ≡ Less) first.entries.items) }
 {
     let _facts = model.atoms();
     let mut asker = Asker::new(alloc);

@@ -6,7 +6,7 @@ use px_entries::can_fit;
 use px_terms::{NoMemory, Sequence, Term};
 use std::alloc::Global;
 
-/// How many of the choices can fit the terms, counted no further than the limit.
+/// Returns how many of the choices can fit the terms, counted no further than the limit.
 fn count_fitting(objects: u32, terms: &[Term], choices: &[Sequence<Term>], most: usize) -> usize
     requires long { All (λ (choice : List TermValue). length choice ≡ length terms.now) choices.now }
 {
@@ -25,8 +25,8 @@ fn count_fitting(objects: u32, terms: &[Term], choices: &[Sequence<Term>], most:
 /// Fewer choices than this are few.
 const FEW: usize = 5;
 
-/// The place of the first row with few choices that can fit the terms, or else of one with the fewest, among the rows of these numbers.
-/// None where there is no number.
+/// Returns the place of the first row with few choices that can fit the terms, or else of one with the fewest, among the rows of these
+/// numbers. `None` where there is no number.
 pub fn fewest(
     objects: u32,
     terms: &[Term],
@@ -59,7 +59,7 @@ pub fn fewest(
     Some(least)
 }
 
-/// The numbers below this one, ascending.
+/// Returns the numbers below this one, ascending.
 pub fn numbers_below(alloc: Global, count: usize) -> Result<Vec<usize>, NoMemory>
     ensures { IfOk result (λ numbers. All (λ number. number < count) numbers.items) }
 {
@@ -70,7 +70,7 @@ pub fn numbers_below(alloc: Global, count: usize) -> Result<Vec<usize>, NoMemory
     Ok(numbers)
 }
 
-/// The numbers but the one at this place.
+/// Returns the numbers but the one at this place.
 pub fn without_place(alloc: Global, numbers: &[usize], place: usize) -> Result<Vec<usize>, NoMemory>
     requires { place < length numbers.now }
     ensures { IfOk result (λ others. others.items ≡ take place numbers.now ++ drop (place + 1) numbers.now) }

@@ -14,6 +14,6 @@ pub struct Front<'a> {
     pub table: &'a Table,
     /// How many of its steps there are.
     pub count: u32,
-    /// Do the facts suffice to tell which of its MACROPs are open, so that no question is asked about their rows?
+    /// Whether the facts suffice to decide which of its MACROPs are open, so that no question is asked about their rows.
     pub facts_suffice: bool,
 }

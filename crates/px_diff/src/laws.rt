@@ -2,8 +2,8 @@
 ghost use Rattle.px_diff.specs.Models.{RelevanceOverModels};
 ghost use Rattle.px_diff.specs.Stacks.{RelevanceOverStacks};
 
-/// What is relevant and may be pushed over a stack is what is so over the empty stack, without the stack's entries; and so of
-/// the questions that meet the limit.
+/// What is relevant and may be pushed over a stack is what is so over the empty stack, without the stack's entries. The same holds of the
+/// questions that meet the limit.
 pub fn relevance_over_stacks()
     ensures { RelevanceOverStacks }
 {}

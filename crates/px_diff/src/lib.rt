@@ -2,35 +2,35 @@
 //!
 //! # Calling it
 //!
-//! - [`relevant`] takes wanted atoms, as `gaps` of `px_gaps` answers them, the entries that are on the stack, a world model, and
-//!   the learned tables. It answers the entries that may be pushed, in order, each once: those that aren't on the stack, add a
+//! - [`relevant`] takes wanted atoms, as `gaps` of `px_gaps` gives them, the entries that are on the stack, a world model, and
+//!   the learned tables. It returns the entries that may be pushed, in order, each once: those that aren't on the stack, add a
 //!   wanted atom, and are open, which is to say that each formula that they need has an answer or a gap. An entry is an instance
 //!   of an operator, or a MACROP of a table. The tables have to be learned ones, as for `known_entry` of `px_entries`.
 //! - It has a valid problem as its condition. It stops with `AskErr::ShapeLimit` of `px_gaps` where a question meets the shape
-//!   limit. That has the formula at which it does, which is the question's own or one atom that a gap would close, and the first
+//!   limit. This error has the formula at which it does, which is the question's own or one atom that a gap would close, and the first
 //!   shapes. `relevant` asks, of each entry that isn't on the stack and adds a wanted atom, whether each formula that it needs has
 //!   an answer, and where it has none, for its gaps. An `Ok` says that no question meets the limit. Whether `relevant` meets it
 //!   doesn't depend on the order in which it works.
 //! - Models with the same deciding facts (`deciding_part` of `px_entries`) allow the same pushes ([`relevance_over_models`]).
 //! - A search that has no room for all that may be pushed asks [`relevant_first`]: where no question about an entry is ever limited, it
-//!   answers the first of what `relevant` answers for an empty stack, in the same order: all, or at least as many as are wanted. It
-//!   leaves off after a match of an operator where each instance of a later match comes after all those found, after all operators, or
+//!   returns the first of what `relevant` returns for an empty stack, in the same order: all, or at least as many as are wanted. It
+//!   stops after a match of an operator where each instance of a later match comes after all those found, after all operators, or
 //!   after a number of first steps of a table. It says whether they are all ([`First`]).
-//! - What `relevant` answers with an empty stack serves every stack: what may be pushed over a stack is its list without the
+//! - What `relevant` returns with an empty stack serves every stack: what may be pushed over a stack is its list without the
 //!   stack's entries ([`relevance_over_stacks`]).
 //! - All calls answer `NoMemory` if there isn't enough memory, of which nothing more is said.
-//! - [`relevant_measured`] is `relevant` with a number beside the entries, for benchmarks ([`Measured`]): how often the prover was
+//! - [`relevant_measured`] is `relevant` with a number in addition to the entries, for benchmarks ([`Measured`]): how often the prover was
 //!   asked, but for what is asked of each MACROP by itself. Finding gaps asks it for the gap patterns, and of the atoms that these
 //!   close whether they have a proof. No clause of the call speaks of this number.
 //!
 //! The definitions are in `specs/`: `Pushes` (which entries are relevant, which may be pushed, and where that meets the limit),
-//! `Stacks` and `Models` (the laws). The others serve private functions alone. Laws for callers are in `proofs/`: `Opening` (when an
+//! `Stacks` and `Models` (the laws). Only private functions cite the others. Laws for callers are in `proofs/`: `Opening` (when an
 //! operator's instance is open, and what is asked about it).
 //!
 //! Internally `relevant` matches what operators add with the wanted atoms (`matches_of` of `px_entries`). One question of gaps is
 //! asked for each match. An atom whose predicate some operator adds, and no axiom concludes, is a fact or a gap closes it, so it
 //! never decides whether an instance is open. Where the number of shapes is known to stay below the limit (`Bounds` of `px_gaps`),
-//! the question is therefore about the other atoms of the precondition alone (`rest`). Else it is about the whole precondition.
+//! the question is therefore only about the other atoms of the precondition (`rest`). Else it is about the whole precondition.
 //! Where it meets the limit, the first variable is bound to each object in turn, and each of these narrower matches is asked in
 //! the same way. That ends where a question answers, or where no variable is left.
 //!

@@ -1,5 +1,5 @@
-//! Whether a MACROP is open, told by the facts. Where no axiom mentions a predicate that some operator adds, and the steps delete only
-//! atoms of such predicates, each atom of a row is by itself, and may be asked from the whole model.
+//! Decides by the facts whether a MACROP is open. Where no axiom mentions a predicate that some operator adds, and the steps delete only
+//! atoms of such predicates, each atom of a row is decided by itself, and may be asked from the whole model.
 ghost use Rattle.std.specs.Prelude.{◌↔◌, ◌≤◌, ◌<◌, length, All, IfOk, IfSome, IsTrue, MatchBool};
 ghost use Rattle.px_table.specs.Kernels.{atom_under};
 ghost use Rattle.px_table.specs.Prefixes.{IsMacro};
@@ -16,7 +16,7 @@ use px_ops::{is_addable, schema_of};
 use px_table::{Mark, Table, atom_with};
 use px_terms::{Atom, NoMemory, OpInst, Problem};
 
-/// Does some operator add the predicate of each atom?
+/// Returns whether some operator adds the predicate of each atom.
 fn are_addable(problem: &Problem, atoms: &[Atom]) -> bool
     ensures { IsTrue result ↔ All (IsAddable problem.now) atoms.now }
 {
@@ -28,7 +28,7 @@ fn are_addable(problem: &Problem, atoms: &[Atom]) -> bool
     true
 }
 
-/// Does the step delete only such atoms?
+/// Returns whether the step deletes only atoms whose predicates some operator adds.
 fn deletes_addable(problem: &Problem, step: &OpInst) -> bool
     requires problem { IsValid problem.now }
     requires op { step.now.op < length problem.now.schemas }
@@ -37,7 +37,7 @@ fn deletes_addable(problem: &Problem, step: &OpInst) -> bool
     are_addable(problem, schema_of(problem, step).del.as_slice())
 }
 
-/// Do all steps?
+/// Returns whether each step deletes only atoms that some operator may add.
 fn delete_addable(problem: &Problem, steps: &[OpInst]) -> bool
     requires problem { IsValid problem.now }
     requires steps { All (λ step. step.op < length problem.now.schemas) steps.now }
@@ -51,7 +51,7 @@ fn delete_addable(problem: &Problem, steps: &[OpInst]) -> bool
     true
 }
 
-/// Do the facts suffice to tell which MACROPs of the table are open, so that [`are_settled_marks`] tells it?
+/// Returns whether the facts suffice to decide which MACROPs of the table are open, so that [`are_settled_marks`] decides it.
 pub fn facts_suffice(problem: &Problem, table: &Table) -> bool
     requires problem { IsValid problem.now }
     requires table { IsTable problem.now table.now }
@@ -63,14 +63,15 @@ pub fn facts_suffice(problem: &Problem, table: &Table) -> bool
     delete_addable(problem, table.steps.as_slice())
 }
 
-/// Is the mark one of the first rows that comes from the initial model?
+/// Returns whether the mark is one of the first rows that comes from the initial model.
 fn is_needed(mark: &Mark, prefix: u32) -> bool
     ensures { IsTrue result ↔ IsNeeded prefix mark.now }
 {
     mark.column == 0 && 1 <= mark.row && mark.row <= prefix
 }
 
-/// Is the mark none of those, or its atom one that operators add or that is provable? `None` where asking meets the limit of shapes.
+/// Returns whether the mark isn't one of the first rows from the initial model, or its atom is one that operators add or that is provable.
+/// `None` where asking meets the limit of shapes.
 fn is_settled_mark(front: &Front, sigma: &[u32], mark: &Mark) -> Result<Option<bool>, NoMemory>
     requires front { IsMacroFront front.now }
     requires variables { All (IsVariableBelow (length sigma.now)) mark.now.atom.args }
@@ -91,9 +92,10 @@ fn is_settled_mark(front: &Front, sigma: &[u32], mark: &Mark) -> Result<Option<b
     )
 }
 
-/// Is it so of each mark of the table? Where the facts suffice and no question about an entry is ever limited, that says that the MACROP
-/// with these objects is open. The prover is asked only of atoms that axioms conclude and that are no facts, and takes the whole
-/// model for all rows.
+/// Returns whether each mark that the first rows need of the model before the first step has an atom that operators add or that is
+/// provable; `None` where asking for one meets the limit of shapes. Where the facts suffice and no question about an entry is ever
+/// limited, this says that the MACROP with these objects is open. The prover is asked only about atoms that axioms conclude and that
+/// aren't facts, and takes the whole model for all rows.
 pub fn are_settled_marks(front: &Front, sigma: &[u32]) -> Result<Option<bool>, NoMemory>
     requires front { IsMacroFront front.now }
     requires sigma { IsMacro front.now.request.problem.now front.now.table.now front.now.count sigma.now }

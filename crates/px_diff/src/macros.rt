@@ -9,7 +9,7 @@ ghost use Rattle.px_gaps.specs.Bindings.{IsBinding};
 ghost use Rattle.px_gaps.specs.Closings.{OneOf};
 ghost use Rattle.px_entries.specs.Learned.{AreLearned};
 ghost use Rattle.px_diff.specs.Macros.{GathersEntriesFor, IsMacroFront, IsMacroBy, IsMacroEntry, IsMacroFitting, IsMacroTold, IsOfFront, IsOfTable};
-ghost use Rattle.px_entries.specs.Parameters.{IsMatch};
+ghost use Rattle.px_entries.specs.Parameters.{IsParameterMatch};
 ghost use Rattle.px_gaps.specs.Outcomes.{IfLimit};
 ghost use Rattle.px_diff.specs.Requests.{IsRelevantEntryFor, LimitsFor};
 ghost use Rattle.px_diff.specs.RowQuestions.{AreTableChoices};
@@ -31,7 +31,7 @@ use px_table::{Entry, Table, is_macro};
 use px_terms::{Atom, NoMemory, OpInst, Problem, Sequence, Term};
 use std::alloc::Global;
 
-/// The entry of the first steps with these objects.
+/// Returns the entry of the first steps with these objects.
 fn entry_of(front: &Front, sigma: &[u32]) -> Result<Entry, NoMemory>
     ensures { IfOk result (λ entry. entry ≡ Macro front.now.number front.now.count sigma.now) }
 {
@@ -43,7 +43,7 @@ fn entry_of(front: &Front, sigma: &[u32]) -> Result<Entry, NoMemory>
     })
 }
 
-/// Is the entry of the first steps relevant: not on the stack, and adding one of the wanted atoms?
+/// Returns whether the entry of the first steps is relevant: not on the stack, and adding one of the wanted atoms.
 fn is_relevant_macro(front: &Front, sigma: &[u32], entry: &Entry) -> Result<bool, NoMemory>
     requires front { IsMacroFront front.now }
     requires sigma { IsMacro front.now.request.problem.now front.now.table.now front.now.count sigma.now }
@@ -57,7 +57,7 @@ fn is_relevant_macro(front: &Front, sigma: &[u32], entry: &Entry) -> Result<bool
     Ok(add_wanted(front.request.problem, &steps, front.request.wanted))
 }
 
-/// Adds the relevant entry where it may be pushed, as questions about it tell.
+/// Adds the relevant entry where it may be pushed, as questions about it show.
 fn keep_known(found: &mut Vec<Entry>, front: &Front, entry: Entry) -> Result<(), AskErr>
     requires front { IsMacroFront front.now }
     requires relevant { IsRelevantEntryFor front.now.request entry }
@@ -85,7 +85,7 @@ fn keep_known(found: &mut Vec<Entry>, front: &Front, entry: Entry) -> Result<(),
     }
 }
 
-/// Adds the relevant entry of the first steps with these objects where it may be pushed, as the facts tell, where they suffice.
+/// Adds the relevant entry of the first steps with these objects where it may be pushed, as the facts show, where they suffice.
 fn keep_relevant(
     found: &mut Vec<Entry>,
     front: &Front,
@@ -131,8 +131,8 @@ fn keep_open(found: &mut Vec<Entry>, front: &Front, sigma: &[u32]) -> Result<(),
     keep_relevant(found, front, sigma, entry)
 }
 
-/// Adds those of the entries of the first steps, with the objects that are chosen, that may be pushed. Each call of itself has a
-/// parameter without object less.
+/// Adds those of the entries of the first steps, with the objects that are chosen, that may be pushed. Each recursive call has one
+/// parameter without an object less.
 fn keep_all(found: &mut Vec<Entry>, front: &Front, terms: &[Term]) -> Result<(), AskErr>
     requires front { IsMacroFront front.now }
     requires binding { IsBinding front.now.request.problem.now.objects terms.now }
@@ -154,8 +154,8 @@ fn keep_all(found: &mut Vec<Entry>, front: &Front, terms: &[Term]) -> Result<(),
     Ok(())
 }
 
-/// Adds those whose objects fit one of the choices of each row. Each call of itself chooses from one of the rows of these numbers,
-/// and has a number less. It takes a row of which few choices fit the terms.
+/// Adds those whose objects fit one of the choices of each row. Each recursive call chooses from one of the rows of these numbers, and has
+/// one number less. It takes a row of which few choices fit the terms.
 fn keep_by_rows(
     found: &mut Vec<Entry>,
     front: &Front,
@@ -214,7 +214,7 @@ fn keep_listed(
     matches: &[Sequence<Term>],
 ) -> Result<(), AskErr>
     requires front { IsMacroFront front.now }
-    requires matches { All (IsMatch front.now.request.problem.now.objects front.now.table.now.params) matches.now }
+    requires matches { All (IsParameterMatch front.now.request.problem.now.objects front.now.table.now.params) matches.now }
     ensures gathers { OnOk result (GathersEntriesFor front.now.request
         (λ entry. OneOf matches.now (λ (terms : List TermValue). IsMacroBy front.now.request.problem.now.objects front.now.number
         front.now.count terms entry)) found.old.items found.new.items) }
@@ -260,7 +260,7 @@ fn keep_matches(
     limited: &[Sequence<Sequence<Term>>],
 ) -> Result<(), AskErr>
     requires front { IsMacroFront front.now }
-    requires matches { All (IsMatch front.now.request.problem.now.objects front.now.table.now.params) matches.now }
+    requires matches { All (IsParameterMatch front.now.request.problem.now.objects front.now.table.now.params) matches.now }
     requires rows { All (All (λ (choice : List TermValue). length choice ≡ front.now.table.now.params)) rows.now }
     requires limited { All (All (λ (choice : List TermValue). length choice ≡ front.now.table.now.params)) limited.now }
     ensures gathers { OnOk result (GathersEntriesFor front.now.request
@@ -274,8 +274,8 @@ fn keep_matches(
     Ok(())
 }
 
-/// Adds those of all entries of the first steps that may be pushed. The rows are what questions about the whole table told, where
-/// no parameter had an object; without them each entry is tried by itself.
+/// Adds those of all entries of the first steps that may be pushed. The rows are what questions about the whole table gave, where no
+/// parameter had an object; without them each entry is tried by itself.
 pub fn gather_front(
     found: &mut Vec<Entry>,
     front: &Front,
@@ -308,7 +308,7 @@ pub fn gather_front(
     }
 }
 
-/// Does one of the steps by itself have a match?
+/// Returns whether one of the steps by itself has a match.
 fn one_matches(
     alloc: Global,
     problem: &Problem,
@@ -330,8 +330,8 @@ fn one_matches(
     Ok(false)
 }
 
-/// What is known of all rows of the table, where no parameter has an object yet. None where the problem has no object, where the
-/// table has more parameters than a question has variables, and where none of its steps adds a wanted atom.
+/// Returns what is known of all rows of the table, where no parameter has an object yet. `None` where the problem has no object, where the
+/// table has more parameters than a question may have variables, and where none of its steps adds a wanted atom.
 pub fn choices_of_table(
     asker: &mut Asker,
     request: &Request,

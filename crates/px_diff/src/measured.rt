@@ -1,7 +1,7 @@
-//! What `relevant` answers, with the number of questions that it took.
+//! What `relevant` returns, with the number of questions that it took.
 use px_table::Entry;
 
-/// The entries that `relevant` answers, and how many questions that took.
+/// The entries that `relevant` returns, and how many questions that took.
 #[derive(Drop)]
 pub struct Measured {
     /// The entries that may be pushed, in order, each once.

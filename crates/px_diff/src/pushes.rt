@@ -7,7 +7,7 @@ ghost use Rattle.px_question.specs.Settings.{setting_of};
 ghost use Rattle.px_question.specs.Gaps.{MeetsGapLimit};
 ghost use Rattle.px_table.specs.declared.entry.Entry.{Entry};
 ghost use Rattle.px_table.specs.declared.entry.Entry.TheVariants.{Op};
-ghost use Rattle.px_table.specs.EntryOrder.{order_of};
+ghost use Rattle.px_table.specs.EntryOrder.{order_of_entries};
 ghost use Rattle.px_terms.specs.declared.instance.OpInst.{OpInst};
 ghost use Rattle.px_terms.specs.Operators.{precondition};
 ghost use Rattle.px_terms.specs.Validity.{IsValid, IsInstanceOf};
@@ -91,7 +91,7 @@ fn keep_relevant(
     push(found, inst)
 }
 
-/// The same with each of the choices of objects.
+/// Adds the instance with each of the choices of objects, where it is relevant.
 fn keep_choices(
     found: &mut Vec<OpInst>,
     request: &Request,
@@ -132,9 +132,9 @@ fn keep_open(
     keep_choices(found, request, partial, &choices)
 }
 
-/// Adds the instances that the partial one stands for and that may be pushed: by one question, about the rest of what it needs
-/// or about all of it, where this answers all of them, else in the same way for each object that its first variable may be.
-/// Each call of itself has a variable less.
+/// Adds the instances that the partial one stands for and that may be pushed: by one question, about the rest of what it needs or about
+/// all of it, where this decides all of them, else in the same way for each object that its first variable may be. Each recursive call has
+/// one variable less.
 pub fn gather(
     asker: &mut Asker,
     found: &mut Vec<OpInst>,
@@ -202,7 +202,7 @@ fn gather_matches(
     Ok(())
 }
 
-/// The entries of the instances.
+/// Returns the entries of the instances.
 pub fn entries_of(alloc: Global, insts: &[OpInst]) -> Result<Vec<Entry>, NoMemory>
     ensures { IfOk result (λ entries. entries.items ≡ map Op insts.now) }
 {
@@ -216,18 +216,18 @@ pub fn entries_of(alloc: Global, insts: &[OpInst]) -> Result<Vec<Entry>, NoMemor
 /// Puts the entries in order, each once.
 pub fn order(found: &mut Vec<Entry>)
     ensures members { (entry : Entry) → Contains found.new.items entry ↔ Contains found.old.items entry }
-    ensures ordered { IsStrictlySortedBy order_of found.new.items }
+    ensures ordered { IsStrictlySortedBy order_of_entries found.new.items }
 {
     found.sort_unstable();
     found.dedup();
 }
 
-/// The entries that may be pushed for the request.
+/// Returns the entries that may be pushed for the request.
 fn pushable_for(asker: &mut Asker, request: &Request) -> Result<Vec<Entry>, AskErr>
     requires problem { IsValid request.now.problem.now }
     requires tables { AreLearned request.now.problem.now request.now.tables.now }
     ensures exact { IfOk result (λ entries. (entry : Entry) → Contains entries.items entry ↔ IsPushableFor request.now entry) }
-    ensures order { IfOk result (λ entries. IsStrictlySortedBy order_of entries.items) }
+    ensures order { IfOk result (λ entries. IsStrictlySortedBy order_of_entries entries.items) }
     ensures unlimited { IfOk result (λ entries. AreUnlimitedFor request.now) }
     ensures below { IfOk result (λ entries. AreBelowFor request.now) }
     ensures limited { IfLimit result (LimitsFor request.now) }
@@ -242,7 +242,7 @@ fn pushable_for(asker: &mut Asker, request: &Request) -> Result<Vec<Entry>, AskE
     Ok(entries)
 }
 
-// `relevant` promises the same of the entries alone.
+// `relevant` promises the same, but only of the entries.
 /// Returns what `relevant` does, with the number of questions that it asks the prover. The number is measured: it begins with 0,
 /// and the clause `counted` of each of the two private methods that ask (`Asker::gap_patterns` and `Asker::prove`) says that
 /// it asks one more, up to the greatest number of 64 bits. What is asked of each MACROP by itself isn't counted. No clause of this
@@ -262,7 +262,7 @@ pub fn relevant_measured(
     requires tables { AreLearned problem.now tables.now }
     ensures exact { IfOk result (λ measured. (entry : Entry) → Contains measured.entries.items entry
         ↔ IsPushable problem.now tables.now wanted.now stack.now model.now.atoms entry) }
-    ensures order { IfOk result (λ measured. IsStrictlySortedBy order_of measured.entries.items) }
+    ensures order { IfOk result (λ measured. IsStrictlySortedBy order_of_entries measured.entries.items) }
     ensures unlimited { IfOk result (λ measured. (entry : Entry) → IsRelevant problem.now tables.now wanted.now stack.now entry
         → AreUnlimited problem.now (obligations_of problem.now tables.now model.now.atoms entry)) }
     ensures below { IfOk result (λ measured. (entry : Entry) → IsRelevant problem.now tables.now wanted.now stack.now entry
@@ -293,7 +293,7 @@ pub fn relevant_measured(
 ///
 /// # Errors
 /// `ShapeLimit` where a question about an entry that isn't on the stack and adds a wanted atom meets the limit: proving
-/// what it needs, or where that has no answer finding its gaps. `NoMemory` if there isn't enough memory.
+/// what it needs, or, where that has no answer, finding its gaps. `NoMemory` if there isn't enough memory.
 pub fn relevant(
     alloc: Global,
     problem: &Problem,
@@ -306,7 +306,7 @@ pub fn relevant(
     requires tables { AreLearned problem.now tables.now }
     ensures exact { IfOk result (λ entries. (entry : Entry) → Contains entries.items entry
         ↔ IsPushable problem.now tables.now wanted.now stack.now model.now.atoms entry) }
-    ensures order { IfOk result (λ entries. IsStrictlySortedBy order_of entries.items) }
+    ensures order { IfOk result (λ entries. IsStrictlySortedBy order_of_entries entries.items) }
     ensures unlimited { IfOk result (λ entries. (entry : Entry) → IsRelevant problem.now tables.now wanted.now stack.now entry
         → AreUnlimited problem.now (obligations_of problem.now tables.now model.now.atoms entry)) }
     ensures below { IfOk result (λ entries. (entry : Entry) → IsRelevant problem.now tables.now wanted.now stack.now entry

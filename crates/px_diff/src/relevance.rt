@@ -8,14 +8,14 @@ use px_entries::add_wanted;
 use px_table::Entry;
 use px_terms::OpInst;
 
-/// Is the entry on the stack?
+/// Returns whether the entry is on the stack.
 pub fn is_stacked(stack: &[Entry], entry: &Entry) -> bool
     ensures { IsTrue result ↔ Contains stack.now entry.now }
 {
     stack.contains(entry)
 }
 
-/// Is the instance relevant: not on the stack, and adding one of the wanted atoms?
+/// Returns whether the instance is relevant: not on the stack, and adding one of the wanted atoms.
 pub fn is_relevant(request: &Request, inst: &OpInst) -> bool
     requires problem { IsValid request.now.problem.now }
     requires inst { IsInstanceOf request.now.problem.now inst.now }

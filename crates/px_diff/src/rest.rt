@@ -11,14 +11,14 @@ use px_ops::is_addable;
 use px_terms::{Atom, NoMemory, Problem};
 use std::alloc::Global;
 
-/// Does some operator add the atom's predicate, and no axiom conclude it?
+/// Returns whether some operator adds the atom's predicate, and no axiom concludes it.
 fn is_only_added(problem: &Problem, atom: &Atom) -> bool
     ensures { IsTrue result ↔ IsOnlyAdded problem.now atom.now }
 {
     is_addable(problem, atom) && !is_concluded(problem, atom.pred())
 }
 
-/// The other atoms of the formula.
+/// Returns the other atoms of the formula.
 fn rest_of(alloc: Global, problem: &Problem, formula: &[Atom]) -> Result<Vec<Atom>, NoMemory>
     ensures { IfOk result (λ rest. IsRest problem.now formula.now rest.items) }
 {
@@ -31,8 +31,8 @@ fn rest_of(alloc: Global, problem: &Problem, formula: &[Atom]) -> Result<Vec<Ato
     Ok(rest)
 }
 
-/// Returns what one question of gaps tells of the formula's rest, where that tells which of its instances are open: where none of
-/// them has too many shapes, and the question stays below the limit.
+/// Returns what one question of gaps says of the formula's rest, where that decides which of its instances are open: where none of them
+/// has too many shapes, and the question stays below the limit.
 pub fn rest_answer(
     asker: &mut Asker,
     request: &Request,

@@ -1,7 +1,7 @@
-//! What the questions about the rows of a table tell.
+//! What the questions about the rows of a table say.
 use px_terms::{Sequence, Term};
 
-/// What the questions about one row tell.
+/// What the questions about one row say.
 #[derive(Drop)]
 pub struct RowChoices {
     /// Choices of terms for the parameters.
@@ -10,7 +10,7 @@ pub struct RowChoices {
     pub limited: Sequence<Sequence<Term>>,
 }
 
-/// What the questions about all rows of a table tell.
+/// What the questions about all rows of a table say.
 #[derive(Drop)]
 pub struct TableChoices {
     /// The choices of terms for the parameters, row by row.

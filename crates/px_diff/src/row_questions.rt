@@ -1,9 +1,9 @@
 //! Questions of gaps about the rows of a table whose parameters have objects in part.
 //!
-//! Each row is asked from the whole model, with a variable for each parameter that has no object. A MACROP's row is proved from
-//! what the steps before leave of the model, so it has no more shapes than that. What is provable from the whole model says
-//! nothing about it, though; so the gaps of the answer are taken as they are, and of each atom that a gap closes it is asked how
-//! many unfinished proofs it has in all.
+//! Each row is asked from the whole model, with a variable for each parameter that has no object. A MACROP's row is proved from what the
+//! steps before leave of the model, so it has no more shapes than that. But what is provable from the whole model says nothing about it;
+//! so the gaps of the answer are taken as they are, and for each atom that a gap closes the prover is asked how many unfinished proofs it
+//! has in all.
 //!
 //! Where a question meets the limit, a parameter of the row is bound to each object in turn, and each of these narrower rows is
 //! asked in the same way. Where each parameter of the row has an object and a question still meets the limit, the terms are kept
@@ -16,10 +16,10 @@ ghost use Rattle.px_question.specs.Settings.{setting_of};
 ghost use Rattle.px_terms.specs.Validity.{IsAtomOf, IsValid};
 ghost use Rattle.px_terms.specs.declared.term.Term.{Term as TermValue};
 ghost use Rattle.px_terms.specs.declared.term.Term.TheVariants.{Var};
-ghost use Rattle.px_gaps.specs.Bindings.{Extends, IsBinding, IsPlain};
+ghost use Rattle.px_gaps.specs.Bindings.{ExtendsTerms, IsBinding, IsPlain};
 ghost use Rattle.px_gaps.specs.Closings.{OneOf};
 ghost use Rattle.px_gaps.specs.Forms.{IsForm};
-ghost use Rattle.px_entries.specs.Parameters.{Fits};
+ghost use Rattle.px_entries.specs.Parameters.{FitsTerms};
 ghost use Rattle.px_diff.specs.RowQuestions.{AreAskedOf, AreInstancesKnown, AreRowsKnown, CanAskRows, FitsOne, IsRowAnswer, IsRowKnown, Widens};
 
 use crate::row_choices::{RowChoices, TableChoices};
@@ -32,7 +32,7 @@ use px_table::Table;
 use px_terms::{Atom, NoMemory, Problem, Sequence, Term};
 use std::alloc::Global;
 
-/// A row of a table, of which it is asked what a world model tells.
+/// A row of a table, about which a world model is asked.
 #[derive(Clone, Copy)]
 struct RowQuestion<'a> {
     problem: &'a Problem,
@@ -41,7 +41,7 @@ struct RowQuestion<'a> {
     row: u32,
 }
 
-/// Is it known by one question that fewer unfinished gap proofs of each instance of the form exist than the limit?
+/// Returns whether one question shows that fewer unfinished gap proofs of each instance of the form exist than the limit.
 fn has_few(
     asker: &mut Asker,
     problem: &Problem,
@@ -61,7 +61,7 @@ fn has_few(
     }
 }
 
-/// Is it known of each?
+/// Returns whether one question about each form shows that fewer unfinished gap proofs of each of its instances exist than the limit.
 fn have_few(
     asker: &mut Asker,
     problem: &Problem,
@@ -81,7 +81,8 @@ fn have_few(
     Ok(true)
 }
 
-/// The gap patterns of the formula, where finding them stays below the limit, and so does finding those of each atom that they close.
+/// Returns the gap patterns of the formula, where finding them stays below the limit, and so does finding those of each atom that they
+/// close.
 fn ask_row(
     asker: &mut Asker,
     problem: &Problem,
@@ -109,7 +110,7 @@ fn ask_row(
     }
 }
 
-/// Is the second term the first one, where that is an object?
+/// Returns whether the second term is the first one, where that is an object.
 fn keeps_object(wide: Term, narrow: Term) -> bool
     ensures { IsTrue result → (n : ℕ) → wide ≡ Term.Obj n → narrow ≡ Term.Obj n }
 {
@@ -119,10 +120,10 @@ fn keeps_object(wide: Term, narrow: Term) -> bool
     }
 }
 
-/// Has the second of the terms each object of the first?
+/// Returns whether the second terms have each object of the first, at the same place.
 fn is_wider(wide: &[Term], narrow: &[Term]) -> bool
     requires { length narrow.now ≡ length wide.now }
-    ensures { IsTrue result → (sigma : List ℕ) → Fits narrow.now sigma → Fits wide.now sigma }
+    ensures { IsTrue result → (sigma : List ℕ) → FitsTerms narrow.now sigma → FitsTerms wide.now sigma }
 {
     for place in 0..wide.len() {
         if !keeps_object(wide[place], narrow[place]) {
@@ -132,10 +133,10 @@ fn is_wider(wide: &[Term], narrow: &[Term]) -> bool
     true
 }
 
-/// Do all objects that fit the terms fit one of the choices?
+/// Returns whether all objects that fit the terms fit one of the choices.
 fn is_covered(choices: &[Sequence<Term>], terms: &[Term]) -> bool
     requires { All (λ (choice : List TermValue). length choice ≡ length terms.now) choices.now }
-    ensures { IsTrue result → (sigma : List ℕ) → Fits terms.now sigma → FitsOne choices.now sigma }
+    ensures { IsTrue result → (sigma : List ℕ) → FitsTerms terms.now sigma → FitsOne choices.now sigma }
 {
     for choice in choices {
         if is_wider(choice.as_slice(), terms) {
@@ -145,7 +146,7 @@ fn is_covered(choices: &[Sequence<Term>], terms: &[Term]) -> bool
     false
 }
 
-/// Puts the terms last among the choices, unless one of the last ones covers them.
+/// Appends the terms to the choices, unless one of the last ones covers them.
 fn push_choice(
     choices: &mut Vec<Sequence<Term>>,
     alloc: Global,
@@ -154,7 +155,7 @@ fn push_choice(
     requires { All (λ (choice : List TermValue). length choice ≡ length terms.now) choices.old.items }
     ensures long { OnOk result (All (λ (choice : List TermValue). length choice ≡ length terms.now) choices.new.items) }
     ensures kept { OnOk result ((sigma : List ℕ) → FitsOne choices.old.items sigma → FitsOne choices.new.items sigma) }
-    ensures covers { OnOk result ((sigma : List ℕ) → Fits terms.now sigma → FitsOne choices.new.items sigma) }
+    ensures covers { OnOk result ((sigma : List ℕ) → FitsTerms terms.now sigma → FitsOne choices.new.items sigma) }
 {
     let last = choices.len().saturating_sub(32);
     if is_covered(&choices[last..], terms) {
@@ -164,7 +165,7 @@ fn push_choice(
     push(choices, choice)
 }
 
-/// Puts the terms with the objects of the pattern beside their own last among the choices, where some objects fit both.
+/// Appends the terms, with the objects of the pattern besides their own, to the choices, where some objects fit both.
 fn push_offer(
     choices: &mut Vec<Sequence<Term>>,
     alloc: Global,
@@ -175,7 +176,7 @@ fn push_offer(
     requires long { length offer.now ≡ length terms.now }
     requires choices { All (λ (choice : List TermValue). length choice ≡ length terms.now) choices.old.items }
     ensures widens { OnOk result (Widens (length terms.now) choices.old.items choices.new.items) }
-    ensures covers { OnOk result ((sigma : List ℕ) → Extends limit terms.now sigma → Fits offer.now sigma
+    ensures covers { OnOk result ((sigma : List ℕ) → ExtendsTerms limit terms.now sigma → FitsTerms offer.now sigma
         → FitsOne choices.new.items sigma) }
 {
     let found = merged(alloc, limit, terms, offer)?;
@@ -185,8 +186,8 @@ fn push_offer(
     }
 }
 
-/// Puts the terms with the objects that each pattern has last among the choices, which then cover each other as little as may be:
-/// a pattern that gaps close comes last, and is mostly the widest.
+/// Appends the terms with the objects that each pattern has to the choices, which then cover each other as little as possible: a pattern
+/// that gaps close comes last, and is mostly the widest.
 fn push_offers(
     choices: &mut Vec<Sequence<Term>>,
     alloc: Global,
@@ -197,8 +198,8 @@ fn push_offers(
     requires long { All (λ (pattern : PatternValue). length pattern.terms ≡ length terms.now) patterns.now }
     requires choices { All (λ (choice : List TermValue). length choice ≡ length terms.now) choices.old.items }
     ensures widens { OnOk result (Widens (length terms.now) choices.old.items choices.new.items) }
-    ensures covers { OnOk result ((sigma : List ℕ) → Extends limit terms.now sigma
-        → OneOf patterns.now (λ (pattern : PatternValue). Fits pattern.terms sigma) → FitsOne choices.new.items sigma) }
+    ensures covers { OnOk result ((sigma : List ℕ) → ExtendsTerms limit terms.now sigma
+        → OneOf patterns.now (λ (pattern : PatternValue). FitsTerms pattern.terms sigma) → FitsOne choices.new.items sigma) }
 {
     for passed in 0..patterns.len() {
         let place = patterns.len() - passed - 1;
@@ -213,7 +214,7 @@ fn push_offers(
     Ok(())
 }
 
-/// The first parameter without object in what the row takes from the initial model.
+/// Returns the first parameter without an object in what the row takes from the initial model.
 fn open_parameter(table: &Table, terms: &[Term], row: u32) -> Option<u32>
     requires marks { All (λ mark. IsPlain (length terms.now) mark.atom) table.now.marks }
     requires binding { (limit : ℕ) × IsBinding limit terms.now }
@@ -230,7 +231,7 @@ fn open_parameter(table: &Table, terms: &[Term], row: u32) -> Option<u32>
     None
 }
 
-/// Adds the choices of objects for a row, where no question about it meets the limit. Says whether that is so.
+/// Adds the choices of objects for a row, where no question about it meets the limit. Returns whether none does.
 fn ask_choices(
     asker: &mut Asker,
     choices: &mut Vec<Sequence<Term>>,
@@ -242,7 +243,7 @@ fn ask_choices(
     ensures widens { OnOk result (Widens question.now.table.now.params choices.old.items choices.new.items) }
     ensures known { IfOk result (λ is_known. IsTrue is_known → AreInstancesKnown
         (setting_of question.now.problem.now question.now.model.now.atoms) question.now.table.now question.now.row
-        (Extends question.now.problem.now.objects terms.now) choices.new.items) }
+        (ExtendsTerms question.now.problem.now.objects terms.now) choices.new.items) }
 {
     let table = question.table;
     let formula = row_formula(asker.alloc, table, terms, question.row)?;
@@ -268,8 +269,8 @@ fn ask_choices(
     }
 }
 
-/// Adds what is known of the row with the objects that are chosen: choices for the parameters, and terms at which it meets the
-/// limit. Each call of itself has a parameter without object less.
+/// Adds what is known of the row with the objects that are chosen: choices for the parameters, and terms at which it meets the limit. Each
+/// recursive call has one parameter without an object less.
 fn add_choices(
     asker: &mut Asker,
     choices: &mut Vec<Sequence<Term>>,
@@ -282,7 +283,7 @@ fn add_choices(
     ensures choices { OnOk result (Widens question.now.table.now.params choices.old.items choices.new.items) }
     ensures limited { OnOk result (Widens question.now.table.now.params limited.old.items limited.new.items) }
     ensures known { OnOk result (AreAskedOf (setting_of question.now.problem.now question.now.model.now.atoms) question.now.table.now
-        question.now.row (Extends question.now.problem.now.objects terms.now) choices.new.items limited.new.items) }
+        question.now.row (ExtendsTerms question.now.problem.now.objects terms.now) choices.new.items limited.new.items) }
 {
     if ask_choices(asker, choices, question, terms)? {
         return Ok(());
@@ -301,7 +302,7 @@ fn add_choices(
     Ok(())
 }
 
-/// What is known of the row with the objects that are chosen.
+/// Returns what is known of the row with the objects that are chosen.
 fn choices_of_row(
     asker: &mut Asker,
     question: &RowQuestion,
@@ -320,7 +321,7 @@ fn choices_of_row(
     })
 }
 
-/// What is known of the table's rows with the objects that are chosen.
+/// Returns what is known of the table's rows with the objects that are chosen.
 pub fn choices_of_rows(
     asker: &mut Asker,
     problem: &Problem,

@@ -8,7 +8,7 @@ use std::process::Abort;
 use std::rt::HostRuntime;
 use std::test::Fail;
 
-/// Is it known that the formula has few shapes?
+/// Returns whether it is known that the formula has few shapes.
 fn has_few(
     alloc: Global,
     rt: &impl Abort,
@@ -38,7 +38,7 @@ fn pushing_a_box_has_nineteen_shapes(rt: HostRuntime) -> Result<(), Fail> {
     Ok(())
 }
 
-/// The atom doesn't tell the middle of two steps of a transitive relation.
+/// The atom doesn't determine the middle of two steps of a transitive relation.
 #[test]
 fn a_transitive_axiom_has_no_bound(rt: HostRuntime) -> Result<(), Fail> {
     let alloc = rt.alloc();

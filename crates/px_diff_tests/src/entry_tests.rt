@@ -15,7 +15,7 @@ use std::alloc::Global;
 use std::process::Abort;
 use std::rt::HostRuntime;
 
-/// What is known of an entry, of which it is seen that it is one.
+/// Returns what is known of an entry, after checking that it is one.
 fn entry_known(
     alloc: Global,
     rt: &impl Abort,
@@ -78,7 +78,7 @@ fn a_row_is_asked_from_what_is_left(rt: HostRuntime) {
     assert!(&rt; matches!(&known, Known::Applicable));
 }
 
-/// The initial facts of a row under objects, of which it is seen that they are enough.
+/// Returns the initial facts of a row under objects, after checking that they are enough.
 fn initial_under(
     alloc: Global,
     rt: &impl Abort,
@@ -94,7 +94,7 @@ fn initial_under(
     initial_of(alloc, table, sigma, row).expect(rt, "memory")
 }
 
-/// What an instance leaves, of which it is seen that it is one.
+/// Returns what an instance leaves, after checking that it is one.
 fn left_by(
     alloc: Global,
     rt: &impl Abort,
@@ -107,7 +107,7 @@ fn left_by(
     left_of(alloc, problem, facts, inst).expect(rt, "memory")
 }
 
-/// The step at the place under objects, of which it is seen that they are enough.
+/// Returns the step at the place under objects, after checking that they are enough.
 fn step_at(rt: &impl Abort, table: &Table, sigma: &[u32], place: u32) -> OpInst {
     let steps = table.steps.as_slice();
     let are_enough = steps
@@ -117,7 +117,7 @@ fn step_at(rt: &impl Abort, table: &Table, sigma: &[u32], place: u32) -> OpInst 
     step_under(table, sigma, place)
 }
 
-/// The use of thing 1 needs that it is here, and what the step before adds is no fact of the beginning. Taking a thing leaves the
+/// The use of thing 1 needs this thing to be here, and what the step before adds is no fact of the beginning. Taking a thing leaves the
 /// others here, and what is taken isn't added.
 #[test]
 fn rows_and_steps_under_objects(rt: HostRuntime) {

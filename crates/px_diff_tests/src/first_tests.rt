@@ -11,7 +11,7 @@ use std::process::Abort;
 use std::rt::HostRuntime;
 use std::test::Fail;
 
-/// The first entries, where one is enough.
+/// Returns the first entries, where one is enough.
 fn firsts_of(
     alloc: Global,
     rt: &impl Abort,

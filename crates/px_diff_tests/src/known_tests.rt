@@ -10,7 +10,7 @@ use std::alloc::Global;
 use std::process::Abort;
 use std::rt::HostRuntime;
 
-/// What is tried of a formula without variables, of which it is seen that it is one of the problem.
+/// Returns what trying a formula without variables gives, after checking that it is one of the problem.
 fn tried_of(
     alloc: Global,
     rt: &impl Abort,
@@ -22,7 +22,7 @@ fn tried_of(
     try_formula(alloc, problem, formula, 0, model).expect(rt, "memory")
 }
 
-/// What is known of such a formula, where it is seen that it has no answer.
+/// Returns what is known of such a formula, where it is shown that it has no answer.
 fn known_of(
     alloc: Global,
     rt: &impl Abort,
@@ -44,7 +44,7 @@ fn known_of(
     }
 }
 
-/// Is it open with these gaps?
+/// Returns whether it is open with these gaps.
 pub fn is_open_with(known: &Known, wanted: &[Atom]) -> bool {
     match known {
         Known::Open(gaps) => gaps.as_slice() == wanted,
@@ -52,7 +52,7 @@ pub fn is_open_with(known: &Known, wanted: &[Atom]) -> bool {
     }
 }
 
-/// Is the limit met at this formula, by this many shapes?
+/// Returns whether the limit is met at this formula, by this many shapes.
 pub fn is_limited_at(known: &Known, wanted: &[Atom], count: usize) -> bool {
     match known {
         Known::Limited { formula, shapes } => formula.as_slice() == wanted && shapes.len() == count,

@@ -1,5 +1,5 @@
-//! Tests of `px_gaps`, `px_entries` and `px_diff`: they stand apart from the crates that they try, since a crate with tests is
-//! proved twice.
+//! Tests of `px_gaps`, `px_entries` and `px_diff`: they stand apart from the crates that they test, since a crate with tests is proved
+//! twice.
 #![tactic(auto)]
 
 #[cfg(test)]

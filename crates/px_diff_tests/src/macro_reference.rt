@@ -19,7 +19,7 @@ fn schema_at<'a>(rt: &impl Abort, problem: &'a Problem, step: &OpInst) -> &'a Sc
         .expect(rt, "an operator of the problem")
 }
 
-/// Is the atom the pattern with objects for its wild cards?
+/// Returns whether the atom is the pattern with objects for its wild cards.
 fn fits(pattern: &Atom, atom: &Atom) -> bool {
     let terms = pattern.args();
     let objects = atom.args();
@@ -34,7 +34,7 @@ fn fits(pattern: &Atom, atom: &Atom) -> bool {
     true
 }
 
-/// Does one of the steps delete the atom?
+/// Returns whether one of the steps deletes the atom.
 fn is_deleted(rt: &impl Abort, problem: &Problem, steps: &[OpInst], atom: &Atom) -> bool {
     for step in steps {
         for pattern in schema_at(rt, problem, step).del.as_slice() {
@@ -46,7 +46,7 @@ fn is_deleted(rt: &impl Abort, problem: &Problem, steps: &[OpInst], atom: &Atom)
     false
 }
 
-/// Do the steps add a wanted atom, and no later one deletes it?
+/// Returns whether the steps add a wanted atom, and no later one deletes it.
 fn add_wanted(rt: &impl Abort, problem: &Problem, steps: &[OpInst], wanted: &[Atom]) -> bool {
     for (k, step) in steps.iter().enumerate() {
         for pattern in schema_at(rt, problem, step).add.as_slice() {
@@ -59,14 +59,14 @@ fn add_wanted(rt: &impl Abort, problem: &Problem, steps: &[OpInst], wanted: &[At
     false
 }
 
-/// The first steps of the table.
+/// Returns the first steps of the table.
 fn first_steps(table: &Table, prefix: u32) -> &[OpInst] {
     let steps = table.steps.as_slice();
     let taken = (prefix as usize).min(steps.len());
     &steps[..taken]
 }
 
-/// Does the parameter of that number stand in the first steps, or in the marks of their rows?
+/// Returns whether the parameter of that number stands in the first steps, or in the marks of their rows.
 fn occurs(table: &Table, prefix: u32, number: u32) -> bool {
     let parameter = Term::Var(number);
     for step in first_steps(table, prefix) {
@@ -82,7 +82,7 @@ fn occurs(table: &Table, prefix: u32, number: u32) -> bool {
     false
 }
 
-/// Has each parameter that doesn't occur object 0?
+/// Returns whether each parameter that doesn't occur has object 0.
 fn are_zero(table: &Table, prefix: u32, terms: &[Term]) -> bool {
     let mut number = 0u32;
     for term in terms {
@@ -94,7 +94,7 @@ fn are_zero(table: &Table, prefix: u32, terms: &[Term]) -> bool {
     true
 }
 
-/// The first steps with these terms for the parameters.
+/// Returns the first steps with these terms for the parameters.
 fn steps_under(
     alloc: Global,
     rt: &impl Abort,
@@ -110,7 +110,7 @@ fn steps_under(
     steps
 }
 
-/// Does no step delete a mark that it stands between?
+/// Returns whether no step deletes a mark that it stands between.
 fn are_kept(
     rt: &impl Abort,
     problem: &Problem,
@@ -131,7 +131,7 @@ fn are_kept(
     true
 }
 
-/// What these steps leave of the model.
+/// Returns what these steps leave of the model.
 fn left_by(alloc: Global, rt: &impl Abort, case: &Case, steps: &[OpInst]) -> Model {
     let mut left = Model::new(alloc);
     for atom in case.model.atoms() {
@@ -142,7 +142,7 @@ fn left_by(alloc: Global, rt: &impl Abort, case: &Case, steps: &[OpInst]) -> Mod
     left
 }
 
-/// What the row takes from the initial model.
+/// Returns what the row takes from the initial model.
 fn row_of(alloc: Global, rt: &impl Abort, table: &Table, row: usize, terms: &[Term]) -> Vec<Atom> {
     let mut atoms = Vec::new(alloc);
     for mark in table.marks.as_slice() {
@@ -153,7 +153,7 @@ fn row_of(alloc: Global, rt: &impl Abort, table: &Table, row: usize, terms: &[Te
     atoms
 }
 
-/// Has each row an answer or a gap? Of no use where a limit is met.
+/// Returns whether each row has an answer or a gap. Of no use where a limit is met.
 fn are_open(
     alloc: Global,
     rt: &impl Abort,
@@ -173,7 +173,7 @@ fn are_open(
     all
 }
 
-/// The entry of the table's first steps with these objects for the parameters.
+/// Returns the entry of the table's first steps with these objects for the parameters.
 fn entry_of(alloc: Global, rt: &impl Abort, number: u32, prefix: u32, terms: &[Term]) -> Entry {
     let mut sigma = Vec::new(alloc);
     for term in terms {

@@ -12,7 +12,7 @@ use std::alloc::Global;
 use std::process::Abort;
 use std::rt::HostRuntime;
 
-/// The entry of the first table's first two steps.
+/// Returns the entry of the first table's first two steps.
 fn two_of(alloc: Global, rt: &impl Abort, sigma: &[u32]) -> Entry {
     Entry::Macro {
         number: 0,

@@ -1,4 +1,4 @@
-//! What is told of operators by facts is what the prover tells of them.
+//! The facts and the prover give the same answers about operators.
 ghost use Rattle.std.specs.Prelude.{◌≤◌, length};
 
 use crate::known_tests::is_open_with;
@@ -13,7 +13,7 @@ use std::process::Abort;
 use std::rt::HostRuntime;
 use std::test::Fail;
 
-/// Are both the same, and neither that a question is limited?
+/// Returns whether both are the same, and neither is that a question is limited.
 fn are_alike(known: &Known, other: &Known) -> bool {
     match known {
         Known::Applicable => matches!(other, Known::Applicable),
@@ -26,7 +26,7 @@ fn are_alike(known: &Known, other: &Known) -> bool {
     }
 }
 
-/// What the prover tells of the operator with these terms. Where no question is ever limited, facts have to tell the same.
+/// Returns what the prover says of the operator with these terms. Where no question is ever limited, the facts have to say the same.
 fn told_alike(
     alloc: Global,
     rt: &impl Abort,

@@ -19,7 +19,7 @@ use px_terms::{
 use std::alloc::Global;
 use std::process::Abort;
 
-/// A case in which it is asked what may be pushed: of the plain program, and of `relevant`.
+/// A case in which it is asked what may be pushed: the plain program is asked, and `relevant`.
 #[derive(Clone, Copy)]
 pub struct Case<'a> {
     pub problem: &'a Problem,
@@ -29,7 +29,7 @@ pub struct Case<'a> {
     pub wanted: &'a [Atom],
 }
 
-// Alike: the plain program of px_prover_tests, which this crate doesn't see, compares ticks in the same way.
+// Alike: the plain program of px_prover_tests, which this crate can't use, compares ticks in the same way.
 /// A tick as numbers that compare as ticks do: kind, number, place.
 type Mark = (u32, u32, u32);
 
@@ -71,7 +71,7 @@ fn marks_of(alloc: Global, rt: &impl Abort, shapes: &[Shape]) -> Vec<Vec<Mark>> 
     all
 }
 
-/// Is it so, or does a question meet the limit?
+/// Whether something is so, unless a question meets the limit.
 #[derive(Clone, Copy, PartialEq, Eq)]
 enum Plain {
     Yes,
@@ -91,7 +91,7 @@ pub fn assert_asked(rt: &impl Abort, problem: &Problem, formula: &[Atom], vars: 
     assert!(rt; are_atoms_of(problem, u64::from(vars), formula) && vars <= 12);
 }
 
-/// Asks the prover, once it is seen that the problem and the formula are valid.
+/// Asks the prover, after checking that the problem and the formula are valid.
 pub fn ask(
     alloc: Global,
     rt: &impl Abort,
@@ -106,7 +106,7 @@ pub fn ask(
     prove(alloc, problem, formula, vars, model)
 }
 
-/// Has the formula without variables an answer?
+/// Returns whether the formula without variables has an answer.
 fn has_answer(
     alloc: Global,
     rt: &impl Abort,
@@ -127,7 +127,7 @@ fn has_answer(
     }
 }
 
-/// The gap lists of a formula without variables, or its shapes where these meet the limit.
+/// Returns the gap lists of a formula without variables, or its shapes where these meet the limit.
 fn lists_of(
     alloc: Global,
     rt: &impl Abort,
@@ -143,7 +143,7 @@ fn lists_of(
     }
 }
 
-/// How many lists of `places` objects there are; at most eight places, and at most seven objects.
+/// Returns how many lists of `places` objects there are; at most eight places, and at most seven objects.
 pub fn lists_count(objects: u32, places: u32) -> u32 {
     let mut count = 1u32;
     for _ in 0..places {
@@ -152,7 +152,7 @@ pub fn lists_count(objects: u32, places: u32) -> u32 {
     count
 }
 
-/// The list of that number, in the order of the lists.
+/// Returns the list of that number, in the order of the lists.
 pub fn list_at(objects: u32, places: u32, number: u32) -> [Term; 8] {
     let mut terms = [Term::Obj(0); 8];
     let mut rest = number;
@@ -165,13 +165,13 @@ pub fn list_at(objects: u32, places: u32, number: u32) -> [Term; 8] {
     terms
 }
 
-/// The atom with these terms for its variables.
+/// Returns the atom with these terms for its variables.
 pub fn under(rt: &impl Abort, terms: &[Term], atom: &Atom) -> Atom {
     assert!(rt; are_variables_below(terms.len(), atom.args()));
     apply(terms, atom)
 }
 
-/// The atoms with these terms for their variables.
+/// Returns the atoms with these terms for their variables.
 fn atoms_under(alloc: Global, rt: &impl Abort, terms: &[Term], atoms: &[Atom]) -> Vec<Atom> {
     let mut made = Vec::new(alloc);
     for atom in atoms {
@@ -180,8 +180,8 @@ fn atoms_under(alloc: Global, rt: &impl Abort, terms: &[Term], atoms: &[Atom]) -
     made
 }
 
-/// The first unfinished shapes of a formula without variables, as many as the limit or all: at the greatest limit that they
-/// meet. A formula of which no limit is met has only the shape in which all is open.
+/// Returns the first unfinished shapes of a formula without variables, as many as the limit or all: at the greatest limit that they meet.
+/// A formula of which no limit is met has only the shape in which all is open.
 fn shapes_of(
     alloc: Global,
     rt: &impl Abort,
@@ -202,7 +202,7 @@ fn shapes_of(
     found
 }
 
-/// Keeps the limit of the formula, where its instances have as many unfinished shapes.
+/// Keeps the limit of the formula, where its instances have that many unfinished shapes.
 fn insert_limit(
     alloc: Global,
     rt: &impl Abort,
@@ -230,7 +230,7 @@ fn insert_limit(
     }
 }
 
-/// Which of the atoms is provable: one, none, or proving one of them meets the limit.
+/// Returns whether one of the atoms is provable, or none is, or proving one of them meets the limit.
 fn any_provable(
     alloc: Global,
     rt: &impl Abort,
@@ -258,7 +258,7 @@ fn insert_ground(rt: &impl Abort, set: &mut Model, atoms: &[Atom]) {
     }
 }
 
-/// Are the atoms all in the set? Of gaps it is known that none is provable.
+/// Returns whether the atoms are all in the set. Of gaps it is known that none is provable.
 fn are_held(set: &Model, atoms: &[Atom]) -> bool {
     for atom in atoms {
         if !set.atoms().contains(atom) {
@@ -297,7 +297,7 @@ fn insert_gaps(
     }
 }
 
-/// The gaps of a formula without an answer, from those of each instance of it, and the limits that questions meet. Without
+/// Returns the gaps of a formula without an answer, from those of each instance of it, and adds the limits that questions meet. Without
 /// variables it is its only instance.
 pub fn plain_gaps(
     alloc: Global,
@@ -324,7 +324,7 @@ pub fn plain_gaps(
     gaps
 }
 
-/// Has what an instance needs an answer or a gap? Of no use where a limit is met.
+/// Returns whether what an instance needs has an answer or a gap. Of no use where a limit is met.
 pub fn is_open(
     alloc: Global,
     rt: &impl Abort,
@@ -342,7 +342,7 @@ pub fn is_open(
     !gaps.atoms().is_empty()
 }
 
-/// Does the schema with these terms add a wanted atom?
+/// Returns whether the schema with these terms adds a wanted atom.
 fn adds_one(rt: &impl Abort, wanted: &[Atom], schema: &Schema, terms: &[Term]) -> bool {
     for pattern in schema.add.as_slice() {
         if wanted.contains(&under(rt, terms, pattern)) {
@@ -376,8 +376,8 @@ fn push_instances(
     }
 }
 
-/// The entries that may be pushed, and the limits that questions meet: each instance of each operator is tried, and each list of
-/// objects for the parameters of each table.
+/// Returns the entries that may be pushed, and adds the limits that questions meet: each instance of each operator is tried, and each list
+/// of objects for the parameters of each table.
 pub fn plain_relevant(
     alloc: Global,
     rt: &impl Abort,

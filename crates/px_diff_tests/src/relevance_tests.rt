@@ -15,7 +15,7 @@ use std::alloc::Global;
 use std::process::Abort;
 use std::rt::HostRuntime;
 
-/// The gaps of a formula, of which it is seen that it is valid. None where it isn't seen that it has no answer.
+/// Returns the gaps of a formula, after checking that it is valid. `None` where it isn't shown that it has no answer.
 fn gaps_of(
     alloc: Global,
     rt: &impl Abort,
@@ -36,7 +36,7 @@ fn gaps_of(
     }
 }
 
-/// The entries that may be pushed, in a problem of which it is seen that it is valid.
+/// Returns the entries that may be pushed, after checking that the problem is valid.
 pub fn pushes_of(alloc: Global, rt: &impl Abort, case: &Case) -> Result<Vec<Entry>, AskErr> {
     assert!(rt; is_valid(case.problem));
     assert!(rt; are_learned(case.problem, case.tables));
@@ -50,7 +50,7 @@ pub fn pushes_of(alloc: Global, rt: &impl Abort, case: &Case) -> Result<Vec<Entr
     )
 }
 
-/// Are these the entries that are answered?
+/// Returns whether these are the entries that are answered.
 pub fn are_entries(found: &Result<Vec<Entry>, AskErr>, wanted: &[Entry]) -> bool {
     match found {
         Ok(entries) => entries.as_slice() == wanted,
@@ -58,7 +58,7 @@ pub fn are_entries(found: &Result<Vec<Entry>, AskErr>, wanted: &[Entry]) -> bool
     }
 }
 
-/// Are `count` entries answered?
+/// Returns whether `count` entries are answered.
 pub fn has_count(found: &Result<Vec<Entry>, AskErr>, count: usize) -> bool {
     match found {
         Ok(entries) => entries.len() == count,
@@ -66,12 +66,12 @@ pub fn has_count(found: &Result<Vec<Entry>, AskErr>, count: usize) -> bool {
     }
 }
 
-/// Is the answer that the limit is met?
+/// Returns whether the answer is that the limit is met.
 pub fn is_limited(found: &Result<Vec<Entry>, AskErr>) -> bool {
     matches!(found, Err(AskErr::ShapeLimit { .. }))
 }
 
-/// Is the answer what the plain program finds: the same entries, or one of its limits?
+/// Returns whether the answer is what the plain program finds: the same entries, or one of its limits.
 fn is_plain(
     alloc: Global,
     rt: &impl Abort,
@@ -88,7 +88,7 @@ fn is_plain(
     }
 }
 
-/// The entries that may be pushed, which have to be what the plain program finds.
+/// Returns the entries that may be pushed, which have to be what the plain program finds.
 pub fn agreed(alloc: Global, rt: &impl Abort, case: &Case) -> Result<Vec<Entry>, AskErr> {
     let mut limits = Vec::new(alloc);
     let entries = plain_relevant(alloc, rt, case, &mut limits);
@@ -98,7 +98,7 @@ pub fn agreed(alloc: Global, rt: &impl Abort, case: &Case) -> Result<Vec<Entry>,
     found
 }
 
-/// The same over an empty stack, without tables.
+/// Returns the entries that may be pushed over an empty stack, without tables, which have to be what the plain program finds.
 fn agreed_alone(
     alloc: Global,
     rt: &impl Abort,
@@ -116,7 +116,7 @@ fn agreed_alone(
     agreed(alloc, rt, &case)
 }
 
-/// The gaps of a formula, which have to be what the plain program finds.
+/// Returns the gaps of a formula, which have to be what the plain program finds.
 fn agreed_gaps(
     alloc: Global,
     rt: &impl Abort,
@@ -140,7 +140,7 @@ fn agreed_gaps(
     found
 }
 
-/// The entries that may be pushed, with the number of questions that this took.
+/// Returns the entries that may be pushed, with the number of questions that this took.
 fn measured_of(
     alloc: Global,
     rt: &impl Abort,
@@ -170,8 +170,8 @@ fn questions_are_counted(rt: HostRuntime) {
     assert!(&rt; measured.questions > 0 && measured.entries.as_slice() == push.as_slice());
 }
 
-/// Is it seen that nothing is on that object while it is on something? The plain program has to agree on what is missing then,
-/// and on what may be pushed so that block 0 is on it, or that it is clear.
+/// Returns whether it is shown that nothing is on that object while it is on something. The plain program has to agree on what is missing
+/// then, and on what may be pushed so that block 0 is on it, or that it is clear.
 fn agree_on_block(
     alloc: Global,
     rt: &impl Abort,
@@ -185,9 +185,8 @@ fn agree_on_block(
     !matches!(agreed_gaps(alloc, rt, problem, &goal, 2, model), Ok(None))
 }
 
-/// The plain program agrees on blocks, where several adds match, and an atom of a gap list may be provable. Something is on
-/// block 0, which is on something; of the blocks 1 and 2 it is seen at each limit that it isn't so, of the table from a limit
-/// of 4 on.
+/// The plain program agrees on blocks, where several adds match, and an atom of a gap list may be provable. Something is on block 0, which
+/// is on something; of the blocks 1 and 2 it is shown at each limit that this isn't so, of the table from a limit of 4 on.
 #[test]
 fn a_plain_program_agrees_on_blocks(rt: HostRuntime) {
     let alloc = rt.alloc();
@@ -205,7 +204,7 @@ fn a_plain_program_agrees_on_blocks(rt: HostRuntime) {
     assert!(&rt; asked == 25);
 }
 
-/// Is the limit met where one atom is to be proved?
+/// Returns whether the limit is met where one atom is to be proved.
 fn is_limited_at(found: &Result<Vec<Entry>, AskErr>, atom: &Atom) -> bool {
     match found {
         Err(AskErr::ShapeLimit { formula, shapes: _ }) => formula.as_slice() == [*atom].as_slice(),

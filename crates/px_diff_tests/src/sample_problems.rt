@@ -8,19 +8,19 @@ use px_terms::{ClauseArena, Problem, Term};
 use std::alloc::Global;
 use std::process::Abort;
 
-/// The entry of the operator with these terms.
+/// Returns the entry of the operator with these terms.
 pub fn entry_of(op: u32, terms: &[Term]) -> Entry
     requires { length terms.now ≤ 8 }
 {
     Entry::Op(instance(op, terms))
 }
 
-/// Puts the item last.
+/// Appends the item.
 pub fn put<T: Drop>(rt: &impl Abort, list: &mut Vec<T>, item: T) {
     list.push(item).expect(rt, "memory");
 }
 
-/// The blocks 0 to 2 and the table 3. ON, CLEAR and NE are 0, 1 and 2.
+/// Returns the problem of the blocks 0 to 2 and the table 3. ON, CLEAR and NE are 0, 1 and 2.
 pub fn blocks(alloc: Global, rt: &impl Abort) -> Problem {
     let clear = atom(1, &[v(0)]);
     let on_table = atom(0, &[v(0), o(3)]);
@@ -36,7 +36,7 @@ pub fn blocks(alloc: Global, rt: &impl Abort) -> Problem {
     problem_of(alloc, 4, &[2, 1, 2], ClauseArena::new(alloc), operators).expect(rt, "memory")
 }
 
-/// Block 2 is on block 0, which is on the table, as block 1 is.
+/// Returns the model in which block 2 is on block 0, which is on the table, as block 1 is.
 pub fn stacked(alloc: Global, rt: &impl Abort) -> Model {
     let facts = [
         atom(0, &[o(2), o(0)]),
@@ -51,8 +51,8 @@ pub fn stacked(alloc: Global, rt: &impl Abort) -> Model {
     model_of(alloc, &facts).expect(rt, "memory")
 }
 
-/// Atom 0 follows from atom 1, and that from each of the atoms 2 to 4, in proofs of height 2. An operator adds atom 1, and
-/// one that needs atom 0 adds atom 2.
+/// Returns a problem in which atom 0 follows from atom 1, and that from each of the atoms 2 to 4, in proofs of height 2. An operator adds
+/// atom 1, and one that needs atom 0 adds atom 2.
 pub fn chain(alloc: Global, rt: &impl Abort) -> Problem {
     let (last, between) = (atom(0, &[]), atom(1, &[]));
     let mut axioms = ClauseArena::new(alloc);
@@ -71,8 +71,8 @@ pub fn chain(alloc: Global, rt: &impl Abort) -> Problem {
     problem
 }
 
-/// What stands on what: one operator puts anything on anything, a second one does the same in the room, and an axiom says that
-/// standing on is transitive.
+/// Returns the problem of what stands on what: one operator puts anything on anything, a second one does the same in the room, and an
+/// axiom says that standing on is transitive.
 pub fn transitive(alloc: Global, rt: &impl Abort, objects: u32) -> Problem {
     let mut axioms = ClauseArena::new(alloc);
     let whole = atom(0, &[v(0), v(2)]);
@@ -86,8 +86,8 @@ pub fn transitive(alloc: Global, rt: &impl Abort, objects: u32) -> Problem {
     problem_of(alloc, objects, &[2], axioms, operators).expect(rt, "memory")
 }
 
-/// Three things that may be here (0), be seen (1), be taken (2) and be used (3); what is here is seen. One operator takes a
-/// thing from here. A second one uses a thing that is seen, and leaves it here.
+/// Returns the problem of three things that may be here (0), be seen (1), be taken (2) and be used (3); what is here is seen. One operator
+/// takes a thing from here. A second one uses a thing that is seen, and leaves it here.
 pub fn things(alloc: Global, rt: &impl Abort) -> Problem {
     let here = [atom(0, &[v(0)])];
     let seen = [atom(1, &[v(0)])];
@@ -101,8 +101,8 @@ pub fn things(alloc: Global, rt: &impl Abort) -> Problem {
     problem_of(alloc, 3, &[1, 1, 1, 1], axioms, operators).expect(rt, "memory")
 }
 
-/// Atom 1 follows from atom 0. An operator without needs deletes atom 0 and adds atom 2; a second one needs the atoms 1 and 2,
-/// and adds the atoms 3 and 0.
+/// Returns a problem in which atom 1 follows from atom 0. An operator that needs nothing deletes atom 0 and adds atom 2; a second one
+/// needs the atoms 1 and 2, and adds the atoms 3 and 0.
 pub fn two_steps(alloc: Global, rt: &impl Abort) -> Problem {
     let (given, follows) = (atom(0, &[]), atom(1, &[]));
     let (between, last) = (atom(2, &[]), atom(3, &[]));

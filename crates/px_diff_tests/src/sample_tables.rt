@@ -8,7 +8,7 @@ use px_terms::{Atom, OpInst, Sequence, Term};
 use std::alloc::Global;
 use std::process::Abort;
 
-/// A leaf of the add of that index of the step; of the initial model where that is step 0.
+/// Returns a leaf of the add of that index of the step; of the initial model where that is step 0.
 fn added(step: u32, index: u32, atom: Atom) -> Leaf {
     Leaf {
         column: step,
@@ -17,7 +17,7 @@ fn added(step: u32, index: u32, atom: Atom) -> Leaf {
     }
 }
 
-/// A leaf of the initial model.
+/// Returns a leaf of the initial model.
 fn given(atom: Atom) -> Leaf {
     added(0, 0, atom)
 }
@@ -36,7 +36,7 @@ fn no_rows(alloc: Global) -> Rows {
     }
 }
 
-/// What the leaf proves: its atom, or with terms for the first axiom's variables what follows by that axiom.
+/// Returns what the leaf proves: its atom, or with terms for the first axiom's variables what follows by that axiom.
 fn proof_of(alloc: Global, rt: &impl Abort, leaf: Leaf, theta: &[Term]) -> Proof {
     if theta.is_empty() {
         return Proof::Fact(leaf);
@@ -64,7 +64,7 @@ fn add_row(
     put(rt, &mut rows.proofs, Row::from_proofs(proofs));
 }
 
-/// The table of these steps and rows.
+/// Returns the table of these steps and rows.
 fn table_of(
     alloc: Global,
     rt: &impl Abort,
@@ -85,7 +85,8 @@ fn table_of(
     }
 }
 
-/// Both operators one after the other: the second row needs atom 1, given at first, and atom 2, which the first step adds.
+/// Returns the table of both operators one after the other: the second row needs atom 1, given at first, and atom 2, which the first step
+/// adds.
 pub fn both_steps(alloc: Global, rt: &impl Abort) -> Table {
     let needed = [given(atom(1, &[])), added(1, 0, atom(2, &[]))];
     let goal = [atom(3, &[])];
@@ -97,9 +98,9 @@ pub fn both_steps(alloc: Global, rt: &impl Abort) -> Table {
     table_of(alloc, rt, 0, &steps, &goal, 0, rows)
 }
 
-/// Thing 0 is taken, thing 1 is used, and thing 2 is taken. Thing 1 is seen since it is here, which the first step may have
-/// changed; what the second step adds of it, the third may delete. The first two steps don't have thing 2. There are at least three
-/// parameters.
+/// Returns the table in which thing 0 is taken, thing 1 is used, and thing 2 is taken. Thing 1 is seen since it is here, which the first
+/// step may have changed; what the second step adds of it, the third may delete. The first two steps don't have thing 2. There are at
+/// least three parameters.
 pub fn take_and_use(alloc: Global, rt: &impl Abort, params: u32) -> Table {
     let here = given(atom(0, &[v(1)]));
     let goal = [atom(2, &[v(2)])];

@@ -12,14 +12,19 @@ use Rattle.px_ends.specs.Determined.{AskedByStop}
 use Rattle.px_ends.proofs.Exclusion.{same_earlier, same_stop}
 
 module _ (task : Task) where
-  pub gone : (earlier : List (List Move)) (last moves : List Move) → IsStop task earlier last → IsGoneThrough task moves ↔ (IsLeastList task moves × IsMadeFrom moves last)
+  pub gone : (earlier : List (List Move)) (last moves : List Move) → IsStop task earlier last → IsGoneThrough task moves
+      ↔ (IsLeastList task moves × IsMadeFrom moves last)
   gone earlier last moves stop = (
     λ h. (h.least, h.early earlier last stop),
-    λ h. record { least = h.0; early = λ e l s. subst (λ (x : List Move). IsMadeFrom moves x) (same_stop task earlier e last l stop s) h.1 },
+    λ h. record {
+      least =
+          h.0;
+      early = λ e l s. subst (λ (x : List Move). IsMadeFrom moves x) (same_stop task earlier e last l stop s) h.1;
+    },
   )
 
-  able : (node : Node) (ms : List Move) (m : Move) → CanMake (IsAllowed task) (after task) node (ms ++ m ∷ []) →
-      CanMake (IsAllowed task) (after task) node ms × IsAllowed task (reached (IsAllowed task) (after task) node ms) m
+  able : (node : Node) (ms : List Move) (m : Move) → CanMake (IsAllowed task) (after task) node (ms ++ m ∷ [])
+      → CanMake (IsAllowed task) (after task) node ms × IsAllowed task (reached (IsAllowed task) (after task) node ms) m
   able node [] m h = (tt, h.0)
   able node (k ∷ ms) m h = let rest = able (after task node k) ms m h.1 in ((h.0, rest.0), rest.1)
 
@@ -38,21 +43,25 @@ module _ (task : Task) where
   }
 
   tested : (earlier : List (List Move)) (last moves : List Move) → IsStop task earlier last
-      → IsTested task moves ↔ (IsLeastList task moves × ((node_of task moves).stack ≡ []) × (IsBefore moves last ⊎ ((moves ≡ last) × (length earlier < task.problem.nodes))))
+      → IsTested task moves ↔ (IsLeastList task moves × ((node_of task moves).stack ≡ [])
+      × (IsBefore moves last ⊎ ((moves ≡ last) × (length earlier < task.problem.nodes))))
   tested earlier last moves stop = (
     λ h. (h.least, h.empty, h.early earlier last stop),
     λ h. record {
       least = h.0;
       empty = h.1;
       early = λ e l s.
-          subst (λ (x : List Move). IsBefore moves x ⊎ ((moves ≡ x) × (length e < task.problem.nodes))) (same_stop task earlier e last l stop s)
-          (subst (λ (x : List (List Move)). IsBefore moves last ⊎ ((moves ≡ last) × (length x < task.problem.nodes))) (same_earlier task earlier e last l stop s) h.2);
+          subst (λ (x : List Move). IsBefore moves x ⊎ ((moves ≡ x) × (length e < task.problem.nodes)))
+          (same_stop task earlier e last l stop s)
+          (subst (λ (x : List (List Move)). IsBefore moves last ⊎ ((moves ≡ last) × (length x < task.problem.nodes)))
+          (same_earlier task earlier e last l stop s) h.2);
     },
   )
 
 pub asked_by_stop : AskedByStop
 asked_by_stop = record {
-  one = λ task earlier others last next stop other. (same_earlier task earlier others last next stop other, same_stop task earlier others last next stop other);
+  one = λ task earlier others last next stop other.
+      (same_earlier task earlier others last next stop other, same_stop task earlier others last next stop other);
   gone_through = gone;
   parent = parent_least;
   tested = tested;

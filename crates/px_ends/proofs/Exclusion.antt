@@ -25,11 +25,13 @@ still_there (y ∷ xs) ys zero x e = e
 still_there (y ∷ xs) ys (suc k) x e = still_there xs ys k x e
 
 -- lists that are as long and agree at each place are the same
-same_lists : {A : Type 0} (xs ys : List A) → length xs ≡ length ys → ((k : ℕ) (x y : A) → slice_get xs k ≡ Some x → slice_get ys k ≡ Some y → x ≡ y) → xs ≡ ys
+same_lists : {A : Type 0} (xs ys : List A) → length xs ≡ length ys
+    → ((k : ℕ) (x y : A) → slice_get xs k ≡ Some x → slice_get ys k ≡ Some y → x ≡ y) → xs ≡ ys
 same_lists [] [] long each = refl
 same_lists [] (y ∷ ys) long each = absurd (omega (arith, long))
 same_lists (x ∷ xs) [] long each = absurd (omega (arith, long))
-same_lists (x ∷ xs) (y ∷ ys) long each = cc (each 0 x y refl refl, same_lists xs ys (omega (arith, long)) (λ k p q at_p at_q. each (suc k) p q at_p at_q))
+same_lists (x ∷ xs) (y ∷ ys) long each =
+    cc (each 0 x y refl refl, same_lists xs ys (omega (arith, long)) (λ k p q at_p at_q. each (suc k) p q at_p at_q))
 
 module _ (task : Task) where
   found_stop : (moves : List Move) → (f : IsFound task moves) → IsStop task f.earlier moves
@@ -38,13 +40,16 @@ module _ (task : Task) where
   limit_stop : (nodes : List Node) (moves : ℕ) → (l : IsNodeLimit task nodes moves) → IsStop task l.earlier l.last
   limit_stop nodes moves l = l.stop
 
-  agree : (xs ys : List (List Move)) → BeginsWith task xs → BeginsWith task ys → (k : ℕ) (p q : List Move) → slice_get xs k ≡ Some p → slice_get ys k ≡ Some q → p ≡ q
+  agree : (xs ys : List (List Move)) → BeginsWith task xs → BeginsWith task ys → (k : ℕ) (p q : List Move) → slice_get xs k ≡ Some p
+      → slice_get ys k ≡ Some q → p ≡ q
   agree = beginnings_agree (IsAllowed task) (after task) IsBefore (initial_node task) order
 
   not_shorter : (e₁ e₂ : List (List Move)) (l₁ l₂ : List Move) → IsStop task e₁ l₁ → IsStop task e₂ l₂ → ¬ (length e₁ < length e₂)
   not_shorter e₁ e₂ l₁ l₂ s₁ s₂ less =
       let second : slice_get e₂ (length e₁) ≡ Some _ = at_index e₂ (length e₁) l₁ less in
-      let e = agree (e₁ ++ l₁ ∷ []) (e₂ ++ l₂ ∷ []) s₁.beginning s₂.beginning (length e₁) l₁ _ (at_end e₁ l₁) (still_there e₂ (l₂ ∷ []) (length e₁) _ second) in
+      let e =
+      agree (e₁ ++ l₁ ∷ []) (e₂ ++ l₂ ∷ []) s₁.beginning s₂.beginning (length e₁) l₁ _ (at_end e₁ l₁)
+      (still_there e₂ (l₂ ∷ []) (length e₁) _ second) in
       let has : Contains e₂ l₁ = contains_place e₂ (length e₁) l₁ (second ∙ ap Some (sym e)) in
       elim s₁.stops [
         | inl solved ↦ s₂.unsolved l₁ has solved
@@ -71,16 +76,21 @@ module _ (task : Task) where
   pub same_earlier : (e₁ e₂ : List (List Move)) (l₁ l₂ : List Move) → IsStop task e₁ l₁ → IsStop task e₂ l₂ → e₁ ≡ e₂
   same_earlier e₁ e₂ l₁ l₂ s₁ s₂ =
       same_lists e₁ e₂ (same_length e₁ e₂ l₁ l₂ s₁ s₂)
-      (λ k p q at_p at_q. agree (e₁ ++ l₁ ∷ []) (e₂ ++ l₂ ∷ []) s₁.beginning s₂.beginning k p q (still_there e₁ (l₁ ∷ []) k p at_p) (still_there e₂ (l₂ ∷ []) k q at_q))
+      (λ k p q at_p at_q. agree (e₁ ++ l₁ ∷ []) (e₂ ++ l₂ ∷ []) s₁.beginning s₂.beginning k p q (still_there e₁ (l₁ ∷ []) k p at_p)
+      (still_there e₂ (l₂ ∷ []) k q at_q))
 
-  pub one_limit : (nodes : List Node) (moves : ℕ) (more : List Node) (others : ℕ) → IsNodeLimit task nodes moves → IsNodeLimit task more others → (nodes ≡ more) × (moves ≡ others)
+  pub one_limit : (nodes : List Node) (moves : ℕ) (more : List Node) (others : ℕ) → IsNodeLimit task nodes moves
+      → IsNodeLimit task more others → (nodes ≡ more) × (moves ≡ others)
   one_limit nodes moves more others k l = (
-    k.nodes_are ∙ ap (map (node_of task)) (same_earlier k.earlier l.earlier k.last l.last (limit_stop nodes moves k) (limit_stop more others l)) ∙ sym l.nodes_are,
-    k.moves_are ∙ ap length (same_stop k.earlier l.earlier k.last l.last (limit_stop nodes moves k) (limit_stop more others l)) ∙ sym l.moves_are,
+    k.nodes_are ∙ ap (map (node_of task)) (same_earlier k.earlier l.earlier k.last l.last (limit_stop nodes moves k)
+        (limit_stop more others l)) ∙ sym l.nodes_are,
+    k.moves_are ∙ ap length (same_stop k.earlier l.earlier k.last l.last (limit_stop nodes moves k) (limit_stop more others l))
+        ∙ sym l.moves_are,
   )
 
   pub found_or_limit : (ms : List Move) (nodes : List Node) (moves : ℕ) → IsFound task ms → ¬ IsNodeLimit task nodes moves
-  found_or_limit ms nodes moves f l = omega (arith, f.room, l.full, same_length f.earlier l.earlier ms l.last (found_stop ms f) (limit_stop nodes moves l))
+  found_or_limit ms nodes moves f l =
+      omega (arith, f.room, l.full, same_length f.earlier l.earlier ms l.last (found_stop ms f) (limit_stop nodes moves l))
 
   pub found_or_exhausted : (ms : List Move) → IsFound task ms → ¬ IsExhausted task
   found_or_exhausted ms f x =
@@ -94,22 +104,29 @@ module _ (task : Task) where
   limit_or_exhausted nodes moves l x =
       let has = x.whole.every l.last (l.stop.beginning.least l.last (Contains-push l.earlier l.last)) in
       let place = place_of x.lists l.last has in
-      let number : place.0 ≡ length l.earlier = one_place (IsAllowed task) (after task) IsBefore (initial_node task) order x.lists (l.earlier ++ l.last ∷ []) x.whole.beginning l.stop.beginning place.0 (length l.earlier) l.last place.1 (at_end l.earlier l.last) in
+      let number : place.0 ≡ length l.earlier =
+      one_place (IsAllowed task) (after task) IsBefore (initial_node task) order x.lists
+      (l.earlier ++ l.last ∷ []) x.whole.beginning l.stop.beginning place.0 (length l.earlier) l.last place.1
+      (at_end l.earlier l.last) in
       omega (arith, number, l.full, x.room, place-within x.lists place.0 l.last place.1)
 
-  pub shape_limit_or_found : (node : Node) (formula : List Atom) (shapes : List (List Tick)) (ms : List Move) → IsShapeLimit task node formula shapes → ¬ IsFound task ms
+  pub shape_limit_or_found : (node : Node) (formula : List Atom) (shapes : List (List Tick)) (ms : List Move)
+      → IsShapeLimit task node formula shapes → ¬ IsFound task ms
   shape_limit_or_found node formula shapes ms s f = f.unlimited s.moves s.question formula shapes s.asked s.met
 
-  pub shape_limit_or_exhausted : (node : Node) (formula : List Atom) (shapes : List (List Tick)) → IsShapeLimit task node formula shapes → ¬ IsExhausted task
+  pub shape_limit_or_exhausted : (node : Node) (formula : List Atom) (shapes : List (List Tick)) → IsShapeLimit task node formula shapes
+      → ¬ IsExhausted task
   shape_limit_or_exhausted node formula shapes s x = x.unlimited s.moves s.question formula shapes s.asked s.met
 
-  pub shape_limit_or_limit : (node : Node) (formula : List Atom) (shapes : List (List Tick)) (nodes : List Node) (moves : ℕ) → IsShapeLimit task node formula shapes → ¬ IsNodeLimit task nodes moves
+  pub shape_limit_or_limit : (node : Node) (formula : List Atom) (shapes : List (List Tick)) (nodes : List Node) (moves : ℕ)
+      → IsShapeLimit task node formula shapes → ¬ IsNodeLimit task nodes moves
   shape_limit_or_limit node formula shapes nodes moves s l = l.unlimited s.moves s.question formula shapes s.asked s.met
 
 -- ---- the laws
 
 -- a limit has as many shapes as the problem says
-limit-count : (problem : Problem) (question : Question) (formula : List Atom) (shapes : List (List Tick)) → MeetsLimit problem question formula shapes → length shapes ≡ problem.shapes
+limit-count : (problem : Problem) (question : Question) (formula : List Atom) (shapes : List (List Tick))
+    → MeetsLimit problem question formula shapes → length shapes ≡ problem.shapes
 limit-count problem (Proving needed) formula shapes met = met.1.count
 limit-count problem (FindingGaps needed) formula shapes (inl met) = met.1.count
 limit-count problem (FindingGaps needed) formula shapes (inr met) = met.3.count

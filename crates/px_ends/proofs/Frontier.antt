@@ -77,20 +77,21 @@ module _ {N M : Type 0} (may : N → M → Type 0) (after : N → M → N) (befo
   pub record Frontier (found : List (List M)) (next : ℕ) (tried : List M) : Type 0 where
     pub root : slice_get found 0 ≡ Some []
     pub can : (moves : List M) → Contains found moves → made moves
-    pub tried_from : (moves : List M) → Contains found moves →
-        (moves ≡ []) ⊎ ((i : ℕ) × (p : List M) × (m : M) × (slice_get found i ≡ Some p) × IsTried next tried i m × (moves ≡ p ++ m ∷ []))
+    pub tried_from : (moves : List M) → Contains found moves
+        → (moves ≡ []) ⊎ ((i : ℕ) × (p : List M) × (m : M) × (slice_get found i ≡ Some p) × IsTried next tried i m × (moves ≡ p ++ m ∷ []))
     pub ascending : (i j : ℕ) (p q : List M) → i < j → slice_get found i ≡ Some p → slice_get found j ≡ Some q → before p q
     pub distinct : (p q : List M) → Contains found p → Contains found q → goes p ≡ goes q → p ≡ q
-    pub covered : (i : ℕ) (p : List M) (m : M) → slice_get found i ≡ Some p → IsTried next tried i m → may (goes p) m →
-        (q : List M) × Contains found q × (goes q ≡ after (goes p) m) × (¬ (before (p ++ m ∷ []) q))
-    pub pending : (p : List M) (m n : M) → slice_get found next ≡ Some p → may (goes p) m → (¬ Contains tried m) → Contains tried n →
-        before (p ++ n ∷ []) (p ++ m ∷ [])
+    pub covered : (i : ℕ) (p : List M) (m : M) → slice_get found i ≡ Some p → IsTried next tried i m → may (goes p) m
+        → (q : List M) × Contains found q × (goes q ≡ after (goes p) m) × (¬ (before (p ++ m ∷ []) q))
+    pub pending : (p : List M) (m n : M) → slice_get found next ≡ Some p → may (goes p) m → (¬ Contains tried m) → Contains tried n
+        → before (p ++ n ∷ []) (p ++ m ∷ [])
 
   pub reached-append : (node : N) (ms ns : List M) → reached may after node (ms ++ ns) ≡ reached may after (reached may after node ms) ns
   reached-append node [] ns = refl
   reached-append node (m ∷ ms) ns = reached-append (after node m) ms ns
 
-  pub CanMake-append : (node : N) (ms : List M) (m : M) → CanMake may after node ms → may (reached may after node ms) m → CanMake may after node (ms ++ m ∷ [])
+  pub CanMake-append : (node : N) (ms : List M) (m : M) → CanMake may after node ms → may (reached may after node ms) m
+      → CanMake may after node (ms ++ m ∷ [])
   CanMake-append node [] m h g = (g, tt)
   CanMake-append node (k ∷ ms) m h g = (h.0, CanMake-append (after node k) ms m h.1 g)
 
@@ -136,8 +137,8 @@ module _ {N M : Type 0} (may : N → M → Type 0) (after : N → M → N) (befo
 
   module _ (found : List (List M)) (next : ℕ) (tried : List M) (f : Frontier found next tried) where
     -- what is found before the list that leaves the tried moves
-    pub leaves_tried : (i : ℕ) (q moves : List M) (m : M) → slice_get found i ≡ Some q → (¬ before moves q) → next ≤ i →
-        (i ≡ next → ¬ Contains tried m) → may (goes q) m → IsBeyond found (moves ++ m ∷ [])
+    pub leaves_tried : (i : ℕ) (q moves : List M) (m : M) → slice_get found i ≡ Some q → (¬ before moves q) → next ≤ i
+        → (i ≡ next → ¬ Contains tried m) → may (goes q) m → IsBeyond found (moves ++ m ∷ [])
     leaves_tried i q moves m at le later untried can x has = elim (f.tried_from x has) [
       | inl e ↦ subst (λ (y : List M). before y (moves ++ m ∷ [])) (sym e)
           (before-left before order [] moves (moves ++ m ∷ []) (order.first moves) (order.longer moves m))
@@ -157,8 +158,8 @@ module _ {N M : Type 0} (may : N → M → Type 0) (after : N → M → N) (befo
               (f.pending q m n at_next can (untried number) has_n)
         ]
 
-    classify : (rest moves : List M) → IsCovered found moves → CanMake may after (goes moves) rest →
-        IsCovered found (moves ++ rest) ⊎ ((next < length found) × IsBeyond found (moves ++ rest))
+    classify : (rest moves : List M) → IsCovered found moves → CanMake may after (goes moves) rest
+        → IsCovered found (moves ++ rest) ⊎ ((next < length found) × IsBeyond found (moves ++ rest))
     classify [] moves c can = inl (rw append-nil c)
     classify (m ∷ rest) moves c can =
         let can_q : may (goes c.1) m = subst (λ (x : N). may x m) (sym c.3) can.0 in
@@ -166,17 +167,21 @@ module _ {N M : Type 0} (may : N → M → Type 0) (after : N → M → N) (befo
           | inl tried_m ↦
               let r = f.covered c.0 c.1 m c.2 tried_m can_q in
               let at = place_of found r.0 r.1 in
-              let goal : goes r.0 ≡ goes (moves ++ m ∷ []) = r.2 ∙ ap (λ (x : N). after x m) c.3 ∙ sym (reached-append start moves (m ∷ [])) in
-              let le : ¬ before (moves ++ m ∷ []) r.0 = not_before-trans before order r.0 (c.1 ++ m ∷ []) (moves ++ m ∷ []) r.3 (goes_on-not before order c.1 moves m c.4) in
+              let goal : goes r.0 ≡ goes (moves ++ m ∷ []) =
+              r.2 ∙ ap (λ (x : N). after x m) c.3 ∙ sym (reached-append start moves (m ∷ [])) in
+              let le : ¬ before (moves ++ m ∷ []) r.0 =
+              not_before-trans before order r.0 (c.1 ++ m ∷ []) (moves ++ m ∷ []) r.3 (goes_on-not before order c.1 moves m c.4) in
               let rest_can : CanMake may after (goes (moves ++ m ∷ [])) rest = rw (reached-append start moves (m ∷ [])) can.1 in
               let again = classify rest (moves ++ m ∷ []) (at.0, r.0, at.1, goal, le) rest_can in
-              subst (λ (x : List M). IsCovered found x ⊎ ((next < length found) × IsBeyond found x)) (append_assoc moves (m ∷ []) rest) again
+              subst (λ (x : List M). IsCovered found x ⊎ ((next < length found) × IsBeyond found x))
+              (append_assoc moves (m ∷ []) rest) again
           | inr untried ↦
               let beyond = leaves_tried c.0 c.1 moves m c.2 c.4 untried.0 untried.1 can_q in
               let inside = place-within found c.0 c.1 c.2 in
               inr (
                 omega (arith, untried.0, inside),
-                subst (λ (x : List M). IsBeyond found x) (append_assoc moves (m ∷ []) rest) (IsBeyond-more found (moves ++ m ∷ []) rest beyond),
+                subst (λ (x : List M). IsBeyond found x) (append_assoc moves (m ∷ []) rest)
+                    (IsBeyond-more found (moves ++ m ∷ []) rest beyond),
               )
         ]
 
@@ -232,7 +237,8 @@ module _ {N M : Type 0} (may : N → M → Type 0) (after : N → M → N) (befo
   abbrev pub Begins : List (List M) → Type 0
   Begins lists = IsBeginning may after before start lists
 
-  pub places_ascend : (xs : List (List M)) → Begins xs → (i j : ℕ) (p q : List M) → i < j → slice_get xs i ≡ Some p → slice_get xs j ≡ Some q → before p q
+  pub places_ascend : (xs : List (List M)) → Begins xs → (i j : ℕ) (p q : List M) → i < j → slice_get xs i ≡ Some p
+      → slice_get xs j ≡ Some q → before p q
   places_ascend xs b i j p q less at_i at_j =
       let inside = place-within xs j q at_j in
       let asc = b.ascending i j p less inside in
@@ -241,8 +247,8 @@ module _ {N M : Type 0} (may : N → M → Type 0) (after : N → M → N) (befo
       subst (λ (x : List M). before x q) e_i (subst (λ (x : List M). before (slice_index_or xs i p) x) e_j asc)
 
   -- a list at a place of one stands at no later place of the other, where the earlier places agree
-  not_less : (xs ys : List (List M)) → Begins xs → Begins ys → (k : ℕ) (p q : List M) → slice_get xs k ≡ Some p → slice_get ys k ≡ Some q →
-      ((j : ℕ) (r s : List M) → j < k → slice_get xs j ≡ Some r → slice_get ys j ≡ Some s → r ≡ s) → ¬ before p q
+  not_less : (xs ys : List (List M)) → Begins xs → Begins ys → (k : ℕ) (p q : List M) → slice_get xs k ≡ Some p → slice_get ys k ≡ Some q
+      → ((j : ℕ) (r s : List M) → j < k → slice_get xs j ≡ Some r → slice_get ys j ≡ Some s → r ≡ s) → ¬ before p q
   not_less xs ys bx by k p q at_x at_y same less =
       let has = by.closed p q (contains_place ys k q at_y) (bx.least p (contains_place xs k p at_x)) less in
       let place = place_of ys p has in
@@ -260,7 +266,8 @@ module _ {N M : Type 0} (may : N → M → Type 0) (after : N → M → N) (befo
         ]
       ]
 
-  agree_below : (xs ys : List (List M)) → Begins xs → Begins ys → (bound k : ℕ) (p q : List M) → k < bound → slice_get xs k ≡ Some p → slice_get ys k ≡ Some q → p ≡ q
+  agree_below : (xs ys : List (List M)) → Begins xs → Begins ys → (bound k : ℕ) (p q : List M) → k < bound → slice_get xs k ≡ Some p
+      → slice_get ys k ≡ Some q → p ≡ q
   agree_below xs ys bx by zero k p q h at_x at_y = absurd (omega arith)
   agree_below xs ys bx by (suc bound) k p q h at_x at_y =
       let lower : (j : ℕ) (r s : List M) → j < k → slice_get xs j ≡ Some r → slice_get ys j ≡ Some s → r ≡ s =
@@ -271,11 +278,13 @@ module _ {N M : Type 0} (may : N → M → Type 0) (after : N → M → N) (befo
         | inr (inr more) ↦ absurd (not_less ys xs by bx k q p at_y at_x (λ j r s l x_at y_at. sym (lower j s r l y_at x_at)) more)
       ]
 
-  pub beginnings_agree : (xs ys : List (List M)) → Begins xs → Begins ys → (k : ℕ) (p q : List M) → slice_get xs k ≡ Some p → slice_get ys k ≡ Some q → p ≡ q
+  pub beginnings_agree : (xs ys : List (List M)) → Begins xs → Begins ys → (k : ℕ) (p q : List M) → slice_get xs k ≡ Some p
+      → slice_get ys k ≡ Some q → p ≡ q
   beginnings_agree xs ys bx by k p q at_x at_y = agree_below xs ys bx by (suc k) k p q (omega arith) at_x at_y
 
   -- so a list of moves has one place
-  pub one_place : (xs ys : List (List M)) → Begins xs → Begins ys → (i j : ℕ) (p : List M) → slice_get xs i ≡ Some p → slice_get ys j ≡ Some p → i ≡ j
+  pub one_place : (xs ys : List (List M)) → Begins xs → Begins ys → (i j : ℕ) (p : List M) → slice_get xs i ≡ Some p
+      → slice_get ys j ≡ Some p → i ≡ j
   one_place xs ys bx by i j p at_x at_y = elim (order_of i j) [
     | inl less ↦
         let y_at = at_index ys i p (omega (arith, place-within ys j p at_y)) in

@@ -4,7 +4,7 @@ use Rattle.std.specs.Cmp.{IsTotalOrder}
 use Rattle.std.specs.Ordering.{ordering_reverse}
 use Rattle.std.specs.declared.cmp.Ordering.TheVariants.{Less, Equal}
 use Rattle.px_table.specs.declared.entry.Entry.{Entry}
-use Rattle.px_table.specs.EntryLaws.{order_of-total, order_of-same, entry_eq-decides}
+use Rattle.px_table.specs.EntryLaws.{order_of_entries-total, order_of_entries-same, entry_eq-decides}
 use Rattle.px_table.specs.EntryOrder.{entry_eq}
 use Rattle.px_table.specs.declared.entry.Move.{Move}
 use Rattle.px_table.specs.declared.entry.Move.TheVariants.{Apply, Push}
@@ -16,7 +16,7 @@ antisymm : (x y : Move) → move_cmp x y ≡ ordering_reverse (move_cmp y x)
 antisymm Apply Apply = refl
 antisymm Apply (Push f) = refl
 antisymm (Push e) Apply = refl
-antisymm (Push e) (Push f) = order_of-total.antisymm e f
+antisymm (Push e) (Push f) = order_of_entries-total.antisymm e f
 
 trans : (x y z : Move) → move_cmp x y ≡ Less → move_cmp y z ≡ Less → move_cmp x z ≡ Less
 trans Apply Apply z h k = absurd (cc)
@@ -24,14 +24,14 @@ trans Apply (Push f) Apply h k = absurd (cc)
 trans Apply (Push f) (Push g) h k = refl
 trans (Push e) Apply z h k = absurd (cc)
 trans (Push e) (Push f) Apply h k = absurd (cc)
-trans (Push e) (Push f) (Push g) h k = order_of-total.trans e f g h k
+trans (Push e) (Push f) (Push g) h k = order_of_entries-total.trans e f g h k
 
 congr : (x y z : Move) → move_cmp x y ≡ Equal → move_cmp x z ≡ move_cmp y z
 congr Apply Apply z h = refl
 congr Apply (Push f) z h = absurd (cc)
 congr (Push e) Apply z h = absurd (cc)
 congr (Push e) (Push f) Apply h = refl
-congr (Push e) (Push f) (Push g) h = order_of-total.congr e f g h
+congr (Push e) (Push f) (Push g) h = order_of_entries-total.congr e f g h
 
 pub move_cmp-total : IsTotalOrder move_cmp
 move_cmp-total = record { antisymm = antisymm; trans = trans; congr = congr }
@@ -40,7 +40,7 @@ pub move_cmp-same : (x y : Move) → move_cmp x y ≡ Equal → x ≡ y
 move_cmp-same Apply Apply h = refl
 move_cmp-same Apply (Push f) h = absurd (cc)
 move_cmp-same (Push e) Apply h = absurd (cc)
-move_cmp-same (Push e) (Push f) h = ap Push (order_of-same e f h)
+move_cmp-same (Push e) (Push f) h = ap Push (order_of_entries-same e f h)
 
 entry_of : Entry → Move → Entry
 entry_of d Apply = d

@@ -8,7 +8,8 @@ use Rattle.std.specs.Cmp.Lexicographic.{slice_cmp}
 use Rattle.std.proofs.lemmas.Cmp.{lists_total}
 use Rattle.px_ends.proofs.Frontier.{IsMoveOrder}
 
-module _ {M : Type 0} (compare : M → M → Ordering) (total : IsTotalOrder compare) (identical : (m n : M) → compare m n ≡ Equal → m ≡ n) where
+module _ {M : Type 0} (compare : M → M → Ordering) (total : IsTotalOrder compare)
+    (identical : (m n : M) → compare m n ≡ Equal → m ≡ n) where
   abbrev whole : List M → List M → Ordering
   whole = then_cmp (on length nat_cmp) (slice_cmp compare)
 
@@ -29,11 +30,12 @@ module _ {M : Type 0} (compare : M → M → Ordering) (total : IsTotalOrder com
       cc (identical m n h.0, lists_identical ms ns h.1)
 
   -- less in length, or as long and less from the left
-  less_cases : (ms ns : List M) → whole ms ns ≡ Less → (length ms < length ns) ⊎ ((length ms ≡ length ns) × (slice_cmp compare ms ns ≡ Less))
+  less_cases : (ms ns : List M) → whole ms ns ≡ Less
+      → (length ms < length ns) ⊎ ((length ms ≡ length ns) × (slice_cmp compare ms ns ≡ Less))
   less_cases ms ns = by (nat_cmp (length ms) (length ns)) refl
     where
-      by : (r : Ordering) → r ≡ nat_cmp (length ms) (length ns) → ordering_then r (slice_cmp compare ms ns) ≡ Less →
-          (length ms < length ns) ⊎ ((length ms ≡ length ns) × (slice_cmp compare ms ns ≡ Less))
+      by : (r : Ordering) → r ≡ nat_cmp (length ms) (length ns) → ordering_then r (slice_cmp compare ms ns) ≡ Less
+          → (length ms < length ns) ⊎ ((length ms ≡ length ns) × (slice_cmp compare ms ns ≡ Less))
       by Less h e = inl (ranked (length ms) (length ns) Less h)
       by Equal h e = inr (ranked (length ms) (length ns) Equal h, e)
       by Greater h e = absurd (cc)
@@ -48,14 +50,15 @@ module _ {M : Type 0} (compare : M → M → Ordering) (total : IsTotalOrder com
   length-push [] m = refl
   length-push (k ∷ ms) m = ap suc (length-push ms m)
 
-  slice_cmp-push : (ms ns : List M) (m n : M) → length ms ≡ length ns → slice_cmp compare ms ns ≡ Less → slice_cmp compare (ms ++ m ∷ []) (ns ++ n ∷ []) ≡ Less
+  slice_cmp-push : (ms ns : List M) (m n : M) → length ms ≡ length ns → slice_cmp compare ms ns ≡ Less
+      → slice_cmp compare (ms ++ m ∷ []) (ns ++ n ∷ []) ≡ Less
   slice_cmp-push [] [] m n h e = absurd (cc)
   slice_cmp-push [] (y ∷ ns) m n h e = absurd (omega arith)
   slice_cmp-push (x ∷ ms) [] m n h e = absurd (omega arith)
   slice_cmp-push (x ∷ ms) (y ∷ ns) m n h e = by (compare x y) (λ less. slice_cmp-push ms ns m n (omega arith) less) e
     where
-      by : (r : Ordering) → (slice_cmp compare ms ns ≡ Less → slice_cmp compare (ms ++ m ∷ []) (ns ++ n ∷ []) ≡ Less) →
-          ordering_then r (slice_cmp compare ms ns) ≡ Less → ordering_then r (slice_cmp compare (ms ++ m ∷ []) (ns ++ n ∷ [])) ≡ Less
+      by : (r : Ordering) → (slice_cmp compare ms ns ≡ Less → slice_cmp compare (ms ++ m ∷ []) (ns ++ n ∷ []) ≡ Less)
+          → ordering_then r (slice_cmp compare ms ns) ≡ Less → ordering_then r (slice_cmp compare (ms ++ m ∷ []) (ns ++ n ∷ [])) ≡ Less
       by Less more e = refl
       by Equal more e = more e
       by Greater more e = absurd (cc)
@@ -72,7 +75,8 @@ module _ {M : Type 0} (compare : M → M → Ordering) (total : IsTotalOrder com
     longer = λ ms m. from_shorter ms (ms ++ m ∷ []) (omega (arith, length-push ms m));
     goes_on = λ ms ns m n e. elim (less_cases ms ns e) [
       | inl h ↦ from_shorter (ms ++ m ∷ []) (ns ++ n ∷ []) (omega (arith, length-push ms m, length-push ns n))
-      | inr h ↦ from_left (ms ++ m ∷ []) (ns ++ n ∷ []) (length-push ms m ∙ ap suc h.0 ∙ sym (length-push ns n)) (slice_cmp-push ms ns m n h.0 h.1)
+      | inr h ↦ from_left (ms ++ m ∷ []) (ns ++ n ∷ []) (length-push ms m ∙ ap suc h.0 ∙ sym (length-push ns n))
+          (slice_cmp-push ms ns m n h.0 h.1)
     ];
   }
     where

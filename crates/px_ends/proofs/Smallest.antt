@@ -56,28 +56,35 @@ no_last [] m e = cc
 no_last (k ∷ parent) m e = cc
 
 -- where the initial node is solved, nothing but its goal is asked
-pub found_at_once : (task : Task) → 1 ≤ task.problem.nodes → IsSolved task (initial_node task) → ((formula : List Atom) (shapes : List (List Tick)) → ¬ MeetsLimit task.problem (Proving (goal_from task task.initial)) formula shapes) → IsFound task []
+pub found_at_once : (task : Task) → 1 ≤ task.problem.nodes → IsSolved task (initial_node task)
+    → ((formula : List Atom) (shapes : List (List Tick)) → ¬ MeetsLimit task.problem (Proving (goal_from task task.initial)) formula shapes)
+    → IsFound task []
 found_at_once task some solved below = record { unlimited = unlimited; earlier = []; stop = stop; room = some }
   where
     stop : IsStop task [] []
-    stop = record { beginning = begins task; unsolved = λ moves has. absurd (Contains-none moves has); room = omega arith; stops = inl solved }
+    stop =
+        record { beginning = begins task; unsolved = λ moves has. absurd (Contains-none moves has); room = omega arith; stops = inl solved }
 
     unlimited : IsUnlimited task
-    unlimited moves question formula shapes (inl (gone, asks)) met = let made = gone.early [] [] stop in absurd (no_last made.0 made.1 made.2)
+    unlimited moves question formula shapes (inl (gone, asks)) met =
+        let made = gone.early [] [] stop in absurd (no_last made.0 made.1 made.2)
     unlimited moves question formula shapes (inr (tested, is)) met = elim (tested.early [] [] stop) [
       | inl before ↦ order.first moves before
       | inr here ↦
-          let same : question ≡ Proving (goal_from task task.initial) = is ∙ ap (λ (ms : List Move). Proving (goal_from task (node_of task ms).model)) here.0 in
+          let same : question ≡ Proving (goal_from task task.initial) =
+          is ∙ ap (λ (ms : List Move). Proving (goal_from task (node_of task ms).model)) here.0 in
           below formula shapes (subst (λ (q : Question). MeetsLimit task.problem q formula shapes) same met)
     ]
 
 -- ---- nothing to reach
 
-no_shape : (problem : Problem) (facts : List Atom) (shape : List Tick) → ¬ IsPartialShape (proofs_in (setting_of problem facts)) (setting_of problem facts) [] 0 shape
+no_shape : (problem : Problem) (facts : List Atom) (shape : List Tick)
+    → ¬ IsPartialShape (proofs_in (setting_of problem facts)) (setting_of problem facts) [] 0 shape
 no_shape problem facts shape (unfinished, (objects, none, is, same)) = subst IsUnfinished (sym same) unfinished
 no_shape problem facts shape (unfinished, (objects, also d ds, is, same)) = is.proved
 
-nothing_to_reach : (problem : Problem) (tables : List Table) (initial : List Atom) → 1 ≤ problem.nodes → 2 ≤ problem.shapes → IsFound (task_of problem tables initial [] 0) []
+nothing_to_reach : (problem : Problem) (tables : List Table) (initial : List Atom) → 1 ≤ problem.nodes → 2 ≤ problem.shapes
+    → IsFound (task_of problem tables initial [] 0) []
 nothing_to_reach problem tables initial some shapes =
     found_at_once (task_of problem tables initial [] 0) some
     (refl, ([], none, record { count = refl; below = All-nil (λ (n : ℕ). n < problem.objects); proved = tt; low = omega arith }))
@@ -92,16 +99,20 @@ abbrev open_one : List Tick
 open_one = tick.Open ∷ []
 
 -- its only unfinished list is open
-only_open : (rules : Rules) → ((atom : Atom) → ¬ rules.IsGap atom) → (facts : List Atom) (shape : List Tick) → IsPartialShape rules (setting_of idle facts) (p ∷ []) 0 shape → open_one ≡ shape
+only_open : (rules : Rules) → ((atom : Atom) → ¬ rules.IsGap atom) → (facts : List Atom) (shape : List Tick)
+    → IsPartialShape rules (setting_of idle facts) (p ∷ []) 0 shape → open_one ≡ shape
 only_open rules no_gap facts shape (unfinished, (objects, none, is, same)) = absurd is.proved
 only_open rules no_gap facts shape (unfinished, (objects, also d (also e ds), is, same)) = absurd is.proved.1
-only_open rules no_gap facts shape (unfinished, (objects, also (fact leaf) none, is, same)) = absurd (subst IsUnfinished (sym same) unfinished)
+only_open rules no_gap facts shape (unfinished, (objects, also (fact leaf) none, is, same)) =
+    absurd (subst IsUnfinished (sym same) unfinished)
 only_open rules no_gap facts shape (unfinished, (objects, also (ancestor i) none, is, same)) = let at = is.proved.0 in absurd (cc)
-only_open rules no_gap facts shape (unfinished, (objects, also (step number theta place parts) none, is, same)) = let at = is.proved.0.1.axiom_at in absurd (cc)
+only_open rules no_gap facts shape (unfinished, (objects, also (step number theta place parts) none, is, same)) =
+    let at = is.proved.0.1.axiom_at in absurd (cc)
 only_open rules no_gap facts shape (unfinished, (objects, also (gap atom) none, is, same)) = absurd (no_gap atom is.proved.0.1)
 only_open rules no_gap facts shape (unfinished, (objects, also open_place none, is, same)) = same
 
-few_of : (rules : Rules) → ((atom : Atom) → ¬ rules.IsGap atom) → (facts : List Atom) → AreFewerThan (IsPartialShape rules (setting_of idle facts) (p ∷ []) 0) 2
+few_of : (rules : Rules) → ((atom : Atom) → ¬ rules.IsGap atom) → (facts : List Atom)
+    → AreFewerThan (IsPartialShape rules (setting_of idle facts) (p ∷ []) 0) 2
 few_of rules no_gap facts = record {
   seen = open_one ∷ [];
   fewer = omega arith;
@@ -125,7 +136,9 @@ p_proof : IsList (proofs_in (setting_of idle (p ∷ []))) (setting_of idle (p �
 p_proof = record { count = refl; below = All-nil (λ (n : ℕ). n < 0); proved = ((refl, (refl, refl)), tt); low = omega arith }
 
 there : IsFound from_p []
-there = found_at_once from_p (omega arith) (refl, ([], also (fact p_leaf) none, p_proof)) (λ formula kept met. few_or_limited.proofs (setting_of idle (p ∷ [])) (p ∷ []) 0 kept (few_shapes (p ∷ [])) met.1)
+there =
+    found_at_once from_p (omega arith) (refl, ([], also (fact p_leaf) none, p_proof))
+    (λ formula kept met. few_or_limited.proofs (setting_of idle (p ∷ [])) (p ∷ []) 0 kept (few_shapes (p ∷ [])) met.1)
 
 -- ---- P where it is none
 
@@ -162,30 +175,44 @@ no_proof objects (also (gap atom) none) is = is.proved.0.1
 no_proof objects (also open_place none) is = is.proved.0
 
 -- what is asked about the goal stays below the limit
-asked_below : (question : Question) → AsksAt without_p (initial_node without_p) question → (formula : List Atom) (shapes : List (List Tick)) → ¬ MeetsLimit idle question formula shapes
+asked_below : (question : Question) → AsksAt without_p (initial_node without_p) question → (formula : List Atom) (shapes : List (List Tick))
+    → ¬ MeetsLimit idle question formula shapes
 asked_below question (inr relevant) formula shapes met = no_entry relevant.0 relevant.1.is_entry
 asked_below question (inl (zero, needed, within, is, asks)) formula shapes met = of_goal asks
   where
     of_goal : ¬ ((question ≡ Proving needed) ⊎ ((¬ HasAnswer idle needed) × (question ≡ FindingGaps needed)))
-    of_goal (inl proving) = proved (subst (λ (n : Obligation). MeetsLimit idle (Proving n) formula shapes) (sym is) (subst (λ (q : Question). MeetsLimit idle q formula shapes) proving met))
+    of_goal (inl proving) =
+        proved (subst (λ (n : Obligation). MeetsLimit idle (Proving n) formula shapes) (sym is)
+        (subst (λ (q : Question). MeetsLimit idle q formula shapes) proving met))
       where
         proved : ¬ MeetsLimit idle (Proving (goal_from without_p [])) formula shapes
         proved m = few_or_limited.proofs (setting_of idle []) (p ∷ []) 0 shapes (few_shapes []) m.1
-    of_goal (inr finding) = found (subst (λ (n : Obligation). MeetsLimit idle (FindingGaps n) formula shapes) (sym is) (subst (λ (q : Question). MeetsLimit idle q formula shapes) finding.1 met))
+    of_goal (inr finding) =
+        found (subst (λ (n : Obligation). MeetsLimit idle (FindingGaps n) formula shapes) (sym is)
+        (subst (λ (q : Question). MeetsLimit idle q formula shapes) finding.1 met))
       where
         no_gap : (atom : Atom) → ¬ IsLooseGap (setting_of idle []) (p ∷ []) 0 atom
         no_gap atom loose = no_loose loose.0 loose.1 loose.2
 
         found : ¬ MeetsLimit idle (FindingGaps (goal_from without_p [])) formula shapes
-        found m = few_or_limited.gaps_below (setting_of idle []) (p ∷ []) 0 formula shapes (record { shapes = few_gap_shapes []; atoms = λ atom loose. absurd (no_gap atom loose) }) m
+        found m =
+            few_or_limited.gaps_below (setting_of idle []) (p ∷ []) 0 formula shapes
+            (record { shapes = few_gap_shapes []; atoms = λ atom loose. absurd (no_gap atom loose) }) m
 asked_below question (inl (suc k, needed, within, is, asks)) formula shapes met = omega (arith, within)
 
 not_there : IsExhausted without_p
 not_there = record {
   unlimited = unlimited;
   lists = [] ∷ [];
-  whole = record { beginning = begins without_p; every = λ moves least. subst (Contains ([] ∷ [])) (no_moves moves least.made) (Contains-first [] []) };
-  unsolved = λ moves can solved. unsolved_there (subst (λ (ms : List Move). IsSolved without_p (node_of without_p ms)) (sym (no_moves moves can)) solved);
+  whole =
+      record {
+        beginning =
+            begins without_p;
+        every = λ moves least. subst (Contains ([] ∷ [])) (no_moves moves least.made) (Contains-first [] []);
+      };
+  unsolved =
+      λ moves can solved. unsolved_there (subst (λ (ms : List Move). IsSolved without_p (node_of without_p ms))
+      (sym (no_moves moves can)) solved);
   room = omega arith;
 }
   where
@@ -194,10 +221,14 @@ not_there = record {
 
     unlimited : IsUnlimited without_p
     unlimited moves question formula shapes (inl (gone, asks)) met =
-        asked_below question (subst (λ (ms : List Move). AsksAt without_p (node_of without_p ms) question) (sym (no_moves moves gone.least.made)) asks) formula shapes met
+        asked_below question (subst (λ (ms : List Move). AsksAt without_p (node_of without_p ms) question)
+        (sym (no_moves moves gone.least.made)) asks) formula shapes met
     unlimited moves question formula shapes (inr (tested, is)) met =
-        let same : Proving (goal_from without_p []) ≡ question = ap (λ (ms : List Move). Proving (goal_from without_p (node_of without_p ms).model)) (no_moves moves tested.least.made) ∙ sym is in
-        few_or_limited.proofs (setting_of idle []) (p ∷ []) 0 shapes (few_shapes []) (subst (λ (q : Question). MeetsLimit idle q formula shapes) (sym same) met).1
+        let same : Proving (goal_from without_p []) ≡ question =
+        ap (λ (ms : List Move). Proving (goal_from without_p (node_of without_p ms).model)) (no_moves moves tested.least.made)
+        ∙ sym is in
+        few_or_limited.proofs (setting_of idle []) (p ∷ []) 0 shapes (few_shapes [])
+        (subst (λ (q : Question). MeetsLimit idle q formula shapes) (sym same) met).1
 
 -- ---- the table
 
@@ -208,11 +239,13 @@ first_place (suc k) atom at = absurd (cc)
 p_first : IsFirst (setting_of idle (p ∷ [])) (p ∷ []) 0 [] (also (fact p_leaf) none)
 p_first = record { finished = p_proof; least = least }
   where
-    least : (others : List ℕ) (es : Derivations) → IsList (proofs_in (setting_of idle (p ∷ []))) (setting_of idle (p ∷ [])) (p ∷ []) 0 others es
+    least : (others : List ℕ) (es : Derivations)
+        → IsList (proofs_in (setting_of idle (p ∷ []))) (setting_of idle (p ∷ [])) (p ∷ []) 0 others es
         → ShapeBefore (tick.Fact 0 ∷ []) (ticks_of es) ⊎ ((tick.Fact 0 ∷ [] ≡ ticks_of es) × AtMost [] (others ++ all_choices_of es))
     least others none is = absurd is.proved
     least others (also d (also e ds)) is = absurd is.proved.1
-    least others (also (fact leaf) none) is = inr (ap (λ (n : ℕ). tick.Fact n ∷ []) (sym (first_place leaf.index leaf.atom is.proved.0.1.1)), tt)
+    least others (also (fact leaf) none) is =
+        inr (ap (λ (n : ℕ). tick.Fact n ∷ []) (sym (first_place leaf.index leaf.atom is.proved.0.1.1)), tt)
     least others (also (ancestor i) none) is = let at = is.proved.0 in absurd (cc)
     least others (also (step number theta place parts) none) is = let at = is.proved.0.1.axiom_at in absurd (cc)
     least others (also (gap atom) none) is = absurd is.proved.0.1
@@ -223,7 +256,8 @@ no_step zero inst at = cc
 no_step (suc k) inst at = cc
 
 p_source : IsSource idle [] p_leaf
-p_source = record { initial = λ first. refl; adder = λ later. absurd (omega (arith, later)); last = λ k inst later at added. no_step k inst at }
+p_source =
+    record { initial = λ first. refl; adder = λ later. absurd (omega (arith, later)); last = λ k inst later at added. no_step k inst at }
 
 p_row : IsFirstRow idle [] (p ∷ []) (p ∷ []) 0 (fact p_leaf ∷ [])
 p_row = (

@@ -10,8 +10,8 @@ use Rattle.px_ends.specs.Made.{IsTableOfMoves}
 use Rattle.px_ends.specs.Order.{IsBefore}
 use Rattle.px_ends.specs.Tasks.{Task}
 
--- A task has one end: each of the four excludes the others, and what is told of the first three is determined. Of a shape limit the
--- number of shapes is.
+-- A task has one end: each of the four excludes the others, and what the first three say is determined. Of a shape limit the number of
+-- shapes is determined.
 pub record EndsAreOne : Type 0 where
   pub found : (task : Task) (moves others : List Move) → IsFound task moves → IsFound task others → moves ≡ others
   pub node_limit : (task : Task) (nodes more : List Node) (moves others : ℕ) → IsNodeLimit task nodes moves → IsNodeLimit task more others
@@ -31,8 +31,8 @@ pub record EndsAreOne : Type 0 where
       → length shapes ≡ task.problem.shapes
 
 -- Which questions are asked, by the first node that is solved or that there is no room for. There is at most one such node. All questions
--- of the nodes up to the one from which it is reached are asked, that one included, which is one of the nodes in order; and the goal is
--- tried before it, and at it if there is room for it. Where there is no such node, all questions are asked.
+-- of the nodes up to and including the one from which it is reached, which is one of the nodes in order, are asked; and the goal is tried
+-- before it, and at it if there is room for it. Where there is no such node, all questions are asked.
 pub record AskedByStop : Type 0 where
   pub one : (task : Task) (earlier others : List (List Move)) (last next : List Move) → IsStop task earlier last → IsStop task others next
       → (earlier ≡ others) × (last ≡ next)

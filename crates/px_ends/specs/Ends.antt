@@ -42,7 +42,7 @@ pub record IsStop (task : Task) (earlier : List (List Move)) (last : List Move) 
 
 -- ---- which questions are asked
 
--- the last of the moves is made from a node that doesn't stand before
+-- the last of the second moves is made from a node that doesn't stand before the one that the first moves reach
 abbrev pub IsMadeFrom : List Move → List Move → Type 0
 IsMadeFrom moves last = (parent : List Move) × (m : Move) × (last ≡ parent ++ m ∷ []) × (¬ IsBefore parent moves)
 

@@ -1,3 +1,4 @@
+-- The files of definitions and laws.
 pub mod Tasks
 pub mod Order
 pub mod Moves

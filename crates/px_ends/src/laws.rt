@@ -2,8 +2,8 @@
 ghost use Rattle.px_ends.specs.Determined.{AskedByStop, EndsAreOne, TablesAreOne};
 ghost use Rattle.px_ends.specs.WorkedEnds.{EndFacts};
 
-/// A search has one end: found, exhausted, the node limit or the shape limit. What the first three tell is determined, and of
-/// the shape limit the number of shapes.
+/// A search has one end: found, exhausted, the node limit or the shape limit. What the first three say is determined, and of the shape
+/// limit the number of shapes.
 pub fn ends_are_one()
     ensures { EndsAreOne }
 {}

@@ -27,16 +27,19 @@ one-row : (problem : Problem) (row : List Derivation) → All (IsOfProblem probl
 one-row problem row all = All-cons (All (IsOfProblem problem)) row [] all (All-nil (All (IsOfProblem problem)))
 
 module _ (problem : Problem) where
-  is-proof : (atom : Atom) (leaves : List Leaf) (d : Derivation) → IsRowProof problem atom leaves d → IsProofOf IsObject problem.axioms atom d
+  is-proof : (atom : Atom) (leaves : List Leaf) (d : Derivation) → IsRowProof problem atom leaves d
+      → IsProofOf IsObject problem.axioms atom d
   is-proof atom leaves d p = record { proves = p.proves; terms = p.all_objects }
 
   is-of_problem : (atom : Atom) (leaves : List Leaf) (d : Derivation) → IsRowProof problem atom leaves d → IsOfProblem problem d
   is-of_problem atom leaves d p = (p.of_problem.terms, λ k e below. (p.of_problem.leaves k e below).0)
 
-  renamed : (facts : List Atom) (atom : Atom) (d new : Derivation) → IsAnswerProof problem facts atom d → HasOtherLeaves d new → (leaves : List Leaf) × IsRowProof problem atom leaves new
+  renamed : (facts : List Atom) (atom : Atom) (d new : Derivation) → IsAnswerProof problem facts atom d → HasOtherLeaves d new
+      → (leaves : List Leaf) × IsRowProof problem atom leaves new
   renamed facts atom d new p other = (other.0, subst (IsRowProof problem atom other.0) (sym other.2) (p.renamed other.0 other.1))
 
-  each-row : (facts atoms : List Atom) (ds row : List Derivation) → AllZip (IsAnswerProof problem facts) atoms ds → AllZip HasOtherLeaves ds row
+  each-row : (facts atoms : List Atom) (ds row : List Derivation) → AllZip (IsAnswerProof problem facts) atoms ds
+      → AllZip HasOtherLeaves ds row
       → ProvesEachOf IsObject problem.axioms atoms row × All (IsOfProblem problem) row
   each-row facts [] [] [] are others = (tt, All-nil (IsOfProblem problem))
   each-row facts [] [] (new ∷ row) are others = absurd others
@@ -52,11 +55,19 @@ module _ (problem : Problem) where
 
 pub answers-support : AnswersSupport
 answers-support = record {
-  one = λ problem atom leaves d p. (is-proof problem atom leaves d p, one-row problem (d ∷ []) (All-cons (IsOfProblem problem) d [] (is-of_problem problem atom leaves d p) (All-nil (IsOfProblem problem))));
+  one = λ problem atom leaves d p. (
+    is-proof problem atom leaves d p,
+    one-row problem (d ∷ []) (All-cons (IsOfProblem problem) d [] (is-of_problem problem atom leaves d p)
+        (All-nil (IsOfProblem problem))),
+  );
   step = λ problem facts formula objects ds row valid of list others.
-      let r = each-row problem facts formula ds row (answers-make_rows.without_variables problem facts formula objects ds valid.axioms of list) others in
+      let r =
+      each-row problem facts formula ds row (answers-make_rows.without_variables problem facts formula objects ds valid.axioms of list)
+      others in
       (r.0, one-row problem row r.1);
   goal = λ problem facts formula vars objects ds row valid of list others.
-      let r = each-row problem facts (map (substitute_atom (object_terms objects)) formula) ds row (answers-make_rows.under problem facts formula vars objects ds valid.axioms of list) others in
+      let r =
+      each-row problem facts (map (substitute_atom (object_terms objects)) formula) ds row
+      (answers-make_rows.under problem facts formula vars objects ds valid.axioms of list) others in
       ((object_terms objects, length-map objects Obj ∙ list.count, r.0), one-row problem row r.1);
 }

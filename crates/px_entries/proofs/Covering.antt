@@ -16,7 +16,9 @@ use Rattle.px_base.proofs.Loops.{Contains-pushed}
 use Rattle.px_entries.proofs.PartialLemmas.{object_at}
 
 module _ (problem : Problem) where
-  pub covers_less : (V W : OpInst → Type 0) (old new : List PartialInstance) → ((full : OpInst) → IsInstanceOf problem full → W full → V full) → ((full : OpInst) → V full → W full) → Covers problem V old new → Covers problem W old new
+  pub covers_less : (V W : OpInst → Type 0) (old new : List PartialInstance)
+      → ((full : OpInst) → IsInstanceOf problem full → W full → V full) → ((full : OpInst) → V full → W full) → Covers problem V old new
+      → Covers problem W old new
   covers_less V W old new f back g = record {
     form = g.form;
     kept = g.kept;
@@ -25,7 +27,9 @@ module _ (problem : Problem) where
   }
 
   -- one more part
-  pub covers_part : (V U W : OpInst → Type 0) (old made new : List PartialInstance) → ((full : OpInst) → IsInstanceOf problem full → W full → V full ⊎ U full) → ((full : OpInst) → V full ⊎ U full → W full) → Covers problem V old made → Covers problem U made new → Covers problem W old new
+  pub covers_part : (V U W : OpInst → Type 0) (old made new : List PartialInstance)
+      → ((full : OpInst) → IsInstanceOf problem full → W full → V full ⊎ U full) → ((full : OpInst) → V full ⊎ U full → W full)
+      → Covers problem V old made → Covers problem U made new → Covers problem W old new
   covers_part V U W old made new f back g h = record {
     form = λ all. h.form (g.form all);
     kept = λ full there. h.kept full (g.kept full there);
@@ -37,10 +41,13 @@ module _ (problem : Problem) where
   }
 
   pub covers_nothing : (W : OpInst → Type 0) (found : List PartialInstance) → ((full : OpInst) → ¬ W full) → Covers problem W found found
-  covers_nothing W found none = record { form = λ all. all; kept = λ full there. there; only = λ full there. inl there; all = λ full is w. absurd (none full w) }
+  covers_nothing W found none =
+      record { form = λ all. all; kept = λ full there. there; only = λ full there. inl there; all = λ full is w. absurd (none full w) }
 
   -- one more partial instance
-  pub covers_one : (W : OpInst → Type 0) (old new : List PartialInstance) (one : PartialInstance) → new ≡ old ++ one ∷ [] → IsPartialInstance problem one → ((full : OpInst) → W full → StandsFor problem one full) → ((full : OpInst) → StandsFor problem one full → W full) → Covers problem W old new
+  pub covers_one : (W : OpInst → Type 0) (old new : List PartialInstance) (one : PartialInstance) → new ≡ old ++ one ∷ []
+      → IsPartialInstance problem one → ((full : OpInst) → W full → StandsFor problem one full)
+      → ((full : OpInst) → StandsFor problem one full → W full) → Covers problem W old new
   covers_one W old new one put form stands back = subst (Covers problem W old) (sym put) (record {
     form = λ all. All-each (IsPartialInstance problem) (old ++ one ∷ []) (λ q has. elim ((Contains-pushed old one q).0 has) [
       | inl before ↦ All-at (IsPartialInstance problem) old q all before
@@ -55,25 +62,34 @@ module _ (problem : Problem) where
   })
 
 -- an argument of an instance is what the partial one has, under the objects
-pub argument_under : (problem : Problem) (partial : PartialInstance) (full : OpInst) (objects : List ℕ) → Fills problem partial full objects → (p : ℕ) (d : Term) → p < length partial.inst.args
+pub argument_under : (problem : Problem) (partial : PartialInstance) (full : OpInst) (objects : List ℕ) → Fills problem partial full objects
+    → (p : ℕ) (d : Term) → p < length partial.inst.args
     → substitute (object_terms objects) (slice_index_or partial.inst.args p d) ≡ slice_index_or full.args p Any
 argument_under problem partial full objects fills p d below =
-    sym (get_or-map (substitute (object_terms objects)) partial.inst.args p d Any below) ∙ ap (λ (i : OpInst). slice_index_or i.args p Any) fills.same
+    sym (get_or-map (substitute (object_terms objects)) partial.inst.args p d Any below)
+    ∙ ap (λ (i : OpInst). slice_index_or i.args p Any) fills.same
 
 same_object : (m n : ℕ) → Obj m ≡ Obj n → m ≡ n
 same_object m n is = cc
 
-pub object_is : (problem : Problem) (partial : PartialInstance) (full : OpInst) (objects : List ℕ) (v n : ℕ) (wanted : Term) → Fills problem partial full objects → v < partial.vars → slice_index_or (object_terms objects) v Any ≡ wanted → wanted ≡ Obj n → get_or objects v 0 ≡ n
-object_is problem partial full objects v n wanted fills below is same = same_object (get_or objects v 0) n (sym (object_at objects v (omega (arith, below, fills.count))) ∙ is ∙ same)
+pub object_is : (problem : Problem) (partial : PartialInstance) (full : OpInst) (objects : List ℕ) (v n : ℕ) (wanted : Term)
+    → Fills problem partial full objects → v < partial.vars → slice_index_or (object_terms objects) v Any ≡ wanted → wanted ≡ Obj n
+    → get_or objects v 0 ≡ n
+object_is problem partial full objects v n wanted fills below is same =
+    same_object (get_or objects v 0) n (sym (object_at objects v (omega (arith, below, fills.count))) ∙ is ∙ same)
 
-pub object_within : (problem : Problem) (partial : PartialInstance) (full : OpInst) (objects : List ℕ) (v : ℕ) → Fills problem partial full objects → v < partial.vars → get_or objects v 0 < problem.objects
+pub object_within : (problem : Problem) (partial : PartialInstance) (full : OpInst) (objects : List ℕ) (v : ℕ)
+    → Fills problem partial full objects → v < partial.vars → get_or objects v 0 < problem.objects
 object_within problem partial full objects v fills below = fills.below v 0 (omega (arith, below, fills.count))
 
 no_other : (n : ℕ) (t : Term) → Obj n ≡ t → (¬ (t ≡ Any)) × ((v : ℕ) → ¬ (t ≡ Var v))
 no_other n t is = (λ e. cc, λ v e. cc)
 
-pub not_other : (problem : Problem) (partial : PartialInstance) (full : OpInst) (objects : List ℕ) (v : ℕ) (wanted : Term) → Fills problem partial full objects → v < partial.vars → slice_index_or (object_terms objects) v Any ≡ wanted → (¬ (wanted ≡ Any)) × ((w : ℕ) → ¬ (wanted ≡ Var w))
-not_other problem partial full objects v wanted fills below is = no_other (get_or objects v 0) wanted (sym (object_at objects v (omega (arith, below, fills.count))) ∙ is)
+pub not_other : (problem : Problem) (partial : PartialInstance) (full : OpInst) (objects : List ℕ) (v : ℕ) (wanted : Term)
+    → Fills problem partial full objects → v < partial.vars → slice_index_or (object_terms objects) v Any ≡ wanted
+    → (¬ (wanted ≡ Any)) × ((w : ℕ) → ¬ (wanted ≡ Var w))
+not_other problem partial full objects v wanted fills below is =
+    no_other (get_or objects v 0) wanted (sym (object_at objects v (omega (arith, below, fills.count))) ∙ is)
 
 -- a term that is no variable is the same under all terms
 pub same_closed : (terms others : List Term) (t : Term) → ((n : ℕ) × (t ≡ Obj n)) ⊎ (t ≡ Any) → substitute terms t ≡ substitute others t

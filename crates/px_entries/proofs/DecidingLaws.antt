@@ -19,7 +19,7 @@ use Rattle.px_proof.specs.Proves.{Proves, ProvesEach, Rules, UsesClause, instanc
 use Rattle.px_question.specs.Answers.{IsProvable, literals_of, object_terms}
 use Rattle.px_question.specs.FewerShapes.{Contains-at}
 use Rattle.px_question.specs.Gaps.{gaps_in}
-use Rattle.px_question.specs.Settings.{IsAddable, Setting, proofs_in, setting_of}
+use Rattle.px_question.specs.Settings.{IsAddableIn, Setting, proofs_in, setting_of}
 use Rattle.px_question.proofs.ListedProofs.{finite-gaps}
 use Rattle.px_gaps.specs.Concluding.{IsConcluded}
 use Rattle.px_entries.specs.Deciding.{DecideAlike, IsDeciding, IsMentioned}
@@ -44,11 +44,13 @@ module _ (axioms : List Clause) where
       of-any (λ (c : Clause). Any (λ (l : Lit). l.atom.pred ≡ lit.atom.pred) c.lits) axioms clause there
       (of-any (λ (l : Lit). l.atom.pred ≡ lit.atom.pred) clause.lits lit has refl)
 
-  module _ (IsChoice : Term → Type 0) (lit : Lit) (number : ℕ) (theta : List Term) (place : ℕ) (clause : Clause) (uses : UsesClause IsChoice axioms lit number theta place clause) where
+  module _ (IsChoice : Term → Type 0) (lit : Lit) (number : ℕ) (theta : List Term) (place : ℕ) (clause : Clause)
+      (uses : UsesClause IsChoice axioms lit number theta place clause) where
     instance-mentioned : All Mentions (instance_of clause.lits theta)
     instance-mentioned =
         All-map Mentions (substitute_literal theta) clause.lits
-        (All-each (λ (l : Lit). Mentions (substitute_literal theta l)) clause.lits (λ l has. in-clause clause (Contains-at axioms number clause uses.axiom_at) l has))
+        (All-each (λ (l : Lit). Mentions (substitute_literal theta l)) clause.lits
+        (λ l has. in-clause clause (Contains-at axioms number clause uses.axiom_at) l has))
 
     -- axioms mention the literal that a step closes
     pub step-mentioned : Mentions lit
@@ -57,11 +59,13 @@ module _ (axioms : List Clause) where
     -- and those that it leaves to be proved
     pub parts-mentioned : All Mentions (parts_of clause.lits theta place)
     parts-mentioned =
-        All-map Mentions complement_of (remove (instance_of clause.lits theta) place) (All_remove Mentions (instance_of clause.lits theta) place instance-mentioned)
+        All-map Mentions complement_of (remove (instance_of clause.lits theta) place)
+        (All_remove Mentions (instance_of clause.lits theta) place instance-mentioned)
 
 -- ---- proofs of deciding literals
 
-module _ (problem : Problem) (facts others : List Atom) (among : (atom : Atom) → IsDeciding problem atom → Contains facts atom → Contains others atom)
+module _ (problem : Problem) (facts others : List Atom)
+    (among : (atom : Atom) → IsDeciding problem atom → Contains facts atom → Contains others atom)
     (IsGap IsOther : Atom → Type 0) (gaps : (atom : Atom) → IsDeciding problem atom → IsGap atom → IsOther atom) where
   abbrev old : Rules
   old = with_gaps IsGap (proofs_in (setting_of problem facts))
@@ -79,17 +83,20 @@ module _ (problem : Problem) (facts others : List Atom) (among : (atom : Atom) �
   abbrev AllCarried : List Lit → List Lit → Derivations → Type 0
   AllCarried path lits ds = (es : Derivations) × ProvesEach new problem.axioms path lits es × (greatest_height es ≡ greatest_height ds)
 
-  carried-fact : (path : List Lit) (lit : Lit) (leaf : Leaf) → Decides lit → lit ≡ positive_of leaf.atom → Contains facts leaf.atom → Carried path lit (fact leaf)
+  carried-fact : (path : List Lit) (lit : Lit) (leaf : Leaf) → Decides lit → lit ≡ positive_of leaf.atom → Contains facts leaf.atom
+      → Carried path lit (fact leaf)
   carried-fact path lit leaf decides same has =
       let other = leaf-of problem others [] leaf.atom (among leaf.atom (subst Decides same decides) has) in
       (fact other.0, (same ∙ other.1, other.2), refl)
 
-  put-first : (path : List Lit) (lit : Lit) (lits : List Lit) (d : Derivation) (ds : Derivations) → Carried path lit d → AllCarried path lits ds → AllCarried path (lit ∷ lits) (also d ds)
+  put-first : (path : List Lit) (lit : Lit) (lits : List Lit) (d : Derivation) (ds : Derivations) → Carried path lit d
+      → AllCarried path lits ds → AllCarried path (lit ∷ lits) (also d ds)
   put-first path lit lits d ds (e, proves, high) (es, each, highs) = (also e es, (proves, each), λ i. max (high i) (highs i))
 
   mutual
     carried : (path : List Lit) (lit : Lit) (d : Derivation) → Decides lit → Proves old problem.axioms path lit d → Carried path lit d
-    carried path lit (fact leaf) decides proved = carried-fact path lit leaf decides proved.0 (Contains-at facts leaf.index leaf.atom proved.1.1)
+    carried path lit (fact leaf) decides proved =
+        carried-fact path lit leaf decides proved.0 (Contains-at facts leaf.index leaf.atom proved.1.1)
     carried path lit (ancestor i) decides proved = (ancestor i, proved, refl)
     carried path lit (step number theta place parts) decides proved =
         let mentioned = parts-mentioned problem.axioms old.IsChoice lit number theta place proved.0 proved.1 in
@@ -98,10 +105,12 @@ module _ (problem : Problem) (facts others : List Atom) (among : (atom : Atom) �
     carried path lit (gap atom) decides proved = (gap atom, (proved.0, gaps atom (subst Decides proved.0 decides) proved.1), refl)
     carried path lit open_place decides proved = absurd proved
 
-    all-carried : (path lits : List Lit) (ds : Derivations) → All Decides lits → ProvesEach old problem.axioms path lits ds → AllCarried path lits ds
+    all-carried : (path lits : List Lit) (ds : Derivations) → All Decides lits → ProvesEach old problem.axioms path lits ds
+        → AllCarried path lits ds
     all-carried path [] none decide each = (none, tt, refl)
     all-carried path (lit ∷ lits) (also d ds) decide each =
-        put-first path lit lits d ds (carried path lit d (All-head Decides lit lits decide) each.0) (all-carried path lits ds (All-tail Decides lit lits decide) each.1)
+        put-first path lit lits d ds (carried path lit d (All-head Decides lit lits decide) each.0)
+        (all-carried path lits ds (All-tail Decides lit lits decide) each.1)
     all-carried path [] (also d ds) decide each = absurd each
     all-carried path (lit ∷ lits) none decide each = absurd each
 
@@ -118,15 +127,26 @@ module _ (problem : Problem) (facts others : List Atom) (alike : DecideAlike pro
   provable-back : (q : Atom) → IsDeciding problem q → IsProvable there q → IsProvable here q
   provable-back q decides (objects, ds, list) =
       let IsTaken = λ (lit : Lit). IsDeciding problem lit.atom in
-      let made = all-carried problem others facts (λ atom is. (alike atom is).1) (λ atom. ⊥) (λ atom. ⊥) (λ atom is h. h) [] (literals_of (q ∷ []) objects) ds
-      (All-cons IsTaken (positive_of (substitute_atom (object_terms objects) q)) [] decides (All-nil IsTaken)) list.proved in
-      (objects, made.0, record { count = list.count; below = list.below; proved = made.1; low = subst (λ (n : ℕ). n ≤ problem.height) (sym made.2) list.low })
+      let made =
+      all-carried problem others facts (λ atom is. (alike atom is).1) (λ atom. ⊥) (λ atom. ⊥) (λ atom is h. h) []
+      (literals_of (q ∷ []) objects) ds
+      (All-cons IsTaken (positive_of (substitute_atom (object_terms objects) q)) [] decides (All-nil IsTaken)) list.proved in (
+        objects,
+        made.0,
+        record {
+          count =
+              list.count;
+          below = list.below;
+          proved = made.1;
+          low = subst (λ (n : ℕ). n ≤ problem.height) (sym made.2) list.low;
+        },
+      )
 
   abbrev IsGapHere : Atom → Type 0
-  IsGapHere atom = IsAddable here atom × (¬ IsProvable here atom)
+  IsGapHere atom = IsAddableIn here atom × (¬ IsProvable here atom)
 
   abbrev IsGapThere : Atom → Type 0
-  IsGapThere atom = IsAddable there atom × (¬ IsProvable there atom)
+  IsGapThere atom = IsAddableIn there atom × (¬ IsProvable there atom)
 
   gap-stays : (atom : Atom) → IsDeciding problem atom → IsGapHere atom → IsGapThere atom
   gap-stays atom decides (addable, never) = (addable, λ proved. never (provable-back atom decides proved))
@@ -156,15 +176,28 @@ module _ (problem : Problem) (facts others : List Atom) (alike : DecideAlike pro
   regapped-gap : (q : Atom) → IsGround q → IsGapHere q → Regapped q 1
   regapped-gap q closed (addable, unproved) = elim (among-or-not others q) [
     | inl has ↦ leaf-there q has
-    | inr never ↦
-        (gap q, (refl, (addable, λ proved. never (provable-fact there q (λ concluded. unproved (provable-back q (inr (concluded-mentioned problem.axioms q.pred concluded)) proved)) closed proved))), refl)
+    | inr never ↦ (
+      gap q,
+      (
+        refl,
+        (
+          addable,
+          λ proved. never (provable-fact there q
+              (λ concluded. unproved (provable-back q (inr (concluded-mentioned problem.axioms q.pred concluded)) proved)) closed proved),
+        ),
+      ),
+      refl,
+    )
   ]
 
   regapped : (q : Atom) → IsGround q → (d : Derivation) → Proves (gaps_in here) problem.axioms [] (positive_of q) d → Regapped q (height d)
-  regapped q closed (fact leaf) proved = regapped-fact q closed (subst (Contains facts) (sym (ap (λ (l : Lit). l.atom) proved.0)) (Contains-at facts leaf.index leaf.atom proved.1.1))
+  regapped q closed (fact leaf) proved =
+      regapped-fact q closed (subst (Contains facts) (sym (ap (λ (l : Lit). l.atom) proved.0))
+      (Contains-at facts leaf.index leaf.atom proved.1.1))
   regapped q closed (ancestor i) proved = absurd (omega (arith, slice_get-within {X = Lit} [] i _ proved))
   regapped q closed (step number theta place parts) proved =
-      carried problem facts others (λ atom is. (alike atom is).0) IsGapHere IsGapThere gap-stays [] (positive_of q) (step number theta place parts)
+      carried problem facts others (λ atom is. (alike atom is).0) IsGapHere IsGapThere gap-stays [] (positive_of q)
+      (step number theta place parts)
       (inr (step-mentioned problem.axioms (gaps_in here).IsChoice (positive_of q) number theta place proved.0 proved.1)) proved
   regapped q closed (gap atom) proved = regapped-gap q closed (subst IsGapHere (sym (ap (λ (l : Lit). l.atom) proved.0)) proved.1)
   regapped q closed open_place proved = absurd proved
@@ -174,17 +207,21 @@ module _ (problem : Problem) (facts others : List Atom) (alike : DecideAlike pro
     IsClosed lit = IsGround lit.atom
 
     abbrev AllRegapped : List Atom → ℕ → Type 0
-    AllRegapped formula high = (es : Derivations) × ProvesEach (gaps_in there) problem.axioms [] (literals_of formula objects) es × (greatest_height es ≡ high)
+    AllRegapped formula high =
+        (es : Derivations) × ProvesEach (gaps_in there) problem.axioms [] (literals_of formula objects) es × (greatest_height es ≡ high)
 
-    put-next : (atom : Atom) (formula : List Atom) (high highs : ℕ) → Regapped (substitute_atom (object_terms objects) atom) high → AllRegapped formula highs → AllRegapped (atom ∷ formula) (max high highs)
+    put-next : (atom : Atom) (formula : List Atom) (high highs : ℕ) → Regapped (substitute_atom (object_terms objects) atom) high
+        → AllRegapped formula highs → AllRegapped (atom ∷ formula) (max high highs)
     put-next atom formula high highs (e, proves, same) (es, each, sames) = (also e es, (proves, each), λ i. max (same i) (sames i))
 
     -- gap proofs of a formula become gap proofs from the others
-    pub all-regapped : (formula : List Atom) → All IsClosed (literals_of formula objects) → (ds : Derivations) → ProvesEach (gaps_in here) problem.axioms [] (literals_of formula objects) ds → AllRegapped formula (greatest_height ds)
+    pub all-regapped : (formula : List Atom) → All IsClosed (literals_of formula objects) → (ds : Derivations)
+        → ProvesEach (gaps_in here) problem.axioms [] (literals_of formula objects) ds → AllRegapped formula (greatest_height ds)
     all-regapped [] closed none each = (none, tt, refl)
     all-regapped (atom ∷ formula) closed (also d ds) each =
         let under = substitute_atom (object_terms objects) atom in
-        put-next atom formula (height d) (greatest_height ds) (regapped under (All-head IsClosed (positive_of under) (literals_of formula objects) closed) d each.0)
+        put-next atom formula (height d) (greatest_height ds)
+        (regapped under (All-head IsClosed (positive_of under) (literals_of formula objects) closed) d each.0)
         (all-regapped formula (All-tail IsClosed (positive_of under) (literals_of formula objects) closed) ds each.1)
     all-regapped [] closed (also d ds) each = absurd each
     all-regapped (atom ∷ formula) closed none each = absurd each

@@ -11,10 +11,13 @@ use Rattle.px_terms.specs.declared.problem.Problem.{Problem}
 use Rattle.px_entries.specs.Deciding.{AreDeciding, IsDeciding}
 use Rattle.px_base.proofs.Loops.{Contains-pushed, said_no, said_yes, take_next}
 
-module _ (problem : Problem) (facts : List Atom) (i : ℕ) (atom : Atom) (part : List Atom) (below : i < length facts) (at : atom ≡ get_or facts i atom) (are : AreDeciding problem (take i facts) part) where
+module _ (problem : Problem) (facts : List Atom) (i : ℕ) (atom : Atom) (part : List Atom) (below : i < length facts)
+    (at : atom ≡ get_or facts i atom) (are : AreDeciding problem (take i facts) part) where
   -- an atom is among the first facts, one more of them, just where it is among those before or is that one
   one-more : (q : Atom) → Contains (take (i + 1) facts) q ↔ (Contains (take i facts) q ⊎ (atom ≡ q))
-  one-more q = subst (λ (l : List Atom). Contains l q ↔ (Contains (take i facts) q ⊎ (atom ≡ q))) (sym (take_next facts i atom below at)) (Contains-pushed (take i facts) atom q)
+  one-more q =
+      subst (λ (l : List Atom). Contains l q ↔ (Contains (take i facts) q ⊎ (atom ≡ q))) (sym (take_next facts i atom below at))
+      (Contains-pushed (take i facts) atom q)
 
   next-in : (new : List Atom) → IsDeciding problem atom → new ≡ with_atom atom part → AreDeciding problem (take (i + 1) facts) new
   next-in new decides put q =
@@ -38,6 +41,7 @@ module _ (problem : Problem) (facts : List Atom) (i : ℕ) (atom : Atom) (part :
     ],
   )
 
-  pub deciding-next : (decides : Bool) (new : List Atom) → IsTrue decides ↔ IsDeciding problem atom → MatchBool decides (new ≡ with_atom atom part) (new ≡ part) → AreDeciding problem (take (i + 1) facts) new
+  pub deciding-next : (decides : Bool) (new : List Atom) → IsTrue decides ↔ IsDeciding problem atom
+      → MatchBool decides (new ≡ with_atom atom part) (new ≡ part) → AreDeciding problem (take (i + 1) facts) new
   deciding-next true new told put = next-in new (said_yes true told refl) put
   deciding-next false new told same = next-out new (said_no false told refl) same

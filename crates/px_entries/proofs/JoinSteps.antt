@@ -63,11 +63,15 @@ module _ (problem : Problem) (xs ys : List Obligation) where
     ];
   }
 
-  pub limits-left : (formula : List Atom) (shapes : List (List Tick)) → LimitsNeeds problem xs formula shapes → LimitsNeeds problem (xs ++ ys) formula shapes
-  limits-left formula shapes l = record { question = l.question; asked = Any-left (IsAskedOf problem l.question) xs ys l.asked; met = l.met }
+  pub limits-left : (formula : List Atom) (shapes : List (List Tick)) → LimitsNeeds problem xs formula shapes
+      → LimitsNeeds problem (xs ++ ys) formula shapes
+  limits-left formula shapes l =
+      record { question = l.question; asked = Any-left (IsAskedOf problem l.question) xs ys l.asked; met = l.met }
 
-  limits-right : (formula : List Atom) (shapes : List (List Tick)) → LimitsNeeds problem ys formula shapes → LimitsNeeds problem (xs ++ ys) formula shapes
-  limits-right formula shapes l = record { question = l.question; asked = Any-right (IsAskedOf problem l.question) xs ys l.asked; met = l.met }
+  limits-right : (formula : List Atom) (shapes : List (List Tick)) → LimitsNeeds problem ys formula shapes
+      → LimitsNeeds problem (xs ++ ys) formula shapes
+  limits-right formula shapes l =
+      record { question = l.question; asked = Any-right (IsAskedOf problem l.question) xs ys l.asked; met = l.met }
 
   open-left : IsOpen problem (xs ++ ys) → IsOpen problem xs
   open-left all = All-left (IsOpenOne problem) xs ys all
@@ -89,7 +93,8 @@ pub applicable-open : (problem : Problem) (needs : List Obligation) → IsApplic
 applicable-open problem needs all k d below = inl (all k d below)
 
 -- and has no gap
-no-gap : (problem : Problem) (needs : List Obligation) (gap : Atom) → IsApplicable problem needs → ¬ Any (λ needed. HasGap problem needed gap) needs
+no-gap : (problem : Problem) (needs : List Obligation) (gap : Atom) → IsApplicable problem needs
+    → ¬ Any (λ needed. HasGap problem needed gap) needs
 no-gap problem needs gap all any = any.4.0 (All-at (HasAnswer problem) needs any.1 all (any.0, any.2, any.3))
 
 module _ (problem : Problem) (xs ys : List Obligation) where
@@ -105,7 +110,8 @@ module _ (problem : Problem) (xs ys : List Obligation) where
     open_needs = open-both problem xs ys x.open_needs (applicable-open problem ys y.0);
     order = x.order;
     exact = λ gap. (
-      λ has. let g = (x.exact gap).0 has in (open-both problem xs ys g.0 (applicable-open problem ys y.0), Any-left (IsGapIn gap) xs ys g.1),
+      λ has. let g =
+          (x.exact gap).0 has in (open-both problem xs ys g.0 (applicable-open problem ys y.0), Any-left (IsGapIn gap) xs ys g.1),
       λ g. elim (Any-cases (IsGapIn gap) xs ys g.1) [
         | inl first ↦ (x.exact gap).1 (x.open_needs, first)
         | inr second ↦ absurd (no-gap problem ys gap y.0 second)
@@ -114,13 +120,15 @@ module _ (problem : Problem) (xs ys : List Obligation) where
     questions = below-both problem xs ys x.questions y.1;
   }
 
-  applicable-open_with : (gaps : List Atom) → IsKnownOf problem xs Applicable → IsOpenWith problem ys gaps → IsOpenWith problem (xs ++ ys) gaps
+  applicable-open_with : (gaps : List Atom) → IsKnownOf problem xs Applicable → IsOpenWith problem ys gaps
+      → IsOpenWith problem (xs ++ ys) gaps
   applicable-open_with gaps x y = record {
     not_applicable = λ all. y.not_applicable (All-right (HasAnswer problem) xs ys all);
     open_needs = open-both problem xs ys (applicable-open problem xs x.0) y.open_needs;
     order = y.order;
     exact = λ gap. (
-      λ has. let g = (y.exact gap).0 has in (open-both problem xs ys (applicable-open problem xs x.0) g.0, Any-right (IsGapIn gap) xs ys g.1),
+      λ has. let g =
+          (y.exact gap).0 has in (open-both problem xs ys (applicable-open problem xs x.0) g.0, Any-right (IsGapIn gap) xs ys g.1),
       λ g. elim (Any-cases (IsGapIn gap) xs ys g.1) [
         | inl first ↦ absurd (no-gap problem xs gap x.0 first)
         | inr second ↦ (y.exact gap).1 (y.open_needs, second)
@@ -129,7 +137,8 @@ module _ (problem : Problem) (xs ys : List Obligation) where
     questions = below-both problem xs ys x.1 y.questions;
   }
 
-  open-open : (gaps more all_gaps : List Atom) → IsAtomSet all_gaps → ((atom : Atom) → Contains all_gaps atom ↔ (Contains gaps atom ⊎ Contains more atom))
+  open-open : (gaps more all_gaps : List Atom) → IsAtomSet all_gaps
+      → ((atom : Atom) → Contains all_gaps atom ↔ (Contains gaps atom ⊎ Contains more atom))
       → IsOpenWith problem xs gaps → IsOpenWith problem ys more → IsOpenWith problem (xs ++ ys) all_gaps
   open-open gaps more all_gaps order members x y = record {
     not_applicable = λ all. x.not_applicable (All-left (HasAnswer problem) xs ys all);
@@ -153,7 +162,8 @@ module _ (problem : Problem) (xs ys : List Obligation) where
 
 -- ---- case by case
 
-pub joins-limited : (formula : List Atom) (shapes : List (List Tick)) (second : Known) → Joins (Limited formula shapes) second (Limited formula shapes)
+pub joins-limited : (formula : List Atom) (shapes : List (List Tick)) (second : Known)
+    → Joins (Limited formula shapes) second (Limited formula shapes)
 joins-limited formula shapes second = record { known = λ problem xs ys x y. limits-left problem xs ys formula shapes x }
 
 pub joins-applicable : (second : Known) → Joins Applicable second second
@@ -171,7 +181,8 @@ joins-closed_open gaps = record { known = λ problem xs ys x y. closed-left prob
 pub joins-closed_closed : Joins Closed Closed Closed
 joins-closed_closed = record { known = λ problem xs ys x y. closed-left problem xs ys x y.1 }
 
-pub joins-later_limit : (first : Known) (formula : List Atom) (shapes : List (List Tick)) → Joins first (Limited formula shapes) (Limited formula shapes)
+pub joins-later_limit : (first : Known) (formula : List Atom) (shapes : List (List Tick))
+    → Joins first (Limited formula shapes) (Limited formula shapes)
 joins-later_limit first formula shapes = record { known = λ problem xs ys x y. limits-right problem xs ys formula shapes y }
 
 pub joins-open_applicable : (gaps : List Atom) → Joins (Open gaps) Applicable (Open gaps)
@@ -180,11 +191,14 @@ joins-open_applicable gaps = record { known = λ problem xs ys x y. open-applica
 pub joins-open_closed : (gaps : List Atom) → Joins (Open gaps) Closed Closed
 joins-open_closed gaps = record { known = λ problem xs ys x y. closed-right problem xs ys x.questions y }
 
-pub joins-open_open : (gaps more all_gaps : List Atom) → IsAtomSet all_gaps → ((atom : Atom) → Contains all_gaps atom ↔ (Contains gaps atom ⊎ Contains more atom)) → Joins (Open gaps) (Open more) (Open all_gaps)
-joins-open_open gaps more all_gaps order members = record { known = λ problem xs ys x y. open-open problem xs ys gaps more all_gaps order members x y }
+pub joins-open_open : (gaps more all_gaps : List Atom) → IsAtomSet all_gaps
+    → ((atom : Atom) → Contains all_gaps atom ↔ (Contains gaps atom ⊎ Contains more atom)) → Joins (Open gaps) (Open more) (Open all_gaps)
+joins-open_open gaps more all_gaps order members =
+    record { known = λ problem xs ys x y. open-open problem xs ys gaps more all_gaps order members x y }
 
 -- a limit of the first part is one of the whole
-pub limit-whole : (problem : Problem) (xs ys : List Obligation) (known : Known) → IsAtLimit known → IsKnownOf problem xs known → IsKnownOf problem (xs ++ ys) known
+pub limit-whole : (problem : Problem) (xs ys : List Obligation) (known : Known) → IsAtLimit known → IsKnownOf problem xs known
+    → IsKnownOf problem (xs ++ ys) known
 limit-whole problem xs ys Applicable at x = absurd at
 limit-whole problem xs ys (Open gaps) at x = absurd at
 limit-whole problem xs ys Closed at x = absurd at
@@ -202,7 +216,8 @@ nothing-needed problem = (
 
 -- ---- the atoms of two lists, in order
 
-pub union-members : (first second both sorted new : List Atom) → both ≡ first ++ second → IsPermutation both sorted → new ≡ dedup atom_eq sorted → (atom : Atom) → Contains new atom ↔ (Contains first atom ⊎ Contains second atom)
+pub union-members : (first second both sorted new : List Atom) → both ≡ first ++ second → IsPermutation both sorted
+    → new ≡ dedup atom_eq sorted → (atom : Atom) → Contains new atom ↔ (Contains first atom ⊎ Contains second atom)
 union-members first second both sorted new both_is permuted is atom =
     let same = sorted_members atom_eq atom_eq-decides both sorted new permuted is atom in (
       λ has. Contains-append_cases first second atom (subst (λ (l : List Atom). Contains l atom) both_is (same.1 has)),

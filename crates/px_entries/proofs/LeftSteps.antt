@@ -32,7 +32,8 @@ module _ {X : Type 0} (p : X → Bool) (xs : List X) (i : ℕ) (x : X) (below : 
     picked-out : p x ≡ false → made ≡ map f (filter p (take (i + 1) xs))
     picked-out no' = so_far ∙ ap (map f) (sym (filter-out no'))
 
-    pub picked-next : (wanted : Bool) (new : List Y) (y : Y) → wanted ≡ p x → y ≡ f x → MatchBool wanted (new ≡ made ++ y ∷ []) (new ≡ made) → new ≡ map f (filter p (take (i + 1) xs))
+    pub picked-next : (wanted : Bool) (new : List Y) (y : Y) → wanted ≡ p x → y ≡ f x → MatchBool wanted (new ≡ made ++ y ∷ []) (new ≡ made)
+        → new ≡ map f (filter p (take (i + 1) xs))
     picked-next true new y test y_is put = picked-in new y (sym test) y_is put
     picked-next false new y test y_is same = same ∙ picked-out (sym test)
 
@@ -49,7 +50,8 @@ module _ (p : Atom → Bool) (facts : List Atom) where
   unfolding set_of
   left-none left empty = empty
 
-  module _ (i : ℕ) (atom : Atom) (left : List Atom) (so_far : left ≡ atom_set (filter p (take i facts))) (below : i < length facts) (is : atom ≡ get_or facts i atom) where
+  module _ (i : ℕ) (atom : Atom) (left : List Atom) (so_far : left ≡ atom_set (filter p (take i facts))) (below : i < length facts)
+      (is : atom ≡ get_or facts i atom) where
     -- the atom is left, or it isn't
     left-in : (new : List Atom) → p atom ≡ true → new ≡ with_atom atom left → new ≡ atom_set (filter p (take (i + 1) facts))
     left-in new yes' put =
@@ -59,13 +61,16 @@ module _ (p : Atom → Bool) (facts : List Atom) where
     left-out : p atom ≡ false → left ≡ atom_set (filter p (take (i + 1) facts))
     left-out no' = so_far ∙ ap atom_set (sym (filter-out p facts i atom below is no'))
 
-    pub left-next : (deleted : Bool) (new : List Atom) → deleted ≡ not (p atom) → MatchBool deleted (new ≡ left) (new ≡ with_atom atom left) → new ≡ atom_set (filter p (take (i + 1) facts))
+    pub left-next : (deleted : Bool) (new : List Atom) → deleted ≡ not (p atom) → MatchBool deleted (new ≡ left) (new ≡ with_atom atom left)
+        → new ≡ atom_set (filter p (take (i + 1) facts))
     left-next true new test same = same ∙ left-out (is-false (p atom) test)
     left-next false new test put = left-in new (is-true (p atom) test) put
 
-  pub left-all : (i : ℕ) (left model : List Atom) → facts ≡ model → IsAtomSet model → length facts ≤ i → left ≡ atom_set (filter p (take i facts)) → left ≡ filter p model
+  pub left-all : (i : ℕ) (left model : List Atom) → facts ≡ model → IsAtomSet model → length facts ≤ i
+      → left ≡ atom_set (filter p (take i facts)) → left ≡ filter p model
   left-all i left model same ascending end so_far =
-      so_far ∙ ap (λ (l : List Atom). atom_set (filter p l)) (take_all i facts end ∙ same) ∙ set_of-sorted atom_cmp (filter p model) (IsStrictlySortedBy-filter atom_cmp p model ascending)
+      so_far ∙ ap (λ (l : List Atom). atom_set (filter p l)) (take_all i facts end ∙ same)
+      ∙ set_of-sorted atom_cmp (filter p model) (IsStrictlySortedBy-filter atom_cmp p model ascending)
 
 pub not-twice : (b : Bool) → b ≡ not (not b)
 not-twice true = refl
@@ -78,5 +83,6 @@ left-whole test (x ∷ xs) all =
     ap (λ (b : Bool). cond (not b) (x ∷ filter (λ y. not (test y)) xs) (filter (λ y. not (test y)) xs)) (all 0 x (omega arith))
     ∙ ap (λ (l : List _). x ∷ l) (left-whole test xs (λ k d below. all (suc k) d (omega (arith, below))))
 
-pub left-same : {X : Type 0} (test : X → Bool) (xs model copy : List X) → xs ≡ model → All (λ x. test x ≡ false) xs → copy ≡ model → copy ≡ filter (λ x. not (test x)) model
+pub left-same : {X : Type 0} (test : X → Bool) (xs model copy : List X) → xs ≡ model → All (λ x. test x ≡ false) xs → copy ≡ model
+    → copy ≡ filter (λ x. not (test x)) model
 left-same {X} test xs model copy same all is = is ∙ sym same ∙ sym (left-whole test xs all) ∙ ap (filter (λ x. not (test x))) same

@@ -1,3 +1,4 @@
+-- The files of lemmas.
 mod AnswerRowLaws
 pub mod JoinSteps
 mod LeftAdds

@@ -22,25 +22,37 @@ abbrev pub needed_by : Problem → List Atom → OpInst → Obligation
 needed_by problem model inst = record { formula = precondition problem inst; vars = 0; facts = model }
 
 -- what the instance needs is open where it has an answer or a gap
-pub open_one : (problem : Problem) (model : List Atom) (inst : OpInst) → HasAnswer problem (needed_by problem model inst) ⊎ ((gap : Atom) × HasGap problem (needed_by problem model inst) gap) → IsOpen problem (needed_by problem model inst ∷ [])
-open_one problem model inst h = All-cons (λ (needed : Obligation). HasAnswer problem needed ⊎ ((gap : Atom) × HasGap problem needed gap)) (needed_by problem model inst) [] h (All-nil (λ (needed : Obligation). HasAnswer problem needed ⊎ ((gap : Atom) × HasGap problem needed gap)))
+pub open_one : (problem : Problem) (model : List Atom) (inst : OpInst)
+    → HasAnswer problem (needed_by problem model inst) ⊎ ((gap : Atom) × HasGap problem (needed_by problem model inst) gap)
+    → IsOpen problem (needed_by problem model inst ∷ [])
+open_one problem model inst h =
+    All-cons (λ (needed : Obligation). HasAnswer problem needed ⊎ ((gap : Atom) × HasGap problem needed gap))
+    (needed_by problem model inst) [] h (All-nil (λ (needed : Obligation). HasAnswer problem needed
+    ⊎ ((gap : Atom) × HasGap problem needed gap)))
 
-pub one_open : (problem : Problem) (model : List Atom) (inst : OpInst) → IsOpen problem (needed_by problem model inst ∷ []) → HasAnswer problem (needed_by problem model inst) ⊎ ((gap : Atom) × HasGap problem (needed_by problem model inst) gap)
-one_open problem model inst all = All-head (λ (needed : Obligation). HasAnswer problem needed ⊎ ((gap : Atom) × HasGap problem needed gap)) (needed_by problem model inst) [] all
+pub one_open : (problem : Problem) (model : List Atom) (inst : OpInst) → IsOpen problem (needed_by problem model inst ∷ [])
+    → HasAnswer problem (needed_by problem model inst) ⊎ ((gap : Atom) × HasGap problem (needed_by problem model inst) gap)
+one_open problem model inst all =
+    All-head (λ (needed : Obligation). HasAnswer problem needed ⊎ ((gap : Atom) × HasGap problem needed gap))
+    (needed_by problem model inst) [] all
 
 -- the questions about an instance: proving what it needs, or finding the gaps where it has no answer
 pub unlimited_one : (problem : Problem) (model : List Atom) (inst : OpInst)
     → ((shapes : List (List Tick)) → ¬ IsLimited (setting_of problem model) (precondition problem inst) 0 shapes)
-    → ((formula : List Atom) (shapes : List (List Tick)) → (¬ HasAnswer problem (needed_by problem model inst)) → ¬ MeetsGapLimit (setting_of problem model) (precondition problem inst) 0 formula shapes)
+    → ((formula : List Atom) (shapes : List (List Tick)) → (¬ HasAnswer problem (needed_by problem model inst))
+    → ¬ MeetsGapLimit (setting_of problem model) (precondition problem inst) 0 formula shapes)
     → AreUnlimited problem (needed_by problem model inst ∷ [])
 unlimited_one problem model inst proving finding question formula shapes asks met =
-    elim (one_any (λ (needed : Obligation). (question ≡ Proving needed) ⊎ ((¬ HasAnswer problem needed) × (question ≡ FindingGaps needed))) (needed_by problem model inst) asks) [
+    elim (one_any (λ (needed : Obligation). (question ≡ Proving needed) ⊎ ((¬ HasAnswer problem needed) × (question ≡ FindingGaps needed)))
+    (needed_by problem model inst) asks) [
       | inl is ↦ proving shapes (subst (λ q. MeetsLimit problem q formula shapes) is met).1
       | inr is ↦ finding formula shapes is.0 (subst (λ q. MeetsLimit problem q formula shapes) is.1 met)
     ]
 
 -- where it has an answer, and proving it doesn't meet the limit, no question about it does
-pub answered_unlimited : (problem : Problem) (model : List Atom) (inst : OpInst) → HasAnswer problem (needed_by problem model inst) → ((shapes : List (List Tick)) → ¬ IsLimited (setting_of problem model) (precondition problem inst) 0 shapes) → AreUnlimited problem (needed_by problem model inst ∷ [])
+pub answered_unlimited : (problem : Problem) (model : List Atom) (inst : OpInst) → HasAnswer problem (needed_by problem model inst)
+    → ((shapes : List (List Tick)) → ¬ IsLimited (setting_of problem model) (precondition problem inst) 0 shapes)
+    → AreUnlimited problem (needed_by problem model inst ∷ [])
 answered_unlimited problem model inst answer proving = unlimited_one problem model inst proving (λ formula shapes none met. none answer)
 
 -- a list has an element, or none
@@ -49,24 +61,36 @@ some-or-none [] = inr (λ atom has. Contains-none atom has)
 some-or-none (atom ∷ atoms) = inl (atom, Contains-first atom atoms)
 
 -- what is needed has an answer or a gap where it has a list of gap proofs, if it is known whether it has an answer
-pub gaps-open : (problem : Problem) (needed : Obligation) → HasAnswer problem needed ⊎ (¬ HasAnswer problem needed) → (objects : List ℕ) (ds : Derivations)
-    → IsList (gaps_in (setting_of problem needed.facts)) (setting_of problem needed.facts) needed.formula needed.vars objects ds → HasAnswer problem needed ⊎ ((gap : Atom) × HasGap problem needed gap)
+pub gaps-open : (problem : Problem) (needed : Obligation) → HasAnswer problem needed ⊎ (¬ HasAnswer problem needed)
+    → (objects : List ℕ) (ds : Derivations)
+    → IsList (gaps_in (setting_of problem needed.facts)) (setting_of problem needed.facts) needed.formula needed.vars objects ds
+    → HasAnswer problem needed ⊎ ((gap : Atom) × HasGap problem needed gap)
 gaps-open problem needed known objects ds list = elim known [
   | inl answer ↦ inl answer
   | inr unanswered ↦ elim (some-or-none (all_gaps_of ds)) [
     | inl some ↦ inr (some.0, (unanswered, (objects, ds, list, some.1)))
     | inr never ↦
         let s = setting_of problem needed.facts in
-        inl (objects, ds, list_by s needed.formula needed.vars objects ds (gaps_in s) (proofs_in s) (record { choices = λ t h. h; facts = λ leaf h. h; opens = λ h. h }) (λ atom has h. absurd (never atom has)) list)
+        inl (
+          objects,
+          ds,
+          list_by s needed.formula needed.vars objects ds (gaps_in s) (proofs_in s)
+              (record { choices = λ t h. h; facts = λ leaf h. h; opens = λ h. h }) (λ atom has h. absurd (never atom has)) list,
+        )
   ]
 ]
 
 -- and what has an answer or a gap has such a list
 pub open-gaps : (problem : Problem) (needed : Obligation) → HasAnswer problem needed ⊎ ((gap : Atom) × HasGap problem needed gap)
-    → (objects : List ℕ) × (ds : Derivations) × IsList (gaps_in (setting_of problem needed.facts)) (setting_of problem needed.facts) needed.formula needed.vars objects ds
+    → (objects : List ℕ) × (ds : Derivations)
+    × IsList (gaps_in (setting_of problem needed.facts)) (setting_of problem needed.facts) needed.formula needed.vars objects ds
 open-gaps problem needed is_open = elim is_open [
   | inl answer ↦
-      let s = setting_of problem needed.facts in
-      (answer.0, answer.1, list_by s needed.formula needed.vars answer.0 answer.1 (proofs_in s) (gaps_in s) (record { choices = λ t h. h; facts = λ leaf h. h; opens = λ h. h }) (λ atom has h. absurd h) answer.2)
+      let s = setting_of problem needed.facts in (
+        answer.0,
+        answer.1,
+        list_by s needed.formula needed.vars answer.0 answer.1 (proofs_in s) (gaps_in s)
+            (record { choices = λ t h. h; facts = λ leaf h. h; opens = λ h. h }) (λ atom has h. absurd h) answer.2,
+      )
   | inr gap ↦ (gap.1.1.0, gap.1.1.1, gap.1.1.2)
 ]

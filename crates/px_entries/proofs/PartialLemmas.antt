@@ -10,13 +10,13 @@ use Rattle.px_terms.specs.declared.instance.OpInst.{OpInst}
 use Rattle.px_terms.specs.declared.problem.Problem.{Problem}
 use Rattle.px_terms.specs.declared.term.Term.{Term}
 use Rattle.px_terms.specs.declared.term.Term.TheVariants.{Obj, Var, Any}
-use Rattle.px_terms.specs.Language.{IsPlainBelow, IsVariableBelow, substitute}
+use Rattle.px_terms.specs.Language.{IsPlainBelow, IsVariableBelow, substitute, object_of}
 use Rattle.px_terms.specs.Operators.{schema_of, precondition}
 use Rattle.px_terms.specs.Substitution.{substitute_atom, substitute_instance}
 use Rattle.px_terms.specs.Validity.{IsAtomOf, IsValid, IsSchemaWellFormed, IsTermOf, IsInstanceOf}
 use Rattle.px_terms.specs.ValidityLaws.{well_formed_schema}
 use Rattle.px_proof.specs.Literals.{positive_of}
-use Rattle.px_question.specs.Answers.{literals_of, object_of, object_terms}
+use Rattle.px_question.specs.Answers.{literals_of, object_terms}
 use Rattle.px_entries.specs.Instances.{Fills, IsPartialInstance, IsRenamed, StandsFor}
 use Rattle.px_entries.specs.declared.partial.PartialInstance.{PartialInstance}
 use Rattle.px_gaps.proofs.Substituting.{atom_in}
@@ -24,11 +24,13 @@ use Rattle.px_gaps.proofs.Substituting.{atom_in}
 -- ---- lists
 
 -- two maps are one where they are at each element
-same_maps : {X Y Z : Type 0} (f : Y → Z) (g : X → Y) (h : X → Z) (P : X → Type 0) → ((x : X) → P x → f (g x) ≡ h x) → (xs : List X) → All P xs → map f (map g xs) ≡ map h xs
+same_maps : {X Y Z : Type 0} (f : Y → Z) (g : X → Y) (h : X → Z) (P : X → Type 0) → ((x : X) → P x → f (g x) ≡ h x) → (xs : List X)
+    → All P xs → map f (map g xs) ≡ map h xs
 same_maps f g h P same [] all = refl
 same_maps f g h P same (x ∷ xs) all = λ i. same x (All-head P x xs all) i ∷ same_maps f g h P same xs (All-tail P x xs all) i
 
-same_both : {X Y V Z : Type 0} (f : Y → Z) (g : X → Y) (h : V → Z) (k : X → V) (P : X → Type 0) → ((x : X) → P x → f (g x) ≡ h (k x)) → (xs : List X) → All P xs → map f (map g xs) ≡ map h (map k xs)
+same_both : {X Y V Z : Type 0} (f : Y → Z) (g : X → Y) (h : V → Z) (k : X → V) (P : X → Type 0) → ((x : X) → P x → f (g x) ≡ h (k x))
+    → (xs : List X) → All P xs → map f (map g xs) ≡ map h (map k xs)
 same_both f g h k P same [] all = refl
 same_both f g h k P same (x ∷ xs) all = λ i. same x (All-head P x xs all) i ∷ same_both f g h k P same xs (All-tail P x xs all) i
 
@@ -44,9 +46,11 @@ pub object_at : (objects : List ℕ) (k : ℕ) → k < length objects → slice_
 object_at objects k below = get_or-map (λ n. Obj n) objects k 0 Any below
 
 -- a term over objects and `vars` variables is an object where objects stand for the variables
-pub term_under : (problem : Problem) (vars : ℕ) (objects : List ℕ) → length objects ≡ vars → All (λ n. n < problem.objects) objects → (t : Term) → IsTermOf problem vars t → IsTermOf problem 0 (substitute (object_terms objects) t)
+pub term_under : (problem : Problem) (vars : ℕ) (objects : List ℕ) → length objects ≡ vars → All (λ n. n < problem.objects) objects
+    → (t : Term) → IsTermOf problem vars t → IsTermOf problem 0 (substitute (object_terms objects) t)
 term_under problem vars objects count below (Obj n) of = of
-term_under problem vars objects count below (Var v) of = subst (IsTermOf problem 0) (sym (object_at objects v (omega (arith, of, count)))) (below v 0 (omega (arith, of, count)))
+term_under problem vars objects count below (Var v) of =
+    subst (IsTermOf problem 0) (sym (object_at objects v (omega (arith, of, count)))) (below v 0 (omega (arith, of, count)))
 term_under problem vars objects count below Any of = absurd of
 
 closed_term : (problem : Problem) (t : Term) → IsTermOf problem 0 t → substitute [] t ≡ t
@@ -55,45 +59,64 @@ closed_term problem (Var v) of = absurd (omega (arith, of))
 closed_term problem Any of = absurd of
 
 -- what fills a partial instance is an entry
-pub fills-instance : (problem : Problem) (partial : PartialInstance) (full : OpInst) (objects : List ℕ) → IsPartialInstance problem partial → Fills problem partial full objects → IsInstanceOf problem full
+pub fills-instance : (problem : Problem) (partial : PartialInstance) (full : OpInst) (objects : List ℕ) → IsPartialInstance problem partial
+    → Fills problem partial full objects → IsInstanceOf problem full
 fills-instance problem partial full objects form fills = subst (IsInstanceOf problem) fills.same (record {
   op = form.op;
   count = length-map partial.inst.args (substitute (object_terms objects)) ∙ form.count;
-  objects = All-map (IsTermOf problem 0) (substitute (object_terms objects)) partial.inst.args (λ k d below. term_under problem partial.vars objects fills.count fills.below _ (form.terms k d below));
+  objects =
+      All-map (IsTermOf problem 0) (substitute (object_terms objects)) partial.inst.args
+      (λ k d below. term_under problem partial.vars objects fills.count fills.below _ (form.terms k d below));
 })
 
 -- ---- what it needs
 
 -- what a partial instance needs, under the objects, is what the full one needs
-module _ (problem : Problem) (valid : IsValid problem) (partial : PartialInstance) (form : IsPartialInstance problem partial) (objects : List ℕ) (count : length objects ≡ partial.vars) (below : All (λ n. n < problem.objects) objects) where
+module _ (problem : Problem) (valid : IsValid problem) (partial : PartialInstance) (form : IsPartialInstance problem partial)
+    (objects : List ℕ) (count : length objects ≡ partial.vars) (below : All (λ n. n < problem.objects) objects) where
   same_terms : (t : Term) → IsPlainBelow (length partial.inst.args) t
-      → substitute (object_terms objects) (substitute partial.inst.args t) ≡ substitute [] (substitute (map (substitute (object_terms objects)) partial.inst.args) t)
+      → substitute (object_terms objects) (substitute partial.inst.args t)
+      ≡ substitute [] (substitute (map (substitute (object_terms objects)) partial.inst.args) t)
   same_terms (Obj n) plain = refl
   same_terms (Var v) plain =
       let there = get_or-map (substitute (object_terms objects)) partial.inst.args v Any Any plain in
-      sym (ap (substitute []) there ∙ closed_term problem _ (term_under problem partial.vars objects count below _ (form.terms v Any plain)))
+      sym (ap (substitute []) there ∙ closed_term problem _
+      (term_under problem partial.vars objects count below _ (form.terms v Any plain)))
   same_terms Any plain = absurd plain
 
   same_literal : (atom : Atom) → All (IsPlainBelow (length partial.inst.args)) atom.args
-      → positive_of (substitute_atom (object_terms objects) (substitute_atom partial.inst.args atom)) ≡ positive_of (substitute_atom [] (substitute_atom (map (substitute (object_terms objects)) partial.inst.args) atom))
+      → positive_of (substitute_atom (object_terms objects) (substitute_atom partial.inst.args atom))
+      ≡ positive_of (substitute_atom [] (substitute_atom (map (substitute (object_terms objects)) partial.inst.args) atom))
   same_literal atom plain = ap (λ (l : List Term). positive_of (record { pred = atom.pred; args = l }))
-      (same_both (substitute (object_terms objects)) (substitute partial.inst.args) (substitute []) (substitute (map (substitute (object_terms objects)) partial.inst.args)) (IsPlainBelow (length partial.inst.args)) same_terms atom.args plain)
+      (same_both (substitute (object_terms objects)) (substitute partial.inst.args) (substitute [])
+      (substitute (map (substitute (object_terms objects)) partial.inst.args))
+      (IsPlainBelow (length partial.inst.args)) same_terms atom.args plain)
 
-  pub same_needs : literals_of (precondition problem partial.inst) objects ≡ literals_of (precondition problem (substitute_instance (object_terms objects) partial.inst)) []
+  pub same_needs : literals_of (precondition problem partial.inst) objects
+      ≡ literals_of (precondition problem (substitute_instance (object_terms objects) partial.inst)) []
   same_needs =
-      let schema : IsSchemaWellFormed (schema_of problem partial.inst) = well_formed_schema problem partial.inst.op (schema_of problem partial.inst) (valid.schemas partial.inst.op form.op) in
-      same_both (λ (atom : Atom). positive_of (substitute_atom (object_terms objects) atom)) (substitute_atom partial.inst.args) (λ (atom : Atom). positive_of (substitute_atom [] atom)) (substitute_atom (map (substitute (object_terms objects)) partial.inst.args))
+      let schema : IsSchemaWellFormed (schema_of problem partial.inst) =
+      well_formed_schema problem partial.inst.op (schema_of problem partial.inst) (valid.schemas partial.inst.op form.op) in
+      same_both (λ (atom : Atom). positive_of (substitute_atom (object_terms objects) atom)) (substitute_atom partial.inst.args)
+      (λ (atom : Atom). positive_of (substitute_atom [] atom))
+      (substitute_atom (map (substitute (object_terms objects)) partial.inst.args))
       (λ (atom : Atom). All (IsPlainBelow (length partial.inst.args)) atom.args) same_literal (schema_of problem partial.inst).pre
-      (subst (λ (n : ℕ). All (λ (atom : Atom). All (IsPlainBelow n) atom.args) (schema_of problem partial.inst).pre) (sym form.count) schema.pre)
+      (subst (λ (n : ℕ). All (λ (atom : Atom). All (IsPlainBelow n) atom.args) (schema_of problem partial.inst).pre)
+      (sym form.count) schema.pre)
 
 -- what a partial instance needs are atoms of the problem over its variables
-pub needs-are : (problem : Problem) (partial : PartialInstance) → IsValid problem → IsPartialInstance problem partial → All (IsAtomOf problem partial.vars) (precondition problem partial.inst)
+pub needs-are : (problem : Problem) (partial : PartialInstance) → IsValid problem → IsPartialInstance problem partial
+    → All (IsAtomOf problem partial.vars) (precondition problem partial.inst)
 needs-are problem partial valid form =
-    let pre : All (IsAtomOf problem (length partial.inst.args)) (schema_of problem partial.inst).pre = subst (λ (n : ℕ). All (IsAtomOf problem n) (schema_of problem partial.inst).pre) (sym form.count) (valid.schemas partial.inst.op form.op).pre in
-    All-map (IsAtomOf problem partial.vars) (substitute_atom partial.inst.args) (schema_of problem partial.inst).pre (λ k d below. atom_in problem partial.vars partial.inst.args form.terms _ (pre k d below))
+    let pre : All (IsAtomOf problem (length partial.inst.args)) (schema_of problem partial.inst).pre =
+    subst (λ (n : ℕ). All (IsAtomOf problem n) (schema_of problem partial.inst).pre) (sym form.count)
+    (valid.schemas partial.inst.op form.op).pre in
+    All-map (IsAtomOf problem partial.vars) (substitute_atom partial.inst.args) (schema_of problem partial.inst).pre
+    (λ k d below. atom_in problem partial.vars partial.inst.args form.terms _ (pre k d below))
 
 -- a partial instance without variables stands for itself alone
-pub stands-closed : (problem : Problem) (partial : PartialInstance) (full : OpInst) → IsPartialInstance problem partial → partial.vars ≡ 0 → StandsFor problem partial full → partial.inst ≡ full
+pub stands-closed : (problem : Problem) (partial : PartialInstance) (full : OpInst) → IsPartialInstance problem partial → partial.vars ≡ 0
+    → StandsFor problem partial full → partial.inst ≡ full
 stands-closed problem partial full form none stands = (λ i. record { op = partial.inst.op; args = closed_args i }) ∙ stands.1.same
   where
     closed_at : (t : Term) → IsTermOf problem partial.vars t → t ≡ substitute (object_terms stands.0) t
@@ -103,7 +126,9 @@ stands-closed problem partial full form none stands = (λ i. record { op = parti
 
     closed_all : (ts : List Term) → All (IsTermOf problem partial.vars) ts → ts ≡ map (substitute (object_terms stands.0)) ts
     closed_all [] all = refl
-    closed_all (t ∷ ts) all = λ i. closed_at t (All-head (IsTermOf problem partial.vars) t ts all) i ∷ closed_all ts (All-tail (IsTermOf problem partial.vars) t ts all) i
+    closed_all (t ∷ ts) all =
+        λ i. closed_at t (All-head (IsTermOf problem partial.vars) t ts all) i
+        ∷ closed_all ts (All-tail (IsTermOf problem partial.vars) t ts all) i
 
     closed_args : partial.inst.args ≡ map (substitute (object_terms stands.0)) partial.inst.args
     closed_args = closed_all partial.inst.args form.terms
@@ -113,9 +138,11 @@ stands-closed problem partial full form none stands = (λ i. record { op = parti
 three_ways : (k v : ℕ) → (k < v) ⊎ ((k ≡ v) ⊎ (v < k))
 three_ways k v = grind arith
 
-module _ (partial next : PartialInstance) (terms : List Term) (variable object : ℕ) (inst : next.inst ≡ substitute_instance terms partial.inst) (vars : next.vars + 1 ≡ partial.vars) (within : variable < partial.vars)
+module _ (partial next : PartialInstance) (terms : List Term) (variable object : ℕ)
+    (inst : next.inst ≡ substitute_instance terms partial.inst) (vars : next.vars + 1 ≡ partial.vars) (within : variable < partial.vars)
     (are : (k : ℕ) → k < partial.vars → IsRenamed variable object k (slice_index_or terms k Any)) where
-  renamed_of : (problem : Problem) → object < problem.objects → (t : Term) → IsTermOf problem partial.vars t → IsTermOf problem next.vars (substitute terms t)
+  renamed_of : (problem : Problem) → object < problem.objects → (t : Term) → IsTermOf problem partial.vars t
+      → IsTermOf problem next.vars (substitute terms t)
   renamed_of problem is_object (Obj n) of = of
   renamed_of problem is_object (Var k) of = elim (three_ways k variable) [
     | inl lower ↦ subst (IsTermOf problem next.vars) (sym ((are k of).below lower)) (omega (arith, lower, within, vars))
@@ -132,8 +159,13 @@ module _ (partial next : PartialInstance) (terms : List Term) (variable object :
       let op : next.inst.op ≡ partial.inst.op = ap (λ (i : OpInst). i.op) inst in
       record {
         op = subst (λ (n : ℕ). n < length problem.schemas) (sym op) form.op;
-        count = ap length args ∙ length-map partial.inst.args (substitute terms) ∙ form.count ∙ ap (λ (i : OpInst). (schema_of problem i).params) (sym inst);
-        terms = subst (All (IsTermOf problem next.vars)) (sym args) (All-map (IsTermOf problem next.vars) (substitute terms) partial.inst.args (λ k d below. renamed_of problem is_object _ (form.terms k d below)));
+        count =
+            ap length args ∙ length-map partial.inst.args (substitute terms) ∙ form.count
+            ∙ ap (λ (i : OpInst). (schema_of problem i).params) (sym inst);
+        terms =
+            subst (All (IsTermOf problem next.vars)) (sym args)
+            (All-map (IsTermOf problem next.vars) (substitute terms) partial.inst.args
+            (λ k d below. renamed_of problem is_object _ (form.terms k d below)));
         few = omega (arith, form.few, vars);
         objects = λ some. omega (arith, is_object);
       }
@@ -142,7 +174,8 @@ module _ (partial next : PartialInstance) (terms : List Term) (variable object :
     shorter : length (remove objects variable) + 1 ≡ length objects
     shorter = length-remove objects variable (omega (arith, within, count))
 
-    renamed_under : (k : ℕ) → k < partial.vars → substitute (object_terms (remove objects variable)) (slice_index_or terms k Any) ≡ slice_index_or (object_terms objects) k Any
+    renamed_under : (k : ℕ) → k < partial.vars
+        → substitute (object_terms (remove objects variable)) (slice_index_or terms k Any) ≡ slice_index_or (object_terms objects) k Any
     renamed_under k below = elim (three_ways k variable) [
       | inl lower ↦
           ap (substitute (object_terms (remove objects variable))) ((are k below).below lower)
@@ -158,39 +191,51 @@ module _ (partial next : PartialInstance) (terms : List Term) (variable object :
             let up : k - 1 + 1 ≡ k = omega (arith, higher) in
             ap (substitute (object_terms (remove objects variable))) ((are k below).above higher)
             ∙ object_at (remove objects variable) (k - 1) (omega (arith, higher, below, count, shorter))
-            ∙ ap (λ n. Obj n) (get_or-remove_above objects variable 0 (k - 1) (omega (arith, higher)) (omega (arith, within, count)) ∙ ap (λ n. get_or objects n 0) up)
+            ∙ ap (λ n. Obj n) (get_or-remove_above objects variable 0 (k - 1) (omega (arith, higher)) (omega (arith, within, count))
+            ∙ ap (λ n. get_or objects n 0) up)
             ∙ sym (object_at objects k (omega (arith, below, count)))
       ]
     ]
 
-    under_bound : (t : Term) → IsVariableBelow partial.vars t → substitute (object_terms (remove objects variable)) (substitute terms t) ≡ substitute (object_terms objects) t
+    under_bound : (t : Term) → IsVariableBelow partial.vars t
+        → substitute (object_terms (remove objects variable)) (substitute terms t) ≡ substitute (object_terms objects) t
     under_bound (Obj n) of = refl
     under_bound (Var k) of = renamed_under k of
     under_bound Any of = refl
 
-  pub bound-fills : All (IsVariableBelow partial.vars) partial.inst.args → (problem : Problem) (full : OpInst) (objects : List ℕ) → Fills problem partial full objects → slice_index objects variable ≡ object → StandsFor problem next full
+  pub bound-fills : All (IsVariableBelow partial.vars) partial.inst.args → (problem : Problem) (full : OpInst) (objects : List ℕ)
+      → Fills problem partial full objects → slice_index objects variable ≡ object → StandsFor problem next full
   bound-fills variables problem full objects fills is = (
     remove objects variable,
     record {
       count = omega (arith, shorter objects fills.count is, fills.count, vars);
-      below = All-append (λ n. n < problem.objects) _ _ (All-take (λ n. n < problem.objects) variable objects fills.below) (All-drop (λ n. n < problem.objects) (suc variable) objects fills.below);
+      below =
+          All-append (λ n. n < problem.objects) _ _ (All-take (λ n. n < problem.objects) variable objects fills.below)
+          (All-drop (λ n. n < problem.objects) (suc variable) objects fills.below);
       same =
           ap (substitute_instance (object_terms (remove objects variable))) inst
           ∙ ap (λ (l : List Term). record { op = partial.inst.op; args = l })
-          (same_maps (substitute (object_terms (remove objects variable))) (substitute terms) (substitute (object_terms objects)) (IsVariableBelow partial.vars) (under_bound objects fills.count is) partial.inst.args variables)
+          (same_maps (substitute (object_terms (remove objects variable))) (substitute terms) (substitute (object_terms objects))
+          (IsVariableBelow partial.vars) (under_bound objects fills.count is) partial.inst.args variables)
           ∙ fills.same;
     },
   )
 
   -- what fills the next one fills this one with the object at the place of the variable
-  pub bound-only : All (IsVariableBelow partial.vars) partial.inst.args → (problem : Problem) (full : OpInst) (objects : List ℕ) → object < problem.objects → Fills problem next full objects
+  pub bound-only : All (IsVariableBelow partial.vars) partial.inst.args → (problem : Problem) (full : OpInst) (objects : List ℕ)
+      → object < problem.objects → Fills problem next full objects
       → Fills problem partial full (insert objects variable object) × (slice_index (insert objects variable object) variable ≡ object)
   bound-only variables problem full objects is_object fills =
       let within_objects : variable ≤ length objects = omega (arith, within, vars, fills.count) in
-      let whole : length (insert objects variable object) ≡ partial.vars = omega (arith, length-insert objects variable object within_objects, vars, fills.count) in
-      let here : slice_index (insert objects variable object) variable ≡ object = get_or-insert_at objects variable object 0 within_objects in
-      let under : map (substitute (object_terms (remove (insert objects variable object) variable))) (map (substitute terms) partial.inst.args) ≡ map (substitute (object_terms (insert objects variable object))) partial.inst.args
-      = same_maps (substitute (object_terms (remove (insert objects variable object) variable))) (substitute terms) (substitute (object_terms (insert objects variable object))) (IsVariableBelow partial.vars) (under_bound (insert objects variable object) whole here) partial.inst.args variables in (
+      let whole : length (insert objects variable object) ≡ partial.vars =
+      omega (arith, length-insert objects variable object within_objects, vars, fills.count) in
+      let here : slice_index (insert objects variable object) variable ≡ object =
+      get_or-insert_at objects variable object 0 within_objects in
+      let under : map (substitute (object_terms (remove (insert objects variable object) variable)))
+      (map (substitute terms) partial.inst.args) ≡ map (substitute (object_terms (insert objects variable object))) partial.inst.args
+      = same_maps (substitute (object_terms (remove (insert objects variable object) variable))) (substitute terms)
+      (substitute (object_terms (insert objects variable object))) (IsVariableBelow partial.vars)
+      (under_bound (insert objects variable object) whole here) partial.inst.args variables in (
         record {
           count = whole;
           below = All-append (λ n. n < problem.objects) _ _ (All-take (λ n. n < problem.objects) variable objects fills.below)
@@ -231,7 +276,8 @@ object_again problem (Var v) of = absurd (omega (arith, of))
 object_again problem Any of = absurd of
 
 -- an instance over objects is the partial one with its objects
-pub unbound-fills : (problem : Problem) (inst full : OpInst) (params : ℕ) → inst.args ≡ take params eight → params ≤ 8 → full.op ≡ inst.op → length full.args ≡ params → All (IsTermOf problem 0) full.args
+pub unbound-fills : (problem : Problem) (inst full : OpInst) (params : ℕ) → inst.args ≡ take params eight → params ≤ 8 → full.op ≡ inst.op
+    → length full.args ≡ params → All (IsTermOf problem 0) full.args
     → Fills problem (record { inst = inst; vars = params }) full (map object_of full.args)
 unbound-fills problem inst full params args few op count objects = record {
   count = length-map full.args object_of ∙ count;
@@ -243,12 +289,15 @@ unbound-fills problem inst full params args few op count objects = record {
 
   same_args : map (substitute (object_terms (map object_of full.args))) inst.args ≡ full.args
   same_args = ap (map (substitute (object_terms (map object_of full.args)))) args
-      ∙ same_lists (map (substitute (object_terms (map object_of full.args))) (take params eight)) full.args (length-map (take params eight) (substitute (object_terms (map object_of full.args))) ∙ size ∙ sym count)
+      ∙ same_lists (map (substitute (object_terms (map object_of full.args))) (take params eight)) full.args
+      (length-map (take params eight) (substitute (object_terms (map object_of full.args))) ∙ size ∙ sym count)
       (λ k d below.
-      let within : k < params = omega (arith, below, length-map (take params eight) (substitute (object_terms (map object_of full.args))), size) in
+      let within : k < params =
+      omega (arith, below, length-map (take params eight) (substitute (object_terms (map object_of full.args))), size) in
       let there : k < length full.args = omega (arith, within, count) in
       get_or-map (substitute (object_terms (map object_of full.args))) (take params eight) k Any d (omega (arith, within, size))
-      ∙ ap (substitute (object_terms (map object_of full.args))) (get_or-take params eight k Any within ∙ variable_at k Any (omega (arith, within, few)))
+      ∙ ap (substitute (object_terms (map object_of full.args)))
+      (get_or-take params eight k Any within ∙ variable_at k Any (omega (arith, within, few)))
       ∙ object_at (map object_of full.args) k (omega (arith, there, length-map full.args object_of))
       ∙ ap (λ n. Obj n) (get_or-map object_of full.args k Any 0 there)
       ∙ object_again problem _ (objects k Any there)

@@ -41,16 +41,20 @@ use Rattle.px_entries.proofs.OpenNeeds.{open-gaps}
 use Rattle.std.proofs.lemmas.List.{nil_from_length}
 use Rattle.px_gaps.proofs.Grows.{some-item}
 
--- a test tells the same of what is said in other words
+-- a test decides the same fact said in other words
 pub match-as : {P Q : Type 0} (b : Bool) → P ↔ Q → MatchBool b P (¬ P) → MatchBool b Q (¬ Q)
 match-as true is h = is.0 h
 match-as false is h = λ q. h (is.1 q)
 
-pub some-yes : {P : Type 0} (found : Option Bool) (b : Bool) → found ≡ Some b → b ≡ true → IfSome found (λ (x : Bool). MatchBool x P (¬ P)) → P
-some-yes {P} found b is said h = subst (λ (x : Bool). MatchBool x P (¬ P)) said (subst (λ (f : Option Bool). IfSome f (λ (x : Bool). MatchBool x P (¬ P))) is h)
+pub some-yes : {P : Type 0} (found : Option Bool) (b : Bool) → found ≡ Some b → b ≡ true → IfSome found (λ (x : Bool). MatchBool x P (¬ P))
+    → P
+some-yes {P} found b is said h =
+    subst (λ (x : Bool). MatchBool x P (¬ P)) said (subst (λ (f : Option Bool). IfSome f (λ (x : Bool). MatchBool x P (¬ P))) is h)
 
-pub some-no : {P : Type 0} (found : Option Bool) (b : Bool) → found ≡ Some b → b ≡ false → IfSome found (λ (x : Bool). MatchBool x P (¬ P)) → ¬ P
-some-no {P} found b is said h = subst (λ (x : Bool). MatchBool x P (¬ P)) said (subst (λ (f : Option Bool). IfSome f (λ (x : Bool). MatchBool x P (¬ P))) is h)
+pub some-no : {P : Type 0} (found : Option Bool) (b : Bool) → found ≡ Some b → b ≡ false → IfSome found (λ (x : Bool). MatchBool x P (¬ P))
+    → ¬ P
+some-no {P} found b is said h =
+    subst (λ (x : Bool). MatchBool x P (¬ P)) said (subst (λ (f : Option Bool). IfSome f (λ (x : Bool). MatchBool x P (¬ P))) is h)
 
 module _ (problem : Problem) (facts : List Atom) (apart : ¬ AxiomsMentionAddable problem) where
   abbrev s : Setting
@@ -63,7 +67,20 @@ module _ (problem : Problem) (facts : List Atom) (apart : ¬ AxiomsMentionAddabl
 
   pub mentioned-fixed : (lit : Lit) → IsMentioned problem.axioms lit.atom.pred → IsFixed lit
   mentioned-fixed lit (number, clause, within, at, (place, other, inside, there, same)) addable =
-      apart (number, clause, within, at, (place, other, inside, there, subst (λ (pred : ℕ). Any (λ (schema : Schema). Any (λ (added : Atom). added.pred ≡ pred) schema.add) problem.schemas) (sym same) addable))
+      apart (
+        number,
+        clause,
+        within,
+        at,
+        (
+          place,
+          other,
+          inside,
+          there,
+          subst (λ (pred : ℕ). Any (λ (schema : Schema). Any (λ (added : Atom). added.pred ≡ pred) schema.add) problem.schemas)
+              (sym same) addable,
+        ),
+      )
 
   -- an operator adds it or none does
   addable-or : (q : Atom) → IsAddable problem q ⊎ (¬ IsAddable problem q)
@@ -77,16 +94,20 @@ module _ (problem : Problem) (facts : List Atom) (apart : ¬ AxiomsMentionAddabl
 
   -- their gap proofs have no gap
   mutual
-    no-gap : (path : List Lit) (lit : Lit) (d : Derivation) → IsFixed lit → Proves (gaps_in s) problem.axioms path lit d → (atom : Atom) → ¬ Contains (gaps_of d) atom
+    no-gap : (path : List Lit) (lit : Lit) (d : Derivation) → IsFixed lit → Proves (gaps_in s) problem.axioms path lit d → (atom : Atom)
+        → ¬ Contains (gaps_of d) atom
     no-gap path lit (fact leaf) fixed proved atom has = Contains-none atom has
     no-gap path lit (ancestor i) fixed proved atom has = Contains-none atom has
     no-gap path lit (step number theta place parts) fixed proved atom has =
         let mentioned = parts-mentioned problem.axioms (gaps_in s).IsChoice lit number theta place proved.0 proved.1 in
-        no-gaps (lit ∷ path) (parts_of proved.0.lits theta place) parts (λ k d below. mentioned-fixed (get_or (parts_of proved.0.lits theta place) k d) (mentioned k d below)) proved.2 atom has
-    no-gap path lit (gap closed) fixed proved atom has = fixed (subst (λ (l : Lit). IsAddable problem l.atom) (sym proved.0) ((addable-alike problem facts closed).1 proved.1.0))
+        no-gaps (lit ∷ path) (parts_of proved.0.lits theta place) parts
+        (λ k d below. mentioned-fixed (get_or (parts_of proved.0.lits theta place) k d) (mentioned k d below)) proved.2 atom has
+    no-gap path lit (gap closed) fixed proved atom has =
+        fixed (subst (λ (l : Lit). IsAddable problem l.atom) (sym proved.0) ((addable-alike problem facts closed).1 proved.1.0))
     no-gap path lit open_place fixed proved atom has = Contains-none atom has
 
-    no-gaps : (path lits : List Lit) (ds : Derivations) → All IsFixed lits → ProvesEach (gaps_in s) problem.axioms path lits ds → (atom : Atom) → ¬ Contains (all_gaps_of ds) atom
+    no-gaps : (path lits : List Lit) (ds : Derivations) → All IsFixed lits → ProvesEach (gaps_in s) problem.axioms path lits ds
+        → (atom : Atom) → ¬ Contains (all_gaps_of ds) atom
     no-gaps path [] none fixed each atom has = Contains-none atom has
     no-gaps path (lit ∷ lits) (also d ds) fixed each atom has = elim (Contains-append_cases (gaps_of d) (all_gaps_of ds) atom has) [
       | inl first ↦ no-gap path lit d (All-head IsFixed lit lits fixed) each.0 atom first
@@ -96,17 +117,27 @@ module _ (problem : Problem) (facts : List Atom) (apart : ¬ AxiomsMentionAddabl
     no-gaps path (lit ∷ lits) none fixed each atom has = absurd each
 
   -- a list that closes nothing is one of proofs
-  as-proofs : (formula : List Atom) (objects : List ℕ) (ds : Derivations) → IsList (gaps_in s) s formula 0 objects ds → ((atom : Atom) → ¬ Contains (all_gaps_of ds) atom) → IsList (proofs_in s) s formula 0 objects ds
-  as-proofs formula objects ds list never = list_by s formula 0 objects ds (gaps_in s) (proofs_in s) (record { choices = λ t h. h; facts = λ leaf h. h; opens = λ h. h }) (λ atom has h. never atom has) list
+  as-proofs : (formula : List Atom) (objects : List ℕ) (ds : Derivations) → IsList (gaps_in s) s formula 0 objects ds
+      → ((atom : Atom) → ¬ Contains (all_gaps_of ds) atom) → IsList (proofs_in s) s formula 0 objects ds
+  as-proofs formula objects ds list never =
+      list_by s formula 0 objects ds (gaps_in s) (proofs_in s) (record { choices = λ t h. h; facts = λ leaf h. h; opens = λ h. h })
+      (λ atom has h. never atom has) list
 
-  as-gaps : (formula : List Atom) (objects : List ℕ) (ds : Derivations) → IsList (proofs_in s) s formula 0 objects ds → IsList (gaps_in s) s formula 0 objects ds
-  as-gaps formula objects ds list = list_by s formula 0 objects ds (proofs_in s) (gaps_in s) (record { choices = λ t h. h; facts = λ leaf h. h; opens = λ h. h }) (λ atom has h. absurd h) list
+  as-gaps : (formula : List Atom) (objects : List ℕ) (ds : Derivations) → IsList (proofs_in s) s formula 0 objects ds
+      → IsList (gaps_in s) s formula 0 objects ds
+  as-gaps formula objects ds list =
+      list_by s formula 0 objects ds (proofs_in s) (gaps_in s) (record { choices = λ t h. h; facts = λ leaf h. h; opens = λ h. h })
+      (λ atom has h. absurd h) list
 
-  list-nil : (rules : Rules) (formula : List Atom) (objects : List ℕ) (ds : Derivations) → IsList rules s formula 0 objects ds → ProvesEach rules problem.axioms [] (literals_of formula []) ds
-  list-nil rules formula objects ds list = subst (λ (o : List ℕ). ProvesEach rules problem.axioms [] (literals_of formula o) ds) (nil_from_length objects list.count) list.proved
+  list-nil : (rules : Rules) (formula : List Atom) (objects : List ℕ) (ds : Derivations) → IsList rules s formula 0 objects ds
+      → ProvesEach rules problem.axioms [] (literals_of formula []) ds
+  list-nil rules formula objects ds list =
+      subst (λ (o : List ℕ). ProvesEach rules problem.axioms [] (literals_of formula o) ds) (nil_from_length objects list.count) list.proved
 
-  nil-list : (rules : Rules) (formula : List Atom) (ds : Derivations) → ProvesEach rules problem.axioms [] (literals_of formula []) ds → greatest_height ds ≤ problem.height → IsList rules s formula 0 [] ds
-  nil-list rules formula ds proved low = record { count = refl; below = λ k d within. absurd (omega (arith, within)); proved = proved; low = low }
+  nil-list : (rules : Rules) (formula : List Atom) (ds : Derivations) → ProvesEach rules problem.axioms [] (literals_of formula []) ds
+      → greatest_height ds ≤ problem.height → IsList rules s formula 0 [] ds
+  nil-list rules formula ds proved low =
+      record { count = refl; below = λ k d within. absurd (omega (arith, within)); proved = proved; low = low }
 
   abbrev own : Atom → Lit
   own q = positive_of (substitute_atom [] q)
@@ -114,9 +145,10 @@ module _ (problem : Problem) (facts : List Atom) (apart : ¬ AxiomsMentionAddabl
   own-is : (q : Atom) → IsGround q → own q ≡ positive_of q
   own-is q closed = ap positive_of (ground-same [] q closed)
 
-  -- ---- what a gap proof of an atom tells
+  -- ---- what a gap proof of an atom shows
 
-  settled-by : (q : Atom) → IsGround q → (d : Derivation) → Proves (gaps_in s) problem.axioms [] (own q) d → height d ≤ problem.height → IsSettled problem facts q
+  settled-by : (q : Atom) → IsGround q → (d : Derivation) → Proves (gaps_in s) problem.axioms [] (own q) d → height d ≤ problem.height
+      → IsSettled problem facts q
   settled-by q closed d proved low fixed =
       let list = nil-list (gaps_in s) (q ∷ []) (also d none) (proved, tt) (max-le low (omega arith)) in (
         [],
@@ -128,20 +160,28 @@ module _ (problem : Problem) (facts : List Atom) (apart : ¬ AxiomsMentionAddabl
       )
 
   module _ (high : 1 ≤ problem.height) where
-    absent-by : (q : Atom) → IsGround q → (d : Derivation) → Proves (gaps_in s) problem.axioms [] (positive_of q) d → (atom : Atom) → Contains (gaps_of d) atom → (q ≡ atom) × IsAbsent problem facts atom
+    absent-by : (q : Atom) → IsGround q → (d : Derivation) → Proves (gaps_in s) problem.axioms [] (positive_of q) d → (atom : Atom)
+        → Contains (gaps_of d) atom → (q ≡ atom) × IsAbsent problem facts atom
     absent-by q closed (fact leaf) proved atom has = absurd (Contains-none atom has)
     absent-by q closed (ancestor i) proved atom has = absurd (Contains-none atom has)
     absent-by q closed (step number theta place parts) proved atom has =
-        absurd (no-gap [] (positive_of q) (step number theta place parts) (mentioned-fixed (positive_of q) (step-mentioned problem.axioms (gaps_in s).IsChoice (positive_of q) number theta place proved.0 proved.1)) proved atom has)
+        absurd (no-gap [] (positive_of q) (step number theta place parts)
+        (mentioned-fixed (positive_of q) (step-mentioned problem.axioms (gaps_in s).IsChoice
+        (positive_of q) number theta place proved.0 proved.1)) proved atom has)
     absent-by q closed (gap other) proved atom has =
         let same : q ≡ atom = ap (λ (l : Lit). l.atom) proved.0 ∙ Contains-one other atom has in (
           same,
-          subst (IsAbsent problem facts) (Contains-one other atom has) ((addable-alike problem facts other).1 proved.1.0, λ there. proved.1.1 (fact-provable s other high (subst IsGround (ap (λ (l : Lit). l.atom) proved.0) closed) there)),
+          subst (IsAbsent problem facts) (Contains-one other atom has) (
+            (addable-alike problem facts other).1 proved.1.0,
+            λ there. proved.1.1 (fact-provable s other high (subst IsGround (ap (λ (l : Lit). l.atom) proved.0) closed) there),
+          ),
         )
     absent-by q closed open_place proved atom has = absurd (Contains-none atom has)
 
-    -- and what a list of them tells
-    all-settled : (formula : List Atom) → All IsGround formula → (ds : Derivations) → ProvesEach (gaps_in s) problem.axioms [] (literals_of formula []) ds → greatest_height ds ≤ problem.height → All (IsSettled problem facts) formula
+    -- and what a list of them shows
+    all-settled : (formula : List Atom) → All IsGround formula → (ds : Derivations)
+        → ProvesEach (gaps_in s) problem.axioms [] (literals_of formula []) ds → greatest_height ds ≤ problem.height
+        → All (IsSettled problem facts) formula
     all-settled [] closed ds each low = All-nil (IsSettled problem facts)
     all-settled (q ∷ qs) closed none each low = absurd each
     all-settled (q ∷ qs) closed (also d ds) each low =
@@ -149,13 +189,18 @@ module _ (problem : Problem) (facts : List Atom) (apart : ¬ AxiomsMentionAddabl
         (settled-by q (All-head IsGround q qs closed) d each.0 (omega (arith, low, le-max_left (height d) (greatest_height ds))))
         (all-settled qs (All-tail IsGround q qs closed) ds each.1 (omega (arith, low, le-max_right (height d) (greatest_height ds))))
 
-    all-absent : (formula : List Atom) → All IsGround formula → (ds : Derivations) → ProvesEach (gaps_in s) problem.axioms [] (literals_of formula []) ds → (atom : Atom) → Contains (all_gaps_of ds) atom → Contains formula atom × IsAbsent problem facts atom
+    all-absent : (formula : List Atom) → All IsGround formula → (ds : Derivations)
+        → ProvesEach (gaps_in s) problem.axioms [] (literals_of formula []) ds → (atom : Atom) → Contains (all_gaps_of ds) atom
+        → Contains formula atom × IsAbsent problem facts atom
     all-absent [] closed none each atom has = absurd (Contains-none atom has)
     all-absent [] closed (also d ds) each atom has = absurd each
     all-absent (q ∷ qs) closed none each atom has = absurd each
     all-absent (q ∷ qs) closed (also d ds) each atom has = elim (Contains-append_cases (gaps_of d) (all_gaps_of ds) atom has) [
       | inl first ↦
-          let is = absent-by q (All-head IsGround q qs closed) d (subst (λ (l : Lit). Proves (gaps_in s) problem.axioms [] l d) (own-is q (All-head IsGround q qs closed)) each.0) atom first in
+          let is =
+          absent-by q (All-head IsGround q qs closed) d
+          (subst (λ (l : Lit). Proves (gaps_in s) problem.axioms [] l d) (own-is q (All-head IsGround q qs closed)) each.0) atom first
+          in
           (subst (Contains (q ∷ qs)) is.0 (Contains-first q qs), is.1)
       | inr later ↦ let is = all-absent qs (All-tail IsGround q qs closed) ds each.1 atom later in (Contains-later q qs atom is.0, is.1)
     ]
@@ -163,17 +208,30 @@ module _ (problem : Problem) (facts : List Atom) (apart : ¬ AxiomsMentionAddabl
     -- ---- making gap proofs
 
     abbrev Made : Atom → Type 0
-    Made q = (d : Derivation) × Proves (gaps_in s) problem.axioms [] (own q) d × (height d ≤ problem.height) × (IsAbsent problem facts q → Contains (gaps_of d) q)
+    Made q =
+        (d : Derivation) × Proves (gaps_in s) problem.axioms [] (own q) d × (height d ≤ problem.height)
+        × (IsAbsent problem facts q → Contains (gaps_of d) q)
 
     made-added : (q : Atom) → IsGround q → IsAddable problem q → Made q
     made-added q closed addable = elim (among-or-not facts q) [
-      | inl has ↦ let leaf = leaf-of problem facts [] q has in (fact leaf.0, (own-is q closed ∙ leaf.1, leaf.2), high, λ absent. absurd (absent.1 has))
-      | inr never ↦ (gap q, (own-is q closed, ((addable-alike problem facts q).0 addable, λ proved. never (provable-fact s q (free-of q addable) closed proved))), high, λ absent. Contains-first q [])
+      | inl has ↦ let leaf =
+          leaf-of problem facts [] q has in (fact leaf.0, (own-is q closed ∙ leaf.1, leaf.2), high, λ absent. absurd (absent.1 has))
+      | inr never ↦ (
+        gap q,
+        (
+          own-is q closed,
+          ((addable-alike problem facts q).0 addable, λ proved. never (provable-fact s q (free-of q addable) closed proved)),
+        ),
+        high,
+        λ absent. Contains-first q [],
+      )
     ]
 
-    made-proved : (q : Atom) → (¬ IsAddable problem q) → (ds : Derivations) → ProvesEach (gaps_in s) problem.axioms [] (literals_of (q ∷ []) []) ds → greatest_height ds ≤ problem.height → Made q
+    made-proved : (q : Atom) → (¬ IsAddable problem q) → (ds : Derivations)
+        → ProvesEach (gaps_in s) problem.axioms [] (literals_of (q ∷ []) []) ds → greatest_height ds ≤ problem.height → Made q
     made-proved q fixed none each low = absurd each
-    made-proved q fixed (also d none) each low = (d, each.0, omega (arith, low, le-max_left (height d) 0), λ absent. absurd (fixed absent.0))
+    made-proved q fixed (also d none) each low =
+        (d, each.0, omega (arith, low, le-max_left (height d) 0), λ absent. absurd (fixed absent.0))
     made-proved q fixed (also d (also e es)) each low = absurd each.1
 
     made : (q : Atom) → IsGround q → IsSettled problem facts q → Made q
@@ -186,7 +244,9 @@ module _ (problem : Problem) (facts : List Atom) (apart : ¬ AxiomsMentionAddabl
     ]
 
     abbrev AllMade : List Atom → Type 0
-    AllMade formula = (ds : Derivations) × ProvesEach (gaps_in s) problem.axioms [] (literals_of formula []) ds × (greatest_height ds ≤ problem.height) × ((atom : Atom) → Contains formula atom → IsAbsent problem facts atom → Contains (all_gaps_of ds) atom)
+    AllMade formula =
+        (ds : Derivations) × ProvesEach (gaps_in s) problem.axioms [] (literals_of formula []) ds × (greatest_height ds ≤ problem.height)
+        × ((atom : Atom) → Contains formula atom → IsAbsent problem facts atom → Contains (all_gaps_of ds) atom)
 
     put-made : (q : Atom) (qs : List Atom) → Made q → AllMade qs → AllMade (q ∷ qs)
     put-made q qs (d, proved, low, gaps) (ds, each, lows, all) = (
@@ -194,7 +254,8 @@ module _ (problem : Problem) (facts : List Atom) (apart : ¬ AxiomsMentionAddabl
       (proved, each),
       max-le low lows,
       λ atom has absent. elim (Contains-cases q qs atom has) [
-        | inl here ↦ Contains-append_left (gaps_of d) (all_gaps_of ds) atom (subst (Contains (gaps_of d)) here (gaps (subst (IsAbsent problem facts) (sym here) absent)))
+        | inl here ↦ Contains-append_left (gaps_of d) (all_gaps_of ds) atom
+            (subst (Contains (gaps_of d)) here (gaps (subst (IsAbsent problem facts) (sym here) absent)))
         | inr later ↦ Contains-append_right (gaps_of d) (all_gaps_of ds) atom (all atom later absent)
       ],
     )
@@ -202,22 +263,27 @@ module _ (problem : Problem) (facts : List Atom) (apart : ¬ AxiomsMentionAddabl
     pub all-made : (formula : List Atom) → All IsGround formula → All (IsSettled problem facts) formula → AllMade formula
     all-made [] closed settled = (none, tt, omega arith, λ atom has absent. has)
     all-made (q ∷ qs) closed settled =
-        put-made q qs (made q (All-head IsGround q qs closed) (All-head (IsSettled problem facts) q qs settled)) (all-made qs (All-tail IsGround q qs closed) (All-tail (IsSettled problem facts) q qs settled))
+        put-made q qs (made q (All-head IsGround q qs closed) (All-head (IsSettled problem facts) q qs settled))
+        (all-made qs (All-tail IsGround q qs closed) (All-tail (IsSettled problem facts) q qs settled))
 
     -- where one of its atoms is absent, a formula has no proofs
-    absent-none : (formula : List Atom) → All IsGround formula → (ds : Derivations) → ProvesEach (proofs_in s) problem.axioms [] (literals_of formula []) ds → (atom : Atom) → Contains formula atom → ¬ IsAbsent problem facts atom
+    absent-none : (formula : List Atom) → All IsGround formula → (ds : Derivations)
+        → ProvesEach (proofs_in s) problem.axioms [] (literals_of formula []) ds → (atom : Atom) → Contains formula atom
+        → ¬ IsAbsent problem facts atom
     absent-none [] closed ds each atom has absent = Contains-none atom has
     absent-none (q ∷ qs) closed none each atom has absent = absurd each
     absent-none (q ∷ qs) closed (also d ds) each atom has absent = elim (Contains-cases q qs atom has) [
       | inl here ↦
           let gone = subst (IsAbsent problem facts) (sym here) absent in
-          gone.1 (proof-fact s q (free-of q gone.0) q refl d (subst (λ (l : Lit). Proves (proofs_in s) problem.axioms [] l d) (own-is q (All-head IsGround q qs closed)) each.0))
+          gone.1 (proof-fact s q (free-of q gone.0) q refl d
+          (subst (λ (l : Lit). Proves (proofs_in s) problem.axioms [] l d) (own-is q (All-head IsGround q qs closed)) each.0))
       | inr later ↦ absent-none qs (All-tail IsGround q qs closed) ds each.1 atom later absent
     ]
 
 -- ---- what is known
 
-module _ (problem : Problem) (valid : IsValid problem) (facts formula : List Atom) (of : All (IsAtomOf problem 0) formula) (apart : ¬ AxiomsMentionAddable problem) where
+module _ (problem : Problem) (valid : IsValid problem) (facts formula : List Atom) (of : All (IsAtomOf problem 0) formula)
+    (apart : ¬ AxiomsMentionAddable problem) where
   abbrev needed : Obligation
   needed = record { formula = formula; vars = 0; facts = facts }
 
@@ -239,11 +305,13 @@ module _ (problem : Problem) (valid : IsValid problem) (facts formula : List Ato
     plain-closed never = (
       λ all.
           let list = open-gaps problem needed (All-head IsOpenOne needed [] all) in
-          never (all-settled problem facts apart valid.height.0 formula all-ground list.1 (list-nil problem facts apart (gaps_in here) formula list.0 list.1 list.2) list.2.low),
+          never (all-settled problem facts apart valid.height.0 formula all-ground list.1
+          (list-nil problem facts apart (gaps_in here) formula list.0 list.1 list.2) list.2.low),
       all-below,
     )
 
-    module _ (settled : All (IsSettled problem facts) formula) (absent : List Atom) (are : (atom : Atom) → Contains absent atom ↔ (Contains formula atom × IsAbsent problem facts atom)) where
+    module _ (settled : All (IsSettled problem facts) formula) (absent : List Atom)
+        (are : (atom : Atom) → Contains absent atom ↔ (Contains formula atom × IsAbsent problem facts atom)) where
       -- none of its atoms is absent
       pub plain-applicable : absent ≡ [] → IsKnownOf problem (needed ∷ []) Applicable
       plain-applicable empty =
@@ -253,7 +321,8 @@ module _ (problem : Problem) (valid : IsValid problem) (facts formula : List Ato
               [],
               all.0,
               as-proofs problem facts apart formula [] all.0 list (λ atom has.
-                  Contains-none atom (subst (λ (l : List Atom). Contains l atom) empty ((are atom).1 (all-absent problem facts apart valid.height.0 formula all-ground all.0 all.1 atom has)))),
+                  Contains-none atom (subst (λ (l : List Atom). Contains l atom) empty
+                  ((are atom).1 (all-absent problem facts apart valid.height.0 formula all-ground all.0 all.1 atom has)))),
             ) (All-nil (HasAnswer problem)),
             all-below,
           )
@@ -261,11 +330,13 @@ module _ (problem : Problem) (valid : IsValid problem) (facts formula : List Ato
       no-answer : (atom : Atom) → Contains absent atom → ¬ HasAnswer problem needed
       no-answer atom has answer =
           let is = (are atom).0 has in
-          absent-none problem facts apart valid.height.0 formula all-ground answer.1 (list-nil problem facts apart (proofs_in here) formula answer.0 answer.1 answer.2) atom is.0 is.1
+          absent-none problem facts apart valid.height.0 formula all-ground answer.1
+          (list-nil problem facts apart (proofs_in here) formula answer.0 answer.1 answer.2) atom is.0 is.1
 
       some-gap : (atom : Atom) → HasGap problem needed atom → Contains absent atom
       some-gap atom is =
-          (are atom).1 (all-absent problem facts apart valid.height.0 formula all-ground is.1.1 (list-nil problem facts apart (gaps_in here) formula is.1.0 is.1.1 is.1.2) atom is.1.3)
+          (are atom).1 (all-absent problem facts apart valid.height.0 formula all-ground is.1.1
+          (list-nil problem facts apart (gaps_in here) formula is.1.0 is.1.1 is.1.2) atom is.1.3)
 
       gap-some : (atom : Atom) → Contains absent atom → HasGap problem needed atom
       gap-some atom has =
@@ -278,5 +349,9 @@ module _ (problem : Problem) (valid : IsValid problem) (facts formula : List Ato
       plain-open some' order =
           let first = some-item absent some' in
           let never = no-answer first.0 first.1 in
-          let asks = any_one (λ (other : Obligation). (FindingGaps needed ≡ Proving other) ⊎ ((¬ HasAnswer problem other) × (FindingGaps needed ≡ FindingGaps other))) needed (inr (never, refl)) in
-          known-open problem needed never absent (λ atom. (gap-some atom, some-gap atom)) (λ kept shapes met. unlimited (FindingGaps needed) kept shapes asks met) (all-below.below (FindingGaps needed) asks) some' order
+          let asks =
+          any_one (λ (other : Obligation). (FindingGaps needed ≡ Proving other)
+          ⊎ ((¬ HasAnswer problem other) × (FindingGaps needed ≡ FindingGaps other))) needed (inr (never, refl)) in
+          known-open problem needed never absent (λ atom. (gap-some atom, some-gap atom))
+          (λ kept shapes met. unlimited (FindingGaps needed) kept shapes asks met)
+          (all-below.below (FindingGaps needed) asks) some' order

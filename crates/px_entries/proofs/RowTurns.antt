@@ -20,7 +20,8 @@ row_obligations problem table sigma facts row (step ∷ steps) =
     ∷ row_obligations problem table sigma (filter (λ atom. not (deletes problem step atom)) facts) (suc row) steps
 
 -- a filter by one test and then by another
-filter-both : {X : Type 0} (f g h : X → Bool) → ((x : X) → h x ≡ (f x || g x)) → (xs : List X) → filter (λ x. not (h x)) xs ≡ filter (λ x. not (g x)) (filter (λ x. not (f x)) xs)
+filter-both : {X : Type 0} (f g h : X → Bool) → ((x : X) → h x ≡ (f x || g x)) → (xs : List X)
+    → filter (λ x. not (h x)) xs ≡ filter (λ x. not (g x)) (filter (λ x. not (f x)) xs)
 filter-both f g h is [] = refl
 filter-both f g h is (x ∷ xs) = by (f x) (g x) refl refl (filter-both f g h is xs) where
   by : (a b : Bool) → f x ≡ a → g x ≡ b → filter (λ y. not (h y)) xs ≡ filter (λ y. not (g y)) (filter (λ y. not (f y)) xs)
@@ -31,12 +32,14 @@ filter-both f g h is (x ∷ xs) = by (f x) (g x) refl refl (filter-both f g h is
 
 module _ (problem : Problem) (table : Table) (sigma : List ℕ) (model : List Atom) where
   -- what one more step leaves
-  left_after-next : (steps : List OpInst) (step : OpInst) → left_after problem (steps ++ step ∷ []) model ≡ filter (λ atom. not (deletes problem step atom)) (left_after problem steps model)
+  left_after-next : (steps : List OpInst) (step : OpInst)
+      → left_after problem (steps ++ step ∷ []) model ≡ filter (λ atom. not (deletes problem step atom)) (left_after problem steps model)
   left_after-next steps step = filter-both
       (λ (atom : Atom). list_any (λ (s : OpInst). deletes problem s atom) steps)
       (λ (atom : Atom). deletes problem step atom)
       (λ (atom : Atom). list_any (λ (s : OpInst). deletes problem s atom) (steps ++ step ∷ []))
-      (λ atom. list_any-append (λ (s : OpInst). deletes problem s atom) steps (step ∷ []) ∙ ap (λ b. list_any (λ (s : OpInst). deletes problem s atom) steps || b) (or-false (deletes problem step atom)))
+      (λ atom. list_any-append (λ (s : OpInst). deletes problem s atom) steps (step ∷ [])
+      ∙ ap (λ b. list_any (λ (s : OpInst). deletes problem s atom) steps || b) (or-false (deletes problem step atom)))
       model
     where
       or-false : (b : Bool) → (b || false) ≡ b
@@ -52,14 +55,18 @@ module _ (problem : Problem) (table : Table) (sigma : List ℕ) (model : List At
   rows-after first [] all row is at = refl
   rows-after first (step ∷ rest) all row is at =
       let count : row - 1 ≡ length first = omega (arith, at) in
-      let before : take (row - 1) all ≡ first = ap (λ n. take n all) count ∙ ap (take (length first)) (sym is) ∙ take-append_seam first (step ∷ rest) in
+      let before : take (row - 1) all ≡ first =
+      ap (λ n. take n all) count ∙ ap (take (length first)) (sym is) ∙ take-append_seam first (step ∷ rest) in
       let here : needed all row ≡ record { formula = initial_atoms table sigma row; vars = 0; facts = left_after problem first model } =
       ap (λ (l : List OpInst). record { formula = initial_atoms table sigma row; vars = 0; facts = left_after problem l model }) before in
-      let later = rows-after (first ++ step ∷ []) rest all (suc row) (append_assoc first (step ∷ []) rest ∙ is) (omega (arith, at, length-append first (step ∷ []))) in
+      let later =
+      rows-after (first ++ step ∷ []) rest all (suc row) (append_assoc first (step ∷ []) rest ∙ is)
+      (omega (arith, at, length-append first (step ∷ []))) in
       let number : row + 1 ≡ suc row = omega arith in
       ap (λ (n : ℕ). needed all row ∷ map (needed all) (range_with_len n (length rest))) number
       ∙ ap (λ (o : Obligation). o ∷ map (needed all) (range_with_len (suc row) (length rest))) here
-      ∙ ap (λ (l : List Obligation). record { formula = initial_atoms table sigma row; vars = 0; facts = left_after problem first model } ∷ l)
+      ∙ ap (λ (l : List Obligation). record { formula = initial_atoms table sigma row; vars = 0; facts = left_after problem first model }
+      ∷ l)
       (later ∙ ap (λ (facts : List Atom). row_obligations problem table sigma facts (suc row) rest) (left_after-next first step))
 
   -- nothing is deleted by no step
@@ -71,7 +78,9 @@ module _ (problem : Problem) (table : Table) (sigma : List ℕ) (model : List At
 
   -- what a MACROP's steps need, row after row
   pub in_turn : (steps : List OpInst) → row_needs problem table sigma model steps ≡ row_obligations problem table sigma model 1 steps
-  in_turn steps = rows-after [] steps steps 1 refl refl ∙ ap (λ (facts : List Atom). row_obligations problem table sigma facts 1 steps) left_after-none
+  in_turn steps =
+      rows-after [] steps steps 1 refl refl ∙ ap (λ (facts : List Atom). row_obligations problem table sigma facts 1 steps) left_after-none
 
 pub table_is : (tables : List Table) (number : ℕ) (table : Table) → slice_get tables number ≡ Some table → table_at tables number ≡ table
-table_is tables number table at = ap (λ o. unwrap_or o (record { params = 0; steps = []; goal = []; goal_vars = 0; marks = []; proofs = [] })) at
+table_is tables number table at =
+    ap (λ o. unwrap_or o (record { params = 0; steps = []; goal = []; goal_vars = 0; marks = []; proofs = [] })) at

@@ -6,7 +6,7 @@ use Rattle.px_gaps.specs.Known.{IsKnownOf}
 use Rattle.px_gaps.specs.declared.known.Known.{Known}
 use Rattle.px_gaps.specs.declared.known.Known.TheVariants.{Applicable, Open, Closed, Limited}
 
--- it is that the limit is met
+-- what is known is that the limit is met
 abbrev pub IsAtLimit : Known → Type 0
 IsAtLimit Applicable = ⊥
 IsAtLimit (Open gaps) = ⊥

@@ -1,3 +1,4 @@
+-- The files of definitions and laws.
 pub mod AnswerRows
 pub mod Deciding
 pub mod Decisions

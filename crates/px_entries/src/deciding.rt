@@ -11,14 +11,14 @@ use px_ops::{Model, is_addable};
 use px_terms::{Atom, Lit, NoMemory, Problem};
 use std::alloc::Global;
 
-/// Is one of the literals about the predicate?
+/// Returns whether one of the literals is about the predicate.
 fn mentions(lits: &[Lit], pred: u32) -> bool
     ensures { IsTrue result ↔ Any (λ (lit : LitValue). lit.atom.pred ≡ pred) lits.now }
 {
     lits.iter().any(|lit| lit.atom.pred() == pred)
 }
 
-/// Does some axiom mention the predicate?
+/// Returns whether some axiom mentions the predicate.
 fn is_mentioned(problem: &Problem, pred: u32) -> bool
     ensures { IsTrue result ↔ IsMentioned problem.now.axioms pred }
 {
@@ -30,7 +30,7 @@ fn is_mentioned(problem: &Problem, pred: u32) -> bool
     false
 }
 
-/// Does the atom decide: does no operator add its predicate, or some axiom mention it?
+/// Returns whether the atom decides: whether no operator adds its predicate, or some axiom mentions it.
 fn decides(problem: &Problem, atom: &Atom) -> bool
     ensures { IsTrue result ↔ IsDeciding problem.now atom.now }
 {
@@ -44,7 +44,7 @@ pub struct Decision {
     pub decides: bool,
 }
 
-/// Whether the atoms of this one's predicate decide.
+/// Returns whether the atoms of this one's predicate decide.
 fn decision_of(problem: &Problem, atom: &Atom) -> Decision
     ensures pred { result.pred ≡ atom.now.pred }
     ensures right { IsRightDecision problem.now result }
@@ -55,7 +55,8 @@ fn decision_of(problem: &Problem, atom: &Atom) -> Decision
     }
 }
 
-/// The same, where it may be known from the atom before. The facts of a model stand by predicate, so it mostly is.
+/// Returns whether the atoms of this one's predicate decide, taken from the atom before where that has the same predicate, as it mostly
+/// has: the facts of a model stand by predicate.
 fn decision_after(problem: &Problem, last: Option<Decision>, atom: &Atom) -> Decision
     requires last { IfSome last (IsRightDecision problem.now) }
     ensures pred { result.pred ≡ atom.now.pred }
@@ -67,7 +68,7 @@ fn decision_after(problem: &Problem, last: Option<Decision>, atom: &Atom) -> Dec
     }
 }
 
-/// Adds the atom, if it is to be.
+/// Adds the atom, if it is wanted.
 fn insert_if(part: &mut Model, atom: Atom, is_wanted: bool) -> Result<(), NoMemory>
     requires { IsGround atom }
     ensures { OnOk result (MatchBool is_wanted (part.new.atoms ≡ with_atom atom part.old.atoms) (part.new.atoms ≡ part.old.atoms)) }

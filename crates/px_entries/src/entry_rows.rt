@@ -21,7 +21,7 @@ use px_table::{Entry, Mark, Table, atom_with, instance_with};
 use px_terms::{Atom, NoMemory, OpInst, Problem, Term, apply};
 use std::alloc::Global;
 
-/// What is known of a formula without variables.
+/// Returns what is known of a formula without variables.
 fn known_row(
     alloc: Global,
     problem: &Problem,
@@ -40,14 +40,14 @@ fn known_row(
     }
 }
 
-/// Is the mark one of the row that comes from the initial model?
+/// Returns whether the mark is one of the row that comes from the initial model.
 pub fn is_initial(mark: &Mark, row: u32) -> bool
     ensures { result ≡ ((mark.now.row == row) && (mark.now.column == 0)) }
 {
     mark.row == row && mark.column == 0
 }
 
-/// Puts the atom last, where it is wanted.
+/// Appends the atom, where it is wanted.
 pub fn push_wanted(atoms: &mut Vec<Atom>, atom: Atom, is_wanted: bool) -> Result<(), NoMemory>
     ensures { OnOk result (MatchBool is_wanted (atoms.new.items ≡ atoms.old.items ++ atom ∷ []) (atoms.new.items ≡ atoms.old.items)) }
 {
@@ -57,8 +57,8 @@ pub fn push_wanted(atoms: &mut Vec<Atom>, atom: Atom, is_wanted: bool) -> Result
     Ok(())
 }
 
-/// Puts the mark's atom last, with the objects of `sigma` for the parameters, where the mark is one of the row that comes from the
-/// initial model.
+/// Appends the mark's atom, with the objects of `sigma` for the parameters, where the mark is one of the row that comes from the initial
+/// model.
 fn push_initial(atoms: &mut Vec<Atom>, sigma: &[u32], mark: &Mark, row: u32) -> Result<(), NoMemory>
     requires mark { All (IsVariableBelow (length sigma.now)) mark.now.atom.args }
     ensures { OnOk result (MatchBool ((mark.now.row == row) && (mark.now.column == 0))
@@ -91,7 +91,7 @@ pub fn initial_of(
     Ok(atoms)
 }
 
-/// Is it so that the instance deletes none of the atoms?
+/// Returns whether the instance deletes none of the atoms.
 fn none_is_deleted(problem: &Problem, inst: &OpInst, atoms: &[Atom]) -> bool
     requires problem { IsValid problem.now }
     requires inst { IsGroundInstanceOf problem.now inst.now }
@@ -142,7 +142,7 @@ pub fn left_of(
     Ok(left)
 }
 
-/// The same of facts that are handed over. Does not allocate where the instance deletes none of them.
+/// Returns what the instance leaves of facts that are handed over. Does not allocate where the instance deletes none of them.
 fn left_in_place(
     alloc: Global,
     problem: &Problem,
@@ -169,7 +169,7 @@ pub fn step_under(table: &Table, sigma: &[u32], place: u32) -> OpInst
     instance_with(sigma, &table.steps.as_slice()[place as usize])
 }
 
-/// What is known of the first steps of a table, with objects for its parameters.
+/// Returns what is known of the first steps of a table, with objects for its parameters.
 fn known_prefix(
     alloc: Global,
     problem: &Problem,

@@ -24,7 +24,7 @@ const VARIABLES: [Term; 8] = [
     Term::Var(7),
 ];
 
-/// The instance of the schema whose arguments are all variables.
+/// Returns the instance of the schema whose arguments are all variables.
 pub fn unbound_instance(problem: &Problem, schema: &Schema) -> PartialInstance
     requires problem { IsValid problem.now }
     requires schema { IsSchemaAt problem.now schema.now }
@@ -43,7 +43,7 @@ pub fn unbound_instance(problem: &Problem, schema: &Schema) -> PartialInstance
     }
 }
 
-/// What stands for variable `k` where the object is put for the variable: the variables after it are numbered one less.
+/// Returns what stands for variable `k` where the object is put for the variable: the variables after it are numbered one less.
 fn renamed_term(variable: u32, object: u32, k: u32) -> Term
     ensures { IsRenamed variable object k result }
 {

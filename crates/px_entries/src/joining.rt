@@ -8,14 +8,14 @@ use px_gaps::Known;
 use px_terms::{Atom, NoMemory, Sequence};
 use std::alloc::Global;
 
-/// Is it the limit?
+/// Returns whether it is the limit.
 pub fn is_limited(known: &Known) -> bool
     ensures { IsTrue result ↔ IsAtLimit known.now }
 {
     matches!(known, Known::Limited { .. })
 }
 
-/// The atoms of both lists, one after the other.
+/// Returns the atoms of both lists, one after the other.
 fn both_of(alloc: Global, first: &[Atom], second: &[Atom]) -> Result<Vec<Atom>, NoMemory>
     ensures { IfOk result (λ both. both.items ≡ first.now ++ second.now) }
 {
@@ -25,7 +25,7 @@ fn both_of(alloc: Global, first: &[Atom], second: &[Atom]) -> Result<Vec<Atom>, 
     Ok(both)
 }
 
-/// The atoms of both lists, ascending, each once.
+/// Returns the atoms of both lists, ascending, each once.
 fn union_of(alloc: Global, first: &[Atom], second: &[Atom]) -> Result<Sequence<Atom>, NoMemory>
     ensures order { IfOk result IsAtomSet }
     ensures members { IfOk result (λ union. (atom : Atom) → Contains union atom ↔ (Contains first.now atom ⊎ Contains second.now atom)) }
@@ -36,7 +36,7 @@ fn union_of(alloc: Global, first: &[Atom], second: &[Atom]) -> Result<Sequence<A
     Ok(Sequence::from_vec(union))
 }
 
-/// Of these gaps together with what is known of the others.
+/// Returns what is known of both parts, where the first is open with these gaps.
 fn open_beside(alloc: Global, gaps: Sequence<Atom>, others: Known) -> Result<Known, NoMemory>
     ensures { IfOk result (Joins (Known.Open gaps) others) }
 {
@@ -51,7 +51,7 @@ fn open_beside(alloc: Global, gaps: Sequence<Atom>, others: Known) -> Result<Kno
     }
 }
 
-/// Of what isn't open together with the others.
+/// Returns what is known of both parts, where the first is closed.
 fn closed_beside(others: Known) -> Known
     ensures { Joins Known.Closed others result }
 {
@@ -63,7 +63,7 @@ fn closed_beside(others: Known) -> Known
     }
 }
 
-/// What is known of the one list followed by the other.
+/// Returns what is known of the one list followed by the other.
 pub fn joined(alloc: Global, first: Known, second: Known) -> Result<Known, NoMemory>
     ensures { IfOk result (Joins first second) }
 {

@@ -1,4 +1,4 @@
-//! Whether any question about an entry can meet the limit of shapes, by the numbers that the predicates tell.
+//! Whether any question about an entry can meet the limit of shapes, by the numbers that the predicates have.
 ghost use Rattle.std.specs.Prelude.{◌≡◌, ◌≤◌, length, All, IfOk, IsTrue};
 ghost use Rattle.px_terms.specs.Validity.{IsValid};
 ghost use Rattle.px_terms.specs.declared.atom.Atom.{Atom as AtomValue};
@@ -14,7 +14,7 @@ use px_table::Table;
 use px_terms::{Atom, NoMemory, Problem, Schema};
 use std::alloc::Global;
 
-/// Has each precondition few shapes?
+/// Returns whether each precondition has few shapes.
 fn preconditions_have_few(bounds: &Bounds, problem: &Problem) -> bool
     requires bounds { AreBounds problem.now problem.now.height bounds.now.table }
     ensures { IsTrue result → All (λ (schema : SchemaValue). HasFew problem.now schema.pre) problem.now.schemas }
@@ -26,7 +26,7 @@ fn preconditions_have_few(bounds: &Bounds, problem: &Problem) -> bool
         .all(|schema| bounds.has_few(problem, schema.pre.as_slice()))
 }
 
-/// Has each atom by itself few shapes?
+/// Returns whether each atom by itself has few shapes.
 fn each_has_few(bounds: &Bounds, problem: &Problem, atoms: &[Atom]) -> bool
     requires bounds { AreBounds problem.now problem.now.height bounds.now.table }
     ensures { IsTrue result → EachHasFew problem.now atoms.now }
@@ -34,7 +34,7 @@ fn each_has_few(bounds: &Bounds, problem: &Problem, atoms: &[Atom]) -> bool
     atoms.iter().all(|atom| bounds.has_few(problem, &[*atom]))
 }
 
-/// Has each atom that an operator adds few shapes by itself?
+/// Returns whether each atom that an operator adds has few shapes by itself.
 fn adds_have_few(bounds: &Bounds, problem: &Problem) -> bool
     requires bounds { AreBounds problem.now problem.now.height bounds.now.table }
     ensures { IsTrue result → All (λ (schema : SchemaValue). EachHasFew problem.now schema.add) problem.now.schemas }
@@ -46,7 +46,7 @@ fn adds_have_few(bounds: &Bounds, problem: &Problem) -> bool
     ))
 }
 
-/// The atoms of the row's marks that come from the initial model.
+/// Returns the atoms of the row's marks that come from the initial model.
 fn initial_patterns(alloc: Global, table: &Table, row: u32) -> Result<Vec<Atom>, NoMemory>
     ensures { IfOk result (λ atoms. atoms.items ≡ patterns_by table.now row) }
 {
@@ -59,7 +59,7 @@ fn initial_patterns(alloc: Global, table: &Table, row: u32) -> Result<Vec<Atom>,
     Ok(atoms)
 }
 
-/// Has what each row of the table needs of the initial model few shapes?
+/// Returns whether what each row of the table needs of the initial model has few shapes.
 fn rows_have_few(
     alloc: Global,
     bounds: &Bounds,
@@ -80,7 +80,7 @@ fn rows_have_few(
     Ok(true)
 }
 
-/// Have those of all tables?
+/// Returns whether what each row of all tables needs of the initial model has few shapes.
 fn tables_have_few(
     alloc: Global,
     bounds: &Bounds,

@@ -1,6 +1,6 @@
-//! Matches of what the first steps of a table add with wanted atoms. A match has an object for each parameter that the wanted
-//! atom determines. What a later step deletes whatever the objects are is passed over; what one deletes with some objects only is
-//! asked of each entry by itself.
+//! Matches of what the first steps of a table add with wanted atoms. A match has an object for each parameter that the wanted atom
+//! determines. An add that a later step deletes whatever the objects are is passed over; where a step deletes it only with some objects,
+//! each entry is asked by itself.
 ghost use Rattle.std.specs.Prelude.{◌≡◌, ◌<◌, ℕ, false, true, List, [], length, map, All, IsTrue, IfOk, OnOk};
 ghost use Rattle.std.specs.Cmp.Lexicographic.{pointwise};
 ghost use Rattle.px_question.specs.Answers.{object_terms};
@@ -10,7 +10,7 @@ ghost use Rattle.px_terms.specs.Language.{IsPlainBelow, substitute};
 ghost use Rattle.px_terms.specs.Operators.{IsAdded, adds as adds_of, deletes as deletes_of};
 ghost use Rattle.px_terms.specs.Substitution.{substitute_atom};
 ghost use Rattle.px_terms.specs.Validity.{IsValid};
-ghost use Rattle.px_gaps.specs.Bindings.{Extends, IsBinding, IsPlain};
+ghost use Rattle.px_gaps.specs.Bindings.{ExtendsTerms, IsBinding, IsPlain};
 ghost use Rattle.px_gaps.specs.Closings.{OneOf};
 ghost use Rattle.px_entries.specs.Parameters.{IsLeftAdd, Matches};
 
@@ -20,14 +20,14 @@ use px_ops::{adds, schema_of};
 use px_terms::{Atom, NoMemory, OpInst, Problem, Sequence, Term, apply, fills};
 use std::alloc::Global;
 
-/// Gives the parameter that the term is the wanted object. No where that can't be.
+/// Gives the parameter that the term is the wanted object. Returns false where that can't be.
 fn fit_term(limit: u32, terms: &mut [Term], term: Term, wanted: Term) -> bool
     requires term { IsPlainBelow (length terms.old) term }
     requires binding { IsBinding limit terms.old }
     ensures long { length terms.new ≡ length terms.old }
     ensures binding { IsBinding limit terms.new }
-    ensures fits { (sigma : List ℕ) → Extends limit terms.old sigma → substitute (object_terms sigma) term ≡ wanted → IsTrue result
-        × Extends limit terms.new sigma }
+    ensures fits { (sigma : List ℕ) → ExtendsTerms limit terms.old sigma → substitute (object_terms sigma) term ≡ wanted → IsTrue result
+        × ExtendsTerms limit terms.new sigma }
 {
     match term {
         Term::Var(parameter) => fit_parameter(limit, terms, parameter, wanted),
@@ -35,14 +35,14 @@ fn fit_term(limit: u32, terms: &mut [Term], term: Term, wanted: Term) -> bool
     }
 }
 
-/// Gives the parameter the wanted object. No where that can't be.
+/// Gives the parameter the wanted object. Returns false where that can't be.
 fn fit_parameter(limit: u32, terms: &mut [Term], parameter: u32, wanted: Term) -> bool
     requires term { parameter < length terms.old }
     requires binding { IsBinding limit terms.old }
     ensures long { length terms.new ≡ length terms.old }
     ensures binding { IsBinding limit terms.new }
-    ensures fits { (sigma : List ℕ) → Extends limit terms.old sigma → substitute (object_terms sigma) (Term.Var parameter) ≡ wanted
-        → IsTrue result × Extends limit terms.new sigma }
+    ensures fits { (sigma : List ℕ) → ExtendsTerms limit terms.old sigma → substitute (object_terms sigma) (Term.Var parameter) ≡ wanted
+        → IsTrue result × ExtendsTerms limit terms.new sigma }
 {
     match merged_term(limit, terms[parameter as usize], wanted) {
         Some(term) => {
@@ -53,14 +53,14 @@ fn fit_parameter(limit: u32, terms: &mut [Term], parameter: u32, wanted: Term) -
     }
 }
 
-/// Gives the parameters in the pattern the objects of the wanted atom. No where that can't be.
+/// Gives the parameters in the pattern the objects of the wanted atom. Returns false where that can't be.
 fn fit_atom(limit: u32, terms: &mut [Term], pattern: &Atom, wanted: &Atom) -> bool
     requires pattern { IsPlain (length terms.old) pattern.now }
     requires binding { IsBinding limit terms.old }
     ensures long { length terms.new ≡ length terms.old }
     ensures binding { IsBinding limit terms.new }
-    ensures fits { (sigma : List ℕ) → Extends limit terms.old sigma → substitute_atom (object_terms sigma) pattern.now ≡ wanted.now
-        → IsTrue result × Extends limit terms.new sigma }
+    ensures fits { (sigma : List ℕ) → ExtendsTerms limit terms.old sigma → substitute_atom (object_terms sigma) pattern.now ≡ wanted.now
+        → IsTrue result × ExtendsTerms limit terms.new sigma }
 {
     let arguments = pattern.args();
     let objects = wanted.args();
@@ -97,7 +97,7 @@ fn match_pattern(
     push(found, Sequence::from_vec(terms))
 }
 
-/// Is it sure that the step deletes the atom, whatever objects the parameters have?
+/// Returns whether it is sure that the step deletes the atom, whatever objects the parameters have.
 fn always_deletes(problem: &Problem, step: &OpInst, atom: &Atom) -> bool
     requires problem { IsValid problem.now }
     requires step { (params : ℕ) × IsStepOf problem.now params step.now }
@@ -113,7 +113,7 @@ fn always_deletes(problem: &Problem, step: &OpInst, atom: &Atom) -> bool
     false
 }
 
-/// Is it sure that one of the steps deletes the atom, whatever objects the parameters have?
+/// Returns whether it is sure that one of the steps deletes the atom, whatever objects the parameters have.
 fn one_always_deletes(problem: &Problem, steps: &[OpInst], atom: &Atom) -> bool
     requires problem { IsValid problem.now }
     requires steps { (params : ℕ) × All (IsStepOf problem.now params) steps.now }

@@ -35,7 +35,7 @@ pub fn steps_with(
     Ok(steps)
 }
 
-/// Does the step add the atom?
+/// Returns whether the step adds the atom.
 fn step_adds(problem: &Problem, step: &OpInst, atom: &Atom) -> bool
     requires problem { IsValid problem.now }
     requires step { IsInstanceOf problem.now step.now }
@@ -50,7 +50,7 @@ fn step_adds(problem: &Problem, step: &OpInst, atom: &Atom) -> bool
     false
 }
 
-/// Does none of the steps delete the atom?
+/// Returns whether none of the steps deletes the atom.
 fn none_deletes(problem: &Problem, steps: &[OpInst], atom: &Atom) -> bool
     requires problem { IsValid problem.now }
     requires steps { All (IsInstanceOf problem.now) steps.now }
@@ -65,7 +65,7 @@ fn none_deletes(problem: &Problem, steps: &[OpInst], atom: &Atom) -> bool
     true
 }
 
-/// Does some step add the atom, and no later one delete it?
+/// Returns whether some step adds the atom, and no later one deletes it.
 fn is_added(problem: &Problem, steps: &[OpInst], atom: &Atom) -> bool
     requires problem { IsValid problem.now }
     requires steps { All (IsInstanceOf problem.now) steps.now }
@@ -81,7 +81,7 @@ fn is_added(problem: &Problem, steps: &[OpInst], atom: &Atom) -> bool
     false
 }
 
-/// Do the steps together add one of the wanted atoms? What a later step deletes isn't added.
+/// Returns whether the steps together add one of the wanted atoms. What a later step deletes isn't added.
 pub fn add_wanted(problem: &Problem, steps: &[OpInst], wanted: &[Atom]) -> bool
     requires problem { IsValid problem.now }
     requires steps { All (IsInstanceOf problem.now) steps.now }

@@ -17,7 +17,7 @@ use crate::partial::PartialInstance;
 use px_terms::{Atom, NoMemory, Problem, Schema, Term};
 use std::alloc::Global;
 
-/// The instance with the wanted term for the variable. None where that isn't an object of the problem.
+/// Returns the instance with the wanted term for the variable. `None` where that isn't an object of the problem.
 fn with_object(
     problem: &Problem,
     partial: &PartialInstance,
@@ -45,8 +45,8 @@ fn with_object(
     }
 }
 
-/// The instance, with an object for a variable so that the known term becomes the wanted one. None where no instance
-/// over the problem's objects makes it so.
+/// Returns the instance, with an object for a variable so that the known term becomes the wanted one. `None` where no instance over the
+/// problem's objects does this.
 fn with_known(
     problem: &Problem,
     partial: &PartialInstance,
@@ -74,7 +74,7 @@ fn with_known(
     }
 }
 
-/// The same, where the term may be one of the instance's parameters.
+/// Returns such an instance, where the term may be one of the instance's parameters.
 fn with_term(
     problem: &Problem,
     partial: &PartialInstance,
@@ -99,8 +99,8 @@ fn with_term(
     }
 }
 
-/// The instance, with objects for variables so that the pattern becomes the wanted atom. None where no instance over
-/// the problem's objects makes it so.
+/// Returns the instance, with objects for variables so that the pattern becomes the wanted atom. `None` where no instance over the
+/// problem's objects does this.
 fn with_atom(
     problem: &Problem,
     partial: &PartialInstance,

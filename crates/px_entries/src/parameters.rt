@@ -2,15 +2,15 @@
 ghost use Rattle.std.specs.Prelude.{◌≡◌, ℕ, List, Some, length, slice_get, All, IfSome, IfNone, IfOk, IsSomeAnd, IsTrue};
 ghost use Rattle.px_terms.specs.Language.{IsObject};
 ghost use Rattle.px_terms.specs.declared.term.Term.TheVariants.{Var};
-ghost use Rattle.px_gaps.specs.Bindings.{Extends, IsBinding, first_values};
-ghost use Rattle.px_entries.specs.Parameters.{AreFirstTerms, Fits, IsFirstTerm, merged_term as merged_by};
+ghost use Rattle.px_gaps.specs.Bindings.{ExtendsTerms, IsBinding, first_values};
+ghost use Rattle.px_entries.specs.Parameters.{AreFirstTerms, FitsTerms, IsFirstTerm, merged_term as merged_by};
 
-use px_gaps::{first_variable, object_of};
+use px_gaps::first_variable;
 use px_table::{Table, is_used};
-use px_terms::{NoMemory, Term};
+use px_terms::{NoMemory, Term, object_of};
 use std::alloc::Global;
 
-/// The parameter itself where the first steps use it, else object 0.
+/// Returns the parameter itself where the first steps use it, else object 0.
 fn first_term(table: &Table, prefix: u32, parameter: u32) -> Term
     ensures { IsFirstTerm table.now prefix parameter result }
 {
@@ -57,7 +57,7 @@ pub fn objects_of(alloc: Global, terms: &[Term]) -> Result<Vec<u32>, NoMemory>
     Ok(objects)
 }
 
-/// The object of both terms, or of the one that has one. None where they have two, or one that is no object of the problem.
+/// Returns the object of both terms, or of the one that has one. `None` where they have two, or one that is no object of the problem.
 pub fn merged_term(limit: u32, term: Term, other: Term) -> Option<Term>
     ensures { result ≡ merged_by limit term other }
 {
@@ -74,10 +74,10 @@ pub fn merged_term(limit: u32, term: Term, other: Term) -> Option<Term>
     }
 }
 
-/// Can objects of the problem fit both the terms and the others? `true` alone doesn't say that some do. Does not allocate.
+/// Returns whether objects of the problem can fit both the terms and the others. `true` alone doesn't say that some do. Does not allocate.
 pub fn can_fit(limit: u32, terms: &[Term], others: &[Term]) -> bool
     requires { length others.now ≡ length terms.now }
-    ensures { (sigma : List ℕ) → Extends limit terms.now sigma → Fits others.now sigma → IsTrue result }
+    ensures { (sigma : List ℕ) → ExtendsTerms limit terms.now sigma → FitsTerms others.now sigma → IsTrue result }
 {
     for place in 0..terms.len() {
         if merged_term(limit, terms[place], others[place]).is_none() {
@@ -87,7 +87,7 @@ pub fn can_fit(limit: u32, terms: &[Term], others: &[Term]) -> bool
     true
 }
 
-/// Returns the terms with the objects of the others beside their own, or `None` if no objects of the problem fit both.
+/// Returns the terms with the objects of the others besides their own, or `None` if no objects of the problem fit both.
 ///
 /// # Errors
 /// `NoMemory` if there isn't enough memory.
@@ -100,8 +100,8 @@ pub fn merged(
     requires { length others.now ≡ length terms.now }
     ensures binding { IfOk result (λ merged. IfSome merged (λ next. IsBinding limit terms.now → IsBinding limit next.items)) }
     ensures long { IfOk result (λ merged. IfSome merged (λ next. length next.items ≡ length terms.now)) }
-    ensures fits { IfOk result (λ merged. (sigma : List ℕ) → Extends limit terms.now sigma → Fits others.now sigma
-        → IsSomeAnd merged (λ next. Extends limit next.items sigma)) }
+    ensures fits { IfOk result (λ merged. (sigma : List ℕ) → ExtendsTerms limit terms.now sigma → FitsTerms others.now sigma
+        → IsSomeAnd merged (λ next. ExtendsTerms limit next.items sigma)) }
 {
     if !can_fit(limit, terms, others) {
         return Ok(None);

@@ -1,5 +1,6 @@
-//! What is known of an operator's instance, told by facts as far as they tell it. Where no axiom mentions a predicate that some operator
-//! adds, each atom of a precondition is by itself: one that operators add is a fact or a gap closes it, and a gap closes no other.
+//! What is known of an operator's instance, decided by the facts where they suffice. Where no axiom mentions a predicate that some
+//! operator adds, each atom of a precondition is decided by itself: one that operators add is a fact or a gap closes it, and a gap closes
+//! no other.
 ghost use Rattle.std.specs.Prelude.{◌≡◌, ◌⊎◌, ◌↔◌, ◌∷◌, [], All, Contains, IfOk, IfSome, IsTrue, MatchBool, OnOk};
 ghost use Rattle.px_terms.specs.Instances.{IsGround};
 ghost use Rattle.px_terms.specs.Validity.{IsValid, IsAtomOf, IsInstanceOf};
@@ -19,14 +20,14 @@ use px_table::{Entry, Table};
 use px_terms::{Atom, Lit, NoMemory, OpInst, Problem, Sequence};
 use std::alloc::Global;
 
-/// Is one of the literals about a predicate that some operator adds?
+/// Returns whether one of the literals is about a predicate that some operator adds.
 fn are_about_addable(problem: &Problem, lits: &[Lit]) -> bool
     ensures { IsTrue result ↔ AreAboutAddable problem.now lits.now }
 {
     lits.iter().any(|lit| is_addable(problem, &lit.atom))
 }
 
-/// Does some axiom mention a predicate that some operator adds?
+/// Returns whether some axiom mentions a predicate that some operator adds.
 pub fn axioms_mention_addable(problem: &Problem) -> bool
     ensures { IsTrue result ↔ AxiomsMentionAddable problem.now }
 {
@@ -38,7 +39,7 @@ pub fn axioms_mention_addable(problem: &Problem) -> bool
     false
 }
 
-/// Does some operator add the atom's predicate, or is the atom provable? `None` where asking meets the limit of shapes.
+/// Returns whether some operator adds the atom's predicate, or the atom is provable. `None` where asking meets the limit of shapes.
 pub fn is_settled(
     alloc: Global,
     problem: &Problem,
@@ -67,7 +68,7 @@ pub fn is_settled(
     }
 }
 
-/// Is it so of each atom?
+/// Returns whether of each atom some operator adds the predicate, or the atom is provable. `None` where asking meets the limit of shapes.
 fn are_settled(
     alloc: Global,
     problem: &Problem,
@@ -89,14 +90,14 @@ fn are_settled(
     Ok(Some(true))
 }
 
-/// Does some operator add the atom's predicate, while the atom is no fact?
+/// Returns whether some operator adds the atom's predicate, while the atom is no fact.
 fn is_absent(problem: &Problem, atom: &Atom, model: &Model) -> bool
     ensures { IsTrue result ↔ IsAbsent problem.now model.now.atoms atom.now }
 {
     is_addable(problem, atom) && !model.holds(atom)
 }
 
-/// Puts the atom into the set, where it is so of it.
+/// Puts the atom into the set, where some operator adds its predicate and it is no fact.
 fn insert_absent(
     found: &mut Model,
     problem: &Problem,
@@ -114,7 +115,7 @@ fn insert_absent(
     Ok(())
 }
 
-/// The set of the formula's atoms of which it is so.
+/// Returns the set of the formula's atoms that are no facts and whose predicates operators add.
 fn absent_of(
     alloc: Global,
     problem: &Problem,
@@ -132,7 +133,7 @@ fn absent_of(
     Ok(absent)
 }
 
-/// What is known of a formula without variables of which each atom is settled: that it is provable, or open with what is absent.
+/// Returns what is known of a formula without variables of which each atom is settled: that it is provable, or open with what is absent.
 fn known_settled(
     alloc: Global,
     problem: &Problem,
@@ -154,7 +155,7 @@ fn known_settled(
     Ok(Known::Open(Sequence::from_slice(alloc, gaps)?))
 }
 
-/// What is known of a formula without variables. `None` where asking about one of its atoms meets the limit of shapes.
+/// Returns what is known of a formula without variables. `None` where asking about one of its atoms meets the limit of shapes.
 fn known_plain(
     alloc: Global,
     problem: &Problem,
@@ -175,7 +176,7 @@ fn known_plain(
     }
 }
 
-/// What is known of the instance. `None` where that isn't told atom by atom.
+/// Returns what is known of the instance. `None` where this can't be decided atom by atom.
 fn known_instance(
     alloc: Global,
     problem: &Problem,
@@ -199,7 +200,7 @@ fn known_instance(
 
 // Alike: `known_entry`, whose promise it repeats; that also serves where questions may be limited, and this asks the prover less.
 /// Returns what is known of an entry in the model, as [`known_entry`](crate::known_entry) does, where no question about an entry is ever
-/// limited. An operator's instance is then mostly told by the facts alone, so that the prover is asked less.
+/// limited. An operator's instance is then mostly decided by the facts alone, so that the prover is asked less.
 ///
 /// # Errors
 /// `NoMemory` if there isn't enough memory.

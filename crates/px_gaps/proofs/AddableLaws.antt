@@ -32,7 +32,8 @@ has-predicate pred schema = (
   λ c. let r = Contains-from_map (λ (atom : Atom). atom.pred) schema.add pred c in (r.1.0, r.0, r.1.1, r.1.2, r.2),
 )
 
-adds-predicate : (pred : ℕ) (schemas : List Schema) → Any (λ schema. HasPredicate pred schema.add) schemas ↔ Contains (flat_map added_by schemas) pred
+adds-predicate : (pred : ℕ) (schemas : List Schema) → Any (λ schema. HasPredicate pred schema.add) schemas
+    ↔ Contains (flat_map added_by schemas) pred
 adds-predicate pred [] = (λ a. absurd (omega (arith, a.2)), λ c. absurd (Contains-none pred c))
 adds-predicate pred (schema ∷ schemas) =
     let here = has-predicate pred schema in

@@ -8,15 +8,15 @@ use Rattle.px_proof.specs.declared.shape.Tick.{Tick}
 use Rattle.px_proof.specs.declared.shape.Tick.TheVariants.{Fact, Gap, Open}
 use Rattle.px_proof.specs.Derivation.{fact, ancestor, step, gap, open_place}
 use Rattle.px_proof.specs.Shapes.{IsUnfinished}
-use Rattle.px_question.proofs.FewerFactsLaws.{place_in-one}
-use Rattle.px_question.specs.FewerFacts.{place_in}
+use Rattle.px_question.proofs.FewerFactsLaws.{place_among_facts-one}
+use Rattle.px_question.specs.FewerFacts.{place_among_facts}
 use Rattle.px_question.specs.FewerShapes.{Contains-at}
-use Rattle.px_question.specs.Settings.{IsAddable, Setting, setting_of}
+use Rattle.px_question.specs.Settings.{IsAddableIn, Setting, setting_of}
 use Rattle.px_terms.specs.AtomSets.{IsAtomSet}
 use Rattle.px_terms.specs.declared.atom.Atom.{Atom}
 use Rattle.px_terms.specs.declared.clause.Lit.{Lit}
 use Rattle.px_terms.specs.declared.problem.Problem.{Problem}
-use Rattle.px_gaps.specs.Bounds.{AreAtMost, AreBounds, IsAsserting, IsAtomShape, IsBound, IsBoundFor, IsFinished, IsLeafBound, IsLeafShape, IsUseBound, IsUseShape, bound_either}
+use Rattle.px_gaps.specs.Bounds.{AreAtMost, AreBounds, IsAsserting, IsAtomShape, IsBound, IsBoundFor, HasNoOpenTick, IsLeafBound, IsLeafShape, IsUseBound, IsUseShape, bound_either}
 use Rattle.px_gaps.specs.declared.bounds.Bound.{Bound}
 use Rattle.px_gaps.proofs.ShapeCounts.{at_most-either, at_most-none, at_most-one, bound_for-either}
 use Rattle.px_base.specs.Answers.{both_answers}
@@ -33,29 +33,30 @@ module _ (s : Setting) (q : Atom) where
   leaf-open shape (partly, inr (inr (addable, is))) = absurd (subst IsUnfinished is partly)
 
   -- a finished one is a fact or a gap
-  leaf-closed : (shape : List Tick) → IsFinished shape × IsLeafShape s q shape → IsFactShape shape ⊎ (IsAddable s q × (shape ≡ Gap ∷ []))
+  leaf-closed : (shape : List Tick) → HasNoOpenTick shape × IsLeafShape s q shape
+      → IsFactShape shape ⊎ (IsAddableIn s q × (shape ≡ Gap ∷ []))
   unfolding IsFactShape
-  leaf-closed shape (whole, inl is) = absurd (subst IsFinished is whole)
+  leaf-closed shape (whole, inl is) = absurd (subst HasNoOpenTick is whole)
   leaf-closed shape (whole, inr (inl (i, at, is))) = inl (i, at, is)
   leaf-closed shape (whole, inr (inr gapped)) = inr gapped
 
   leaf-facts : IsAtomSet s.facts → AreAtMost IsFactShape 1
   unfolding IsFactShape
-  leaf-facts set = at_most-one IsFactShape (Fact (place_in s.facts q) ∷ [])
-      (λ shape h. h.2 ∙ ap (λ (i : ℕ). Fact i ∷ []) (sym (place_in-one s.facts set h.0 q h.1)))
+  leaf-facts set = at_most-one IsFactShape (Fact (place_among_facts s.facts q) ∷ [])
+      (λ shape h. h.2 ∙ ap (λ (i : ℕ). Fact i ∷ []) (sym (place_among_facts-one s.facts set h.0 q h.1)))
 
-  leaf-gaps : AreAtMost (λ shape. IsAddable s q × (shape ≡ Gap ∷ [])) 1
-  leaf-gaps = at_most-one (λ shape. IsAddable s q × (shape ≡ Gap ∷ [])) (Gap ∷ []) (λ shape h. h.1)
+  leaf-gaps : AreAtMost (λ shape. IsAddableIn s q × (shape ≡ Gap ∷ [])) 1
+  leaf-gaps = at_most-one (λ shape. IsAddableIn s q × (shape ≡ Gap ∷ [])) (Gap ∷ []) (λ shape h. h.1)
 
-  leaf-no_gaps : (¬ IsAddable s q) → AreAtMost (λ shape. IsAddable s q × (shape ≡ Gap ∷ [])) 0
-  leaf-no_gaps plain = at_most-none (λ shape. IsAddable s q × (shape ≡ Gap ∷ [])) (λ shape h. plain h.0)
+  leaf-no_gaps : (¬ IsAddableIn s q) → AreAtMost (λ shape. IsAddableIn s q × (shape ≡ Gap ∷ [])) 0
+  leaf-no_gaps plain = at_most-none (λ shape. IsAddableIn s q × (shape ≡ Gap ∷ [])) (λ shape h. plain h.0)
 
-  leaf_bound : (gaps : ℕ) → IsAtomSet s.facts → AreAtMost (λ shape. IsAddable s q × (shape ≡ Gap ∷ [])) gaps
+  leaf_bound : (gaps : ℕ) → IsAtomSet s.facts → AreAtMost (λ shape. IsAddableIn s q × (shape ≡ Gap ∷ [])) gaps
       → IsBoundFor (IsLeafShape s q) (record { unfinished = 1; finished = 1 + gaps })
   leaf_bound gaps set gapped = record {
     unfinished = at_most-one (λ shape. IsUnfinished shape × IsLeafShape s q shape) (Open ∷ []) leaf-open;
-    finished = at_most-either IsFactShape (λ shape. IsAddable s q × (shape ≡ Gap ∷ []))
-        (λ shape. IsFinished shape × IsLeafShape s q shape) 1 gaps (leaf-facts set) gapped leaf-closed;
+    finished = at_most-either IsFactShape (λ shape. IsAddableIn s q × (shape ≡ Gap ∷ []))
+        (λ shape. HasNoOpenTick shape × IsLeafShape s q shape) 1 gaps (leaf-facts set) gapped leaf-closed;
   }
 
 pub leaves-plain : (problem : Problem) (pred : ℕ) → (¬ Contains (setting_of problem []).added pred)
@@ -89,7 +90,7 @@ module _ (s : Setting) (high : ℕ) (path : List Lit) (asserting : IsAsserting p
   atom-cases shape (step number theta place parts, proves, low, is) = inr (number, place, tt, (theta, parts, proves, low, is))
   atom-cases shape (gap a, proves, low, is) =
       let same : q ≡ a = ap (λ (l : Lit). l.atom) proves.0 in
-      inl (inr (inr (subst (IsAddable s) (sym same) proves.1, sym is)))
+      inl (inr (inr (subst (IsAddableIn s) (sym same) proves.1, sym is)))
   atom-cases shape (open_place, proves, low, is) = inl (inl (sym is))
 
   atom_bound : (leaves uses : Bound) → IsBoundFor (IsLeafShape s q) leaves → IsBoundFor IsAnyUse uses

@@ -8,6 +8,8 @@ use Rattle.px_gaps.specs.Questions.{AreBelow, AreUnlimited, FindingGaps, Proving
 
 pub unlimited-below : (problem : Problem) (needs : List Obligation) → AreUnlimited problem needs → AreBelow problem needs
 unlimited-below problem needs unlimited (Proving needed) asks =
-    questions-are_decided.below (setting_of problem needed.facts) needed.formula needed.vars (λ shapes met. unlimited (Proving needed) needed.formula shapes asks (refl, met))
+    questions-are_decided.below (setting_of problem needed.facts) needed.formula needed.vars
+    (λ shapes met. unlimited (Proving needed) needed.formula shapes asks (refl, met))
 unlimited-below problem needs unlimited (FindingGaps needed) asks =
-    questions-are_decided.gaps_below (setting_of problem needed.facts) needed.formula needed.vars (λ kept shapes met. unlimited (FindingGaps needed) kept shapes asks met)
+    questions-are_decided.gaps_below (setting_of problem needed.facts) needed.formula needed.vars
+    (λ kept shapes met. unlimited (FindingGaps needed) kept shapes asks met)

@@ -125,7 +125,7 @@ places-all problem table pred number clause most bound at long each =
   where
     below : (n p : ℕ) (other : Clause) → slice_get problem.axioms n ≡ Some other → p < length other.lits → n ≡ number → p < most
     below n p other there within is =
-        let same : other ≡ clause = Rattle.px_proof.specs.PlaceLaws.some_same other clause
+        let same : other ≡ clause = Rattle.px_base.specs.Answers.some_same
         (sym there ∙ ap (slice_get problem.axioms) is ∙ at) in
         let inside : p < length clause.lits = subst (λ (c : Clause). p < length c.lits) same within in
         omega (arith, inside, long)

@@ -23,7 +23,7 @@ use Rattle.px_terms.specs.declared.atom.Atom.{Atom}
 use Rattle.px_terms.specs.declared.problem.Problem.{Problem}
 use Rattle.px_terms.specs.declared.term.Term.{Term}
 use Rattle.px_terms.specs.declared.term.Term.TheVariants.{Obj, Var, Any as Wild}
-use Rattle.px_gaps.specs.Bindings.{AreUnbound, Extends, IsBinding, IsOpenAs, IsOpenInstance, IsPlain, IsSlot}
+use Rattle.px_gaps.specs.Bindings.{AreUnbound, ExtendsTerms, IsBinding, IsOpenAs, IsOpenInstance, IsPlain, IsSlot}
 use Rattle.px_gaps.specs.Closings.{IsChosenIn, IsClosedIn, IsMissingIn, OneOf}
 use Rattle.px_gaps.specs.Described.{IsChosenBy, IsClosedBy, IsMissingBy, IsPlainPattern}
 use Rattle.px_gaps.specs.Forms.{IsForm, IsInstanceIn, IsStoodFor, form_by}
@@ -44,7 +44,8 @@ unbound-binding limit vars terms are some = record {
   some_object = λ one. some (omega (arith, one, are.count));
 }
 
-pub chosen-extends : (limit vars : ℕ) (terms : List Term) (values : List ℕ) → AreUnbound vars terms → AreChosen limit vars values → Extends limit terms values
+pub chosen-extends : (limit vars : ℕ) (terms : List Term) (values : List ℕ) → AreUnbound vars terms → AreChosen limit vars values
+    → ExtendsTerms limit terms values
 chosen-extends limit vars terms values are chosen = record {
   count = chosen.count ∙ sym are.count;
   below = chosen.below;
@@ -52,8 +53,10 @@ chosen-extends limit vars terms values are chosen = record {
 }
 
 -- with none chosen, the values are any
-pub unbound-open : {X : Type 0} (limit vars : ℕ) (terms : List Term) (atoms taken : List Atom) (made : List ℕ → X) (x : X) → AreUnbound vars terms → IsOpenAs limit terms atoms taken made x
-    ↔ ((values : List ℕ) × AreChosen limit vars values × (¬ Any (Contains taken) (map (substitute_atom (object_terms values)) atoms)) × (made values ≡ x))
+pub unbound-open : {X : Type 0} (limit vars : ℕ) (terms : List Term) (atoms taken : List Atom) (made : List ℕ → X) (x : X)
+    → AreUnbound vars terms → IsOpenAs limit terms atoms taken made x
+    ↔ ((values : List ℕ) × AreChosen limit vars values × (¬ Any (Contains taken) (map (substitute_atom (object_terms values)) atoms))
+    × (made values ≡ x))
 unbound-open limit vars terms atoms taken made x are = (
   λ is. (is.0, record { count = is.1.extends.count ∙ are.count; below = is.1.extends.below }, is.1.avoids, is.2),
   λ is. (is.0, record { extends = chosen-extends limit vars terms is.0 are is.1; avoids = is.2 }, is.3),
@@ -62,29 +65,37 @@ unbound-open limit vars terms atoms taken made x are = (
 -- ---- the patterns' lists
 
 -- the same lists have an item that is taken
-pub same-any : (taken xs ys : List Atom) → ((atom : Atom) → Contains xs atom → Contains ys atom) → Any (Contains taken) xs → Any (Contains taken) ys
+pub same-any : (taken xs ys : List Atom) → ((atom : Atom) → Contains xs atom → Contains ys atom) → Any (Contains taken) xs
+    → Any (Contains taken) ys
 same-any taken xs ys f any = let r = any-of (Contains taken) xs any in of-any (Contains taken) ys r.0 (f r.0 r.1) r.2
 
 pub none-taken : (atoms : List Atom) → ¬ Any (Contains []) atoms
 none-taken atoms any = let r = any-of (Contains []) atoms any in Contains-none r.0 r.2
 
 -- what a pattern closes under some objects is in their list
-closed-under : (pattern : GapPattern) (values : List ℕ) (target atom : Atom) → Contains pattern.atoms target → substitute_atom (object_terms values) target ≡ atom → Contains (list_under pattern values).gaps atom
-closed-under pattern values target atom has same = (under-members pattern values atom).1 (subst (Contains (atoms_under values pattern)) same (Contains-mapped (substitute_atom (object_terms values)) pattern.atoms target has))
+closed-under : (pattern : GapPattern) (values : List ℕ) (target atom : Atom) → Contains pattern.atoms target
+    → substitute_atom (object_terms values) target ≡ atom → Contains (list_under pattern values).gaps atom
+closed-under pattern values target atom has same =
+    (under-members pattern values atom).1 (subst (Contains (atoms_under values pattern)) same
+    (Contains-mapped (substitute_atom (object_terms values)) pattern.atoms target has))
 
 -- and what is in a list comes from there
-closed-from : (limit : ℕ) (patterns : List GapPattern) (list : GapList) (atom : Atom) → Contains (lists_of limit patterns) list → Contains list.gaps atom
-    → (pattern : GapPattern) × (values : List ℕ) × (target : Atom) × Contains patterns pattern × AreChosen limit pattern.vars values × (list_under pattern values ≡ list) × Contains pattern.atoms target × (substitute_atom (object_terms values) target ≡ atom)
+closed-from : (limit : ℕ) (patterns : List GapPattern) (list : GapList) (atom : Atom) → Contains (lists_of limit patterns) list
+    → Contains list.gaps atom
+    → (pattern : GapPattern) × (values : List ℕ) × (target : Atom) × Contains patterns pattern × AreChosen limit pattern.vars values
+    × (list_under pattern values ≡ list) × Contains pattern.atoms target × (substitute_atom (object_terms values) target ≡ atom)
 closed-from limit patterns list atom listed closes =
     let from = lists-from limit patterns list listed in
     let pattern = from.0 in
     let values = from.2.0 in
-    let has : Contains (atoms_under values pattern) atom = (under-members pattern values atom).0 (subst (λ (l : GapList). Contains l.gaps atom) (sym from.2.2) closes) in
+    let has : Contains (atoms_under values pattern) atom =
+    (under-members pattern values atom).0 (subst (λ (l : GapList). Contains l.gaps atom) (sym from.2.2) closes) in
     let target = Contains-from_map (substitute_atom (object_terms values)) pattern.atoms atom has in
     (pattern, values, target.0, from.1, from.2.1, from.2.2, target.1, target.2)
 
 -- what the patterns close is what their lists close
-pub closed-by : (limit : ℕ) (patterns : List GapPattern) (atom : Atom) → OneOf patterns (λ pattern. IsClosedBy limit pattern atom) ↔ IsClosedIn (lists_of limit patterns) atom
+pub closed-by : (limit : ℕ) (patterns : List GapPattern) (atom : Atom) → OneOf patterns (λ pattern. IsClosedBy limit pattern atom)
+    ↔ IsClosedIn (lists_of limit patterns) atom
 closed-by limit patterns atom = (
   λ (pattern, among, (target, has, (values, chosen, same))).
       (list_under pattern values, lists-have limit patterns pattern values among chosen, closed-under pattern values target atom has same),
@@ -94,12 +105,17 @@ closed-by limit patterns atom = (
 )
 
 -- and what they close together with nothing that is taken, too
-pub missing-by : (limit : ℕ) (patterns : List GapPattern) (taken : List Atom) (atom : Atom) → OneOf patterns (λ pattern. IsMissingBy limit taken pattern atom) ↔ IsMissingIn (lists_of limit patterns) taken atom
+pub missing-by : (limit : ℕ) (patterns : List GapPattern) (taken : List Atom) (atom : Atom)
+    → OneOf patterns (λ pattern. IsMissingBy limit taken pattern atom) ↔ IsMissingIn (lists_of limit patterns) taken atom
 missing-by limit patterns taken atom = (
   λ (pattern, among, (target, has, (values, chosen, avoids, same))). (
     list_under pattern values,
     lists-have limit patterns pattern values among chosen,
-    (closed-under pattern values target atom has same, λ any. avoids (same-any taken (list_under pattern values).gaps (atoms_under values pattern) (λ a. (under-members pattern values a).0) any)),
+    (
+      closed-under pattern values target atom has same,
+      λ any. avoids (same-any taken (list_under pattern values).gaps (atoms_under values pattern)
+          (λ a. (under-members pattern values a).0) any),
+    ),
   ),
   λ (list, listed, (closes, avoids)).
       let from = closed-from limit patterns list atom listed closes in (
@@ -111,7 +127,8 @@ missing-by limit patterns taken atom = (
           (
             from.1,
             from.4,
-            λ any. avoids (subst (λ (l : GapList). Any (Contains taken) l.gaps) from.5 (same-any taken (atoms_under from.1 from.0) (list_under from.0 from.1).gaps (λ a. (under-members from.0 from.1 a).1) any)),
+            λ any. avoids (subst (λ (l : GapList). Any (Contains taken) l.gaps) from.5
+                (same-any taken (atoms_under from.1 from.0) (list_under from.0 from.1).gaps (λ a. (under-members from.0 from.1 a).1) any)),
             from.7,
           ),
         ),
@@ -119,14 +136,19 @@ missing-by limit patterns taken atom = (
 )
 
 -- and the objects under which they close nothing that is taken are those of such lists
-pub chosen-by : (limit : ℕ) (patterns : List GapPattern) (taken : List Atom) (objects : List ℕ) → OneOf patterns (λ pattern. IsChosenBy limit taken pattern objects) ↔ IsChosenIn (lists_of limit patterns) taken objects
+pub chosen-by : (limit : ℕ) (patterns : List GapPattern) (taken : List Atom) (objects : List ℕ)
+    → OneOf patterns (λ pattern. IsChosenBy limit taken pattern objects) ↔ IsChosenIn (lists_of limit patterns) taken objects
 chosen-by limit patterns taken objects = (
   λ one.
       let pattern = one.0 in
       let values = one.2.0 in (
         list_under pattern values,
         lists-have limit patterns pattern values one.1 one.2.1,
-        (one.2.3, λ any. one.2.2 (same-any taken (list_under pattern values).gaps (atoms_under values pattern) (λ a. (under-members pattern values a).0) any)),
+        (
+          one.2.3,
+          λ any. one.2.2 (same-any taken (list_under pattern values).gaps (atoms_under values pattern)
+              (λ a. (under-members pattern values a).0) any),
+        ),
       ),
   λ chosen.
       let from = lists-from limit patterns chosen.0 chosen.1 in
@@ -137,7 +159,8 @@ chosen-by limit patterns taken objects = (
         (
           values,
           from.2.1,
-          λ any. chosen.2.1 (subst (λ (l : GapList). Any (Contains taken) l.gaps) from.2.2 (same-any taken (atoms_under values pattern) (list_under pattern values).gaps (λ a. (under-members pattern values a).1) any)),
+          λ any. chosen.2.1 (subst (λ (l : GapList). Any (Contains taken) l.gaps) from.2.2
+              (same-any taken (atoms_under values pattern) (list_under pattern values).gaps (λ a. (under-members pattern values a).1) any)),
           ap (λ (l : GapList). l.objects) from.2.2 ∙ chosen.2.0,
         ),
       ),
@@ -145,7 +168,8 @@ chosen-by limit patterns taken objects = (
 
 -- ---- the patterns of a formula of the problem
 
-pub answer-listed : (s : Setting) (formula : List Atom) (vars : ℕ) (patterns : List GapPattern) (provable : List Atom) → IsGapAnswer s formula vars patterns provable → AreListed s formula vars (lists_of s.objects patterns)
+pub answer-listed : (s : Setting) (formula : List Atom) (vars : ℕ) (patterns : List GapPattern) (provable : List Atom)
+    → IsGapAnswer s formula vars patterns provable → AreListed s formula vars (lists_of s.objects patterns)
 answer-listed s formula vars patterns provable is = record { all = patterns-are s formula vars patterns is.all; few = is.few }
 
 zeros-below : (limit n : ℕ) → (0 < n → 0 < limit) → All (λ m. m < limit) (replicate n 0)
@@ -153,16 +177,20 @@ zeros-below limit zero some k d within = absurd (omega (arith, within))
 zeros-below limit (suc n) some zero d within = some (omega arith)
 zeros-below limit (suc n) some (suc k) d within = zeros-below limit n (λ one. some (omega arith)) k d (omega (arith, within))
 
-term-of : (problem : Problem) (vars : ℕ) (values : List ℕ) (t : Term) → IsVariableBelow vars t → IsTermOf problem 0 (substitute (object_terms values) t) → IsTermOf problem vars t
+term-of : (problem : Problem) (vars : ℕ) (values : List ℕ) (t : Term) → IsVariableBelow vars t
+    → IsTermOf problem 0 (substitute (object_terms values) t) → IsTermOf problem vars t
 term-of problem vars values (Obj n) below of = of
 term-of problem vars values (Var v) below of = below
 term-of problem vars values Wild below of = absurd of
 
-terms-of : (problem : Problem) (vars : ℕ) (values : List ℕ) (ts : List Term) → All (IsVariableBelow vars) ts → All (IsTermOf problem 0) (map (substitute (object_terms values)) ts) → All (IsTermOf problem vars) ts
+terms-of : (problem : Problem) (vars : ℕ) (values : List ℕ) (ts : List Term) → All (IsVariableBelow vars) ts
+    → All (IsTermOf problem 0) (map (substitute (object_terms values)) ts) → All (IsTermOf problem vars) ts
 terms-of problem vars values [] below of k d within = absurd (omega (arith, within))
-terms-of problem vars values (t ∷ ts) below of zero d within = term-of problem vars values t (below 0 t (omega arith)) (of 0 t (omega arith))
+terms-of problem vars values (t ∷ ts) below of zero d within =
+    term-of problem vars values t (below 0 t (omega arith)) (of 0 t (omega arith))
 terms-of problem vars values (t ∷ ts) below of (suc k) d within =
-    terms-of problem vars values ts (λ i e inside. below (suc i) e (omega (arith, inside))) (λ i e inside. of (suc i) e (omega (arith, inside))) k d (omega (arith, within))
+    terms-of problem vars values ts (λ i e inside. below (suc i) e (omega (arith, inside)))
+    (λ i e inside. of (suc i) e (omega (arith, inside))) k d (omega (arith, within))
 
 plain-of : (problem : Problem) (vars : ℕ) (t : Term) → IsTermOf problem vars t → IsPlainBelow vars t
 plain-of problem vars (Obj n) of = tt
@@ -173,30 +201,42 @@ pub atom-plain : (problem : Problem) (vars : ℕ) (atom : Atom) → IsAtomOf pro
 atom-plain problem vars atom of k d within = plain-of problem vars _ (of.1 k d within)
 
 -- the patterns of a formula of the problem close atoms of the problem
-module _ (problem : Problem) (valid : IsValid problem) (facts formula : List Atom) (vars : ℕ) (of : All (IsAtomOf problem vars) formula) (patterns : List GapPattern) (are : AreGapPatterns (setting_of problem facts) formula vars patterns) where
-  pub pattern-of : (pattern : GapPattern) → Contains patterns pattern → (atom : Atom) → Contains pattern.atoms atom → IsAtomOf problem pattern.vars atom
+module _ (problem : Problem) (valid : IsValid problem) (facts formula : List Atom) (vars : ℕ) (of : All (IsAtomOf problem vars) formula)
+    (patterns : List GapPattern) (are : AreGapPatterns (setting_of problem facts) formula vars patterns) where
+  pub pattern-of : (pattern : GapPattern) → Contains patterns pattern → (atom : Atom) → Contains pattern.atoms atom
+      → IsAtomOf problem pattern.vars atom
   pattern-of pattern has atom inside =
       let form : IsPattern problem.objects vars pattern = All-at (IsPattern problem.objects vars) patterns pattern are.form has in
       let values = replicate pattern.vars 0 in
-      let chosen : AreChosen problem.objects pattern.vars values = record { count = length-replicate {A = ℕ} pattern.vars 0; below = zeros-below problem.objects pattern.vars form.some_object } in
+      let chosen : AreChosen problem.objects pattern.vars values =
+      record { count = length-replicate {A = ℕ} pattern.vars 0; below = zeros-below problem.objects pattern.vars form.some_object } in
       let lists_are = patterns-are (setting_of problem facts) formula vars patterns are in
-      let known = listed-are problem valid facts formula vars (lists_of problem.objects patterns) of lists_are (list_under pattern values) (lists-have problem.objects patterns pattern values has chosen) in
-      let there : Contains (list_under pattern values).gaps (substitute_atom (object_terms values) atom) = (under-members pattern values (substitute_atom (object_terms values) atom)).1 (Contains-mapped (substitute_atom (object_terms values)) pattern.atoms atom inside) in
-      let here : IsAtomOf problem 0 (substitute_atom (object_terms values) atom) = All-at (IsAtomOf problem 0) (list_under pattern values).gaps (substitute_atom (object_terms values) atom) known there in (
+      let known =
+      listed-are problem valid facts formula vars (lists_of problem.objects patterns) of lists_are (list_under pattern values)
+      (lists-have problem.objects patterns pattern values has chosen) in
+      let there : Contains (list_under pattern values).gaps (substitute_atom (object_terms values) atom) =
+      (under-members pattern values (substitute_atom (object_terms values) atom)).1
+      (Contains-mapped (substitute_atom (object_terms values)) pattern.atoms atom inside) in
+      let here : IsAtomOf problem 0 (substitute_atom (object_terms values) atom) =
+      All-at (IsAtomOf problem 0) (list_under pattern values).gaps (substitute_atom (object_terms values) atom) known there in (
         (here.0.0, sym (length-map atom.args (substitute (object_terms values))) ∙ here.0.1),
-        terms-of problem pattern.vars values atom.args (All-at (λ (a : Atom). All (IsVariableBelow pattern.vars) a.args) pattern.atoms atom form.atoms_below inside) here.1,
+        terms-of problem pattern.vars values atom.args
+            (All-at (λ (a : Atom). All (IsVariableBelow pattern.vars) a.args) pattern.atoms atom form.atoms_below inside) here.1,
       )
 
   pub patterns-plain : All (IsPlainPattern problem.objects) patterns
   patterns-plain = All-each (IsPlainPattern problem.objects) patterns (λ pattern has.
       let form : IsPattern problem.objects vars pattern = All-at (IsPattern problem.objects vars) patterns pattern are.form has in record {
-        atoms_plain = All-each (IsPlain pattern.vars) pattern.atoms (λ atom inside. atom-plain problem pattern.vars atom (pattern-of pattern has atom inside));
+        atoms_plain =
+            All-each (IsPlain pattern.vars) pattern.atoms
+            (λ atom inside. atom-plain problem pattern.vars atom (pattern-of pattern has atom inside));
         terms_below = form.terms_below;
         some_object = form.some_object;
       })
 
   -- the atoms of a kind that stands for what they close
-  module _ (forms : List Atom) (forms_are : (form : Atom) → Contains forms form ↔ OneOf patterns (λ (pattern : GapPattern). OneOf pattern.atoms (λ atom. form_by atom ≡ form))) where
+  module _ (forms : List Atom) (forms_are : (form : Atom) → Contains forms form
+      ↔ OneOf patterns (λ (pattern : GapPattern). OneOf pattern.atoms (λ atom. form_by atom ≡ form))) where
     pub forms-are : All (IsForm problem) forms
     forms-are = All-each (IsForm problem) forms (λ form has.
         let one = (forms_are form).0 has in
@@ -211,7 +251,11 @@ module _ (problem : Problem) (valid : IsValid problem) (facts formula : List Ato
           let pattern = one.0 in
           let form : IsPattern problem.objects vars pattern = All-at (IsPattern problem.objects vars) patterns pattern are.form one.1 in
           let same = form-same problem pattern.vars one.2.0 (pattern-of pattern one.1 one.2.0 one.2.1) form.some_object q in
-          (closed-by problem.objects patterns q).0 (pattern, one.1, (one.2.0, one.2.1, same.1 (subst (λ (f : Atom). IsInstanceIn problem.objects f q) (sym one.2.2) stood.2))),
+          (closed-by problem.objects patterns q).0 (
+            pattern,
+            one.1,
+            (one.2.0, one.2.1, same.1 (subst (λ (f : Atom). IsInstanceIn problem.objects f q) (sym one.2.2) stood.2)),
+          ),
       λ closed.
           let one = (closed-by problem.objects patterns q).1 closed in
           let pattern = one.0 in
@@ -222,25 +266,38 @@ module _ (problem : Problem) (valid : IsValid problem) (facts formula : List Ato
     )
 
     -- what is found of the forms is the answer to the question of gaps
-    pub answer-of : AreFewGapShapes (setting_of problem facts) formula vars → (provable : List Atom) → FindsProvable (setting_of problem facts) (IsStoodFor problem.objects forms) [] provable → IsGapAnswer (setting_of problem facts) formula vars patterns provable
+    pub answer-of : AreFewGapShapes (setting_of problem facts) formula vars → (provable : List Atom)
+        → FindsProvable (setting_of problem facts) (IsStoodFor problem.objects forms) [] provable
+        → IsGapAnswer (setting_of problem facts) formula vars patterns provable
     answer-of few provable finds = record {
       all = are;
       few = few;
       provable_are = λ atom. (
-        λ has. elim ((finds.exact atom).0 has) [ inl before ↦ absurd (Contains-none atom before) | inr is ↦ ((forms-closed atom).0 is.0, is.1) ],
+        λ has. elim ((finds.exact atom).0 has) [
+          | inl before ↦ absurd (Contains-none atom before)
+          | inr is ↦
+              ((forms-closed atom).0 is.0, is.1)
+        ],
         λ h. (finds.exact atom).1 (inr ((forms-closed atom).1 h.0, h.1)),
       );
       unlimited = λ atom shapes closed. finds.unlimited atom shapes ((forms-closed atom).1 closed);
     }
 
-    pub limit-of : (kept : List Atom) (shapes : List (List Tick)) → LimitsOne (setting_of problem facts) (IsStoodFor problem.objects forms) kept shapes → MeetsGapLimit (setting_of problem facts) formula vars kept shapes
-    limit-of kept shapes one = atom_limited (setting_of problem facts) formula vars patterns are kept shapes (one.0, (forms-closed one.0).0 one.1, one.2, one.3)
+    pub limit-of : (kept : List Atom) (shapes : List (List Tick))
+        → LimitsOne (setting_of problem facts) (IsStoodFor problem.objects forms) kept shapes
+        → MeetsGapLimit (setting_of problem facts) formula vars kept shapes
+    limit-of kept shapes one =
+        atom_limited (setting_of problem facts) formula vars patterns are kept shapes (one.0, (forms-closed one.0).0 one.1, one.2, one.3)
 
 -- what is provable of what they close are ground atoms
-pub provable-ground : (problem : Problem) (valid : IsValid problem) (facts formula : List Atom) (vars : ℕ) (of : All (IsAtomOf problem vars) formula) (patterns : List GapPattern) (provable : List Atom) → IsGapAnswer (setting_of problem facts) formula vars patterns provable → All IsGround provable
+pub provable-ground : (problem : Problem) (valid : IsValid problem) (facts formula : List Atom) (vars : ℕ)
+    (of : All (IsAtomOf problem vars) formula) (patterns : List GapPattern) (provable : List Atom)
+    → IsGapAnswer (setting_of problem facts) formula vars patterns provable → All IsGround provable
 provable-ground problem valid facts formula vars of patterns provable is = All-each IsGround provable (λ atom has.
     let closed = ((is.provable_are atom).0 has).0 in
-    atom_of-is_ground problem atom (All-at (IsAtomOf problem 0) closed.0.gaps atom (listed-are problem valid facts formula vars (lists_of problem.objects patterns) of (patterns-are (setting_of problem facts) formula vars patterns is.all) closed.0 closed.1) closed.2))
+    atom_of-is_ground problem atom (All-at (IsAtomOf problem 0) closed.0.gaps atom
+    (listed-are problem valid facts formula vars (lists_of problem.objects patterns) of
+    (patterns-are (setting_of problem facts) formula vars patterns is.all) closed.0 closed.1) closed.2))
 
 -- ---- the loops
 
@@ -252,13 +309,18 @@ then-same new same = (
 
 -- the kinds of values that a target is reached by
 abbrev pub IsReached : ℕ → ℕ → List Atom → List Atom → Atom → Atom → Type 0
-IsReached limit vars atoms taken q target = (values : List ℕ) × AreChosen limit vars values × (¬ Any (Contains taken) (map (substitute_atom (object_terms values)) atoms)) × (substitute_atom (object_terms values) target ≡ q)
+IsReached limit vars atoms taken q target =
+    (values : List ℕ) × AreChosen limit vars values × (¬ Any (Contains taken) (map (substitute_atom (object_terms values)) atoms))
+    × (substitute_atom (object_terms values) target ≡ q)
 
 -- one more of the pattern's atoms
-pub target-next : (limit vars : ℕ) (terms passed : List Term) (atoms taken targets : List Atom) (i : ℕ) (target q : Atom) → AreUnbound vars terms → passed ≡ terms → i < length targets → target ≡ get_or targets i target → {Initial Old New : Type 0}
-    → Old ↔ (Initial ⊎ OneOf (take i targets) (IsReached limit vars atoms taken q)) → New ↔ (Old ⊎ IsOpenInstance limit passed atoms taken target q)
+pub target-next : (limit vars : ℕ) (terms passed : List Term) (atoms taken targets : List Atom) (i : ℕ) (target q : Atom)
+    → AreUnbound vars terms → passed ≡ terms → i < length targets → target ≡ get_or targets i target → {Initial Old New : Type 0}
+    → Old ↔ (Initial ⊎ OneOf (take i targets) (IsReached limit vars atoms taken q)) → New
+    ↔ (Old ⊎ IsOpenInstance limit passed atoms taken target q)
     → New ↔ (Initial ⊎ OneOf (take (i + 1) targets) (IsReached limit vars atoms taken q))
 target-next limit vars terms passed atoms taken targets i target q are is within read before here =
     grown before
-    (then-same here (unbound-open limit vars passed atoms taken (λ values. substitute_atom (object_terms values) target) q (subst (AreUnbound vars) (sym is) are)))
+    (then-same here (unbound-open limit vars passed atoms taken (λ values. substitute_atom (object_terms values) target) q
+    (subst (AreUnbound vars) (sym is) are)))
     (grouped (one_next (IsReached limit vars atoms taken q) targets i target within read))

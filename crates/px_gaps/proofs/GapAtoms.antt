@@ -20,7 +20,8 @@ use Rattle.px_proof.specs.Proves.{Proves, ProvesEach, UsesClause, instance_of, p
 use Rattle.px_question.specs.declared.gap_list.GapList.{GapList}
 use Rattle.px_question.specs.Answers.{literals_of, object_terms}
 use Rattle.px_question.specs.Gaps.{AreGapLists, gaps_of, all_gaps_of}
-use Rattle.px_question.specs.Settings.{IsObjectBelow, loose_gaps_in, setting_of}
+use Rattle.px_terms.specs.Language.{IsObjectBelow}
+use Rattle.px_question.specs.Settings.{loose_gaps_in, setting_of}
 
 object-is_term : (problem : Problem) (t : Term) → IsObjectBelow problem.objects t → IsTermOf problem 0 t
 object-is_term problem (Obj n) below = below
@@ -31,35 +32,48 @@ abbrev IsLiteralOf : Problem → Lit → Type 0
 IsLiteralOf problem lit = IsAtomOf problem 0 lit.atom
 
 pub All_remove : {X : Type 0} (P : X → Type 0) (xs : List X) (k : ℕ) → All P xs → All P (remove xs k)
-All_remove P xs k all = All-each P (remove xs k) (λ q has. All-at P (remove xs k) q (All-append P _ _ (All-take P k xs all) (All-drop P (suc k) xs all)) has)
+All_remove P xs k all =
+    All-each P (remove xs k) (λ q has. All-at P (remove xs k) q (All-append P _ _ (All-take P k xs all) (All-drop P (suc k) xs all)) has)
 
 -- the objects as terms of the problem
-pub object_terms-are : (problem : Problem) (objects : List ℕ) → All (λ n. n < problem.objects) objects → All (IsTermOf problem 0) (object_terms objects)
+pub object_terms-are : (problem : Problem) (objects : List ℕ) → All (λ n. n < problem.objects) objects
+    → All (IsTermOf problem 0) (object_terms objects)
 object_terms-are problem objects below = All-map (IsTermOf problem 0) (λ n. Obj n) objects below
 
 pub length-objects : (objects : List ℕ) (vars : ℕ) → length objects ≡ vars → length (object_terms objects) ≡ vars
 length-objects objects vars count = length-map objects (λ n. Obj n) ∙ count
 
 module _ (problem : Problem) (valid : IsValid problem) (facts : List Atom) where
-  parts-are : (path : List Lit) (lit : Lit) (number : ℕ) (theta : List Term) (place : ℕ) (clause : Clause) → UsesClause (IsObjectBelow problem.objects) problem.axioms lit number theta place clause
+  parts-are : (path : List Lit) (lit : Lit) (number : ℕ) (theta : List Term) (place : ℕ) (clause : Clause)
+      → UsesClause (IsObjectBelow problem.objects) problem.axioms lit number theta place clause
       → All (IsLiteralOf problem) (parts_of clause.lits theta place)
   parts-are path lit number theta place clause uses =
       let of : IsAxiomOf problem clause = All-got (IsAxiomOf problem) problem.axioms number clause valid.axioms uses.axiom_at in
       let objects : All (IsTermOf problem 0) theta = λ k d below. object-is_term problem _ (uses.choices k d below) in
-      let lits : All (λ (l : Lit). IsAtomOf problem (length theta) l.atom) clause.lits = subst (λ (n : ℕ). All (λ (l : Lit). IsAtomOf problem n l.atom) clause.lits) (sym uses.terms) of.lits in
-      let whole : All (IsLiteralOf problem) (instance_of clause.lits theta) = All-map (IsLiteralOf problem) (substitute_literal theta) clause.lits (λ k d below. atom-is_of problem theta objects _ (lits k d below)) in
-      All-map (IsLiteralOf problem) complement_of (remove (instance_of clause.lits theta) place) (All_remove (IsLiteralOf problem) (instance_of clause.lits theta) place whole)
+      let lits : All (λ (l : Lit). IsAtomOf problem (length theta) l.atom) clause.lits =
+      subst (λ (n : ℕ). All (λ (l : Lit). IsAtomOf problem n l.atom) clause.lits) (sym uses.terms) of.lits in
+      let whole : All (IsLiteralOf problem) (instance_of clause.lits theta) =
+      All-map (IsLiteralOf problem) (substitute_literal theta) clause.lits
+      (λ k d below. atom-is_of problem theta objects _ (lits k d below)) in
+      All-map (IsLiteralOf problem) complement_of (remove (instance_of clause.lits theta) place)
+      (All_remove (IsLiteralOf problem) (instance_of clause.lits theta) place whole)
 
   mutual
-    gap-is_of : (path : List Lit) (lit : Lit) (d : Derivation) (atom : Atom) → Proves (loose_gaps_in (setting_of problem facts)) problem.axioms path lit d → IsLiteralOf problem lit → Contains (gaps_of d) atom → IsAtomOf problem 0 atom
+    gap-is_of : (path : List Lit) (lit : Lit) (d : Derivation) (atom : Atom)
+        → Proves (loose_gaps_in (setting_of problem facts)) problem.axioms path lit d → IsLiteralOf problem lit → Contains (gaps_of d) atom
+        → IsAtomOf problem 0 atom
     gap-is_of path lit (fact leaf) atom proved of has = absurd (Contains-none atom has)
     gap-is_of path lit (ancestor i) atom proved of has = absurd (Contains-none atom has)
     gap-is_of path lit (step number theta place parts) atom proved of has =
-        gaps-are_of (lit ∷ path) (parts_of proved.0.lits theta place) parts atom proved.2 (parts-are path lit number theta place proved.0 proved.1) has
-    gap-is_of path lit (gap closed) atom proved of has = subst (IsAtomOf problem 0) (Contains-one closed atom has) (subst (IsLiteralOf problem) proved.0 of)
+        gaps-are_of (lit ∷ path) (parts_of proved.0.lits theta place) parts atom proved.2
+        (parts-are path lit number theta place proved.0 proved.1) has
+    gap-is_of path lit (gap closed) atom proved of has =
+        subst (IsAtomOf problem 0) (Contains-one closed atom has) (subst (IsLiteralOf problem) proved.0 of)
     gap-is_of path lit open_place atom proved of has = absurd (Contains-none atom has)
 
-    gaps-are_of : (path lits : List Lit) (ds : Derivations) (atom : Atom) → ProvesEach (loose_gaps_in (setting_of problem facts)) problem.axioms path lits ds → All (IsLiteralOf problem) lits → Contains (all_gaps_of ds) atom → IsAtomOf problem 0 atom
+    gaps-are_of : (path lits : List Lit) (ds : Derivations) (atom : Atom)
+        → ProvesEach (loose_gaps_in (setting_of problem facts)) problem.axioms path lits ds → All (IsLiteralOf problem) lits
+        → Contains (all_gaps_of ds) atom → IsAtomOf problem 0 atom
     gaps-are_of path [] none atom each of has = absurd (Contains-none atom has)
     gaps-are_of path (lit ∷ lits) (also d ds) atom each of has = elim (Contains-append_cases (gaps_of d) (all_gaps_of ds) atom has) [
       | inl here ↦ gap-is_of path lit d atom each.0 (All-head (IsLiteralOf problem) lit lits of) here
@@ -68,16 +82,20 @@ module _ (problem : Problem) (valid : IsValid problem) (facts : List Atom) where
     gaps-are_of path [] (also d ds) atom each of has = absurd each
     gaps-are_of path (lit ∷ lits) none atom each of has = absurd each
 
-  pub literals-are : (formula : List Atom) (vars : ℕ) (objects : List ℕ) → All (IsAtomOf problem vars) formula → length objects ≡ vars → All (λ n. n < problem.objects) objects → All (IsLiteralOf problem) (literals_of formula objects)
+  pub literals-are : (formula : List Atom) (vars : ℕ) (objects : List ℕ) → All (IsAtomOf problem vars) formula → length objects ≡ vars
+      → All (λ n. n < problem.objects) objects → All (IsLiteralOf problem) (literals_of formula objects)
   literals-are formula vars objects of count below =
       let same : length (object_terms objects) ≡ vars = length-objects objects vars count in
       All-map (IsLiteralOf problem) (λ atom. positive_of (substitute_atom (object_terms objects) atom)) formula
-      (λ k d within. atom-is_of problem (object_terms objects) (object_terms-are problem objects below) _ (subst (λ (n : ℕ). IsAtomOf problem n (slice_index_or formula k d)) (sym same) (of k d within)))
+      (λ k d within. atom-is_of problem (object_terms objects) (object_terms-are problem objects below) _
+      (subst (λ (n : ℕ). IsAtomOf problem n (slice_index_or formula k d)) (sym same) (of k d within)))
 
   -- a gap list of a formula of the problem has atoms of the problem
-  pub listed-are : (formula : List Atom) (vars : ℕ) (lists : List GapList) → All (IsAtomOf problem vars) formula → AreGapLists (setting_of problem facts) formula vars lists
+  pub listed-are : (formula : List Atom) (vars : ℕ) (lists : List GapList) → All (IsAtomOf problem vars) formula
+      → AreGapLists (setting_of problem facts) formula vars lists
       → (list : GapList) → Contains lists list → All (IsAtomOf problem 0) list.gaps
   listed-are formula vars lists of are list has =
       let known = ((are.members list).0 has).0 in
       All-each (IsAtomOf problem 0) list.gaps (λ atom closed.
-      gaps-are_of [] (literals_of formula list.objects) known.0 atom known.1.proved (literals-are formula vars list.objects of known.1.count known.1.below) ((known.2 atom).0 closed))
+      gaps-are_of [] (literals_of formula list.objects) known.0 atom known.1.proved
+      (literals-are formula vars list.objects of known.1.count known.1.below) ((known.2 atom).0 closed))

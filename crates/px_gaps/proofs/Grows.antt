@@ -11,16 +11,22 @@ use Rattle.px_terms.specs.OrderLaws.{atom_cmp-total, atom_cmp-same}
 use Rattle.px_gaps.specs.Closings.{OneOf}
 use Rattle.px_base.proofs.Loops.{Contains-pushed, take_next}
 
-pub members_next : {X : Type 0} (xs : List X) (i : ℕ) (x q : X) → i < length xs → x ≡ get_or xs i x → Contains (take (i + 1) xs) q ↔ (Contains (take i xs) q ⊎ (x ≡ q))
+pub members_next : {X : Type 0} (xs : List X) (i : ℕ) (x q : X) → i < length xs → x ≡ get_or xs i x → Contains (take (i + 1) xs) q
+    ↔ (Contains (take i xs) q ⊎ (x ≡ q))
 members_next xs i x q below is = (
   λ h. (Contains-pushed (take i xs) x q).0 (subst (λ l. Contains l q) (take_next xs i x below is) h),
   λ h. subst (λ l. Contains l q) (sym (take_next xs i x below is)) ((Contains-pushed (take i xs) x q).1 h),
 )
 
-pub one_next : {X : Type 0} (P : X → Type 0) (xs : List X) (i : ℕ) (x : X) → i < length xs → x ≡ get_or xs i x → OneOf (take (i + 1) xs) P ↔ (OneOf (take i xs) P ⊎ P x)
+pub one_next : {X : Type 0} (P : X → Type 0) (xs : List X) (i : ℕ) (x : X) → i < length xs → x ≡ get_or xs i x → OneOf (take (i + 1) xs) P
+    ↔ (OneOf (take i xs) P ⊎ P x)
 one_next P xs i x below is = (
   λ (y, has, p). elim ((members_next xs i x y below is).0 has) [ inl before ↦ inl (y, before, p) | inr same ↦ inr (subst P (sym same) p) ],
-  λ h. elim h [ inl (y, has, p) ↦ (y, (members_next xs i x y below is).1 (inl has), p) | inr p ↦ (x, (members_next xs i x x below is).1 (inr refl), p) ],
+  λ h. elim h [
+    | inl (y, has, p) ↦ (y, (members_next xs i x y below is).1 (inl has), p)
+    | inr p ↦
+        (x, (members_next xs i x x below is).1 (inr refl), p)
+  ],
 )
 
 pub one_none : {X : Type 0} (P : X → Type 0) → ¬ OneOf [] P
@@ -42,8 +48,14 @@ grouped split = (
 pub inserted : (atom q : Atom) (old new : List Atom) → new ≡ with_atom atom old → Contains new q ↔ (Contains old q ⊎ (atom ≡ q))
 inserted atom q old new is =
     let members = with_item-members atom_cmp atom_cmp-total atom_cmp-same atom old q in (
-      λ h. elim (Contains-cases atom old q (members.0 (subst (λ (l : List Atom). Contains l q) is h))) [ inl same ↦ inr same | inr before ↦ inl before ],
-      λ h. subst (λ (l : List Atom). Contains l q) (sym is) (members.1 (elim h [ inl before ↦ Contains-later atom old q before | inr same ↦ subst (Contains (atom ∷ old)) same (Contains-first atom old) ])),
+      λ h. elim (Contains-cases atom old q (members.0 (subst (λ (l : List Atom). Contains l q) is h)))
+          [ inl same ↦ inr same | inr before ↦ inl before ],
+      λ h. subst (λ (l : List Atom). Contains l q) (sym is)
+          (members.1 (elim h [
+            | inl before ↦ Contains-later atom old q before
+            | inr same ↦ subst (Contains (atom ∷ old)) same
+                (Contains-first atom old)
+          ])),
     )
 
 -- where nothing comes, all is as before
@@ -51,15 +63,19 @@ pub nothing_comes : {Old Here : Type 0} → (¬ Here) → Old ↔ (Old ⊎ Here)
 nothing_comes never = (λ o. inl o, λ h. elim h [ inl o ↦ o | inr here ↦ absurd (never here) ])
 
 -- one more of the items, mapped
-pub mapped_next : {X Y : Type 0} (f : X → Y) (xs : List X) (i : ℕ) (x : X) (made after : List Y) (y : Y) → i < length xs → x ≡ get_or xs i x → made ≡ map f (take i xs) → after ≡ made ++ y ∷ [] → y ≡ f x → after ≡ map f (take (i + 1) xs)
+pub mapped_next : {X Y : Type 0} (f : X → Y) (xs : List X) (i : ℕ) (x : X) (made after : List Y) (y : Y) → i < length xs → x ≡ get_or xs i x
+    → made ≡ map f (take i xs) → after ≡ made ++ y ∷ [] → y ≡ f x → after ≡ map f (take (i + 1) xs)
 mapped_next f xs i x made after y below is was put same =
     put ∙ (λ j. was j ++ same j ∷ []) ∙ sym (ap (map f) (take_next xs i x below is) ∙ map-append f (take i xs) (x ∷ []))
 
 -- one item last, of which something holds
-pub kept_one : {X : Type 0} (P : X → Type 0) (one same q : X) (old new : List X) → one ≡ same → P one → new ≡ old ++ one ∷ [] → Contains new q ↔ (Contains old q ⊎ ((same ≡ q) × P q))
+pub kept_one : {X : Type 0} (P : X → Type 0) (one same q : X) (old new : List X) → one ≡ same → P one → new ≡ old ++ one ∷ []
+    → Contains new q ↔ (Contains old q ⊎ ((same ≡ q) × P q))
 kept_one P one same q old new is holds put = (
-  λ h. elim ((Contains-pushed old one q).0 (subst (λ l. Contains l q) put h)) [ inl before ↦ inl before | inr here ↦ inr (sym is ∙ here, subst P here holds) ],
-  λ h. subst (λ l. Contains l q) (sym put) ((Contains-pushed old one q).1 (elim h [ inl before ↦ inl before | inr here ↦ inr (is ∙ here.0) ])),
+  λ h. elim ((Contains-pushed old one q).0 (subst (λ l. Contains l q) put h))
+      [ inl before ↦ inl before | inr here ↦ inr (sym is ∙ here, subst P here holds) ],
+  λ h. subst (λ l. Contains l q) (sym put) ((Contains-pushed old one q).1
+      (elim h [ inl before ↦ inl before | inr here ↦ inr (is ∙ here.0) ])),
 )
 
 -- an item of which something holds, with its place or without

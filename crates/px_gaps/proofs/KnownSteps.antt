@@ -1,4 +1,4 @@
--- What the prover's answer to a question of gaps tells of a formula without an answer.
+-- What the prover's answer to a question of gaps says of a formula without an answer.
 use Rattle.std.proofs.Common.{◌≡◌, ◌⊎◌, List, [], ◌∷◌, refl, subst, inl, inr}
 use Rattle.std.specs.Prelude.{◌↔◌, Contains}
 use Rattle.std.proofs.lemmas.List.Elements.{All-cons, All-head, All-nil}
@@ -20,10 +20,14 @@ use Rattle.px_question.proofs.DeterminedLaws.{few_or_limited}
 use Rattle.px_gaps.proofs.Grows.{some-item}
 
 -- it has an answer
-pub known-applicable : (problem : Problem) (needed : Obligation) → IsTriedOf problem needed tried.Answered → IsKnownOf problem (needed ∷ []) Applicable
+pub known-applicable : (problem : Problem) (needed : Obligation) → IsTriedOf problem needed tried.Answered
+    → IsKnownOf problem (needed ∷ []) Applicable
 known-applicable problem needed answered =
-    let IsAskedOf = λ (question : Question) (other : Obligation). (question ≡ Proving other) ⊎ ((¬ HasAnswer problem other) × (question ≡ FindingGaps other)) in
-    let unlimited : AreUnlimited problem (needed ∷ []) = λ question formula shapes asks met. elim (one_any (IsAskedOf question) needed asks) [
+    let IsAskedOf =
+    λ (question : Question) (other : Obligation). (question ≡ Proving other)
+    ⊎ ((¬ HasAnswer problem other) × (question ≡ FindingGaps other)) in
+    let unlimited : AreUnlimited problem (needed ∷ []) =
+    λ question formula shapes asks met. elim (one_any (IsAskedOf question) needed asks) [
       | inl is ↦ answered.1.unlimited formula shapes (subst (λ (q : Question). MeetsLimit problem q formula shapes) is met)
       | inr is ↦ is.0 answered.0
     ] in (
@@ -32,9 +36,16 @@ known-applicable problem needed answered =
     )
 
 -- proving it meets the limit
-pub known-proof_limited : (problem : Problem) (needed : Obligation) (formula : List Atom) (shapes : List (List Tick)) → IsTriedOf problem needed (tried.Limited formula shapes) → IsKnownOf problem (needed ∷ []) (Limited formula shapes)
+pub known-proof_limited : (problem : Problem) (needed : Obligation) (formula : List Atom) (shapes : List (List Tick))
+    → IsTriedOf problem needed (tried.Limited formula shapes) → IsKnownOf problem (needed ∷ []) (Limited formula shapes)
 known-proof_limited problem needed formula shapes met =
-    record { question = Proving needed; asked = any_one (λ (other : Obligation). (Proving needed ≡ Proving other) ⊎ ((¬ HasAnswer problem other) × (Proving needed ≡ FindingGaps other))) needed (inl refl); met = met }
+    record {
+      question = Proving needed;
+      asked =
+          any_one (λ (other : Obligation). (Proving needed ≡ Proving other)
+          ⊎ ((¬ HasAnswer problem other) × (Proving needed ≡ FindingGaps other))) needed (inl refl);
+      met = met;
+    }
 
 module _ (problem : Problem) (needed : Obligation) (no_answer : ¬ HasAnswer problem needed) where
   abbrev s : Setting
@@ -47,15 +58,19 @@ module _ (problem : Problem) (needed : Obligation) (no_answer : ¬ HasAnswer pro
   IsAskedOf question other = (question ≡ Proving other) ⊎ ((¬ HasAnswer problem other) × (question ≡ FindingGaps other))
 
   -- finding its gaps meets the limit
-  pub known-limited : (formula : List Atom) (shapes : List (List Tick)) → MeetsGapLimit s needed.formula needed.vars formula shapes → IsKnownOf problem (needed ∷ []) (Limited formula shapes)
-  known-limited formula shapes met = record { question = FindingGaps needed; asked = any_one (IsAskedOf (FindingGaps needed)) needed (inr (no_answer, refl)); met = met }
+  pub known-limited : (formula : List Atom) (shapes : List (List Tick)) → MeetsGapLimit s needed.formula needed.vars formula shapes
+      → IsKnownOf problem (needed ∷ []) (Limited formula shapes)
+  known-limited formula shapes met =
+      record { question = FindingGaps needed; asked = any_one (IsAskedOf (FindingGaps needed)) needed (inr (no_answer, refl)); met = met }
 
   module _ (gaps : List Atom) (exact : (atom : Atom) → Contains gaps atom ↔ HasGap problem needed atom)
-      (unlimited : (kept : List Atom) (shapes : List (List Tick)) → ¬ MeetsGapLimit s needed.formula needed.vars kept shapes) (below : StaysBelowGapLimit s needed.formula needed.vars) where
+      (unlimited : (kept : List Atom) (shapes : List (List Tick)) → ¬ MeetsGapLimit s needed.formula needed.vars kept shapes)
+      (below : StaysBelowGapLimit s needed.formula needed.vars) where
     unlimited-one : AreUnlimited problem (needed ∷ [])
     unlimited-one question formula shapes asks met =
         elim (one_any (IsAskedOf question) needed asks) [
-          | inl is ↦ few_or_limited.proofs_with_gaps s needed.formula needed.vars shapes below.shapes (subst (λ (q : Question). MeetsLimit problem q formula shapes) is met).1
+          | inl is ↦ few_or_limited.proofs_with_gaps s needed.formula needed.vars shapes below.shapes
+              (subst (λ (q : Question). MeetsLimit problem q formula shapes) is met).1
           | inr is ↦ unlimited formula shapes (subst (λ (q : Question). MeetsLimit problem q formula shapes) is.1 met)
         ]
 

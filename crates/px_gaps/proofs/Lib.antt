@@ -1,3 +1,4 @@
+-- The files of lemmas.
 pub mod Grows
 mod Regaps
 pub mod GapLists

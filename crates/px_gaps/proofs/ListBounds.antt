@@ -18,7 +18,7 @@ use Rattle.px_proof.specs.Shapes.{IsUnfinished, OnlyOpen, ticks, ticks_of}
 use Rattle.px_question.specs.Answers.{literals_of, object_terms}
 use Rattle.px_question.specs.Limits.{AreFewGapShapes}
 use Rattle.px_question.specs.Settings.{Setting, loose_gaps_in, setting_of}
-use Rattle.px_gaps.specs.Bounds.{AreAtMost, HasFewShapes, IsAsserting, IsAtomShape, IsBound, IsBoundBy, IsBoundFor, IsFinished, IsListBound, IsListShape, bound_beside}
+use Rattle.px_gaps.specs.Bounds.{AreAtMost, HasFewShapes, IsAsserting, IsAtomShape, IsBound, IsBoundBy, IsBoundFor, HasNoOpenTick, IsListBound, IsListShape, bound_beside}
 use Rattle.px_gaps.specs.declared.bounds.Bound.{Bound}
 use Rattle.px_gaps.proofs.ShapeCounts.{at_most-either, at_most-image, at_most-none, at_most-one, at_most-pairs, finished-parts, unfinished-parts}
 
@@ -46,7 +46,7 @@ module _ (s : Setting) (high : ℕ) (path : List Lit) where
   list_bound-nil = record {
     unfinished = at_most-none (λ shape. IsUnfinished shape × IsListShape s high path [] shape)
         (λ shape h. unfinished-none h.1.0 h.1.1 (subst IsUnfinished (sym h.1.3) h.0));
-    finished = at_most-one (λ shape. IsFinished shape × IsListShape s high path [] shape) []
+    finished = at_most-one (λ shape. HasNoOpenTick shape × IsListShape s high path [] shape) []
         (λ shape h. sym h.1.3 ∙ ticks-none h.1.0 h.1.1);
   }
     where
@@ -89,7 +89,7 @@ module _ (s : Setting) (high : ℕ) (path : List Lit) where
 
       -- unfinished later
       IsLate : List Tick → Type 0
-      IsLate shape = (a : List Tick) × (b : List Tick) × (IsFinished a × IsAtomShape s high path q a)
+      IsLate shape = (a : List Tick) × (b : List Tick) × (HasNoOpenTick a × IsAtomShape s high path q a)
           × (IsUnfinished b × IsListShape s high path atoms b) × (a ++ b ≡ shape)
 
       early : AreAtMost IsEarly first.unfinished
@@ -99,7 +99,7 @@ module _ (s : Setting) (high : ℕ) (path : List Lit) where
 
       late : AreAtMost IsLate (first.finished * rest.unfinished)
       unfolding IsLate
-      late = at_most-pairs (λ shape. IsFinished shape × IsAtomShape s high path q shape)
+      late = at_most-pairs (λ shape. HasNoOpenTick shape × IsAtomShape s high path q shape)
           (λ shape. IsUnfinished shape × IsListShape s high path atoms shape) IsLate
           first.finished rest.unfinished one.finished others.unfinished (λ shape h. h)
 
@@ -112,13 +112,13 @@ module _ (s : Setting) (high : ℕ) (path : List Lit) where
             | inr later ↦ inr (a, b, (later.0, parts.first), (later.1, parts.rest), parts.is)
           ]
 
-      finished : AreAtMost (λ shape. IsFinished shape × IsListShape s high path (q ∷ atoms) shape) (first.finished * rest.finished)
-      finished = at_most-pairs (λ shape. IsFinished shape × IsAtomShape s high path q shape)
-          (λ shape. IsFinished shape × IsListShape s high path atoms shape)
-          (λ shape. IsFinished shape × IsListShape s high path (q ∷ atoms) shape)
+      finished : AreAtMost (λ shape. HasNoOpenTick shape × IsListShape s high path (q ∷ atoms) shape) (first.finished * rest.finished)
+      finished = at_most-pairs (λ shape. HasNoOpenTick shape × IsAtomShape s high path q shape)
+          (λ shape. HasNoOpenTick shape × IsListShape s high path atoms shape)
+          (λ shape. HasNoOpenTick shape × IsListShape s high path (q ∷ atoms) shape)
           first.finished rest.finished one.finished others.finished
           (λ shape h. let (a, b, parts) = split shape h.1 in
-          let both = finished-parts a b (subst IsFinished (sym parts.is) h.0) in
+          let both = finished-parts a b (subst HasNoOpenTick (sym parts.is) h.0) in
           (a, b, (both.0, parts.first), (both.1, parts.rest), parts.is))
 
       pub list_bound-cons : IsBoundFor (IsListShape s high path (q ∷ atoms)) (bound_beside first rest)

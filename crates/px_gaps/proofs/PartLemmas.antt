@@ -13,15 +13,22 @@ use Rattle.px_gaps.specs.Closings.{OneOf}
 use Rattle.px_gaps.specs.declared.apart.Parts.{Parts}
 
 -- the members of a list, by the one at a place and those that are left without it
-pub removed-members : {X : Type 0} (xs : List X) (k : ℕ) (x : X) → k < length xs → x ≡ get_or xs k x → (y : X) → Contains xs y ↔ ((x ≡ y) ⊎ Contains (remove xs k) y)
+pub removed-members : {X : Type 0} (xs : List X) (k : ℕ) (x : X) → k < length xs → x ≡ get_or xs k x → (y : X) → Contains xs y
+    ↔ ((x ≡ y) ⊎ Contains (remove xs k) y)
 removed-members xs k x within is y =
     let permuted : IsPermutation xs (x ∷ remove xs k) = IsPermutation-remove xs k x within is in (
       λ has. Contains-cases x (remove xs k) y (Contains-permutation xs (x ∷ remove xs k) y permuted has),
-      λ h. Contains-permutation (x ∷ remove xs k) xs y (IsPermutation-sym xs (x ∷ remove xs k) permuted) (elim h [ inl same ↦ subst (Contains (x ∷ remove xs k)) same (Contains-first x (remove xs k)) | inr later ↦ Contains-later x (remove xs k) y later ]),
+      λ h. Contains-permutation (x ∷ remove xs k) xs y (IsPermutation-sym xs (x ∷ remove xs k) permuted)
+          (elim h [
+            | inl same ↦ subst (Contains (x ∷ remove xs k)) same (Contains-first x (remove xs k))
+            | inr later ↦ Contains-later x
+                (remove xs k) y later
+          ]),
     )
 
 -- a term that is the variable
-pub reached-one : {Old New : Type 0} (x : Term) (variable : ℕ) → x ≡ Var variable → (v : ℕ) → New ↔ (Old ⊎ (variable ≡ v)) → New ↔ (Old ⊎ (x ≡ Var v))
+pub reached-one : {Old New : Type 0} (x : Term) (variable : ℕ) → x ≡ Var variable → (v : ℕ) → New ↔ (Old ⊎ (variable ≡ v)) → New
+    ↔ (Old ⊎ (x ≡ Var v))
 reached-one x variable is v new = (
   λ h. elim (new.0 h) [ inl before ↦ inl before | inr same ↦ inr (is ∙ ap (λ (n : ℕ). Var n) same) ],
   λ h. new.1 (elim h [ inl before ↦ inl before | inr same ↦ inr (number (sym is ∙ same)) ]),
@@ -36,14 +43,24 @@ pub record ArePartly (terms : List Term) (atoms : List Atom) (reached : List ℕ
   pub reaches : (v : ℕ) → OneOf parts.linked.items (StandsIn terms v) → Contains reached v
   pub plain : ArePlain (length terms) parts.others.items
 
-pub partly-start : (terms : List Term) (atoms : List Atom) (reached : List ℕ) (parts : Parts) → parts.linked.items ≡ [] → parts.others.items ≡ atoms → ArePlain (length terms) atoms → ArePartly terms atoms reached parts
+pub partly-start : (terms : List Term) (atoms : List Atom) (reached : List ℕ) (parts : Parts) → parts.linked.items ≡ []
+    → parts.others.items ≡ atoms → ArePlain (length terms) atoms → ArePartly terms atoms reached parts
 partly-start terms atoms reached parts none all plain = record {
-  members = λ atom. (λ has. inr (subst (λ (l : List Atom). Contains l atom) (sym all) has), λ h. elim h [ inl here ↦ absurd (Contains-none atom (subst (λ (l : List Atom). Contains l atom) none here)) | inr there ↦ subst (λ (l : List Atom). Contains l atom) all there ]);
+  members =
+      λ atom. (
+        λ has. inr (subst (λ (l : List Atom). Contains l atom) (sym all) has),
+        λ h. elim h [
+          | inl here ↦ absurd (Contains-none atom (subst (λ (l : List Atom). Contains l atom) none here))
+          | inr there ↦ subst
+              (λ (l : List Atom). Contains l atom) all there
+        ],
+      );
   reaches = λ v one. absurd (Contains-none one.0 (subst (λ (l : List Atom). Contains l one.0) none one.1));
   plain = subst (ArePlain (length terms)) (sym all) plain;
 }
 
-pub partly-next : (terms : List Term) (atoms : List Atom) (reached after : List ℕ) (old new : Parts) → ArePartly terms atoms reached old → Links terms reached after old new → ArePartly terms atoms after new
+pub partly-next : (terms : List Term) (atoms : List Atom) (reached after : List ℕ) (old new : Parts) → ArePartly terms atoms reached old
+    → Links terms reached after old new → ArePartly terms atoms after new
 partly-next terms atoms reached after old new before links = record {
   members = λ atom. (
     λ has. elim ((before.members atom).0 has) [
@@ -59,9 +76,14 @@ partly-next terms atoms reached after old new before links = record {
     | inl earlier ↦ inl (before.reaches v (one.0, earlier, one.2))
     | inr same ↦ inr (subst (StandsIn terms v) (sym same) one.2)
   ]);
-  plain = All-each (IsPlain (length terms)) new.others.items (λ atom has. All-at (IsPlain (length terms)) old.others.items atom before.plain ((links.others atom).1 (inr has)));
+  plain =
+      All-each (IsPlain (length terms)) new.others.items
+      (λ atom has. All-at (IsPlain (length terms)) old.others.items atom before.plain ((links.others atom).1 (inr has)));
 }
 
 -- where no variable that is reached stands in one of the others, they are apart
-pub partly-apart : (terms : List Term) (atoms : List Atom) (reached : List ℕ) (parts : Parts) → ArePartly terms atoms reached parts → ((atom : Atom) → Contains parts.others.items atom → ¬ Any (λ v. StandsIn terms v atom) reached) → (v : ℕ) → OneOf parts.linked.items (StandsIn terms v) → ¬ OneOf parts.others.items (StandsIn terms v)
-partly-apart terms atoms reached parts are none v here there = let has = are.reaches v here in none there.0 there.1 (has.0, v, has.1, has.2, there.2)
+pub partly-apart : (terms : List Term) (atoms : List Atom) (reached : List ℕ) (parts : Parts) → ArePartly terms atoms reached parts
+    → ((atom : Atom) → Contains parts.others.items atom → ¬ Any (λ v. StandsIn terms v atom) reached) → (v : ℕ)
+    → OneOf parts.linked.items (StandsIn terms v) → ¬ OneOf parts.others.items (StandsIn terms v)
+partly-apart terms atoms reached parts are none v here there =
+    let has = are.reaches v here in none there.0 there.1 (has.0, v, has.1, has.2, there.2)

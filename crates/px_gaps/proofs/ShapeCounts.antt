@@ -10,7 +10,7 @@ use Rattle.px_proof.specs.PlaceLaws.{Contains-mapped}
 use Rattle.px_proof.specs.declared.shape.Tick.{Tick}
 use Rattle.px_proof.specs.declared.shape.Tick.TheVariants.{Fact, Anc, Step, Gap, Open}
 use Rattle.px_proof.specs.Shapes.{IsUnfinished, OnlyOpen}
-use Rattle.px_gaps.specs.Bounds.{AreAtMost, IsBoundFor, IsFinished, bound_either}
+use Rattle.px_gaps.specs.Bounds.{AreAtMost, IsBoundFor, HasNoOpenTick, bound_either}
 use Rattle.px_gaps.specs.declared.bounds.Bound.{Bound}
 
 -- ---- a shape in two parts
@@ -24,7 +24,7 @@ open-parts (Step n p ∷ a) b only = absurd only
 open-parts (Gap ∷ a) b only = absurd only
 
 -- an unfinished shape is unfinished in its first part, and open from there on, or it is finished there and unfinished later
-pub unfinished-parts : (a b : List Tick) → IsUnfinished (a ++ b) → (IsUnfinished a × OnlyOpen b) ⊎ (IsFinished a × IsUnfinished b)
+pub unfinished-parts : (a b : List Tick) → IsUnfinished (a ++ b) → (IsUnfinished a × OnlyOpen b) ⊎ (HasNoOpenTick a × IsUnfinished b)
 unfinished-parts [] b is = inr (tt, is)
 unfinished-parts (Open ∷ a) b is = inl (open-parts a b is)
 unfinished-parts (Fact i ∷ a) b is = unfinished-parts a b is
@@ -32,7 +32,7 @@ unfinished-parts (Anc i ∷ a) b is = unfinished-parts a b is
 unfinished-parts (Step n p ∷ a) b is = unfinished-parts a b is
 unfinished-parts (Gap ∷ a) b is = unfinished-parts a b is
 
-pub finished-parts : (a b : List Tick) → IsFinished (a ++ b) → IsFinished a × IsFinished b
+pub finished-parts : (a b : List Tick) → HasNoOpenTick (a ++ b) → HasNoOpenTick a × HasNoOpenTick b
 finished-parts [] b is = (tt, is)
 finished-parts (Open ∷ a) b is = absurd is
 finished-parts (Fact i ∷ a) b is = finished-parts a b is
@@ -119,15 +119,15 @@ bound_for-either P R Q first second one other cases = record {
   unfinished = at_most-either (λ shape. IsUnfinished shape × P shape) (λ shape. IsUnfinished shape × R shape)
       (λ shape. IsUnfinished shape × Q shape) first.unfinished second.unfinished one.unfinished other.unfinished
       (λ shape h. elim (cases shape h.1) [ inl p ↦ inl (h.0, p) | inr r ↦ inr (h.0, r) ]);
-  finished = at_most-either (λ shape. IsFinished shape × P shape) (λ shape. IsFinished shape × R shape)
-      (λ shape. IsFinished shape × Q shape) first.finished second.finished one.finished other.finished
+  finished = at_most-either (λ shape. HasNoOpenTick shape × P shape) (λ shape. HasNoOpenTick shape × R shape)
+      (λ shape. HasNoOpenTick shape × Q shape) first.finished second.finished one.finished other.finished
       (λ shape h. elim (cases shape h.1) [ inl p ↦ inl (h.0, p) | inr r ↦ inr (h.0, r) ]);
 }
 
 pub bound_for-none : (Q : List Tick → Type 0) → ((shape : List Tick) → ¬ Q shape) → IsBoundFor Q (record { unfinished = 0; finished = 0 })
 bound_for-none Q never = record {
   unfinished = at_most-none (λ shape. IsUnfinished shape × Q shape) (λ shape h. never shape h.1);
-  finished = at_most-none (λ shape. IsFinished shape × Q shape) (λ shape h. never shape h.1);
+  finished = at_most-none (λ shape. HasNoOpenTick shape × Q shape) (λ shape h. never shape h.1);
 }
 
 pub bound_for-step : (number place : ℕ) (P Q : List Tick → Type 0) (bound : Bound) → IsBoundFor P bound
@@ -136,7 +136,7 @@ bound_for-step number place P Q bound of_parts made = record {
   unfinished = at_most-image (λ a. Step number place ∷ a) (λ shape. IsUnfinished shape × P shape)
       (λ shape. IsUnfinished shape × Q shape) bound.unfinished of_parts.unfinished
       (λ shape h. let (a, p, is) = made shape h.1 in (a, (subst IsUnfinished (sym is) h.0, p), is));
-  finished = at_most-image (λ a. Step number place ∷ a) (λ shape. IsFinished shape × P shape)
-      (λ shape. IsFinished shape × Q shape) bound.finished of_parts.finished
-      (λ shape h. let (a, p, is) = made shape h.1 in (a, (subst IsFinished (sym is) h.0, p), is));
+  finished = at_most-image (λ a. Step number place ∷ a) (λ shape. HasNoOpenTick shape × P shape)
+      (λ shape. HasNoOpenTick shape × Q shape) bound.finished of_parts.finished
+      (λ shape h. let (a, p, is) = made shape h.1 in (a, (subst HasNoOpenTick (sym is) h.0, p), is));
 }

@@ -16,15 +16,20 @@ term_variable problem vars (Obj n) of = tt
 term_variable problem vars (Var v) of = of
 term_variable problem vars Any of = tt
 
-pub term_in : (problem : Problem) (vars : ℕ) (args : List Term) → All (IsTermOf problem vars) args → (t : Term) → IsTermOf problem (length args) t → IsTermOf problem vars (substitute args t)
+pub term_in : (problem : Problem) (vars : ℕ) (args : List Term) → All (IsTermOf problem vars) args → (t : Term)
+    → IsTermOf problem (length args) t → IsTermOf problem vars (substitute args t)
 term_in problem vars args all (Obj n) of = of
 term_in problem vars args all (Var v) of = all v Any of
 term_in problem vars args all Any of = absurd of
 
-pub atom_in : (problem : Problem) (vars : ℕ) (args : List Term) → All (IsTermOf problem vars) args → (atom : Atom) → IsAtomOf problem (length args) atom → IsAtomOf problem vars (substitute_atom args atom)
-atom_in problem vars args all atom of =
-    ((of.0.0, length-map atom.args (substitute args) ∙ of.0.1), All-map (IsTermOf problem vars) (substitute args) atom.args (λ k d below. term_in problem vars args all _ (of.1 k d below)))
+pub atom_in : (problem : Problem) (vars : ℕ) (args : List Term) → All (IsTermOf problem vars) args → (atom : Atom)
+    → IsAtomOf problem (length args) atom → IsAtomOf problem vars (substitute_atom args atom)
+atom_in problem vars args all atom of = (
+  (of.0.0, length-map atom.args (substitute args) ∙ of.0.1),
+  All-map (IsTermOf problem vars) (substitute args) atom.args (λ k d below. term_in problem vars args all _ (of.1 k d below)),
+)
 
-pub preds-same : (args : List Term) (atoms : List Atom) → map (λ (atom : Atom). atom.pred) (map (substitute_atom args) atoms) ≡ map (λ (atom : Atom). atom.pred) atoms
+pub preds-same : (args : List Term) (atoms : List Atom)
+    → map (λ (atom : Atom). atom.pred) (map (substitute_atom args) atoms) ≡ map (λ (atom : Atom). atom.pred) atoms
 preds-same args [] = refl
 preds-same args (atom ∷ atoms) = ap (λ (l : List ℕ). atom.pred ∷ l) (preds-same args atoms)

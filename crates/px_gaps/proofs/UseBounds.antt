@@ -1,4 +1,4 @@
--- The bound of the proofs that begin with an axiom at a place. The atom tells the terms for the axiom's variables, where each of them
+-- The bound of the proofs that begin with an axiom at a place. The atom determines the terms for the axiom's variables, where each of them
 -- stands in the literal at the place.
 use Rattle.std.proofs.Common.{◌≡◌, ◌∙◌, ◌⊎◌, ℕ, suc, ◌+◌, ◌≤◌, ◌<◌, Bool, true, false, Option, Some, List, [], ◌∷◌, length, map, get_or, refl, ap, sym, subst, inl, inr, arith}
 use Rattle.std.specs.Prelude.{All, Contains, cond, not, remove, slice_get}
@@ -11,11 +11,11 @@ use Rattle.px_proof.specs.declared.shape.Tick.{Tick}
 use Rattle.px_proof.specs.declared.shape.Tick.TheVariants.{Step}
 use Rattle.px_proof.specs.Derivation.{Derivations, step, height}
 use Rattle.px_proof.specs.Literals.{complement_of, positive_of, substitute_literal}
-use Rattle.px_proof.specs.PlaceLaws.{map-remove, slice_get-map, slice_get-within, some_same}
+use Rattle.px_proof.specs.PlaceLaws.{map-remove, slice_get-map, slice_get-within}
 use Rattle.px_proof.specs.Proves.{ProvesEach, UsesClause, instance_of, or_open, parts_of}
 use Rattle.px_proof.specs.Shapes.{ticks_of}
-use Rattle.px_question.specs.Settings.{IsObjectBelow, Setting, loose_gaps_in, setting_of}
-use Rattle.px_terms.specs.Language.{substitute}
+use Rattle.px_question.specs.Settings.{Setting, loose_gaps_in, setting_of}
+use Rattle.px_terms.specs.Language.{substitute, IsObjectBelow}
 use Rattle.px_terms.specs.Order.{term_eq}
 use Rattle.px_terms.specs.OrderLaws.{term_eq-decides}
 use Rattle.px_terms.specs.Substitution.{substitute_atom}
@@ -29,7 +29,7 @@ use Rattle.px_gaps.specs.Bounds.{IsBound, IsBoundAbove, IsBoundBy, IsBoundFor, I
 use Rattle.px_gaps.specs.declared.bounds.Bound.{Bound}
 use Rattle.px_gaps.proofs.AtomBounds.{bound-either}
 use Rattle.px_gaps.proofs.ShapeCounts.{bound_for-either, bound_for-none, bound_for-step}
-use Rattle.px_base.specs.Answers.{both_answers}
+use Rattle.px_base.specs.Answers.{both_answers, some_same}
 
 -- ---- the terms for the variables
 
@@ -118,7 +118,7 @@ module _ (s : Setting) (low : ℕ) (path : List Lit) (q : Atom) (number place : 
   -- the same literal under the terms
   literal-is : (theta : List Term) → slice_get (instance_of clause.lits theta) place ≡ Some (positive_of q)
       → substitute_literal theta lit ≡ positive_of q
-  literal-is theta there = some_same (substitute_literal theta lit) (positive_of q)
+  literal-is theta there = some_same
       (sym (slice_get-map (substitute_literal theta) clause.lits place lit horn.here) ∙ there)
 
   theta-is : (theta : List Term) → UsesClause (IsObjectBelow s.objects) s.axioms (positive_of q) number theta place clause → theta ≡ values
@@ -131,7 +131,7 @@ module _ (s : Setting) (low : ℕ) (path : List Lit) (q : Atom) (number place : 
       → height (step number theta place parts) ≤ low + 1 → IsPartsShape (ticks_of parts)
   unfolding IsPartsShape
   use-parts theta parts other uses proves low_enough =
-      let same : other ≡ clause = some_same other clause (sym uses.axiom_at ∙ at) in
+      let same : other ≡ clause = some_same (sym uses.axiom_at ∙ at) in
       let closed = theta-is theta (subst (UsesClause (IsObjectBelow s.objects) s.axioms (positive_of q) number theta place) same uses) in
       let lits : parts_of other.lits theta place ≡ map positive_of (atoms_under values (remove clause.lits place)) =
       ap (λ (c : Clause). parts_of c.lits theta place) same ∙ ap (λ (terms : List Term). parts_of clause.lits terms place) closed
@@ -196,11 +196,11 @@ use_bound-other problem table pred number place clause lit at here differs = rec
     never_used : (q : Atom) → q.pred ≡ pred → (n p : ℕ) → (n ≡ number) × (p ≡ place) → (theta : List Term) (other : Clause)
         → ¬ UsesClause (IsObjectBelow problem.objects) problem.axioms (positive_of q) n theta p other
     never_used q same n p which theta other uses =
-        let is : other ≡ clause = some_same other clause (sym uses.axiom_at ∙ ap (slice_get problem.axioms) which.0 ∙ at) in
+        let is : other ≡ clause = some_same (sym uses.axiom_at ∙ ap (slice_get problem.axioms) which.0 ∙ at) in
         let there : slice_get (instance_of clause.lits theta) place ≡ Some (positive_of q) =
         (λ i. slice_get (instance_of (sym is i).lits theta) (sym which.1 i)) ∙ uses.literal_at in
         let equal : substitute_literal theta lit ≡ positive_of q =
-        some_same (substitute_literal theta lit) (positive_of q)
+        some_same
         (sym (slice_get-map (substitute_literal theta) clause.lits place lit here) ∙ there) in
         differs (ap (λ (l : Lit). l.positive) equal, ap (λ (l : Lit). l.atom.pred) equal ∙ same)
 

@@ -11,9 +11,9 @@ use Rattle.px_gaps.specs.declared.apart.Parts.{Parts}
 abbrev pub StandsIn : List Term → ℕ → Atom → Type 0
 StandsIn terms v atom = Contains (map (substitute terms) atom.args) (Var v)
 
--- none does in an atom of both
-abbrev pub AreApart : List Term → List Atom → List Atom → Type 0
-AreApart terms xs ys = (v : ℕ) → OneOf xs (StandsIn terms v) → ¬ OneOf ys (StandsIn terms v)
+-- no variable without an object stands in an atom of the first list and in an atom of the second
+abbrev pub ShareNoVariable : List Term → List Atom → List Atom → Type 0
+ShareNoVariable terms xs ys = (v : ℕ) → OneOf xs (StandsIn terms v) → ¬ OneOf ys (StandsIn terms v)
 
 -- one of the others becomes linked, and its variables are reached
 pub record Links (terms : List Term) (reached after : List ℕ) (old new : Parts) : Type 0 where

@@ -4,9 +4,9 @@ use Rattle.px_terms.specs.declared.atom.Atom.{Atom}
 use Rattle.px_terms.specs.declared.term.Term.{Term}
 use Rattle.px_terms.specs.declared.term.Term.TheVariants.{Obj, Var, Any as Wild}
 use Rattle.px_terms.specs.Instances.{IsGround}
-use Rattle.px_terms.specs.Language.{IsPlainBelow}
+use Rattle.px_terms.specs.Language.{IsPlainBelow, object_of}
 use Rattle.px_terms.specs.Substitution.{substitute_atom}
-use Rattle.px_question.specs.Answers.{object_of, object_terms}
+use Rattle.px_question.specs.Answers.{object_terms}
 use Rattle.px_prover.specs.Patterns.{object_under}
 
 -- the arguments are objects, or variables below the number
@@ -28,14 +28,14 @@ pub record IsBinding (limit : ℕ) (terms : List Term) : Type 0 where
   pub some_object : 0 < length terms → 0 < limit
 
 -- how many of them have no object
-abbrev pub open_count : List Term → ℕ
-open_count [] = 0
-open_count (Obj n ∷ terms) = open_count terms
-open_count (Var v ∷ terms) = suc (open_count terms)
-open_count (Wild ∷ terms) = open_count terms
+abbrev pub open_term_count : List Term → ℕ
+open_term_count [] = 0
+open_term_count (Obj n ∷ terms) = open_term_count terms
+open_term_count (Var v ∷ terms) = suc (open_term_count terms)
+open_term_count (Wild ∷ terms) = open_term_count terms
 
 -- the values are objects of the problem for all variables, and those that are chosen
-pub record Extends (limit : ℕ) (terms : List Term) (values : List ℕ) : Type 0 where
+pub record ExtendsTerms (limit : ℕ) (terms : List Term) (values : List ℕ) : Type 0 where
   pub count : length values ≡ length terms
   pub below : All (λ n. n < limit) values
   pub same : (v n : ℕ) → slice_get terms v ≡ Some (Obj n) → slice_index values v ≡ n
@@ -50,29 +50,29 @@ pub record AreBound (limit : ℕ) (terms : List Term) (atoms taken : List Atom) 
 abbrev pub first_values : List Term → List ℕ
 first_values terms = map object_of terms
 
--- under them none of the atoms is in the set
+-- under the values none of the atoms is in the set
 pub record Avoids (limit : ℕ) (terms : List Term) (atoms set : List Atom) (values : List ℕ) : Type 0 where
-  pub extends : Extends limit terms values
+  pub extends : ExtendsTerms limit terms values
   pub avoids : ¬ Any (Contains set) (map (substitute_atom (object_terms values)) atoms)
 
 -- there are such values
 abbrev pub CanAvoid : ℕ → List Term → List Atom → List Atom → Type 0
 CanAvoid limit terms atoms set = (values : List ℕ) × Avoids limit terms atoms set values
 
--- under such values what is made of them is this
+-- under some values that avoid the set, what is made of them is this
 abbrev pub IsOpenAs : {X : Type 0} → ℕ → List Term → List Atom → List Atom → (List ℕ → X) → X → Type 0
 IsOpenAs limit terms atoms set made x = (values : List ℕ) × Avoids limit terms atoms set values × (made values ≡ x)
 
--- the same, where the values have an object before this one for the variable
+-- under some such values, with an object before this one for the variable, what is made of them is this
 abbrev pub IsOpenBefore : {X : Type 0} → ℕ → List Term → List Atom → List Atom → (List ℕ → X) → ℕ → ℕ → X → Type 0
 IsOpenBefore limit terms atoms set made v object x = (values : List ℕ) × Avoids limit terms atoms set values
     × (slice_index values v < object) × (made values ≡ x)
 
--- the one atom is the other
+-- under some such values the first atom becomes the second
 abbrev pub IsOpenInstance : ℕ → List Term → List Atom → List Atom → Atom → Atom → Type 0
 IsOpenInstance limit terms atoms set target = IsOpenAs limit terms atoms set (λ values. substitute_atom (object_terms values) target)
 
--- the terms are these objects
+-- under some such values the terms become these objects
 abbrev pub IsOpenChoice : ℕ → List Term → List Atom → List Atom → List Term → List ℕ → Type 0
 IsOpenChoice limit terms atoms set targets = IsOpenAs limit terms atoms set (λ values. map (object_under values) targets)
 
@@ -80,7 +80,7 @@ IsOpenChoice limit terms atoms set targets = IsOpenAs limit terms atoms set (λ 
 abbrev pub IsInstanceUnder : ℕ → List Term → Atom → Atom → Type 0
 IsInstanceUnder limit terms = IsOpenInstance limit terms [] []
 
--- for none of them an object is chosen
+-- no object is chosen for any of them
 pub record AreUnbound (vars : ℕ) (terms : List Term) : Type 0 where
   pub count : length terms ≡ vars
   pub each : (v : ℕ) (t : Term) → slice_get terms v ≡ Some t → t ≡ Var v

@@ -7,6 +7,6 @@ use Rattle.px_terms.specs.declared.clause.Lit.{Lit}
 abbrev pub Asserts : ℕ → List Lit → Type 0
 Asserts pred lits = Any (λ (lit : Lit). (lit.positive ≡ true) × (lit.atom.pred ≡ pred)) lits
 
--- a literal of some axiom does
+-- a literal of some axiom asserts an atom of the predicate
 abbrev pub IsConcluded : List Clause → ℕ → Type 0
 IsConcluded axioms pred = Any (λ (clause : Clause). Asserts pred clause.lits) axioms

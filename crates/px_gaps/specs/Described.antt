@@ -20,7 +20,7 @@ abbrev pub IsClosedBy : ℕ → GapPattern → Atom → Type 0
 IsClosedBy limit pattern q = OneOf pattern.atoms (λ target. (values : List ℕ) × AreChosen limit pattern.vars values
     × (substitute_atom (object_terms values) target ≡ q))
 
--- and none of its atoms is in the set
+-- under some objects for the pattern's variables one of its atoms is this one, and none is in the set
 abbrev pub IsMissingBy : ℕ → List Atom → GapPattern → Atom → Type 0
 IsMissingBy limit set pattern q =
     OneOf pattern.atoms (λ target. (values : List ℕ) × AreChosen limit pattern.vars values

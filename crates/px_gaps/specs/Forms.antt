@@ -1,4 +1,4 @@
--- Atoms with their variables named anew: atoms that differ by the names of their variables alone have one form.
+-- Atoms with their variables named anew: atoms that differ only by the names of their variables have one form.
 use Rattle.std.specs.Prelude.{◌≡◌, ◌<◌, ℕ, suc, cond, Some, List, [], ◌∷◌, map, length, slice_get, Contains}
 use Rattle.px_terms.specs.declared.atom.Atom.{Atom}
 use Rattle.px_terms.specs.declared.term.Term.{Term}

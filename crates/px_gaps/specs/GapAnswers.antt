@@ -1,4 +1,4 @@
--- What one question of gaps tells of a formula.
+-- What one question of gaps says of a formula.
 use Rattle.std.specs.Prelude.{◌↔◌, ℕ, List, [], ◌∷◌, All, Contains}
 use Rattle.px_terms.specs.Validity.{IsAtomOf}
 use Rattle.px_terms.specs.declared.atom.Atom.{Atom}
@@ -21,7 +21,7 @@ pub record IsGapAnswer (s : Setting) (formula : List Atom) (vars : ℕ) (pattern
   pub unlimited : (atom : Atom) (shapes : List (List Tick)) → IsClosedIn (lists_of s.objects patterns) atom
       → ¬ IsLimited s (atom ∷ []) 0 shapes
 
--- they are that of some formula of the problem
+-- they are the patterns and provable atoms of some formula of the problem
 abbrev pub AnswersSome : Problem → List Atom → ℕ → List GapPattern → List Atom → Type 0
 AnswersSome problem facts vars patterns provable = (formula : List Atom) × All (IsAtomOf problem vars) formula
     × IsGapAnswer (setting_of problem facts) formula vars patterns provable

@@ -18,7 +18,7 @@ pub record IsBelow (problem : Problem) (question : Question) : Type 0 where
   pub unlimited : (formula : List Atom) (shapes : List (List Tick)) → ¬ MeetsLimit problem question formula shapes
   pub below : StaysBelow problem question
 
--- it has one or it has none, and proving it stays below the limit; or that meets the limit
+-- the formula has an answer or none, and proving it stays below the limit; or proving it meets the limit
 abbrev pub IsTriedOf : Problem → Obligation → Tried → Type 0
 IsTriedOf problem needed tried.Answered = HasAnswer problem needed × IsBelow problem (Proving needed)
 IsTriedOf problem needed tried.Unanswered = (¬ HasAnswer problem needed) × IsBelow problem (Proving needed)

@@ -1,3 +1,4 @@
+-- The files of definitions and laws.
 pub mod Addable
 pub mod Apart
 pub mod Bindings
@@ -5,7 +6,6 @@ pub mod Bounds
 pub mod Choices
 pub mod Closings
 pub mod Concluding
-pub mod Counting
 pub mod Described
 pub mod Forms
 pub mod GapAnswers

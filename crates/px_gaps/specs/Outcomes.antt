@@ -5,12 +5,12 @@ use Rattle.px_proof.specs.declared.shape.Tick.{Tick}
 use Rattle.px_gaps.specs.declared.ask_err.AskErr.{AskErr}
 use Rattle.px_gaps.specs.declared.ask_err.AskErr.TheVariants.{ShapeLimit, NoMemory}
 
--- a fact of the formula and the shapes that are kept, where the error is that the limit is met
+-- the fact holds of the formula and the shapes that are kept, where the error is that the limit is met
 abbrev pub AtLimit : AskErr → (List Atom → List (List Tick) → Type 0) → Type 0
 AtLimit (ShapeLimit formula shapes) P = P formula shapes
 AtLimit NoMemory P = Unit {0}
 
--- the same of a result
+-- the fact holds of them, where the result is such an error
 abbrev pub IfLimit : {A : Type 0} → Result A AskErr → (List Atom → List (List Tick) → Type 0) → Type 0
 IfLimit (Ok answer) P = Unit {0}
 IfLimit (Err error) P = AtLimit error P

@@ -9,9 +9,9 @@ use Rattle.px_question.specs.Settings.{setting_of}
 use Rattle.px_gaps.specs.Needs.{Obligation, HasAnswer}
 
 pub data Question : Type 0 where
-  -- is there an answer, and which is the first?
+  -- whether there is an answer, and which is the first
   Proving : Obligation → Question
-  -- which are the gaps?
+  -- which the gaps are
   FindingGaps : Obligation → Question
 
 -- the questions about what is needed: proving each part, and finding the gaps of each part that has no answer

@@ -1,9 +1,9 @@
-//! Atoms that share no variable without an object: what one part of them does doesn't bear on the others.
+//! Atoms that share no variable without an object: what one part of them does has no effect on the others.
 ghost use Rattle.std.specs.Prelude.{◌≡◌, ◌↔◌, ◌⊎◌, ◌<◌, ℕ, List, length, All, Any, Contains, IsTrue, IfSome, IfNone, IfOk, OnOk};
 ghost use Rattle.px_terms.specs.Substitution.{substitute_atom};
 ghost use Rattle.px_terms.specs.declared.atom.Atom.{Atom as AtomValue};
 ghost use Rattle.px_terms.specs.declared.term.Term.TheVariants.{Var};
-ghost use Rattle.px_gaps.specs.Apart.{AreApart, Links, StandsIn};
+ghost use Rattle.px_gaps.specs.Apart.{ShareNoVariable, Links, StandsIn};
 ghost use Rattle.px_gaps.specs.Bindings.{ArePlain};
 
 use px_terms::{Atom, NoMemory, Term, apply};
@@ -28,7 +28,7 @@ fn reach(reached: &mut Vec<u32>, args: &[Term]) -> Result<(), NoMemory>
     Ok(())
 }
 
-/// Is one of the variables among the arguments?
+/// Returns whether one of the variables is among the arguments.
 fn is_reached(reached: &[u32], args: &[Term]) -> bool
     ensures { IsTrue result ↔ Any (λ v. Contains args.now (Var v)) reached.now }
 {
@@ -37,7 +37,7 @@ fn is_reached(reached: &[u32], args: &[Term]) -> bool
         .any(|variable| args.contains(&Term::Var(*variable)))
 }
 
-/// The place of the first atom in which one of the variables stands and has no object.
+/// Returns the place of the first atom in which one of the variables stands and has no object.
 fn first_reached(terms: &[Term], reached: &[u32], atoms: &[Atom]) -> Option<usize>
     requires { ArePlain (length terms.now) atoms.now }
     ensures some { IfSome result (λ place. place < length atoms.now) }
@@ -76,7 +76,7 @@ pub fn apart(alloc: Global, terms: &[Term], atoms: &[Atom], place: usize) -> Res
     requires place { place < length atoms.now }
     ensures members { IfOk result (λ parts. (atom : AtomValue) → Contains atoms.now atom
         ↔ (Contains parts.linked.items atom ⊎ Contains parts.others.items atom)) }
-    ensures apart { IfOk result (λ parts. AreApart terms.now parts.linked.items parts.others.items) }
+    ensures apart { IfOk result (λ parts. ShareNoVariable terms.now parts.linked.items parts.others.items) }
     ensures fewer { IfOk result (λ parts. length parts.others.items < length atoms.now) }
 {
     let mut others = Vec::new(alloc);

@@ -1,15 +1,15 @@
-//! Asking the prover, and counting. Only [`try_formula`](crate::try_formula) asks it beside this.
+//! Asking the prover, and counting. Apart from this, only [`try_formula`](crate::try_formula) asks it.
 ghost use Rattle.std.specs.Prelude.{◌≡◌, ◌≤◌, ◌<◌, List, map as map_list, IfOk, All};
 ghost use Rattle.px_proof.specs.Derivation.{derivations};
 ghost use Rattle.px_proof.specs.ProofTerm.{derivation_of};
 ghost use Rattle.px_proof.specs.declared.shape.Tick.{Tick};
-ghost use Rattle.px_prover.specs.Outcomes.{IfPatternLimit, IfShapeLimit};
+ghost use Rattle.px_prover.specs.Outcomes.{IfGapLimit, IfShapeLimit};
 ghost use Rattle.px_prover.specs.Patterns.{AreGapPatterns};
 ghost use Rattle.px_question.specs.Answers.{IsAnswer, IsFirst};
 ghost use Rattle.px_question.specs.Limits.{AreFewBefore, AreFewGapShapes, AreFewShapes, IsGapLimited, IsLimited};
 ghost use Rattle.px_question.specs.Settings.{setting_of};
 ghost use Rattle.px_terms.specs.Validity.{IsValid, IsAtomOf};
-ghost use Rattle.px_gaps.specs.Counting.{next_count};
+ghost use Rattle.px_base.specs.Counting.{next_count};
 
 use px_ops::Model;
 use px_prover::{Answer, GapErr, GapPattern, ProveErr, gap_patterns, prove};
@@ -26,7 +26,7 @@ pub struct Asker {
 }
 
 impl Asker {
-    /// Has asked nothing.
+    /// Returns an asker that has asked nothing.
     pub fn new(alloc: Global) -> Asker
         ensures { result.questions ≡ 0 }
     {
@@ -53,7 +53,7 @@ impl Asker {
         ensures patterns { IfOk result (λ patterns. AreGapPatterns (setting_of problem.now model.now.atoms) formula.now vars
             patterns.items) }
         ensures few { IfOk result (λ patterns. AreFewGapShapes (setting_of problem.now model.now.atoms) formula.now vars) }
-        ensures limited { IfPatternLimit result (IsGapLimited (setting_of problem.now model.now.atoms) formula.now vars) }
+        ensures limited { IfGapLimit result (IsGapLimited (setting_of problem.now model.now.atoms) formula.now vars) }
     {
         self.questions = self.questions.saturating_add(1);
         gap_patterns(self.alloc, problem, formula, vars, model)

@@ -1,6 +1,6 @@
-//! Which instances of atoms have a proof. Where no axiom concludes an atom's predicate, these are facts. Else an atom with
-//! variables is one question, and only where the answer isn't that none of its instances has a proof, one of its variables is
-//! bound to each object in turn.
+//! Which instances of atoms have a proof. Where no axiom concludes an atom's predicate, these are facts. Else an atom with variables is
+//! one question, and only where the answer isn't that none of its instances has a proof, one of its variables is bound to each object in
+//! turn.
 ghost use Rattle.std.specs.Prelude.{◌≡◌, ◌↔◌, ◌⊎◌, ◌≤◌, ◌<◌, [], ◌∷◌, length, List, All, Contains, MatchBool, IsTrue, IfOk, OnOk};
 ghost use Rattle.px_proof.specs.declared.shape.Tick.{Tick};
 ghost use Rattle.px_question.specs.Answers.{IsAnswer, IsProvable};
@@ -21,7 +21,7 @@ use px_prover::ProveErr;
 use px_terms::{Atom, NoMemory, Problem, Sequence, Term, apply};
 use std::alloc::Global;
 
-/// Tests whether the atom, which has no variables, has a proof from the facts of the model.
+/// Returns whether the atom, which has no variables, has a proof from the facts of the model.
 ///
 /// # Errors
 /// `ShapeLimit` where proving it meets the shape limit, with the atom alone and the first shapes.
@@ -75,7 +75,7 @@ fn insert_provable(
     Ok(())
 }
 
-/// Is it known by one question that no instance of the atom has a proof, and that proving none meets the limit?
+/// Returns whether one question shows that no instance of the atom has a proof, and that proving none meets the limit.
 fn has_none(
     asker: &mut Asker,
     problem: &Problem,
@@ -98,8 +98,8 @@ fn has_none(
     }
 }
 
-/// Puts the instances of the form, with the objects that are chosen, into the set, as far as they have a proof. Each call of
-/// itself has a variable less.
+/// Puts the instances of the form, with the objects that are chosen, into the set, as far as they have a proof. Each recursive call has
+/// one variable less.
 fn insert_instances(
     asker: &mut Asker,
     found: &mut Model,
@@ -155,7 +155,7 @@ fn insert_form(
     Ok(())
 }
 
-/// The instances of the forms that have a proof.
+/// Returns the instances of the forms that have a proof.
 pub fn provable_of(
     asker: &mut Asker,
     problem: &Problem,

@@ -1,6 +1,6 @@
 //! Objects for the variables of atoms, chosen one after the other, so that none of the atoms is in a set.
 ghost use Rattle.std.specs.Prelude.{◌≡◌, ◌↔◌, ◌<◌, ℕ, Some, length, slice_get, set as set_at, All, Any, Contains, IsTrue, IfSome, IfNone, IfOk, MatchBool};
-ghost use Rattle.px_question.specs.Answers.{object_of as object_by, object_terms};
+ghost use Rattle.px_question.specs.Answers.{object_terms};
 ghost use Rattle.px_terms.specs.Instances.{IsGround};
 ghost use Rattle.px_terms.specs.Substitution.{substitute_atom};
 ghost use Rattle.px_terms.specs.declared.term.Term.TheVariants.{Obj, Var};
@@ -8,7 +8,7 @@ ghost use Rattle.px_gaps.specs.Bindings.{AreBound, ArePlain, AreUnbound, CanAvoi
 
 use crate::apart::{Parts, apart};
 use px_ops::Model;
-use px_terms::{Atom, NoMemory, Term, apply};
+use px_terms::{Atom, NoMemory, Term, apply, object_of};
 use std::alloc::Global;
 
 /// Atoms of which none is to be in a set, whatever objects their variables get.
@@ -55,7 +55,7 @@ pub fn bound(
     Ok(next)
 }
 
-/// Is one of the atoms, with the objects that are chosen, in the set?
+/// Returns whether one of the atoms, with the objects that are chosen, is in the set.
 pub fn meets_under(terms: &[Term], atoms: &[Atom], set: &Model) -> bool
     requires { ArePlain (length terms.now) atoms.now }
     ensures { IsTrue result ↔ Any (λ atom. Contains set.now.atoms (substitute_atom terms.now atom)) atoms.now }
@@ -67,17 +67,6 @@ pub fn meets_under(terms: &[Term], atoms: &[Atom], set: &Model) -> bool
         }
     }
     false
-}
-
-/// Returns the number of the object that the term is; 0 if it is none.
-pub fn object_of(term: Term) -> u32
-    ensures { result ≡ object_by term }
-{
-    match term {
-        Term::Obj(number) => number,
-        Term::Var(_) => 0,
-        Term::Any => 0,
-    }
 }
 
 /// Returns the first variable among the terms, or `None` if there is none.
@@ -104,7 +93,7 @@ pub fn open_variable(terms: &[Term], atom: &Atom) -> Option<u32>
     first_variable(here.args())
 }
 
-/// The same of the first atom that has one, with the place of this atom.
+/// Returns the first such variable of the first atom that has one, with the place of this atom.
 fn first_open(terms: &[Term], atoms: &[Atom]) -> Option<(usize, u32)>
     requires plain { ArePlain (length terms.now) atoms.now }
     requires binding { (limit : ℕ) × IsBinding limit terms.now }
@@ -121,7 +110,7 @@ fn first_open(terms: &[Term], atoms: &[Atom]) -> Option<(usize, u32)>
     None
 }
 
-/// Are there objects for the other variables under which none of the atoms is in the set? Each call of itself has a
+/// Returns whether there are objects for the other variables under which none of the atoms is in the set. Each recursive call has one
 /// variable less.
 fn can_choose(avoidance: &Avoidance, terms: &[Term]) -> Result<bool, NoMemory>
     requires { AreBound avoidance.now.limit terms.now avoidance.now.atoms.now avoidance.now.set.now.atoms }
@@ -144,7 +133,8 @@ fn can_choose(avoidance: &Avoidance, terms: &[Term]) -> Result<bool, NoMemory>
     Ok(false)
 }
 
-/// The same, where no atom is in the set as far as objects are chosen: atoms that share no variable are tried apart.
+/// Returns whether there are such objects, where no atom is in the set as far as objects are chosen: atoms that share no variable are
+/// tried apart.
 fn can_choose_apart(avoidance: &Avoidance, terms: &[Term]) -> Result<bool, NoMemory>
     requires bound { AreBound avoidance.now.limit terms.now avoidance.now.atoms.now avoidance.now.set.now.atoms }
     requires unmet { ¬ Any (λ atom. Contains avoidance.now.set.now.atoms (substitute_atom terms.now atom)) avoidance.now.atoms.now }
@@ -170,7 +160,7 @@ fn can_choose_apart(avoidance: &Avoidance, terms: &[Term]) -> Result<bool, NoMem
     Ok(true)
 }
 
-/// Object 0 for each variable that has none.
+/// Returns the terms, with object 0 for each variable that has no object.
 fn first_objects(alloc: Global, terms: &[Term]) -> Result<Vec<Term>, NoMemory>
     ensures { IfOk result (λ filled. filled.items ≡ object_terms (first_values terms.now)) }
 {
@@ -181,8 +171,8 @@ fn first_objects(alloc: Global, terms: &[Term]) -> Result<Vec<Term>, NoMemory>
     Ok(filled)
 }
 
-/// Are there objects for the other variables under which none of the atoms is in the set? The first object for each often
-/// will do.
+/// Returns whether there are objects for the other variables under which none of the atoms is in the set. Often the first object for each
+/// is enough.
 pub fn can_avoid(avoidance: &Avoidance, terms: &[Term]) -> Result<bool, NoMemory>
     requires { AreBound avoidance.now.limit terms.now avoidance.now.atoms.now avoidance.now.set.now.atoms }
     ensures { IfOk result (λ can. MatchBool can (CanAvoid avoidance.now.limit terms.now avoidance.now.atoms.now avoidance.now.set.now.atoms)

@@ -1,13 +1,14 @@
-//! How many shapes of gap proofs a formula has at most, told by its predicates alone. So the prover isn't asked whether a formula
-//! meets the shape limit, where the numbers exclude it.
-ghost use Rattle.std.specs.Prelude.{◌≡◌, ◌<◌, ◌↔◌, ℕ, ⊤, true, false, None, List, map as map_list, length, remove, slice_index_or, All, Any, Contains, IfOk, IfSome, IsTrue};
+//! How many shapes of gap proofs a formula has at most, by its predicates alone. So the prover isn't asked whether a formula meets the
+//! shape limit, where the numbers exclude it.
+ghost use Rattle.std.specs.Prelude.{◌≡◌, ◌<◌, ◌↔◌, ℕ, ⊤, true, false, None, List, map as map_list, length, remove, slice_index_or, All, Contains, IfOk, IfSome, IsTrue};
 ghost use Rattle.px_terms.specs.Validity.{IsValid};
 ghost use Rattle.px_terms.specs.declared.atom.Atom.{Atom as AtomValue};
 ghost use Rattle.px_terms.specs.declared.clause.Lit.{Lit as LitValue};
 ghost use Rattle.px_gaps.specs.Bounds.{AreBounds, AreBoundsAbove, HasFewShapes, IsBoundAbove, IsBoundBefore, IsBoundBy, IsBoundOfUse, IsLeafBound, IsUseBoundBy, bound_beside, bound_either};
 
 use px_base::push;
-use px_terms::{Atom, Lit, NoMemory, Problem, Schema, Sequence, Term};
+use px_ops::is_added;
+use px_terms::{Atom, Lit, NoMemory, Problem, Sequence, Term};
 use std::alloc::Global;
 
 /// How many shapes of each kind there are at most.
@@ -27,7 +28,7 @@ pub struct Bounds {
 }
 
 impl Bounds {
-    /// The bounds that the axioms and the operators give.
+    /// Returns the bounds that the axioms and the operators give.
     pub fn of(alloc: Global, problem: &Problem) -> Result<Bounds, NoMemory>
         requires { IsValid problem.now }
         ensures { IfOk result (λ bounds. AreBounds problem.now problem.now.height bounds.table) }
@@ -41,8 +42,8 @@ impl Bounds {
         })
     }
 
-    /// Does each formula without variables over the predicates of this one have fewer unfinished gap proofs than the limit of
-    /// shapes, whatever the facts are? `false` says nothing.
+    /// Returns whether each formula without variables over the predicates of this one has fewer unfinished gap proofs than the limit of
+    /// shapes, whatever the facts are. `false` says nothing.
     pub fn has_few(&self, problem: &Problem, formula: &[Atom]) -> bool
         requires { AreBounds problem.now problem.now.height self.now.table }
         ensures { IsTrue result → HasFewShapes problem.now (map_list (λ (a : AtomValue). a.pred) formula.now) }
@@ -54,7 +55,7 @@ impl Bounds {
     }
 }
 
-/// The bounds of proofs without any height: there is none.
+/// Returns the bounds at height 0, where there are no proofs.
 fn no_proofs(alloc: Global, problem: &Problem) -> Result<Vec<Option<Bound>>, NoMemory>
     ensures { IfOk result (λ table. AreBounds problem.now 0 table.items) }
 {
@@ -69,7 +70,7 @@ fn no_proofs(alloc: Global, problem: &Problem) -> Result<Vec<Option<Bound>>, NoM
     Ok(table)
 }
 
-/// The bounds of proofs that are one higher than those of which the table tells.
+/// Returns the bounds of proofs that may be one higher than those whose bounds the table has.
 fn next_table(
     alloc: Global,
     problem: &Problem,
@@ -85,29 +86,7 @@ fn next_table(
     Ok(next)
 }
 
-/// Has the schema an add with the predicate?
-fn adds_predicate(schema: &Schema, pred: u32) -> bool
-    ensures { IsTrue result ↔ Any (λ (added : AtomValue). added.pred ≡ pred) schema.now.add }
-{
-    schema
-        .add
-        .as_slice()
-        .iter()
-        .any(|added| added.pred() == pred)
-}
-
-/// Does some operator add the predicate?
-fn is_added(problem: &Problem, pred: u32) -> bool
-    ensures { IsTrue result ↔ Any (λ schema. Any (λ added. added.pred ≡ pred) schema.add) problem.now.schemas }
-{
-    problem
-        .schemas
-        .as_slice()
-        .iter()
-        .any(|schema| adds_predicate(schema, pred))
-}
-
-/// The bound of those proofs that are one leaf: an open place, a fact, or a gap.
+/// Returns the bound of those proofs that are one leaf: an open place, a fact, or a gap.
 fn bound_of_leaves(problem: &Problem, pred: u32) -> Bound
     ensures { IsLeafBound problem.now pred result }
 {
@@ -123,7 +102,7 @@ fn bound_of_leaves(problem: &Problem, pred: u32) -> Bound
     }
 }
 
-/// The bound of two kinds of proofs together. `None` where a number is too great.
+/// Returns the bound of two kinds of proofs together. `None` where a number is too great.
 fn either(first: Bound, second: Bound) -> Option<Bound>
     ensures { IfSome result (λ both. both ≡ bound_either first second) }
 {
@@ -135,7 +114,7 @@ fn either(first: Bound, second: Bound) -> Option<Bound>
     })
 }
 
-/// The bound of the predicate. `None` where none is known.
+/// Returns the bound of the predicate. `None` where none is known.
 fn bound_above(problem: &Problem, table: &[Option<Bound>], pred: u32) -> Option<Bound>
     ensures { IfSome result (IsBoundAbove problem.now table.now pred) }
 {
@@ -143,7 +122,7 @@ fn bound_above(problem: &Problem, table: &[Option<Bound>], pred: u32) -> Option<
     either(bound_of_leaves(problem, pred), uses)
 }
 
-/// The bound of the proofs that begin with an axiom. `None` where none is known.
+/// Returns the bound of the proofs that begin with an axiom. `None` where none is known.
 fn bound_of_axioms(problem: &Problem, table: &[Option<Bound>], pred: u32) -> Option<Bound>
     ensures { IfSome result (IsUseBoundBy problem.now table.now pred (λ number place. ⊤)) }
 {
@@ -158,7 +137,7 @@ fn bound_of_axioms(problem: &Problem, table: &[Option<Bound>], pred: u32) -> Opt
     Some(bound)
 }
 
-/// The bound of those that begin with the axiom of this number. `None` where none is known.
+/// Returns the bound of the proofs that begin with the axiom of this number. `None` where none is known.
 fn bound_of_axiom(
     problem: &Problem,
     table: &[Option<Bound>],
@@ -181,14 +160,15 @@ fn bound_of_axiom(
     Some(bound)
 }
 
-/// Does the literal assert an atom of the predicate?
+/// Returns whether the literal asserts an atom of the predicate.
 fn asserts_predicate(lit: &Lit, pred: u32) -> bool
     ensures { IsTrue result ↔ ((lit.now.positive ≡ true) × (lit.now.atom.pred ≡ pred)) }
 {
     lit.positive && lit.atom.pred() == pred
 }
 
-/// The bound of those that begin with an axiom of this number of variables and these literals, at the place. `None` where none is known.
+/// Returns the bound of the proofs that begin with an axiom of this number of variables and these literals, at the place. `None` where
+/// none is known.
 fn bound_of_use(
     table: &[Option<Bound>],
     pred: u32,
@@ -212,14 +192,14 @@ fn bound_of_use(
     bound_of_parts(table, lits, place)
 }
 
-/// Is the term among these?
+/// Returns whether the term is among these.
 fn has_term(terms: &[Term], term: Term) -> bool
     ensures { IsTrue result ↔ Contains terms.now term }
 {
     terms.contains(&term)
 }
 
-/// Does each variable below the number stand in the atom?
+/// Returns whether each variable below the number stands in the atom.
 fn has_each_variable(atom: &Atom, vars: u32) -> bool
     ensures { IsTrue result → (v : ℕ) → v < vars → Contains atom.now.args (Term.Var v) }
 {
@@ -231,14 +211,14 @@ fn has_each_variable(atom: &Atom, vars: u32) -> bool
     true
 }
 
-/// Are the literals denials?
+/// Returns whether the literals are denials.
 fn are_denials(lits: &[Lit]) -> bool
     ensures { IsTrue result ↔ All (λ (lit : LitValue). lit.positive ≡ false) lits.now }
 {
     lits.iter().all(|lit| !lit.positive)
 }
 
-/// Are all but the one at the place?
+/// Returns whether all literals but the one at the place are denials.
 fn are_denials_beside(lits: &[Lit], place: usize) -> bool
     requires { place < length lits.now }
     ensures { IsTrue result → All (λ (lit : LitValue). lit.positive ≡ false) (remove lits.now place) }
@@ -248,7 +228,7 @@ fn are_denials_beside(lits: &[Lit], place: usize) -> bool
     first && last
 }
 
-/// The bound of the literals with the others after them, whose bound is given. `None` where none is known.
+/// Returns the bound of the literals with the others after them, whose bound is given. `None` where none is known.
 fn bound_before(table: &[Option<Bound>], lits: &[Lit], rest: Bound) -> Option<Bound>
     ensures { IfSome result (IsBoundBefore table.now (map_list (λ (lit : LitValue). lit.atom.pred) lits.now) rest) }
 {
@@ -261,7 +241,7 @@ fn bound_before(table: &[Option<Bound>], lits: &[Lit], rest: Bound) -> Option<Bo
     Some(bound)
 }
 
-/// The bound of all literals but the one at the place. `None` where none is known.
+/// Returns the bound of all literals but the one at the place. `None` where none is known.
 fn bound_of_parts(table: &[Option<Bound>], lits: &[Lit], place: usize) -> Option<Bound>
     requires { place < length lits.now }
     ensures { IfSome result (IsBoundBy table.now (map_list (λ (lit : LitValue). lit.atom.pred) (remove lits.now place))) }
@@ -274,7 +254,7 @@ fn bound_of_parts(table: &[Option<Bound>], lits: &[Lit], place: usize) -> Option
     bound_before(table, &lits[..place], last)
 }
 
-/// The bound that the table has of the predicate.
+/// Returns the bound that the table has of the predicate.
 fn bound_in(table: &[Option<Bound>], pred: u32) -> Option<Bound>
     ensures { result ≡ slice_index_or table.now pred None }
 {
@@ -285,7 +265,7 @@ fn bound_in(table: &[Option<Bound>], pred: u32) -> Option<Bound>
     None
 }
 
-/// The bound of a list that has a first atom of the one bound, and others of the other. `None` where a number is too great.
+/// Returns the bound of a list that has a first atom of the one bound, and others of the other. `None` where a number is too great.
 fn beside(first: Bound, rest: Bound) -> Option<Bound>
     ensures { IfSome result (λ both. both ≡ bound_beside first rest) }
 {
@@ -298,7 +278,7 @@ fn beside(first: Bound, rest: Bound) -> Option<Bound>
     })
 }
 
-/// The bound of the formula, by those of its predicates.
+/// Returns the bound of the formula, by those of its predicates.
 fn bound_of_formula(table: &[Option<Bound>], formula: &[Atom]) -> Option<Bound>
     ensures { IfSome result (IsBoundBy table.now (map_list (λ (a : AtomValue). a.pred) formula.now)) }
 {

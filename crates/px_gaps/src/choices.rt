@@ -1,9 +1,8 @@
 //! Objects for the variables of a formula under which a pattern of it closes nothing that is provable.
 ghost use Rattle.std.specs.Prelude.{◌≡◌, ◌↔◌, ◌⊎◌, ◌++◌, ◌∷◌, [], ℕ, Some, List, length, map as map_list, slice_get, All, Contains, IfSome, IfNone, IfOk, OnOk};
 ghost use Rattle.px_prover.specs.PatternLists.{lists_of};
-ghost use Rattle.px_question.specs.Answers.{object_of as object_by};
 ghost use Rattle.px_terms.specs.Instances.{IsGround};
-ghost use Rattle.px_terms.specs.Language.{IsVariableBelow, substitute};
+ghost use Rattle.px_terms.specs.Language.{IsVariableBelow, substitute, object_of as object_by};
 ghost use Rattle.px_terms.specs.declared.term.Term.{Term as TermValue};
 ghost use Rattle.px_terms.specs.declared.term.Term.TheVariants.{Var};
 ghost use Rattle.px_gaps.specs.Bindings.{AreBound, IsBinding, IsOpenChoice};
@@ -11,14 +10,14 @@ ghost use Rattle.px_gaps.specs.Choices.{IsClosed};
 ghost use Rattle.px_gaps.specs.Closings.{IsChosenIn};
 ghost use Rattle.px_gaps.specs.Described.{IsChosenBy, IsPlainPattern};
 
-use crate::bindings::{Avoidance, bound, can_avoid, meets_under, object_of, unbound};
+use crate::bindings::{Avoidance, bound, can_avoid, meets_under, unbound};
 use px_base::push;
 use px_ops::Model;
 use px_prover::GapPattern;
-use px_terms::{NoMemory, Sequence, Term, substituted};
+use px_terms::{NoMemory, Sequence, Term, apply_term, object_of};
 use std::alloc::Global;
 
-/// The variable that the term is, if it is one.
+/// Returns the variable that the term is, if it is one.
 fn variable_of(term: Term) -> Option<u32>
     ensures some { IfSome result (λ variable. term ≡ Var variable) }
     ensures none { IfNone result ((v : ℕ) → ¬ (term ≡ Var v)) }
@@ -30,7 +29,7 @@ fn variable_of(term: Term) -> Option<u32>
     }
 }
 
-/// The first variable that stands for one of the terms.
+/// Returns the first variable that stands for one of the terms.
 fn first_of(terms: &[Term], targets: &[Term]) -> Option<u32>
     requires below { All (IsVariableBelow (length terms.now)) targets.now }
     requires binding { (limit : ℕ) × IsBinding limit terms.now }
@@ -38,7 +37,7 @@ fn first_of(terms: &[Term], targets: &[Term]) -> Option<u32>
     ensures none { IfNone result (All (IsClosed terms.now) targets.now) }
 {
     for target in targets {
-        match variable_of(substituted(terms, *target)) {
+        match variable_of(apply_term(terms, *target)) {
             Some(variable) => return Some(variable),
             None => {}
         }
@@ -46,19 +45,19 @@ fn first_of(terms: &[Term], targets: &[Term]) -> Option<u32>
     None
 }
 
-/// The objects that stand for the terms.
+/// Returns the objects that stand for the terms.
 fn objects_by(alloc: Global, terms: &[Term], targets: &[Term]) -> Result<Vec<u32>, NoMemory>
     requires { All (IsVariableBelow (length terms.now)) targets.now }
     ensures { IfOk result (λ objects. objects.items ≡ map_list (λ (t : TermValue). object_by (substitute terms.now t)) targets.now) }
 {
     let mut objects = Vec::new(alloc);
     for target in targets {
-        objects.push(object_of(substituted(terms, *target)))?;
+        objects.push(object_of(apply_term(terms, *target)))?;
     }
     Ok(objects)
 }
 
-/// Puts the objects that stand for the terms last.
+/// Appends the objects that stand for the terms.
 fn push_objects(
     alloc: Global,
     found: &mut Vec<Sequence<u32>>,
@@ -94,7 +93,7 @@ fn push_one(
     push_objects(avoidance.alloc, found, terms, targets)
 }
 
-/// The same for all objects of the variables that stand for the terms. Each call of itself has a variable less.
+/// Adds the objects that stand for the terms, for all objects of the variables that do. Each recursive call has one variable less.
 fn push_open(
     found: &mut Vec<Sequence<u32>>,
     avoidance: &Avoidance,

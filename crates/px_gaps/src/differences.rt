@@ -21,9 +21,8 @@ use std::alloc::Global;
 /// proofs of it.
 ///
 /// # Errors
-/// `ShapeLimit` where as many unfinished gap proofs of the formula exist as the limit, by their shapes, with the formula
-/// itself, or where proving one atom that a loose gap proof of it closes meets the limit, with this atom alone.
-/// `NoMemory` if there isn't enough memory.
+/// `ShapeLimit`, with the formula itself, where as many unfinished gap proofs of it exist as the limit, by their shapes; and with one atom
+/// alone, where a loose gap proof of the formula closes this atom and proving it meets the limit. `NoMemory` if there isn't enough memory.
 pub fn gaps(
     alloc: Global,
     problem: &Problem,

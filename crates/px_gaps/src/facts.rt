@@ -1,15 +1,14 @@
 //! Which instances of an atom have a proof, where no axiom concludes its predicate: those that are facts. So the prover isn't asked.
 ghost use Rattle.std.specs.Prelude.{◌≡◌, ◌↔◌, ◌⊎◌, All, Contains, IsTrue, OnOk};
-ghost use Rattle.px_question.specs.Settings.{IsObjectBelow};
 ghost use Rattle.px_terms.specs.Instances.{IsGround};
 ghost use Rattle.px_terms.specs.declared.atom.Atom.{Atom as AtomValue};
 ghost use Rattle.px_gaps.specs.Concluding.{Asserts, IsConcluded};
 ghost use Rattle.px_gaps.specs.Forms.{IsForm, IsInstanceIn};
 
 use px_ops::Model;
-use px_terms::{Atom, Lit, NoMemory, Problem, Term, apply};
+use px_terms::{Atom, Lit, NoMemory, Problem, apply, are_objects_below};
 
-/// Does one of the literals assert an atom of the predicate?
+/// Returns whether one of the literals asserts an atom of the predicate.
 fn asserts(lits: &[Lit], pred: u32) -> bool
     ensures { IsTrue result ↔ Asserts pred lits.now }
 {
@@ -17,7 +16,7 @@ fn asserts(lits: &[Lit], pred: u32) -> bool
         .any(|lit| lit.positive && lit.atom.pred() == pred)
 }
 
-/// Does some axiom conclude the predicate?
+/// Returns whether some axiom concludes the predicate.
 pub fn is_concluded(problem: &Problem, pred: u32) -> bool
     ensures { IsTrue result ↔ IsConcluded problem.now.axioms pred }
 {
@@ -29,24 +28,8 @@ pub fn is_concluded(problem: &Problem, pred: u32) -> bool
     false
 }
 
-/// Is the term an object below the limit?
-fn is_object(term: Term, limit: u32) -> bool
-    ensures { IsTrue result ↔ IsObjectBelow limit term }
-{
-    match term {
-        Term::Obj(number) => number < limit,
-        Term::Var(_) | Term::Any => false,
-    }
-}
-
-/// Are all terms?
-fn are_objects(terms: &[Term], limit: u32) -> bool
-    ensures { IsTrue result ↔ All (IsObjectBelow limit) terms.now }
-{
-    terms.iter().all(|term| is_object(*term, limit))
-}
-
-/// Is the fact an instance of the form? The object for a variable stands in the fact where the variable stands first in the form.
+/// Returns whether the fact is an instance of the form. The object for a variable stands in the fact where the variable stands first in
+/// the form.
 fn is_instance(problem: &Problem, form: &Atom, fact: &Atom) -> bool
     requires { IsForm problem.now form.now }
     ensures { IsTrue result ↔ IsInstanceIn problem.now.objects form.now fact.now }
@@ -55,7 +38,7 @@ fn is_instance(problem: &Problem, form: &Atom, fact: &Atom) -> bool
     if fact.pred() != form.pred() || objects.len() != form.args().len() {
         return false;
     }
-    are_objects(objects, problem.objects) && apply(objects, form) == *fact
+    are_objects_below(problem.objects, objects) && apply(objects, form) == *fact
 }
 
 /// Puts the fact into the set, where it is an instance of the form.

@@ -1,4 +1,4 @@
-//! Atoms with their variables named anew, so that atoms that differ by the names of their variables alone are asked once.
+//! Atoms with their variables named anew, so that atoms that differ only by the names of their variables are asked once.
 ghost use Rattle.std.specs.Prelude.{◌≡◌, ◌↔◌, ◌⊎◌, ◌≤◌, length, Contains, IfOk, OnOk};
 ghost use Rattle.px_prover.specs.declared.pattern.GapPattern.{GapPattern as PatternValue};
 ghost use Rattle.px_terms.specs.declared.atom.Atom.{Atom as AtomValue};
@@ -9,7 +9,7 @@ use px_prover::GapPattern;
 use px_terms::{Atom, NoMemory, Term};
 use std::alloc::Global;
 
-/// The place at which the term stands first; the number of the terms, where it stands nowhere.
+/// Returns the place at which the term stands first; the number of the terms, where it stands nowhere.
 fn place_of(args: &[Term], term: Term) -> u32
     requires { length args.now ≤ 6 }
     ensures { result ≡ place_in args.now term }
@@ -22,7 +22,7 @@ fn place_of(args: &[Term], term: Term) -> u32
     args.len() as u32
 }
 
-/// The term, in which a variable gets the place at which it stands first as its number.
+/// Returns the term, in which a variable gets the place at which it stands first as its number.
 fn named(args: &[Term], term: Term) -> Term
     requires { length args.now ≤ 6 }
     ensures { result ≡ named_by args.now term }
@@ -33,7 +33,7 @@ fn named(args: &[Term], term: Term) -> Term
     }
 }
 
-/// The atom, in which each variable gets the place at which it stands first as its number.
+/// Returns the atom, in which each variable gets the place at which it stands first as its number.
 fn form_of(atom: &Atom) -> Atom
     ensures { result ≡ form_by atom.now }
 {

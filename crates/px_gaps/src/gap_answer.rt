@@ -1,4 +1,4 @@
-//! One question of gaps, and what it tells of a formula.
+//! One question of gaps, and what it says of a formula.
 ghost use Rattle.std.specs.Prelude.{◌<◌, ◌≤◌, All, IfOk};
 ghost use Rattle.px_question.specs.Gaps.{MeetsGapLimit};
 ghost use Rattle.px_question.specs.Limits.{AreFewGapShapes};
@@ -16,7 +16,7 @@ use px_ops::Model;
 use px_prover::{GapErr, GapPattern};
 use px_terms::{Atom, Problem, Sequence};
 
-/// What a question of gaps tells of a formula.
+/// What a question of gaps says of a formula.
 #[derive(Drop)]
 pub struct GapAnswer {
     /// The gap patterns of the formula.
@@ -25,8 +25,8 @@ pub struct GapAnswer {
     pub provable: Model,
 }
 
-// Alike: `gap_patterns` of px_prover, whose clauses it repeats, since it passes on what is answered; the error is another.
-/// The gap patterns of the formula.
+// Alike: `gap_patterns` of px_prover, whose clauses it repeats, since it passes on what is answered; only the error differs.
+/// Returns the gap patterns of the formula.
 fn patterns_of(
     asker: &mut Asker,
     problem: &Problem,
@@ -56,9 +56,8 @@ fn patterns_of(
 /// Asks for the gaps of a formula: its patterns, and which of the atoms that they close have a proof.
 ///
 /// # Errors
-/// `ShapeLimit` where as many unfinished gap proofs of the formula exist as the limit, by their shapes, with the formula
-/// itself, or where proving one atom that a loose gap proof of it closes meets the limit, with this atom alone.
-/// `NoMemory` if there isn't enough memory.
+/// `ShapeLimit`, with the formula itself, where as many unfinished gap proofs of it exist as the limit, by their shapes; and with one atom
+/// alone, where a loose gap proof of the formula closes this atom and proving it meets the limit. `NoMemory` if there isn't enough memory.
 pub fn ask_gaps(
     asker: &mut Asker,
     problem: &Problem,

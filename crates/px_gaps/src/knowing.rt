@@ -12,8 +12,8 @@ use px_prover::{ProveErr, prove};
 use px_terms::{Atom, NoMemory, Problem, Sequence};
 use std::alloc::Global;
 
-/// Tries whether the formula has an answer from the facts of the model: some objects for its variables that make each of its
-/// atoms provable. Each answer says so exactly; the first two also that proving it stays below the shape limit.
+/// Returns whether the formula has an answer from the facts of the model: some objects for its variables that make each of its atoms
+/// provable. Each answer is exact; the first two also say that proving it stays below the shape limit.
 ///
 /// # Errors
 /// `NoMemory` if there isn't enough memory.
@@ -42,8 +42,8 @@ pub fn try_formula(
     }
 }
 
-/// Returns what is known of a formula that has no answer from the facts of the model: its gaps, that it has none, or that finding
-/// them meets the shape limit.
+/// Returns what is known of a formula that has no answer from the facts of the model: its gaps, that it has no gap, or that finding them
+/// meets the shape limit.
 ///
 /// # Errors
 /// `NoMemory` if there isn't enough memory.

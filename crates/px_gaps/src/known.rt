@@ -30,7 +30,7 @@ pub enum Known {
     Open(Sequence<Atom>),
     /// One has neither an answer nor a gap.
     Closed,
-    /// A question about one meets the shape limit: proving it, or where it has no answer finding its gaps.
+    /// A question about one meets the shape limit: proving it, or, where it has no answer, finding its gaps.
     Limited {
         /// The formula, or the one atom that a gap would close, at which the limit is met.
         formula: Sequence<Atom>,

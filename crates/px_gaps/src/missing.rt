@@ -14,7 +14,7 @@ use px_prover::GapPattern;
 use px_terms::{Atom, NoMemory, Term, apply};
 use std::alloc::Global;
 
-/// Puts the atom with the chosen objects into the set of those found, where the others can be chosen so that none of the
+/// Puts the atom with the chosen objects into the set of those found, where the other variables can have objects under which none of the
 /// atoms is in the set to be avoided.
 fn insert_one(
     found: &mut Model,
@@ -41,7 +41,8 @@ fn insert_one(
 }
 
 // Alike: `push_open` of `choices` goes through the same objects, and keeps these instead of an atom.
-/// The same for all objects of the atom's variables. Each call of itself has a variable less.
+/// Puts the atom into the set of those found, with each choice of objects for its variables under which the other variables can have
+/// objects so that no atom is in the set to be avoided. Each recursive call has one variable less.
 fn insert_open(
     found: &mut Model,
     avoidance: &Avoidance,
@@ -68,7 +69,7 @@ fn insert_open(
     Ok(())
 }
 
-/// Puts the instances of the pattern's atoms into the set, as far as they come about with no atom that is provable.
+/// Puts the instances of the pattern's atoms into the set, as far as they come about together with no atom that is provable.
 fn insert_missing(
     alloc: Global,
     found: &mut Model,
@@ -95,7 +96,7 @@ fn insert_missing(
     Ok(())
 }
 
-/// The atoms that the patterns close together with none of the provable ones.
+/// Returns the atoms that the patterns close together with none of the provable ones.
 pub fn missing_by(
     alloc: Global,
     limit: u32,

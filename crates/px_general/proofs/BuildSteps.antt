@@ -14,14 +14,17 @@ use Rattle.px_proof.specs.Substitution.{derivation_under}
 pub mapped : {X Y : Type 0} (f : X → Y) (xs : List X) (k : ℕ) (x : X) (made after : List Y) (y : Y) → k < length xs → x ≡ get_or xs k x
     → made ≡ map f (take k xs) → after ≡ made ++ y ∷ [] → y ≡ f x → after ≡ map f (take (k + 1) xs)
 mapped f xs k x made after y below is made_is after_is y_is =
-    after_is ∙ ap (λ l. l ++ y ∷ []) made_is ∙ ap (λ z. map f (take k xs) ++ z ∷ []) y_is ∙ sym (ap (map f) (take_next xs k x below is) ∙ map-append f (take k xs) (x ∷ []))
+    after_is ∙ ap (λ l. l ++ y ∷ []) made_is ∙ ap (λ z. map f (take k xs) ++ z ∷ []) y_is
+    ∙ sym (ap (map f) (take_next xs k x below is) ∙ map-append f (take k xs) (x ∷ []))
 
 -- all items
-pub mapped_all : {X Y : Type 0} (f : X → Y) (xs : List X) (k : ℕ) (made : List Y) → length xs ≤ k → made ≡ map f (take k xs) → made ≡ map f xs
+pub mapped_all : {X Y : Type 0} (f : X → Y) (xs : List X) (k : ℕ) (made : List Y) → length xs ≤ k → made ≡ map f (take k xs)
+    → made ≡ map f xs
 mapped_all f xs k made past made_is = made_is ∙ ap (map f) (whole_taken xs (take k xs) k refl past)
 
 -- the same of what is seen of the items
-pub made_next : {X Z W : Type 0} (view : Z → W) (f : X → W) (xs : List X) (k : ℕ) (x : X) (made after : List Z) (z : Z) → k < length xs → x ≡ get_or xs k x
+pub made_next : {X Z W : Type 0} (view : Z → W) (f : X → W) (xs : List X) (k : ℕ) (x : X) (made after : List Z) (z : Z) → k < length xs
+    → x ≡ get_or xs k x
     → map view made ≡ map f (take k xs) → after ≡ made ++ z ∷ [] → view z ≡ f x → map view after ≡ map f (take (k + 1) xs)
 made_next view f xs k x made after z below is made_is after_is z_is =
     mapped f xs k x (map view made) (map view after) (view z) below is made_is (ap (map view) after_is ∙ map-append view made (z ∷ [])) z_is
@@ -40,12 +43,16 @@ row_under names row = map (derivation_under names) (map derivation_of row)
 
 -- ---- the terms of an item
 
-pub part-within : {X A : Type 0} (f : X → List A) (P : A → Type 0) (xs : List X) (k : ℕ) (x : X) → k < length xs → x ≡ get_or xs k x → All P (flat_map f xs) → All P (f x)
+pub part-within : {X A : Type 0} (f : X → List A) (P : A → Type 0) (xs : List X) (k : ℕ) (x : X) → k < length xs → x ≡ get_or xs k x
+    → All P (flat_map f xs) → All P (f x)
 part-within f P [] k x below is all = absurd (omega (arith, below))
 part-within f P (y ∷ ys) zero x below is all = subst (λ z. All P (f z)) (sym is) (All-front P (f y) (flat_map f ys) all)
 part-within f P (y ∷ ys) (suc k) x below is all = part-within f P ys k x (omega (arith, below)) is (All-back P (f y) (flat_map f ys) all)
 
-pub part-within_map : {X Y A : Type 0} (g : X → Y) (f : Y → List A) (P : A → Type 0) (xs : List X) (k : ℕ) (x : X) → k < length xs → x ≡ get_or xs k x → All P (flat_map f (map g xs)) → All P (f (g x))
+pub part-within_map : {X Y A : Type 0} (g : X → Y) (f : Y → List A) (P : A → Type 0) (xs : List X) (k : ℕ) (x : X) → k < length xs
+    → x ≡ get_or xs k x → All P (flat_map f (map g xs)) → All P (f (g x))
 part-within_map g f P [] k x below is all = absurd (omega (arith, below))
-part-within_map g f P (y ∷ ys) zero x below is all = subst (λ z. All P (f (g z))) (sym is) (All-front P (f (g y)) (flat_map f (map g ys)) all)
-part-within_map g f P (y ∷ ys) (suc k) x below is all = part-within_map g f P ys k x (omega (arith, below)) is (All-back P (f (g y)) (flat_map f (map g ys)) all)
+part-within_map g f P (y ∷ ys) zero x below is all =
+    subst (λ z. All P (f (g z))) (sym is) (All-front P (f (g y)) (flat_map f (map g ys)) all)
+part-within_map g f P (y ∷ ys) (suc k) x below is all =
+    part-within_map g f P ys k x (omega (arith, below)) is (All-back P (f (g y)) (flat_map f (map g ys)) all)

@@ -20,7 +20,7 @@ use Rattle.px_proof.specs.declared.proof.Proof.{Proof}
 use Rattle.px_proof.specs.Derivation.{Derivation}
 use Rattle.px_proof.specs.ProofTerm.{derivation_of}
 use Rattle.px_table.specs.declared.table.Table.{Table}
-use Rattle.px_table.specs.Supports.{variables_from}
+use Rattle.px_terms.specs.Substitution.{variables_from}
 use Rattle.px_table.specs.Tables.{IsTable, rows_of}
 use Rattle.px_table.proofs.Layers.{plain_variable}
 use Rattle.px_replay.specs.FreshVariables.{fresh_variables}
@@ -49,7 +49,8 @@ pub fresh-solutions : (count : ℕ) → HasSolutions (replicate count Fresh)
 fresh-solutions count = λ chosen long. (chosen, long, fresh-fit count chosen, λ v unbound. refl)
 
 -- after the replay what fits the bindings is what makes the pairs equal
-pub solved-by : (count : ℕ) (changes : List Change) (pairs : List (Atom × Atom)) (resolved : List Term) → IsReplayOf (replicate count Fresh) changes pairs → IsResolved changes resolved → IsSolutionOf pairs count resolved
+pub solved-by : (count : ℕ) (changes : List Change) (pairs : List (Atom × Atom)) (resolved : List Term)
+    → IsReplayOf (replicate count Fresh) changes pairs → IsResolved changes resolved → IsSolutionOf pairs count resolved
 solved-by count changes pairs resolved replay are = (
   changes,
   record {
@@ -108,7 +109,7 @@ first-labels resolved count = record {
   exact = λ v p. ((λ at. absurd (unlabelled_at count v p at)), λ at. absurd (cc));
 }
 
--- what is written back of a lent list is the whole
+-- what is written back of a borrowed list is the whole
 pub written_back : (len : ℕ) (made old : List Term) → len ≡ length made → take len (made ++ drop (length made) old) ≡ made
 written_back len made old same = ap (λ (n : ℕ). take n (made ++ drop (length made) old)) same ∙ front made (drop (length made) old)
   where
@@ -121,9 +122,13 @@ written_back len made old same = ap (λ (n : ℕ). take n (made ++ drop (length 
 variables-below : (n : ℕ) (ts : List Term) → All (IsPlainBelow n) ts → All (IsVariableBelow n) ts
 variables-below n ts all k d below = plain_variable n _ (all k d below)
 
-module _ (problem : Problem) (plan : Table) (valid : IsValid problem) (is_table : IsTable problem plan) (no_params : plan.params ≡ 0) (count : ℕ) (counted : count ≡ fresh_variables plan) where
-  both : CanReplayRows problem (steps_opened plan) (goal_opened plan) (rows_opened problem plan) (replicate count Fresh) × All (IsPlainBelow (variables_of (replicate count Fresh))) (opened_terms problem plan)
-  both = can_replay problem plan (replicate count Fresh) valid is_table no_params (ap (λ (n : ℕ). replicate n Fresh) counted) (fresh-solutions count)
+module _ (problem : Problem) (plan : Table) (valid : IsValid problem) (is_table : IsTable problem plan) (no_params : plan.params ≡ 0)
+    (count : ℕ) (counted : count ≡ fresh_variables plan) where
+  both : CanReplayRows problem (steps_opened plan) (goal_opened plan) (rows_opened problem plan) (replicate count Fresh)
+      × All (IsPlainBelow (variables_of (replicate count Fresh))) (opened_terms problem plan)
+  both =
+      can_replay problem plan (replicate count Fresh) valid is_table no_params (ap (λ (n : ℕ). replicate n Fresh) counted)
+      (fresh-solutions count)
 
   pub plan_can : CanReplayRows problem (steps_opened plan) (goal_opened plan) (rows_opened problem plan) (replicate count Fresh)
   plan_can = both.0
@@ -131,7 +136,8 @@ module _ (problem : Problem) (plan : Table) (valid : IsValid problem) (is_table 
   pub terms_below : All (IsPlainBelow count) (opened_terms problem plan)
   terms_below = subst (λ (n : ℕ). All (IsPlainBelow n) (opened_terms problem plan)) (fresh-variables count) both.1
 
-  later_below : All (IsPlainBelow count) (variables_from (step_variables plan.steps) (goal_objects plan.goal) ++ row_terms (rows_opened problem plan))
+  later_below : All (IsPlainBelow count) (variables_from (step_variables plan.steps) (goal_objects plan.goal)
+      ++ row_terms (rows_opened problem plan))
   later_below = All-back (IsPlainBelow count) (step_terms (steps_opened plan)) _ terms_below
 
   pub rows_below : All (IsPlainBelow count) (row_terms (rows_opened problem plan))
@@ -141,10 +147,14 @@ module _ (problem : Problem) (plan : Table) (valid : IsValid problem) (is_table 
   steps_below = All-front (IsPlainBelow count) (step_terms (steps_opened plan)) _ terms_below
 
   pub walked_below : All (IsVariableBelow count) (walked_terms problem plan)
-  walked_below = variables-below count (walked_terms problem plan) (All-append (IsPlainBelow count) (leaf_terms (rows_opened problem plan)) (opened_terms problem plan) (leaf_terms-among (IsPlainBelow count) (rows_opened problem plan) rows_below) terms_below)
+  walked_below =
+      variables-below count (walked_terms problem plan)
+      (All-append (IsPlainBelow count) (leaf_terms (rows_opened problem plan)) (opened_terms problem plan)
+      (leaf_terms-among (IsPlainBelow count) (rows_opened problem plan) rows_below) terms_below)
 
   -- all together
-  pub made_general : (general : Table) (resolved labels : List Term) → IsSolutionOf (replay_pairs problem plan) count resolved → length labels ≡ length resolved → AreLabels resolved labels general.params (walked_terms problem plan)
+  pub made_general : (general : Table) (resolved labels : List Term) → IsSolutionOf (replay_pairs problem plan) count resolved
+      → length labels ≡ length resolved → AreLabels resolved labels general.params (walked_terms problem plan)
       → IsBuilt problem plan general (map (substitute labels) resolved) → Generalises problem plan general
   made_general general resolved labels solution long are built =
       let changes = solution.0 in
@@ -155,41 +165,56 @@ module _ (problem : Problem) (plan : Table) (valid : IsValid problem) (is_table 
 
 -- ---- the parts as they are made
 
-module _ (problem : Problem) (plan : Table) (steps : List OpInst) (goal : List Atom) (rows : List (List Proof)) (steps_are : steps ≡ steps_opened plan) (goal_are : goal ≡ goal_opened plan) (rows_are : rows_of rows ≡ rows_opened problem plan) where
+module _ (problem : Problem) (plan : Table) (steps : List OpInst) (goal : List Atom) (rows : List (List Proof))
+    (steps_are : steps ≡ steps_opened plan) (goal_are : goal ≡ goal_opened plan) (rows_are : rows_of rows ≡ rows_opened problem plan) where
   -- what is said of the plan's own is said of these
-  along : (P : List OpInst → List Atom → List (List Derivation) → Type 0) → P (steps_opened plan) (goal_opened plan) (rows_opened problem plan) → P steps goal (rows_of rows)
+  along : (P : List OpInst → List Atom → List (List Derivation) → Type 0)
+      → P (steps_opened plan) (goal_opened plan) (rows_opened problem plan) → P steps goal (rows_of rows)
   along P holds =
       subst (λ (s : List OpInst). P s goal (rows_of rows)) (sym steps_are)
-      (subst (λ (g : List Atom). P (steps_opened plan) g (rows_of rows)) (sym goal_are) (subst (λ (r : List (List Derivation)). P (steps_opened plan) (goal_opened plan) r) (sym rows_are) holds))
+      (subst (λ (g : List Atom). P (steps_opened plan) g (rows_of rows)) (sym goal_are)
+      (subst (λ (r : List (List Derivation)). P (steps_opened plan) (goal_opened plan) r) (sym rows_are) holds))
 
-  back : (P : List OpInst → List Atom → List (List Derivation) → Type 0) → P steps goal (rows_of rows) → P (steps_opened plan) (goal_opened plan) (rows_opened problem plan)
+  back : (P : List OpInst → List Atom → List (List Derivation) → Type 0) → P steps goal (rows_of rows)
+      → P (steps_opened plan) (goal_opened plan) (rows_opened problem plan)
   back P holds =
       subst (λ (s : List OpInst). P s (goal_opened plan) (rows_opened problem plan)) steps_are
-      (subst (λ (g : List Atom). P steps g (rows_opened problem plan)) goal_are (subst (λ (r : List (List Derivation)). P steps goal r) rows_are holds))
+      (subst (λ (g : List Atom). P steps g (rows_opened problem plan)) goal_are
+      (subst (λ (r : List (List Derivation)). P steps goal r) rows_are holds))
 
-  pub can_here : (changes : List Change) → CanReplayRows problem (steps_opened plan) (goal_opened plan) (rows_opened problem plan) changes → CanReplayRows problem steps goal (rows_of rows) changes
+  pub can_here : (changes : List Change) → CanReplayRows problem (steps_opened plan) (goal_opened plan) (rows_opened problem plan) changes
+      → CanReplayRows problem steps goal (rows_of rows) changes
   can_here changes can = along (λ s g r. CanReplayRows problem s g r changes) can
 
-  pub solution_back : (count : ℕ) (resolved : List Term) → IsSolutionOf (rows_pairs problem steps goal (rows_of rows)) count resolved → IsSolutionOf (replay_pairs problem plan) count resolved
+  pub solution_back : (count : ℕ) (resolved : List Term) → IsSolutionOf (rows_pairs problem steps goal (rows_of rows)) count resolved
+      → IsSolutionOf (replay_pairs problem plan) count resolved
   solution_back count resolved solution = back (λ s g r. IsSolutionOf (rows_pairs problem s g r) count resolved) solution
 
   pub walked_is : (first objects : ℕ) (walked : List Term) → first ≡ step_variables plan.steps → objects ≡ goal_objects plan.goal
-      → walked ≡ leaf_terms (rows_of rows) ++ (step_terms steps ++ (variables_from first objects ++ row_terms (rows_of rows))) → walked ≡ walked_terms problem plan
+      → walked ≡ leaf_terms (rows_of rows) ++ (step_terms steps ++ (variables_from first objects ++ row_terms (rows_of rows)))
+      → walked ≡ walked_terms problem plan
   walked_is first objects walked first_is objects_are is =
       is ∙ ap (λ (r : List (List Derivation)). leaf_terms r ++ (step_terms steps ++ (variables_from first objects ++ row_terms r))) rows_are
-      ∙ ap (λ (s : List OpInst). leaf_terms (rows_opened problem plan) ++ (step_terms s ++ (variables_from first objects ++ row_terms (rows_opened problem plan)))) steps_are
-      ∙ ap (λ (n : ℕ). leaf_terms (rows_opened problem plan) ++ (step_terms (steps_opened plan) ++ (variables_from n objects ++ row_terms (rows_opened problem plan)))) first_is
-      ∙ ap (λ (n : ℕ). leaf_terms (rows_opened problem plan) ++ (step_terms (steps_opened plan) ++ (variables_from (step_variables plan.steps) n ++ row_terms (rows_opened problem plan)))) objects_are
+      ∙ ap (λ (s : List OpInst). leaf_terms (rows_opened problem plan)
+      ++ (step_terms s ++ (variables_from first objects ++ row_terms (rows_opened problem plan)))) steps_are
+      ∙ ap (λ (n : ℕ). leaf_terms (rows_opened problem plan)
+      ++ (step_terms (steps_opened plan) ++ (variables_from n objects ++ row_terms (rows_opened problem plan)))) first_is
+      ∙ ap (λ (n : ℕ). leaf_terms (rows_opened problem plan)
+      ++ (step_terms (steps_opened plan) ++ (variables_from (step_variables plan.steps) n ++ row_terms (rows_opened problem plan))))
+      objects_are
 
-  pub built_is : (first : ℕ) (general : Table) (names : List Term) → first ≡ step_variables plan.steps → IsMadeOf steps (rows_of rows) first plan general names → IsBuilt problem plan general names
+  pub built_is : (first : ℕ) (general : Table) (names : List Term) → first ≡ step_variables plan.steps
+      → IsMadeOf steps (rows_of rows) first plan general names → IsBuilt problem plan general names
   built_is first general names first_is made =
       subst (λ (n : ℕ). IsMadeOf (steps_opened plan) (rows_opened problem plan) n plan general names) first_is
       (back (λ s g r. IsMadeOf s r first plan general names) made)
 
-pub length-resolved : (pairs : List (Atom × Atom)) (count : ℕ) (resolved : List Term) → IsSolutionOf pairs count resolved → length resolved ≡ count
+pub length-resolved : (pairs : List (Atom × Atom)) (count : ℕ) (resolved : List Term) → IsSolutionOf pairs count resolved
+    → length resolved ≡ count
 length-resolved pairs count resolved solution = solution.1.resolved_are.count ∙ solution.1.variables
 
-pub solution_roots : (pairs : List (Atom × Atom)) (count : ℕ) (resolved : List Term) → IsSolutionOf pairs count resolved → HasRootsBelow (length resolved) resolved
+pub solution_roots : (pairs : List (Atom × Atom)) (count : ℕ) (resolved : List Term) → IsSolutionOf pairs count resolved
+    → HasRootsBelow (length resolved) resolved
 solution_roots pairs count resolved solution = roots-below solution.0 resolved solution.1.resolved_are
 
 pub variables_all : (n m : ℕ) (ts : List Term) → n ≡ m → All (IsPlainBelow n) ts → All (IsVariableBelow m) ts
@@ -197,7 +222,8 @@ variables_all n m ts same all = variables-below m ts (subst (λ (k : ℕ). All (
 
 -- ---- how many rows
 
-pub few_rows : (problem : Problem) (plan : Table) (rows : List (List Proof)) (changes : List Change) → IsTable problem plan → rows_of rows ≡ rows_opened problem plan
+pub few_rows : (problem : Problem) (plan : Table) (rows : List (List Proof)) (changes : List Change) → IsTable problem plan
+    → rows_of rows ≡ rows_opened problem plan
     → CanReplayRows problem (steps_opened plan) (goal_opened plan) (rows_opened problem plan) changes → length rows ≤ 4294967295
 few_rows problem plan rows changes is_table rows_are can =
     let long = plan_forms-length problem (steps_opened plan) (goal_opened plan) (rows_opened problem plan) can.forms in

@@ -15,7 +15,7 @@ use Rattle.px_table.specs.Supports.{variables}
 use Rattle.px_table.specs.SupportShapes.{shape_of_support, without_object}
 use Rattle.px_table.specs.Tables.{IsTable, rows_of}
 use Rattle.px_replay.proofs.GoalSteps.{read-variable}
-use Rattle.px_general.specs.General.{Generalises, shape_of}
+use Rattle.px_general.specs.General.{Generalises, shape_of_table}
 use Rattle.px_general.proofs.Solving.{atom_without}
 use Rattle.px_general.proofs.Shaped.{ops-under, rows_skeletons-under}
 use Rattle.px_general.proofs.InstanceSupports.{instance_supports}
@@ -26,7 +26,8 @@ module _ (problem : Problem) (plan : Table) (is_table : IsTable problem plan) (n
   term-same (Var v) is = ap without_object (read-variable 0 plan.goal_vars v is ∙ ap Var (omega arith))
   term-same WildCard is = refl
 
-  args-same : (ts : List Term) → All (IsTermOf problem plan.goal_vars) ts → map without_object (map (substitute (variables plan.goal_vars)) ts) ≡ map without_object ts
+  args-same : (ts : List Term) → All (IsTermOf problem plan.goal_vars) ts
+      → map without_object (map (substitute (variables plan.goal_vars)) ts) ≡ map without_object ts
   args-same [] all = refl
   args-same (t ∷ ts) all =
       let head = term-same t (All-head (IsTermOf problem plan.goal_vars) t ts all) in
@@ -41,16 +42,20 @@ module _ (problem : Problem) (plan : Table) (is_table : IsTable problem plan) (n
       let rest = goal-same goal (All-tail (IsAtomOf problem plan.goal_vars) a goal all) in
       λ i. record { pred = a.pred; args = args i } ∷ rest i
 
-  own-shape : shape_of_support (steps_under plan []) (goal_under plan []) (rows_under plan []) ≡ shape_of plan
+  own-shape : shape_of_support (steps_under plan []) (goal_under plan []) (rows_under plan []) ≡ shape_of_table plan
   own-shape =
       let ops = ops-under [] plan.steps in
-      let goal = goal-same plan.goal (subst (λ (n : ℕ). All (IsAtomOf problem n) plan.goal) (omega (arith, no_params)) is_table.in_range.goal) in
+      let goal =
+      goal-same plan.goal (subst (λ (n : ℕ). All (IsAtomOf problem n) plan.goal) (omega (arith, no_params)) is_table.in_range.goal) in
       let rows = rows_skeletons-under [] (rows_of plan.proofs) in
       λ i. record { operators = ops i; goal = goal i; rows = rows i }
 
   -- so what generalises it has a proper instance
-  pub has_instance : IsProper problem plan [] 1 → (general : Table) → Generalises problem plan general → (objects : List ℕ) × (length objects ≡ general.params) × IsProper problem general objects 1
+  pub has_instance : IsProper problem plan [] 1 → (general : Table) → Generalises problem plan general
+      → (objects : List ℕ) × (length objects ≡ general.params) × IsProper problem general objects 1
   has_instance proper general is =
-      let supports = instance_supports problem plan is_table [] (sym no_params) proper (kernel_under plan [] 1) (All-contains_itself (kernel_under plan [] 1)) in
+      let supports =
+      instance_supports problem plan is_table [] (sym no_params) proper (kernel_under plan [] 1)
+      (All-contains_itself (kernel_under plan [] 1)) in
       let found = is.all (kernel_under plan [] 1) (steps_under plan []) (goal_under plan []) (rows_under plan []) supports own-shape in
       (found.0, found.1.count, found.1.proper)

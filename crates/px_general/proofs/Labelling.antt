@@ -18,8 +18,9 @@ use Rattle.px_unify.specs.declared.change.Change.{Change}
 use Rattle.px_unify.specs.Changes.{Fits, HasSolutions, IsRoot, MakesEachEqual, variables_of}
 use Rattle.px_proof.specs.declared.proof.Leaf.{Leaf}
 use Rattle.px_proof.specs.Derivation.{Derivation, terms_of}
-use Rattle.px_proof.specs.PlaceLaws.{Contains-mapped, slice_get-read, slice_get-within, some_same}
-use Rattle.px_proof.specs.Proves.{IsName}
+use Rattle.px_base.specs.Answers.{some_same}
+use Rattle.px_proof.specs.PlaceLaws.{Contains-mapped, slice_get-read, slice_get-within}
+use Rattle.px_proof.specs.Proves.{IsObjectOrParameter}
 use Rattle.px_proof.specs.ProvesLaws.{name_of_term}
 use Rattle.px_proof.specs.SubstitutionLaws.{substitute_twice, terms_twice}
 use Rattle.px_table.specs.declared.table.Table.{Table}
@@ -27,11 +28,12 @@ use Rattle.px_table.specs.KernelLaws.{Contains-from_map}
 use Rattle.px_table.specs.Marks.{IsNamed, row_leaves}
 use Rattle.px_table.specs.Once.{each_once}
 use Rattle.px_table.specs.OnceLaws.{Contains-each_once, Contains-from_each_once}
-use Rattle.px_table.specs.Supports.{RowsProve, variables, variables_from}
+use Rattle.px_terms.specs.Substitution.{variables_from}
+use Rattle.px_table.specs.Supports.{RowsProve, variables}
 use Rattle.px_table.specs.Tables.{IsTable, rows_of}
 use Rattle.px_table.proofs.Choosing.{length-variables}
 use Rattle.px_general.specs.General.{Generalises, is_parameter, row_terms}
-use Rattle.px_general.specs.Naming.{args_of_leaves, AreLabels, AreNamed, IsBuilt, IsResolved, is_variable, leaf_terms, roots_of, walked_terms}
+use Rattle.px_general.specs.Naming.{args_of_leaves, AreLabels, AreNamed, IsBuilt, IsResolved, is_variable_term, leaf_terms, roots_of, walked_terms}
 use Rattle.px_replay.specs.Opened.{goal_objects, opened_terms, replay_pairs, rows_opened, step_variables, steps_opened}
 use Rattle.px_replay.proofs.GoalSteps.{read-variable}
 use Rattle.px_general.specs.Replayed.{IsReplayed}
@@ -50,7 +52,7 @@ place_of xs x has = (has.0, slice_get-read xs has.0 x has.1 ∙ ap Some has.2)
 
 there_at : (xs : List Term) (p : ℕ) (x : Term) → slice_get xs p ≡ Some x → Contains xs x
 there_at [] p x at = absurd (cc)
-there_at (y ∷ xs) zero x at = subst (Contains (y ∷ xs)) (some_same y x at) (Contains-first y xs)
+there_at (y ∷ xs) zero x at = subst (Contains (y ∷ xs)) (some_same at) (Contains-first y xs)
 there_at (y ∷ xs) (suc p) x at = Contains-later y xs x (there_at xs p x at)
 
 same_number : {v w : ℕ} → Var v ≡ Var w → v ≡ w
@@ -66,7 +68,7 @@ module _ (resolved labels : List Term) (next : ℕ) (walked : List Term) (are : 
   found = map (substitute resolved) walked
 
   abbrev variables_there : List Term
-  variables_there = filter is_variable found
+  variables_there = filter is_variable_term found
 
   -- a term with a label
   abbrev HasLabel : Term → Type 0
@@ -74,13 +76,21 @@ module _ (resolved labels : List Term) (next : ℕ) (walked : List Term) (are : 
 
   label_of_root : (v : ℕ) → Contains roots (Var v) → HasLabel (Var v)
   label_of_root v has =
-      let place = place_of roots (Var v) has in
-      (v, place.0, refl, (are.exact v place.0).1 place.1, subst (λ n. place.0 < n) are.count (slice_get-within roots place.0 (Var v) place.1))
+      let place = place_of roots (Var v) has in (
+        v,
+        place.0,
+        refl,
+        (are.exact v place.0).1 place.1,
+        subst (λ n. place.0 < n) are.count (slice_get-within roots place.0 (Var v) place.1),
+      )
 
   root_of_found : (v : ℕ) → Contains found (Var v) → Contains roots (Var v)
-  root_of_found v has = Contains-each_once term_eq term_eq-decides (filter is_variable found) (Var v) ((Contains-filter is_variable found (Var v)).1 (has, refl))
+  root_of_found v has =
+      Contains-each_once term_eq term_eq-decides (filter is_variable_term found) (Var v)
+      ((Contains-filter is_variable_term found (Var v)).1 (has, refl))
 
-  pub label_of : (t : Term) → Contains walked t → (v : ℕ) → substitute resolved t ≡ Var v → (p : ℕ) × (slice_get labels v ≡ Some (Var p)) × (p < next)
+  pub label_of : (t : Term) → Contains walked t → (v : ℕ) → substitute resolved t ≡ Var v
+      → (p : ℕ) × (slice_get labels v ≡ Some (Var p)) × (p < next)
   label_of t has v is =
       let label = label_of_root v (root_of_found v (subst (Contains found) is (Contains-mapped (substitute resolved) walked t has))) in
       let same : label.0 ≡ v = sym (same_number label.2) in
@@ -99,7 +109,7 @@ module _ (resolved labels : List Term) (next : ℕ) (walked : List Term) (are : 
   below_next p below = grind (arith, nat_tests, below)
 
   -- of the names those of variables are the parameters
-  test_by : (t : Term) → Contains found t → is_parameter next (name t) ≡ is_variable t
+  test_by : (t : Term) → Contains found t → is_parameter next (name t) ≡ is_variable_term t
   test_by (Obj n) has = refl
   test_by (Var v) has =
       let label = label_of_root v (root_of_found v has) in
@@ -110,27 +120,31 @@ module _ (resolved labels : List Term) (next : ℕ) (walked : List Term) (are : 
   one_label : (t u : Term) → HasLabel t → HasLabel u → name t ≡ name u → t ≡ u
   one_label t u a b same =
       let one : a.1 ≡ b.1 = same_number (sym (ap name a.2 ∙ name_is a.0 a.1 a.3) ∙ same ∙ ap name b.2 ∙ name_is b.0 b.1 b.3) in
-      a.2 ∙ some_same (Var a.0) (Var b.0) (sym (labelled a.0 a.1 a.3) ∙ ap (slice_get roots) one ∙ labelled b.0 b.1 b.3) ∙ sym b.2
+      a.2 ∙ some_same (sym (labelled a.0 a.1 a.3) ∙ ap (slice_get roots) one ∙ labelled b.0 b.1 b.3) ∙ sym b.2
 
-  variable_found : (t : Term) → Contains (filter is_variable found) t → (v : ℕ) × (t ≡ Var v)
-  variable_found t has = by_term t ((Contains-filter is_variable found t).0 has).1
+  variable_found : (t : Term) → Contains (filter is_variable_term found) t → (v : ℕ) × (t ≡ Var v)
+  variable_found t has = by_term t ((Contains-filter is_variable_term found t).0 has).1
     where
-      by_term : (t : Term) → is_variable t ≡ true → (v : ℕ) × (t ≡ Var v)
+      by_term : (t : Term) → is_variable_term t ≡ true → (v : ℕ) × (t ≡ Var v)
       by_term (Obj n) e = absurd (cc)
       by_term (Var v) e = (v, refl)
       by_term WildCard e = absurd (cc)
 
-  labels_found : All HasLabel (filter is_variable found)
-  labels_found = All-each HasLabel (filter is_variable found) (λ t has.
+  labels_found : All HasLabel (filter is_variable_term found)
+  labels_found = All-each HasLabel (filter is_variable_term found) (λ t has.
       let v = variable_found t has in
-      let label = label_of_root v.0 (Contains-each_once term_eq term_eq-decides (filter is_variable found) (Var v.0) (subst (Contains (filter is_variable found)) v.1 has)) in
+      let label =
+      label_of_root v.0 (Contains-each_once term_eq term_eq-decides (filter is_variable_term found) (Var v.0)
+      (subst (Contains (filter is_variable_term found)) v.1 has)) in
       subst HasLabel (sym v.1) label)
 
   -- the root at a place
   pub root_at : (p : ℕ) → p < next → (v : ℕ) × (slice_get roots p ≡ Some (Var v)) × (slice_get labels v ≡ Some (Var p))
   root_at p below =
       let read = slice_get-read roots p WildCard (subst (λ n. p < n) (sym are.count) below) in
-      let v = variable_found (slice_index_or roots p WildCard) (Contains-from_each_once term_eq (filter is_variable found) _ (there_at roots p _ read)) in
+      let v =
+      variable_found (slice_index_or roots p WildCard)
+      (Contains-from_each_once term_eq (filter is_variable_term found) _ (there_at roots p _ read)) in
       let at : slice_get roots p ≡ Some (Var v.0) = read ∙ ap Some v.1 in
       (v.0, at, (are.exact v.0 p).1 at)
 
@@ -139,21 +153,26 @@ module _ (resolved labels : List Term) (next : ℕ) (walked : List Term) (are : 
       same_list (map name roots) (variables next) (length-map roots name ∙ are.count ∙ sym (length-variables 0 next)) (λ p below.
       let under : p < next = omega (arith, below, length-map roots name, are.count) in
       let root = root_at p under in
-      read-map name roots p (omega (arith, under, are.count)) ∙ ap name (read-at roots p (Var root.0) root.1) ∙ name_is root.0 p root.2 ∙ ap Var (omega arith) ∙ sym (read-variable 0 next p under))
+      read-map name roots p (omega (arith, under, are.count)) ∙ ap name (read-at roots p (Var root.0) root.1) ∙ name_is root.0 p root.2
+      ∙ ap Var (omega arith) ∙ sym (read-variable 0 next p under))
 
-  pub walk-numbered : each_once term_eq (filter (is_parameter next) (map (substitute (map (substitute labels) resolved)) walked)) ≡ variables next
+  pub walk-numbered : each_once term_eq (filter (is_parameter next) (map (substitute (map (substitute labels) resolved)) walked))
+      ≡ variables next
   walk-numbered =
       ap (λ l. each_once term_eq (filter (is_parameter next) l)) (sym (terms_twice labels resolved walked))
-      ∙ ap (each_once term_eq) (filter-by name (is_parameter next) is_variable found test_by)
+      ∙ ap (each_once term_eq) (filter-by name (is_parameter next) is_variable_term found test_by)
       ∙ each_once-by name term_eq term_eq term_eq-decides term_eq-decides variables_there
-      (λ t u has there. one_label t u (All-at HasLabel variables_there t labels_found has) (All-at HasLabel variables_there u labels_found there))
+      (λ t u has there. one_label t u (All-at HasLabel variables_there t labels_found has)
+      (All-at HasLabel variables_there u labels_found there))
       ∙ names_in_order
 
   -- each parameter is the name of a term of the walk
   pub used_on_walk : (p : ℕ) → p < next → (t : Term) × Contains walked t × (substitute (map (substitute labels) resolved) t ≡ Var p)
   used_on_walk p below =
       let root = root_at p below in
-      let there = ((Contains-filter is_variable found (Var root.0)).0 (Contains-from_each_once term_eq (filter is_variable found) (Var root.0) (there_at roots p (Var root.0) root.1))).0 in
+      let there =
+      ((Contains-filter is_variable_term found (Var root.0)).0
+      (Contains-from_each_once term_eq (filter is_variable_term found) (Var root.0) (there_at roots p (Var root.0) root.1))).0 in
       let from = Contains-from_map (substitute resolved) walked (Var root.0) there in
       (from.0, from.1, sym (substitute_twice labels resolved from.0) ∙ ap name from.2 ∙ name_is root.0 p root.2)
 
@@ -162,53 +181,79 @@ module _ (resolved labels : List Term) (next : ℕ) (walked : List Term) (are : 
 pub leaf_terms-among : (P : Term → Type 0) (rows : List (List Derivation)) → All P (row_terms rows) → All P (leaf_terms rows)
 leaf_terms-among P rows all = All-flat_map P (λ (row : List Derivation). args_of_leaves (row_leaves row)) rows (λ row has.
     All-flat_map P (λ (leaf : Leaf). leaf.atom.args) (row_leaves row) (λ leaf there.
-    All-each P leaf.atom.args (λ t here. All-at P (row_terms rows) t all (Contains-flat_map (flat_map terms_of) rows row t has (row_leaf-terms row leaf t there here)))))
+    All-each P leaf.atom.args (λ t here. All-at P (row_terms rows) t all
+    (Contains-flat_map (flat_map terms_of) rows row t has (row_leaf-terms row leaf t there here)))))
 
 -- ---- the plan's own terms are objects of the problem
 
-steps_terms-names : (problem : Problem) (steps : List OpInst) → All (λ (inst : OpInst). All (IsTermOf problem 0) inst.args) steps → All (IsName problem.objects 0) (flat_map (λ (inst : OpInst). inst.args) steps)
-steps_terms-names problem steps all = All-flat_map (IsName problem.objects 0) (λ (inst : OpInst). inst.args) steps (λ s has.
-    All-each (IsName problem.objects 0) s.args (λ t there. name_of_term problem 0 t (All-at (IsTermOf problem 0) s.args t (All-at (λ (inst : OpInst). All (IsTermOf problem 0) inst.args) steps s all has) there)))
+steps_terms-names : (problem : Problem) (steps : List OpInst) → All (λ (inst : OpInst). All (IsTermOf problem 0) inst.args) steps
+    → All (IsObjectOrParameter problem.objects 0) (flat_map (λ (inst : OpInst). inst.args) steps)
+steps_terms-names problem steps all = All-flat_map (IsObjectOrParameter problem.objects 0) (λ (inst : OpInst). inst.args) steps (λ s has.
+    All-each (IsObjectOrParameter problem.objects 0) s.args (λ t there. name_of_term problem 0 t
+    (All-at (IsTermOf problem 0) s.args t (All-at (λ (inst : OpInst). All (IsTermOf problem 0) inst.args) steps s all has) there)))
 
-own_of_goal-names : (problem : Problem) (vars : ℕ) (goal : List Atom) → All (IsAtomOf problem vars) goal → All (IsName problem.objects 0) (own_of_goal goal)
-own_of_goal-names problem vars goal all = All-flat_map (IsName problem.objects 0) (λ (atom : Atom). objects_among atom.args) goal (λ a has.
-    objects_among-all (IsName problem.objects 0) a.args (λ n there. All-at (IsTermOf problem vars) a.args (Obj n) (All-at (IsAtomOf problem vars) goal a all has).1 there))
+own_of_goal-names : (problem : Problem) (vars : ℕ) (goal : List Atom) → All (IsAtomOf problem vars) goal
+    → All (IsObjectOrParameter problem.objects 0) (own_of_goal goal)
+own_of_goal-names problem vars goal all =
+    All-flat_map (IsObjectOrParameter problem.objects 0) (λ (atom : Atom). objects_among atom.args) goal (λ a has.
+    objects_among-all (IsObjectOrParameter problem.objects 0) a.args
+    (λ n there. All-at (IsTermOf problem vars) a.args (Obj n) (All-at (IsAtomOf problem vars) goal a all has).1 there))
 
 module _ (problem : Problem) (plan : Table) (is_table : IsTable problem plan) (no_params : plan.params ≡ 0) where
-  plan_prove : RowsProve (IsName problem.objects 0) problem 0 plan.steps plan.goal plan.goal_vars (rows_of plan.proofs)
-  plan_prove = subst (λ (n : ℕ). RowsProve (IsName problem.objects n) problem n plan.steps plan.goal plan.goal_vars (rows_of plan.proofs)) no_params is_table.prove
+  plan_prove : RowsProve (IsObjectOrParameter problem.objects 0) problem 0 plan.steps plan.goal plan.goal_vars (rows_of plan.proofs)
+  plan_prove =
+      subst (λ (n : ℕ). RowsProve (IsObjectOrParameter problem.objects n) problem n plan.steps plan.goal plan.goal_vars
+      (rows_of plan.proofs)) no_params
+      is_table.prove
 
   plan_solution : (terms : List Term) × IsSolution problem plan plan.steps plan.goal (rows_of plan.proofs) terms
   plan_solution = (
     _,
-    own_terms-solve problem plan is_table no_params (IsName problem.objects 0) plan.steps plan.goal (rows_of plan.proofs) plan_prove (λ k d below. (is_table.in_range.steps k d below).count)
+    own_terms-solve problem plan is_table no_params (IsObjectOrParameter problem.objects 0) plan.steps plan.goal
+        (rows_of plan.proofs) plan_prove
+        (λ k d below. (is_table.in_range.steps k d below).count)
         (subst (All (IsNamed problem plan.steps)) is_table.marks is_table.named) refl,
   )
 
-  own-names : (own : List Term) → IsSolution problem plan plan.steps plan.goal (rows_of plan.proofs) own → (t : Term) → Contains (opened_terms problem plan) t → IsName problem.objects 0 (substitute own t)
+  own-names : (own : List Term) → IsSolution problem plan plan.steps plan.goal (rows_of plan.proofs) own → (t : Term)
+      → Contains (opened_terms problem plan) t → IsObjectOrParameter problem.objects 0 (substitute own t)
   own-names own solution t has = elim (Contains-append_cases (flat_map (λ (inst : OpInst). inst.args) (steps_opened plan)) _ t has) [
     | inl in_steps ↦
-        All-at (IsName problem.objects 0) (flat_map (λ (inst : OpInst). inst.args) plan.steps) (substitute own t)
-        (steps_terms-names problem plan.steps (λ k d below. subst (λ (n : ℕ). All (IsTermOf problem n) ((slice_index_or plan.steps k d).args)) no_params (is_table.in_range.steps k d below).terms))
-        (subst (λ (l : List Term). Contains l (substitute own t)) (sym (steps_terms-under own (steps_opened plan)) ∙ ap (flat_map (λ (inst : OpInst). inst.args)) solution.steps_are) (Contains-mapped (substitute own) _ t in_steps))
-    | inr later ↦ elim (Contains-append_cases (variables_from (step_variables plan.steps) (goal_objects plan.goal)) (flat_map (flat_map terms_of) (rows_opened problem plan)) t later) [
-      | inl in_goal ↦
-          All-at (IsName problem.objects 0) (own_of_goal plan.goal) (substitute own t) (own_of_goal-names problem (plan.params + plan.goal_vars) plan.goal is_table.in_range.goal)
-          (subst (λ (l : List Term). Contains l (substitute own t)) solution.objects_are (Contains-mapped (substitute own) _ t in_goal))
-      | inr in_rows ↦
-          All-at (IsName problem.objects 0) (flat_map (flat_map terms_of) (rows_of plan.proofs)) (substitute own t) (rows_terms-allowed (IsName problem.objects 0) problem 0 plan.goal plan.goal_vars plan.steps (rows_of plan.proofs) plan_prove)
-          (subst (λ (l : List Term). Contains l (substitute own t)) (sym (rows_terms-under own (rows_opened problem plan)) ∙ ap (flat_map (flat_map terms_of)) solution.rows_are) (Contains-mapped (substitute own) _ t in_rows))
-    ]
+        All-at (IsObjectOrParameter problem.objects 0) (flat_map (λ (inst : OpInst). inst.args) plan.steps) (substitute own t)
+        (steps_terms-names problem plan.steps (λ k d below. subst
+        (λ (n : ℕ). All (IsTermOf problem n) ((slice_index_or plan.steps k d).args)) no_params
+        (is_table.in_range.steps k d below).terms))
+        (subst (λ (l : List Term). Contains l (substitute own t))
+        (sym (steps_terms-under own (steps_opened plan)) ∙ ap (flat_map (λ (inst : OpInst). inst.args)) solution.steps_are)
+        (Contains-mapped (substitute own) _ t in_steps))
+    | inr later ↦ elim (Contains-append_cases (variables_from (step_variables plan.steps) (goal_objects plan.goal))
+        (flat_map (flat_map terms_of) (rows_opened problem plan)) t later) [
+          | inl in_goal ↦
+              All-at (IsObjectOrParameter problem.objects 0) (own_of_goal plan.goal) (substitute own t)
+              (own_of_goal-names problem (plan.params + plan.goal_vars) plan.goal is_table.in_range.goal)
+              (subst (λ (l : List Term). Contains l (substitute own t)) solution.objects_are (Contains-mapped (substitute own) _ t in_goal))
+          | inr in_rows ↦
+              All-at (IsObjectOrParameter problem.objects 0) (flat_map (flat_map terms_of) (rows_of plan.proofs)) (substitute own t)
+              (rows_terms-allowed (IsObjectOrParameter problem.objects 0) problem 0 plan.goal plan.goal_vars plan.steps
+              (rows_of plan.proofs) plan_prove)
+              (subst (λ (l : List Term). Contains l (substitute own t))
+              (sym (rows_terms-under own (rows_opened problem plan)) ∙ ap (flat_map (flat_map terms_of)) solution.rows_are)
+              (Contains-mapped (substitute own) _ t in_rows))
+        ]
   ]
 
-  pub plan-own : (terms : List Term) × MakesEachEqual (replay_pairs problem plan) terms × ((t : Term) → Contains (opened_terms problem plan) t → IsName problem.objects 0 (substitute terms t))
+  pub plan-own : (terms : List Term) × MakesEachEqual (replay_pairs problem plan) terms
+      × ((t : Term) → Contains (opened_terms problem plan) t → IsObjectOrParameter problem.objects 0 (substitute terms t))
   plan-own = (plan_solution.0, plan_solution.1.equal, own-names plan_solution.0 plan_solution.1)
 
 -- ---- all together
 
-module _ (problem : Problem) (plan general : Table) (changes : List Change) (resolved labels : List Term) (valid : IsValid problem) (is_table : IsTable problem plan) (no_params : plan.params ≡ 0)
-    (solutions : HasSolutions changes) (fits : (terms : List Term) → Fits terms changes ↔ MakesEachEqual (replay_pairs problem plan) terms) (below : All (IsPlainBelow (variables_of changes)) (opened_terms problem plan))
-    (resolved_are : IsResolved changes resolved) (long : length labels ≡ variables_of changes) (are : AreLabels resolved labels general.params (walked_terms problem plan))
+module _ (problem : Problem) (plan general : Table) (changes : List Change) (resolved labels : List Term) (valid : IsValid problem)
+    (is_table : IsTable problem plan) (no_params : plan.params ≡ 0)
+    (solutions : HasSolutions changes) (fits : (terms : List Term) → Fits terms changes ↔ MakesEachEqual (replay_pairs problem plan) terms)
+    (below : All (IsPlainBelow (variables_of changes)) (opened_terms problem plan))
+    (resolved_are : IsResolved changes resolved) (long : length labels ≡ variables_of changes)
+    (are : AreLabels resolved labels general.params (walked_terms problem plan))
     (built : IsBuilt problem plan general (map (substitute labels) resolved)) where
   abbrev the_names : List Term
   the_names = map (substitute labels) resolved
@@ -225,7 +270,8 @@ module _ (problem : Problem) (plan general : Table) (changes : List Change) (res
         All-at (Contains (opened_terms problem plan)) (leaf_terms (rows_opened problem plan)) t
         (leaf_terms-among (Contains (opened_terms problem plan)) (rows_opened problem plan)
         (All-each (Contains (opened_terms problem plan)) (flat_map (flat_map terms_of) (rows_opened problem plan)) (λ u inside.
-        Contains-append_right (flat_map (λ (inst : OpInst). inst.args) (steps_opened plan)) _ u (Contains-append_right (variables_from (step_variables plan.steps) (goal_objects plan.goal)) _ u inside))))
+        Contains-append_right (flat_map (λ (inst : OpInst). inst.args) (steps_opened plan)) _ u
+        (Contains-append_right (variables_from (step_variables plan.steps) (goal_objects plan.goal)) _ u inside))))
         in_leaves
     | inr later ↦ later
   ]
@@ -235,12 +281,15 @@ module _ (problem : Problem) (plan general : Table) (changes : List Change) (res
     resolved_are = resolved_are;
     long = long;
     labelled = labelled resolved labels general.params (walked_terms problem plan) are;
-    each_root = λ t has v is. let label = label_of resolved labels general.params (walked_terms problem plan) are t (on_walk t has) v is in (label.0, label.1);
+    each_root =
+        λ t has v is. let label =
+        label_of resolved labels general.params (walked_terms problem plan) are t (on_walk t has) v is in (label.0, label.1);
     names_are = refl;
   }
 
   -- the object to which a term is bound is the problem's
-  bound_object : (t : Term) → Contains (opened_terms problem plan) t → IsPlainBelow (variables_of changes) t → (n : ℕ) → substitute resolved t ≡ Obj n → n < problem.objects
+  bound_object : (t : Term) → Contains (opened_terms problem plan) t → IsPlainBelow (variables_of changes) t → (n : ℕ)
+      → substitute resolved t ≡ Obj n → n < problem.objects
   bound_object (Obj m) has inside n is =
       let own = plan-own problem plan is_table no_params in
       let same : m ≡ n = same_object is in
@@ -251,11 +300,13 @@ module _ (problem : Problem) (plan general : Table) (changes : List Change) (res
   bound_object (Var v) has inside n is =
       let own = plan-own problem plan is_table no_params in
       let value : substitute own.0 (Var v) ≡ Obj n = resolved_are.value v inside own.0 ((fits own.0).1 own.1) ∙ ap (substitute own.0) is in
-      subst (IsName problem.objects 0) value (own.2 (Var v) has)
+      subst (IsObjectOrParameter problem.objects 0) value (own.2 (Var v) has)
   bound_object WildCard has inside n is = absurd inside
 
-  name-there : (t : Term) → Contains (opened_terms problem plan) t → IsName problem.objects general.params (substitute the_names t)
-  name-there t has = subst (IsName problem.objects general.params) (substitute_twice labels resolved t) (by_root (substitute resolved t) refl)
+  name-there : (t : Term) → Contains (opened_terms problem plan) t
+      → IsObjectOrParameter problem.objects general.params (substitute the_names t)
+  name-there t has =
+      subst (IsObjectOrParameter problem.objects general.params) (substitute_twice labels resolved t) (by_root (substitute resolved t) refl)
     where
       inside : IsPlainBelow (variables_of changes) t
       inside = All-at (IsPlainBelow (variables_of changes)) (opened_terms problem plan) t below has
@@ -265,18 +316,23 @@ module _ (problem : Problem) (plan general : Table) (changes : List Change) (res
       rooted (Var v) h = resolved_are.root v h
       rooted WildCard h = absurd h
 
-      by_root : (r : Term) → substitute resolved t ≡ r → IsName problem.objects general.params (substitute labels r)
+      by_root : (r : Term) → substitute resolved t ≡ r → IsObjectOrParameter problem.objects general.params (substitute labels r)
       by_root (Obj n) e = bound_object t has inside n e
       by_root (Var w) e =
           let label = label_of resolved labels general.params (walked_terms problem plan) are t (on_walk t has) w e in
-          subst (IsName problem.objects general.params) (sym (read-at labels w (Var label.0) label.1)) label.2
+          subst (IsObjectOrParameter problem.objects general.params) (sym (read-at labels w (Var label.0) label.1)) label.2
       by_root WildCard e = absurd (subst (IsRoot changes) e (rooted t inside))
 
   replayed : IsReplayed problem plan general the_names the_roots
   replayed = record {
-    most_general = is_most_general changes (replay_pairs problem plan) (opened_terms problem plan) resolved labels the_names the_roots solutions fits named below;
-    are_names = All-each (λ t. IsName problem.objects general.params (substitute the_names t)) (opened_terms problem plan) name-there;
-    used = λ v inside. let on = used_on_walk resolved labels general.params (walked_terms problem plan) are v inside in (on.0, off_walk on.0 on.1, on.2);
+    most_general =
+        is_most_general changes (replay_pairs problem plan)
+        (opened_terms problem plan) resolved labels the_names the_roots solutions fits named below;
+    are_names =
+        All-each (λ t. IsObjectOrParameter problem.objects general.params (substitute the_names t)) (opened_terms problem plan) name-there;
+    used =
+        λ v inside. let on =
+        used_on_walk resolved labels general.params (walked_terms problem plan) are v inside in (on.0, off_walk on.0 on.1, on.2);
     count = are.count;
     steps = built.steps_are;
     goal = built.goal_is;
@@ -288,4 +344,5 @@ module _ (problem : Problem) (plan general : Table) (changes : List Change) (res
   -- it is the general table
   pub general-is : Generalises problem plan general
   general-is = generalises problem plan general the_names the_roots valid is_table no_params replayed
-      (walks-number problem plan general the_names the_roots is_table no_params replayed (walk-numbered resolved labels general.params (walked_terms problem plan) are))
+      (walks-number problem plan general the_names the_roots is_table no_params replayed
+      (walk-numbered resolved labels general.params (walked_terms problem plan) are))

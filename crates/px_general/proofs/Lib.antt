@@ -1,3 +1,4 @@
+-- The files of lemmas.
 pub mod Assembling
 pub mod BuildSteps
 pub mod Counting

@@ -15,7 +15,8 @@ read-map f (z ∷ xs) (suc k) x = read-map f xs k x
 any-to_map : {X Y : Type 0} (f : X → Y) (P : Y → Type 0) (xs : List X) → Any (λ x. P (f x)) xs → Any P (map f xs)
 any-to_map f P xs has = (has.0, f has.1, omega (arith, has.2, length-map xs f), read-map f xs has.0 has.1 ∙ ap f has.3, has.4)
 
-any-from_map : {X Y : Type 0} (f : X → Y) (P : Y → Type 0) (xs : List X) (k : ℕ) (y : Y) → k < length (map f xs) → slice_index_or (map f xs) k y ≡ y → P y → Any (λ x. P (f x)) xs
+any-from_map : {X Y : Type 0} (f : X → Y) (P : Y → Type 0) (xs : List X) (k : ℕ) (y : Y) → k < length (map f xs)
+    → slice_index_or (map f xs) k y ≡ y → P y → Any (λ x. P (f x)) xs
 any-from_map f P [] k y below at holds = absurd (omega (arith, below))
 any-from_map f P (x ∷ xs) zero y below at holds = (0, x, omega arith, refl, subst P (sym at) holds)
 any-from_map f P (x ∷ xs) (suc k) y below at holds =

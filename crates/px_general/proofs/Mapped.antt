@@ -45,19 +45,22 @@ mutual
   derivation-under : (terms : List Term) (d : Derivation) → derivation_under terms d ≡ derivation_by (substitute terms) d
   derivation-under terms (fact leaf) = refl
   derivation-under terms (ancestor i) = refl
-  derivation-under terms (step number theta place parts) = ap (step number (map (substitute terms) theta) place) (derivations-under terms parts)
+  derivation-under terms (step number theta place parts) =
+      ap (step number (map (substitute terms) theta) place) (derivations-under terms parts)
   derivation-under terms (gap atom) = refl
   derivation-under terms open_place = refl
 
   derivations-under : (terms : List Term) (ds : Derivations) → derivations_under terms ds ≡ derivations_by (substitute terms) ds
   derivations-under terms none = refl
-  derivations-under terms (also d ds) = let one = derivation-under terms d in let rest = derivations-under terms ds in λ i. also (one i) (rest i)
+  derivations-under terms (also d ds) =
+      let one = derivation-under terms d in let rest = derivations-under terms ds in λ i. also (one i) (rest i)
 
 row-under : (terms : List Term) (row : List Derivation) → map (derivation_under terms) row ≡ map (derivation_by (substitute terms)) row
 row-under terms [] = refl
 row-under terms (d ∷ row) = let one = derivation-under terms d in let rest = row-under terms row in λ i. one i ∷ rest i
 
-pub rows-under : (terms : List Term) (rows : List (List Derivation)) → map (map (derivation_under terms)) rows ≡ rows_by (substitute terms) rows
+pub rows-under : (terms : List Term) (rows : List (List Derivation))
+    → map (map (derivation_under terms)) rows ≡ rows_by (substitute terms) rows
 rows-under terms [] = refl
 rows-under terms (row ∷ rows) = let one = row-under terms row in let rest = rows-under terms rows in λ i. one i ∷ rest i
 
@@ -82,7 +85,13 @@ module _ (f g h : Term → Term) where
 
   mutual
     derivation-by : (d : Derivation) → Agree (terms_of d) → derivation_by f (derivation_by g d) ≡ derivation_by h d
-    derivation-by (fact leaf) each = ap (λ (args : List Term). fact (record { column = leaf.column; index = leaf.index; atom = record { pred = leaf.atom.pred; args = args } })) (args-by leaf.atom.args each)
+    derivation-by (fact leaf) each =
+        ap (λ (args : List Term). fact (record {
+          column =
+              leaf.column;
+          index = leaf.index;
+          atom = record { pred = leaf.atom.pred; args = args };
+        })) (args-by leaf.atom.args each)
     derivation-by (ancestor i) each = refl
     derivation-by (step number theta place parts) each =
         let own = args-by theta (front theta (all_terms_of parts) each) in
@@ -98,7 +107,8 @@ module _ (f g h : Term → Term) where
         let rest = derivations-by ds (behind (terms_of d) (all_terms_of ds) each) in
         λ i. also (one i) (rest i)
 
-  row-by : (row : List Derivation) → Agree (flat_map terms_of row) → map (derivation_by f) (map (derivation_by g) row) ≡ map (derivation_by h) row
+  row-by : (row : List Derivation) → Agree (flat_map terms_of row)
+      → map (derivation_by f) (map (derivation_by g) row) ≡ map (derivation_by h) row
   row-by [] each = refl
   row-by (d ∷ row) each =
       let one = derivation-by d (front (terms_of d) (flat_map terms_of row) each) in
@@ -113,7 +123,8 @@ module _ (f g h : Term → Term) where
       λ i. one i ∷ rest i
 
   -- Alike: `goal-by`, since steps and atoms are two types.
-  pub steps-by : (steps : List OpInst) → Agree (step_terms steps) → map (instance_by f) (map (instance_by g) steps) ≡ map (instance_by h) steps
+  pub steps-by : (steps : List OpInst) → Agree (step_terms steps)
+      → map (instance_by f) (map (instance_by g) steps) ≡ map (instance_by h) steps
   steps-by [] each = refl
   steps-by (s ∷ steps) each =
       let args = args-by s.args (front s.args (step_terms steps) each) in
@@ -135,9 +146,16 @@ args-same (t ∷ ts) = ap (λ l. t ∷ l) (args-same ts)
 
 mutual
   derivation-same : (d : Derivation) → derivation_by (λ t. t) d ≡ d
-  derivation-same (fact leaf) = ap (λ (args : List Term). fact (record { column = leaf.column; index = leaf.index; atom = record { pred = leaf.atom.pred; args = args } })) (args-same leaf.atom.args)
+  derivation-same (fact leaf) =
+      ap (λ (args : List Term). fact (record {
+        column =
+            leaf.column;
+        index = leaf.index;
+        atom = record { pred = leaf.atom.pred; args = args };
+      })) (args-same leaf.atom.args)
   derivation-same (ancestor i) = refl
-  derivation-same (step number theta place parts) = let own = args-same theta in let rest = derivations-same parts in λ i. step number (own i) place (rest i)
+  derivation-same (step number theta place parts) =
+      let own = args-same theta in let rest = derivations-same parts in λ i. step number (own i) place (rest i)
   derivation-same (gap atom) = ap (λ (args : List Term). gap (record { pred = atom.pred; args = args })) (args-same atom.args)
   derivation-same open_place = refl
 
@@ -168,17 +186,21 @@ module _ (f : Term → Term) where
     terms_of-by : (d : Derivation) → terms_of (derivation_by f d) ≡ map f (terms_of d)
     terms_of-by (fact leaf) = refl
     terms_of-by (ancestor i) = refl
-    terms_of-by (step number theta place parts) = ap (λ l. map f theta ++ l) (all_terms_of-by parts) ∙ sym (map-append f theta (all_terms_of parts))
+    terms_of-by (step number theta place parts) =
+        ap (λ l. map f theta ++ l) (all_terms_of-by parts) ∙ sym (map-append f theta (all_terms_of parts))
     terms_of-by (gap atom) = refl
     terms_of-by open_place = refl
 
     all_terms_of-by : (ds : Derivations) → all_terms_of (derivations_by f ds) ≡ map f (all_terms_of ds)
     all_terms_of-by none = refl
     all_terms_of-by (also d ds) =
-        ap (λ l. l ++ all_terms_of (derivations_by f ds)) (terms_of-by d) ∙ ap (λ l. map f (terms_of d) ++ l) (all_terms_of-by ds) ∙ sym (map-append f (terms_of d) (all_terms_of ds))
+        ap (λ l. l ++ all_terms_of (derivations_by f ds)) (terms_of-by d) ∙ ap (λ l. map f (terms_of d) ++ l) (all_terms_of-by ds)
+        ∙ sym (map-append f (terms_of d) (all_terms_of ds))
 
   pub row_terms-by : (rows : List (List Derivation)) → row_terms (rows_by f rows) ≡ map f (row_terms rows)
-  row_terms-by rows = flat_map-mapped (flat_map terms_of) (map (derivation_by f)) (flat_map terms_of) f (flat_map-mapped terms_of (derivation_by f) terms_of f terms_of-by) rows
+  row_terms-by rows =
+      flat_map-mapped (flat_map terms_of) (map (derivation_by f)) (flat_map terms_of) f
+      (flat_map-mapped terms_of (derivation_by f) terms_of f terms_of-by) rows
 
   pub step_terms-by : (steps : List OpInst) → step_terms (map (instance_by f) steps) ≡ map f (step_terms steps)
   step_terms-by steps = flat_map-mapped (λ (s : OpInst). s.args) (instance_by f) (λ (s : OpInst). s.args) f (λ s. refl) steps
@@ -197,21 +219,26 @@ module _ (f : Term → Term) where
     all_leaves_of-by : (ds : Derivations) → all_leaves_of (derivations_by f ds) ≡ map (leaf_by f) (all_leaves_of ds)
     all_leaves_of-by none = refl
     all_leaves_of-by (also d ds) =
-        ap (λ l. l ++ all_leaves_of (derivations_by f ds)) (leaves_of-by d) ∙ ap (λ l. map (leaf_by f) (leaves_of d) ++ l) (all_leaves_of-by ds) ∙ sym (map-append (leaf_by f) (leaves_of d) (all_leaves_of ds))
+        ap (λ l. l ++ all_leaves_of (derivations_by f ds)) (leaves_of-by d)
+        ∙ ap (λ l. map (leaf_by f) (leaves_of d) ++ l) (all_leaves_of-by ds)
+        ∙ sym (map-append (leaf_by f) (leaves_of d) (all_leaves_of ds))
 
   pub row_leaves-by : (row : List Derivation) → row_leaves (map (derivation_by f) row) ≡ map (leaf_by f) (row_leaves row)
   row_leaves-by row = flat_map-mapped leaves_of (derivation_by f) leaves_of (leaf_by f) leaves_of-by row
 
 -- the terms of a leaf are terms of the proof
 mutual
-  pub leaf-terms : (d : Derivation) (leaf : Leaf) (t : Term) → Contains (leaves_of d) leaf → Contains leaf.atom.args t → Contains (terms_of d) t
+  pub leaf-terms : (d : Derivation) (leaf : Leaf) (t : Term) → Contains (leaves_of d) leaf → Contains leaf.atom.args t
+      → Contains (terms_of d) t
   leaf-terms (fact l) leaf t has here = subst (λ (x : Leaf). Contains x.atom.args t) (sym (Contains-one l leaf has)) here
   leaf-terms (ancestor i) leaf t has here = absurd (Contains-none leaf has)
-  leaf-terms (step number theta place parts) leaf t has here = Contains-append_right theta (all_terms_of parts) t (each-leaf-terms parts leaf t has here)
+  leaf-terms (step number theta place parts) leaf t has here =
+      Contains-append_right theta (all_terms_of parts) t (each-leaf-terms parts leaf t has here)
   leaf-terms (gap atom) leaf t has here = absurd (Contains-none leaf has)
   leaf-terms open_place leaf t has here = absurd (Contains-none leaf has)
 
-  each-leaf-terms : (ds : Derivations) (leaf : Leaf) (t : Term) → Contains (all_leaves_of ds) leaf → Contains leaf.atom.args t → Contains (all_terms_of ds) t
+  each-leaf-terms : (ds : Derivations) (leaf : Leaf) (t : Term) → Contains (all_leaves_of ds) leaf → Contains leaf.atom.args t
+      → Contains (all_terms_of ds) t
   each-leaf-terms none leaf t has here = absurd (Contains-none leaf has)
   each-leaf-terms (also d ds) leaf t has here = elim (Contains-append_cases (leaves_of d) (all_leaves_of ds) leaf has) [
     | inl first ↦ Contains-append_left (terms_of d) (all_terms_of ds) t (leaf-terms d leaf t first here)

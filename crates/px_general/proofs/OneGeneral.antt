@@ -33,17 +33,20 @@ abbrev own_terms : Table → List Term
 own_terms table = step_terms table.steps ++ (goal_terms table.goal ++ row_terms (rows_of table.proofs))
 
 -- each is one of the problem's over the parameters and the goal's own variables
-own-term : (problem : Problem) (table : Table) → IsTable problem table → (t : Term) → Contains (own_terms table) t → IsTermOf problem (table.params + table.goal_vars) t
-own-term problem table is_table t has = elim (Contains-append_cases (step_terms table.steps) (goal_terms table.goal ++ row_terms (rows_of table.proofs)) t has) [
-  | inl in_steps ↦ term_of_more problem table.params table.goal_vars t (of-steps problem table is_table t in_steps)
-  | inr later ↦ elim (Contains-append_cases (goal_terms table.goal) (row_terms (rows_of table.proofs)) t later) [
-    | inl in_goal ↦ of-goal problem table is_table t in_goal
-    | inr in_rows ↦ term_of_more problem table.params table.goal_vars t (of-rows problem table is_table t in_rows)
-  ]
-]
+own-term : (problem : Problem) (table : Table) → IsTable problem table → (t : Term) → Contains (own_terms table) t
+    → IsTermOf problem (table.params + table.goal_vars) t
+own-term problem table is_table t has =
+    elim (Contains-append_cases (step_terms table.steps) (goal_terms table.goal ++ row_terms (rows_of table.proofs)) t has) [
+      | inl in_steps ↦ term_of_more problem table.params table.goal_vars t (of-steps problem table is_table t in_steps)
+      | inr later ↦ elim (Contains-append_cases (goal_terms table.goal) (row_terms (rows_of table.proofs)) t later) [
+        | inl in_goal ↦ of-goal problem table is_table t in_goal
+        | inr in_rows ↦ term_of_more problem table.params table.goal_vars t (of-rows problem table is_table t in_rows)
+      ]
+    ]
 
 -- the marks have no others
-occurs-own : (problem : Problem) (table : Table) → IsTable problem table → (t : Term) → Contains (terms_in table) t → Contains (own_terms table) t
+occurs-own : (problem : Problem) (table : Table) → IsTable problem table → (t : Term) → Contains (terms_in table) t
+    → Contains (own_terms table) t
 occurs-own problem table is_table t has = elim (Contains-append_cases (mark_terms table.marks) (own_terms table) t has) [
   | inl in_marks ↦
       Contains-append_right (step_terms table.steps) (goal_terms table.goal ++ row_terms (rows_of table.proofs)) t
@@ -56,9 +59,11 @@ own_terms-by : (f : Term → Term) (from to : Table) → IsTableBy f from to →
 own_terms-by f from to by =
     let steps : step_terms to.steps ≡ map f (step_terms from.steps) = ap step_terms (sym by.steps) ∙ step_terms-by f from.steps in
     let goal : goal_terms to.goal ≡ map f (goal_terms from.goal) = ap goal_terms (sym by.goal) ∙ goal_terms-by f from.goal in
-    let rows : row_terms (rows_of to.proofs) ≡ map f (row_terms (rows_of from.proofs)) = ap row_terms (sym by.rows) ∙ row_terms-by f (rows_of from.proofs) in
+    let rows : row_terms (rows_of to.proofs) ≡ map f (row_terms (rows_of from.proofs)) =
+    ap row_terms (sym by.rows) ∙ row_terms-by f (rows_of from.proofs) in
     ap (λ l. l ++ (goal_terms to.goal ++ row_terms (rows_of to.proofs))) steps
-    ∙ ap (λ l. map f (step_terms from.steps) ++ l) (ap (λ l. l ++ row_terms (rows_of to.proofs)) goal ∙ ap (λ l. map f (goal_terms from.goal) ++ l) rows ∙ sym (map-append f (goal_terms from.goal) (row_terms (rows_of from.proofs))))
+    ∙ ap (λ l. map f (step_terms from.steps) ++ l) (ap (λ l. l ++ row_terms (rows_of to.proofs)) goal
+    ∙ ap (λ l. map f (goal_terms from.goal) ++ l) rows ∙ sym (map-append f (goal_terms from.goal) (row_terms (rows_of from.proofs))))
     ∙ sym (map-append f (step_terms from.steps) (goal_terms from.goal ++ row_terms (rows_of from.proofs)))
 
 map-twice : {A : Type 0} (g f : A → A) (xs : List A) → map g (map f xs) ≡ map (λ x. g (f x)) xs
@@ -66,11 +71,14 @@ map-twice g f [] = refl
 map-twice g f (x ∷ xs) = ap (λ l. g (f x) ∷ l) (map-twice g f xs)
 
 proofs-one : (rows others : List (List Proof)) → rows_of rows ≡ rows_of others → rows ≡ others
-proofs-one rows others same = lists-one (map derivation_of) rows others (λ row other has there is. lists-one derivation_of row other (λ p q in_row in_other e. derivations_tell_proofs p q e) is) same
+proofs-one rows others same =
+    lists-one (map derivation_of) rows others (λ row other has there is. lists-one derivation_of row other
+    (λ p q in_row in_other e. derivations_tell_proofs p q e) is) same
 
 -- ---- of two tables that are each the other renamed
 
-module _ (problem : Problem) (one other : Table) (is_one : IsTable problem one) (is_other : IsTable problem other) (objects others : List ℕ) (count : length objects ≡ one.params) (other_count : length others ≡ other.params)
+module _ (problem : Problem) (one other : Table) (is_one : IsTable problem one) (is_other : IsTable problem other) (objects others : List ℕ)
+    (count : length objects ≡ one.params) (other_count : length others ≡ other.params)
     (by : IsTableBy (renamed problem.objects other.params objects one.goal_vars) one other)
     (back : IsTableBy (renamed problem.objects one.params others other.goal_vars) other one)
     (numbered : each_once term_eq (filter (is_parameter one.params) (terms_in one)) ≡ variables one.params)
@@ -105,9 +113,12 @@ module _ (problem : Problem) (one other : Table) (is_one : IsTable problem one) 
         let here : again (Var (other.params + (w - other.params))) ≡ Var v = subst (λ x. again (Var x) ≡ Var v) (sym place) reads in
         elim (less_or_not (w - other.params) other.goal_vars) [
           | inl own ↦
-              let number : one.params + (w - other.params) ≡ v = variable_number (sym (ap (read_back problem.objects one.params) (put-own others other.params other.goal_vars other_count (w - other.params) own)) ∙ here) in
+              let number : one.params + (w - other.params) ≡ v =
+              variable_number (sym (ap (read_back problem.objects one.params)
+              (put-own others other.params other.goal_vars other_count (w - other.params) own)) ∙ here) in
               absurd (omega (arith, number, below))
-          | inr past ↦ absurd (no_wild (sym (ap (read_back problem.objects one.params) (put-past others other.params other.goal_vars other_count (w - other.params) past)) ∙ here))
+          | inr past ↦ absurd (no_wild (sym (ap (read_back problem.objects one.params)
+              (put-past others other.params other.goal_vars other_count (w - other.params) past)) ∙ here))
         ]
   ]
     where
@@ -124,10 +135,12 @@ module _ (problem : Problem) (one other : Table) (is_one : IsTable problem one) 
       let n : ℕ = slice_index objects v in
       elim (less_or_not n problem.objects) [
         | inl old ↦
-            let moved : there (Var v) ≡ Obj n = ap (read_back problem.objects other.params) put ∙ below-back problem.objects other.params n old in
+            let moved : there (Var v) ≡ Obj n =
+            ap (read_back problem.objects other.params) put ∙ below-back problem.objects other.params n old in
             absurd (no_object (sym (ap again moved ∙ below-back problem.objects one.params n old) ∙ round (Var v) has))
         | inr new ↦
-            let moved : there (Var v) ≡ Var (n - problem.objects) = ap (read_back problem.objects other.params) put ∙ above-back problem.objects other.params n new in
+            let moved : there (Var v) ≡ Var (n - problem.objects) =
+            ap (read_back problem.objects other.params) put ∙ above-back problem.objects other.params n new in
             (n - problem.objects, reads-parameter v (n - problem.objects) below (sym (ap again moved) ∙ round (Var v) has), moved)
       ]
     where
@@ -137,7 +150,8 @@ module _ (problem : Problem) (one other : Table) (is_one : IsTable problem one) 
   alike : (t : Term) → Contains (own_terms one) t → is_parameter other.params (there t) ≡ is_parameter one.params t
   alike t has = by_term t (own-term problem one is_one t has)
     where
-      by_term : (t : Term) → IsTermOf problem (one.params + one.goal_vars) t → is_parameter other.params (there t) ≡ is_parameter one.params t
+      by_term : (t : Term) → IsTermOf problem (one.params + one.goal_vars) t
+          → is_parameter other.params (there t) ≡ is_parameter one.params t
       by_term (Obj n) is = ap (is_parameter other.params) (object-stays n is)
       by_term WildCard is = absurd is
       by_term (Var v) is = elim (less_or_not v one.params) [
@@ -148,7 +162,8 @@ module _ (problem : Problem) (one other : Table) (is_one : IsTable problem one) 
             let place : one.params + (v - one.params) ≡ v = omega (arith, outside) in
             subst (λ x. is_parameter other.params (there (Var x)) ≡ is_parameter one.params (Var x)) place
             (ap (is_parameter other.params) (own-moves (v - one.params) (omega (arith, is, outside)))
-            ∙ lt-false (other.params + (v - one.params)) other.params (omega arith) ∙ sym (lt-false (one.params + (v - one.params)) one.params (omega arith)))
+            ∙ lt-false (other.params + (v - one.params)) other.params (omega arith)
+            ∙ sym (lt-false (one.params + (v - one.params)) one.params (omega arith)))
       ]
 
   marks-are : other.marks ≡ map (mark_by there) one.marks
@@ -158,13 +173,17 @@ module _ (problem : Problem) (one other : Table) (is_one : IsTable problem one) 
       ∙ ap (map (mark_by there)) (sym is_one.marks)
     where
       in_rows : (t : Term) → Contains (row_terms (rows_of one.proofs)) t → Contains (own_terms one) t
-      in_rows t has = Contains-append_right (step_terms one.steps) (goal_terms one.goal ++ row_terms (rows_of one.proofs)) t (Contains-append_right (goal_terms one.goal) (row_terms (rows_of one.proofs)) t has)
+      in_rows t has =
+          Contains-append_right (step_terms one.steps) (goal_terms one.goal ++ row_terms (rows_of one.proofs)) t
+          (Contains-append_right (goal_terms one.goal) (row_terms (rows_of one.proofs)) t has)
 
   terms-are : terms_in other ≡ map there (terms_in one)
   terms-are =
       let marks : mark_terms other.marks ≡ map there (mark_terms one.marks) =
-      ap mark_terms marks-are ∙ flat_map-mapped (λ (m : Mark). m.atom.args) (mark_by there) (λ (m : Mark). m.atom.args) there (λ m. refl) one.marks in
-      ap (λ l. l ++ own_terms other) marks ∙ ap (λ l. map there (mark_terms one.marks) ++ l) (own_terms-by there one other by) ∙ sym (map-append there (mark_terms one.marks) (own_terms one))
+      ap mark_terms marks-are ∙ flat_map-mapped (λ (m : Mark). m.atom.args) (mark_by there) (λ (m : Mark). m.atom.args) there
+      (λ m. refl) one.marks in
+      ap (λ l. l ++ own_terms other) marks ∙ ap (λ l. map there (mark_terms one.marks) ++ l) (own_terms-by there one other by)
+      ∙ sym (map-append there (mark_terms one.marks) (own_terms one))
 
   numbers : (one.params ≡ other.params) × ((v : ℕ) → v < one.params → there (Var v) ≡ Var v)
   numbers =
@@ -181,19 +200,23 @@ module _ (problem : Problem) (one other : Table) (is_one : IsTable problem one) 
     | inl inside ↦ numbers.1 v inside
     | inr outside ↦
         let place : one.params + (v - one.params) ≡ v = omega (arith, outside) in
-        subst (λ x. there (Var x) ≡ Var x) place (own-moves (v - one.params) (omega (arith, is, outside)) ∙ ap (λ n. Var (n + (v - one.params))) (sym numbers.0))
+        subst (λ x. there (Var x) ≡ Var x) place (own-moves (v - one.params) (omega (arith, is, outside))
+        ∙ ap (λ n. Var (n + (v - one.params))) (sym numbers.0))
   ]
 
   pub same_tables : one.goal_vars ≡ other.goal_vars → one ≡ other
   same_tables goal_vars =
       let steps : one.steps ≡ other.steps =
-      sym (steps-by there (λ t. t) (λ t. t) one.steps (λ t has. left t (term_of_more problem one.params one.goal_vars t (of-steps problem one is_one t has))) ∙ steps-same one.steps)
+      sym (steps-by there (λ t. t) (λ t. t) one.steps
+      (λ t has. left t (term_of_more problem one.params one.goal_vars t (of-steps problem one is_one t has))) ∙ steps-same one.steps)
       ∙ ap (map (instance_by there)) (steps-same one.steps) ∙ by.steps in
       let goal : one.goal ≡ other.goal =
       sym (goal-by there (λ t. t) (λ t. t) one.goal (λ t has. left t (of-goal problem one is_one t has)) ∙ goal-same one.goal)
       ∙ ap (map (atom_by there)) (goal-same one.goal) ∙ by.goal in
       let rows : rows_of one.proofs ≡ rows_of other.proofs =
-      sym (rows-by there (λ t. t) (λ t. t) (rows_of one.proofs) (λ t has. left t (term_of_more problem one.params one.goal_vars t (of-rows problem one is_one t has))) ∙ rows-same (rows_of one.proofs))
+      sym (rows-by there (λ t. t) (λ t. t) (rows_of one.proofs)
+      (λ t has. left t (term_of_more problem one.params one.goal_vars t (of-rows problem one is_one t has)))
+      ∙ rows-same (rows_of one.proofs))
       ∙ ap (rows_by there) (rows-same (rows_of one.proofs)) ∙ by.rows in
       let marks : one.marks ≡ other.marks = is_one.marks ∙ ap (marks_from 1) rows ∙ sym is_other.marks in
       let proofs : one.proofs ≡ other.proofs = proofs-one one.proofs other.proofs rows in
@@ -203,19 +226,35 @@ module _ (problem : Problem) (one other : Table) (is_one : IsTable problem one) 
 -- ---- the law
 
 -- the instance of the one by new objects is an instance of the other
-shared : (problem : Problem) (plan one other : Table) → IsValid problem → IsTable problem plan → IsProper problem plan [] 1 → Generalises problem plan one → Generalises problem plan other
-    → (objects : List ℕ) × (length objects ≡ other.params) × IsTableBy (renamed problem.objects one.params objects other.goal_vars) other one
+shared : (problem : Problem) (plan one other : Table) → IsValid problem → IsTable problem plan → IsProper problem plan [] 1
+    → Generalises problem plan one → Generalises problem plan other
+    → (objects : List ℕ) × (length objects ≡ other.params)
+    × IsTableBy (renamed problem.objects one.params objects other.goal_vars) other one
 shared problem plan one other valid is_table proper is_one is_other =
     let new : List ℕ = numbers_from problem.objects one.params in
     let own = has_instance problem plan is_table is_one.no_params proper one is_one in
     let new_is_proper = new-proper problem valid one is_one.table own.0 own.1 own.2 in
     let supports = is_one.sound new (kernel_under one new 1) (steps_under one new) (goal_under one new) (rows_under one new)
-    (record { count = length-numbers problem.objects one.params; proper = new_is_proper; steps_are = refl; goal_is = refl; rows_are = refl; kernel = All-contains_itself (kernel_under one new 1) }) in
-    let found = is_other.all (kernel_under one new 1) (steps_under one new) (goal_under one new) (rows_under one new) supports.0 supports.1 in
-    (found.0, found.1.count, is_renamed problem one other is_one.table is_other.table found.0 found.1.count found.1.steps_are found.1.goal_is found.1.rows_are)
+    (record {
+      count = length-numbers problem.objects one.params;
+      proper =
+          new_is_proper;
+      steps_are = refl;
+      goal_is = refl;
+      rows_are = refl;
+      kernel = All-contains_itself (kernel_under one new 1);
+    }) in
+    let found =
+    is_other.all (kernel_under one new 1) (steps_under one new) (goal_under one new) (rows_under one new) supports.0 supports.1 in (
+      found.0,
+      found.1.count,
+      is_renamed problem one other is_one.table is_other.table found.0 found.1.count found.1.steps_are
+          found.1.goal_is found.1.rows_are,
+    )
 
 pub general_is_one : GeneralIsOne
 general_is_one problem plan one other valid is_table proper is_one is_other =
     let back = shared problem plan one other valid is_table proper is_one is_other in
     let by = shared problem plan other one valid is_table proper is_other is_one in
-    same_tables problem one other is_one.table is_other.table by.0 back.0 by.1 back.1 by.2 back.2 is_one.numbered is_other.numbered (is_one.goal_vars ∙ sym is_other.goal_vars)
+    same_tables problem one other is_one.table is_other.table by.0 back.0 by.1 back.1 by.2 back.2 is_one.numbered is_other.numbered
+    (is_one.goal_vars ∙ sym is_other.goal_vars)

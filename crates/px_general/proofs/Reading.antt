@@ -7,7 +7,7 @@ use Rattle.std.proofs.lemmas.List.Elements.{Contains-append_left, Contains-appen
 use Rattle.px_base.specs.ListLaws.{All-at, All-each, Contains-none, Contains-first, Contains-later, Contains-cases}
 use Rattle.px_terms.specs.declared.term.Term.{Term}
 use Rattle.px_terms.specs.declared.term.Term.TheVariants.{Obj, Var, Any as WildCard}
-use Rattle.px_table.specs.Supports.{variables_from}
+use Rattle.px_terms.specs.Substitution.{variables_from}
 
 pub less_or_not : (a b : ℕ) → (a < b) ⊎ (b ≤ a)
 less_or_not a b = grind arith
@@ -40,12 +40,14 @@ read-past [] k past = refl
 read-past (x ∷ xs) zero past = absurd (omega (arith, past))
 read-past (x ∷ xs) (suc k) past = read-past xs k (omega (arith, past))
 
-pub read-map : (f : Term → Term) (xs : List Term) (k : ℕ) → k < length xs → slice_index_or (map f xs) k WildCard ≡ f (slice_index_or xs k WildCard)
+pub read-map : (f : Term → Term) (xs : List Term) (k : ℕ) → k < length xs
+    → slice_index_or (map f xs) k WildCard ≡ f (slice_index_or xs k WildCard)
 read-map f [] k below = absurd (omega (arith, below))
 read-map f (x ∷ xs) zero below = refl
 read-map f (x ∷ xs) (suc k) below = read-map f xs k (omega (arith, below))
 
-pub read-objects : (objects : List ℕ) (k : ℕ) → k < length objects → slice_index_or (map Obj objects) k WildCard ≡ Obj (slice_index objects k)
+pub read-objects : (objects : List ℕ) (k : ℕ) → k < length objects
+    → slice_index_or (map Obj objects) k WildCard ≡ Obj (slice_index objects k)
 read-objects [] k below = absurd (omega (arith, below))
 read-objects (n ∷ objects) zero below = refl
 read-objects (n ∷ objects) (suc k) below = read-objects objects k (omega (arith, below))
@@ -53,8 +55,10 @@ read-objects (n ∷ objects) (suc k) below = read-objects objects k (omega (arit
 pub variables-have : (first count v : ℕ) → first ≤ v → v < first + count → Contains (variables_from first count) (Var v)
 variables-have first zero v low high = absurd (omega (arith, low, high))
 variables-have first (suc count) v low high = elim (here_or_later first v low) [
-  | inl is ↦ subst (λ (n : ℕ). Contains (Var first ∷ variables_from (suc first) count) (Var n)) is (Contains-first (Var first) (variables_from (suc first) count))
-  | inr later ↦ Contains-later (Var first) (variables_from (suc first) count) (Var v) (variables-have (suc first) count v later (omega (arith, high)))
+  | inl is ↦ subst (λ (n : ℕ). Contains (Var first ∷ variables_from (suc first) count) (Var n)) is
+      (Contains-first (Var first) (variables_from (suc first) count))
+  | inr later ↦ Contains-later (Var first) (variables_from (suc first) count) (Var v)
+      (variables-have (suc first) count v later (omega (arith, high)))
 ]
   where
     here_or_later : (a b : ℕ) → a ≤ b → (a ≡ b) ⊎ (suc a ≤ b)
@@ -62,14 +66,16 @@ variables-have first (suc count) v low high = elim (here_or_later first v low) [
 
 -- ---- what is in a list
 
-pub Contains-flat_map : {X Y : Type 0} (k : X → List Y) (xs : List X) (x : X) (y : Y) → Contains xs x → Contains (k x) y → Contains (flat_map k xs) y
+pub Contains-flat_map : {X Y : Type 0} (k : X → List Y) (xs : List X) (x : X) (y : Y) → Contains xs x → Contains (k x) y
+    → Contains (flat_map k xs) y
 Contains-flat_map k [] x y has here = absurd (Contains-none x has)
 Contains-flat_map k (z ∷ xs) x y has here = elim (Contains-cases z xs x has) [
   | inl is ↦ Contains-append_left (k z) (flat_map k xs) y (subst (λ w. Contains (k w) y) (sym is) here)
   | inr later ↦ Contains-append_right (k z) (flat_map k xs) y (Contains-flat_map k xs x y later here)
 ]
 
-pub Contains-from_flat_map : {X Y : Type 0} (k : X → List Y) (xs : List X) (y : Y) → Contains (flat_map k xs) y → (x : X) × Contains xs x × Contains (k x) y
+pub Contains-from_flat_map : {X Y : Type 0} (k : X → List Y) (xs : List X) (y : Y) → Contains (flat_map k xs) y
+    → (x : X) × Contains xs x × Contains (k x) y
 Contains-from_flat_map k [] y has = absurd (Contains-none y has)
 Contains-from_flat_map k (z ∷ xs) y has = elim (Contains-append_cases (k z) (flat_map k xs) y has) [
   | inl here ↦ (z, Contains-first z xs, here)
@@ -77,13 +83,17 @@ Contains-from_flat_map k (z ∷ xs) y has = elim (Contains-append_cases (k z) (f
 ]
 
 -- what holds of all items of each list holds of all of them together
-pub All-flat_map : {X Y : Type 0} (P : Y → Type 0) (k : X → List Y) (xs : List X) → ((x : X) → Contains xs x → All P (k x)) → All P (flat_map k xs)
-All-flat_map P k xs each = All-each P (flat_map k xs) (λ y has. let from = Contains-from_flat_map k xs y has in All-at P (k from.0) y (each from.0 from.1) from.2)
+pub All-flat_map : {X Y : Type 0} (P : Y → Type 0) (k : X → List Y) (xs : List X) → ((x : X) → Contains xs x → All P (k x))
+    → All P (flat_map k xs)
+All-flat_map P k xs each =
+    All-each P (flat_map k xs) (λ y has. let from = Contains-from_flat_map k xs y has in All-at P (k from.0) y (each from.0 from.1) from.2)
 
-pub flat_map-mapped : {A B C D : Type 0} (f : A → List C) (g : A → B) (k : B → List D) (h : C → D) → ((x : A) → k (g x) ≡ map h (f x)) → (xs : List A) → flat_map k (map g xs) ≡ map h (flat_map f xs)
+pub flat_map-mapped : {A B C D : Type 0} (f : A → List C) (g : A → B) (k : B → List D) (h : C → D) → ((x : A) → k (g x) ≡ map h (f x))
+    → (xs : List A) → flat_map k (map g xs) ≡ map h (flat_map f xs)
 flat_map-mapped f g k h each [] = refl
 flat_map-mapped f g k h each (x ∷ xs) =
-    ap (λ l. l ++ flat_map k (map g xs)) (each x) ∙ ap (λ l. map h (f x) ++ l) (flat_map-mapped f g k h each xs) ∙ sym (map-append h (f x) (flat_map f xs))
+    ap (λ l. l ++ flat_map k (map g xs)) (each x) ∙ ap (λ l. map h (f x) ++ l) (flat_map-mapped f g k h each xs)
+    ∙ sym (map-append h (f x) (flat_map f xs))
 
 -- a map that leaves a list as it is leaves each of its items
 pub item-left : {A : Type 0} (f : A → A) (xs : List A) → map f xs ≡ xs → (x : A) → Contains xs x → f x ≡ x
@@ -96,7 +106,8 @@ item-left f (y ∷ xs) same x has =
     ]
 
 -- two lists that a map makes equal are equal, where it doesn't make different items equal
-pub lists-one : {A B : Type 0} (f : A → B) (xs ys : List A) → ((x y : A) → Contains xs x → Contains ys y → f x ≡ f y → x ≡ y) → map f xs ≡ map f ys → xs ≡ ys
+pub lists-one : {A B : Type 0} (f : A → B) (xs ys : List A) → ((x y : A) → Contains xs x → Contains ys y → f x ≡ f y → x ≡ y)
+    → map f xs ≡ map f ys → xs ≡ ys
 lists-one f [] [] one same = refl
 lists-one f [] (y ∷ ys) one same = absurd (cc)
 lists-one f (x ∷ xs) [] one same = absurd (cc)

@@ -10,7 +10,7 @@ use Rattle.px_terms.specs.declared.term.Term.{Term}
 use Rattle.px_terms.specs.declared.term.Term.TheVariants.{Obj, Var, Any as WildCard}
 use Rattle.px_terms.specs.Language.{substitute}
 use Rattle.px_terms.specs.Validity.{IsAtomOf, IsTermOf}
-use Rattle.px_proof.specs.Proves.{IsName}
+use Rattle.px_proof.specs.Proves.{IsObjectOrParameter}
 use Rattle.px_proof.specs.ProvesLaws.{term_of_name}
 use Rattle.px_table.specs.declared.table.Table.{Table}
 use Rattle.px_table.specs.Kernels.{goal_under, rows_under, steps_under}
@@ -45,12 +45,14 @@ term_of_more problem few more (Var v) is = omega (arith, is)
 term_of_more problem few more WildCard is = is
 
 module _ (problem : Problem) (params : ℕ) where
-  pub steps-terms : (steps : List OpInst) → All (IsStepOf problem params) steps → (t : Term) → Contains (step_terms steps) t → IsTermOf problem params t
+  pub steps-terms : (steps : List OpInst) → All (IsStepOf problem params) steps → (t : Term) → Contains (step_terms steps) t
+      → IsTermOf problem params t
   steps-terms steps all t has =
       let from = Contains-from_flat_map (λ (s : OpInst). s.args) steps t has in
       All-at (IsTermOf problem params) from.0.args t (All-at (IsStepOf problem params) steps from.0 all from.1).terms from.2
 
-  pub goal-terms : (goal : List Atom) → All (IsAtomOf problem params) goal → (t : Term) → Contains (goal_terms goal) t → IsTermOf problem params t
+  pub goal-terms : (goal : List Atom) → All (IsAtomOf problem params) goal → (t : Term) → Contains (goal_terms goal) t
+      → IsTermOf problem params t
   goal-terms goal all t has =
       let from = Contains-from_flat_map (λ (a : Atom). a.args) goal t has in
       All-at (IsTermOf problem params) from.0.args t (All-at (IsAtomOf problem params) goal from.0 all from.1).1 from.2
@@ -66,7 +68,9 @@ module _ (problem : Problem) (table : Table) (is_table : IsTable problem table) 
   pub of-rows : (t : Term) → Contains (row_terms (rows_of table.proofs)) t → IsTermOf problem table.params t
   of-rows t has =
       term_of_name problem table.params t
-      (All-at (IsName problem.objects table.params) (row_terms (rows_of table.proofs)) t (rows_terms-allowed (IsName problem.objects table.params) problem table.params table.goal table.goal_vars table.steps (rows_of table.proofs) is_table.prove) has)
+      (All-at (IsObjectOrParameter problem.objects table.params) (row_terms (rows_of table.proofs)) t
+      (rows_terms-allowed (IsObjectOrParameter problem.objects table.params) problem table.params table.goal table.goal_vars table.steps
+      (rows_of table.proofs) is_table.prove) has)
 
 -- ---- putting objects in, and reading parameters back from them
 
@@ -92,15 +96,18 @@ above-back limit params n above = ap (λ b. if b then Obj n else Var (n - limit)
 module _ (objects : List ℕ) (params goal_vars : ℕ) (count : length objects ≡ params) where
   pub put-parameter : (v : ℕ) → v < params → put_in objects goal_vars (Var v) ≡ Obj (slice_index objects v)
   put-parameter v below =
-      read-left (map Obj objects) (variables goal_vars) v (omega (arith, below, count, length-map objects Obj)) ∙ read-objects objects v (omega (arith, below, count))
+      read-left (map Obj objects) (variables goal_vars) v (omega (arith, below, count, length-map objects Obj))
+      ∙ read-objects objects v (omega (arith, below, count))
 
   pub put-own : (j : ℕ) → j < goal_vars → put_in objects goal_vars (Var (params + j)) ≡ Var j
   put-own j below =
-      read-right (map Obj objects) (variables goal_vars) params j (sym count ∙ sym (length-map objects Obj)) ∙ read-variable 0 goal_vars j below ∙ ap Var (omega arith)
+      read-right (map Obj objects) (variables goal_vars) params j (sym count ∙ sym (length-map objects Obj))
+      ∙ read-variable 0 goal_vars j below ∙ ap Var (omega arith)
 
   pub put-past : (j : ℕ) → goal_vars ≤ j → put_in objects goal_vars (Var (params + j)) ≡ WildCard
   put-past j past =
-      read-right (map Obj objects) (variables goal_vars) params j (sym count ∙ sym (length-map objects Obj)) ∙ read-past (variables goal_vars) j (omega (arith, past, length-variables 0 goal_vars))
+      read-right (map Obj objects) (variables goal_vars) params j (sym count ∙ sym (length-map objects Obj))
+      ∙ read-past (variables goal_vars) j (omega (arith, past, length-variables 0 goal_vars))
 
   -- without the goal's own variables it is the same
   pub put-only : (problem : Problem) (t : Term) → IsTermOf problem params t → substitute (map Obj objects) t ≡ put_in objects goal_vars t
@@ -115,12 +122,14 @@ new-back problem params goal_vars (Obj n) is = below-back problem.objects params
 new-back problem params goal_vars WildCard is = absurd is
 new-back problem params goal_vars (Var v) is = elim (less_or_not v params) [
   | inl inside ↦
-      ap (read_back problem.objects params) (put-parameter (numbers_from problem.objects params) params goal_vars (length-numbers problem.objects params) v inside ∙ ap Obj (read-numbers problem.objects params v inside))
+      ap (read_back problem.objects params) (put-parameter (numbers_from problem.objects params) params goal_vars
+      (length-numbers problem.objects params) v inside ∙ ap Obj (read-numbers problem.objects params v inside))
       ∙ above-back problem.objects params (problem.objects + v) (omega arith) ∙ ap Var (omega arith)
   | inr outside ↦
       let back : params + (v - params) ≡ v = omega (arith, outside) in
       subst (λ w. renamed problem.objects params (numbers_from problem.objects params) goal_vars (Var w) ≡ Var w) back
-      (ap (read_back problem.objects params) (put-own (numbers_from problem.objects params) params goal_vars (length-numbers problem.objects params) (v - params) (omega (arith, is, outside))))
+      (ap (read_back problem.objects params) (put-own (numbers_from problem.objects params) params goal_vars
+      (length-numbers problem.objects params) (v - params) (omega (arith, is, outside))))
 ]
 
 -- ---- tables
@@ -132,7 +141,8 @@ pub record IsTableBy (f : Term → Term) (from to : Table) : Type 0 where
   pub rows : rows_by f (rows_of from.proofs) ≡ rows_of to.proofs
 
 -- where the instance of one table by new objects is an instance of another, it is that table with its parameters renamed
-module _ (problem : Problem) (one other : Table) (is_one : IsTable problem one) (is_other : IsTable problem other) (objects : List ℕ) (count : length objects ≡ other.params)
+module _ (problem : Problem) (one other : Table) (is_one : IsTable problem one) (is_other : IsTable problem other) (objects : List ℕ)
+    (count : length objects ≡ other.params)
     (steps_are : steps_under one (numbers_from problem.objects one.params) ≡ steps_under other objects)
     (goal_is : goal_under one (numbers_from problem.objects one.params) ≡ goal_under other objects)
     (rows_are : rows_under one (numbers_from problem.objects one.params) ≡ rows_under other objects) where
@@ -162,12 +172,14 @@ module _ (problem : Problem) (one other : Table) (is_one : IsTable problem one) 
     goal =
         sym (goal-by back (put_in objects other.goal_vars) (renamed limit one.params objects other.goal_vars) other.goal (λ t has. refl))
         ∙ ap (map (atom_by back)) (sym goal_is)
-        ∙ goal-by back (put_in new_objects one.goal_vars) (λ t. t) one.goal (λ t has. new-back problem one.params one.goal_vars t (of-goal problem one is_one t has))
+        ∙ goal-by back (put_in new_objects one.goal_vars) (λ t. t) one.goal
+        (λ t has. new-back problem one.params one.goal_vars t (of-goal problem one is_one t has))
         ∙ goal-same one.goal;
     rows =
         sym (rows-by back (substitute (map Obj objects)) (renamed limit one.params objects other.goal_vars) (rows_of other.proofs)
         (λ t has. ap back (put-only objects other.params other.goal_vars count problem t (of-rows problem other is_other t has))))
-        ∙ ap (rows_by back) (sym (rows-under (map Obj objects) (rows_of other.proofs)) ∙ sym rows_are ∙ rows-under (map Obj new_objects) (rows_of one.proofs))
+        ∙ ap (rows_by back) (sym (rows-under (map Obj objects) (rows_of other.proofs)) ∙ sym rows_are
+        ∙ rows-under (map Obj new_objects) (rows_of one.proofs))
         ∙ rows-by back (substitute (map Obj new_objects)) (λ t. t) (rows_of one.proofs)
         (λ t has. ap back (put-only new_objects one.params one.goal_vars new_count problem t (of-rows problem one is_one t has))
         ∙ new-back problem one.params one.goal_vars t (term_of_more problem one.params one.goal_vars t (of-rows problem one is_one t has)))

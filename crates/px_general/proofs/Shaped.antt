@@ -11,18 +11,18 @@ use Rattle.px_terms.specs.declared.problem.Problem.{Problem}
 use Rattle.px_terms.specs.declared.term.Term.{Term}
 use Rattle.px_terms.specs.declared.term.Term.TheVariants.{Obj, Var, Any as WildCard}
 use Rattle.px_terms.specs.Language.{substitute, IsObject}
-use Rattle.px_terms.specs.Substitution.{substitute_atom, substitute_instance}
+use Rattle.px_terms.specs.Substitution.{substitute_atom, substitute_instance, variables_from}
 use Rattle.px_terms.specs.Validity.{IsAtomOf, IsTermOf}
 use Rattle.px_proof.specs.Derivation.{Derivation, Derivations, fact, ancestor, step, gap, open_place, none, also, skeleton, skeletons}
-use Rattle.px_proof.specs.Proves.{IsName}
+use Rattle.px_proof.specs.Proves.{IsObjectOrParameter}
 use Rattle.px_proof.specs.Substitution.{derivation_under}
 use Rattle.px_proof.specs.SubstitutionLaws.{skeleton-under}
 use Rattle.px_table.specs.declared.table.Table.{Table}
 use Rattle.px_table.specs.Kernels.{goal_under, rows_under, steps_under}
-use Rattle.px_table.specs.Supports.{Supports, variables, variables_from}
+use Rattle.px_table.specs.Supports.{Supports, variables}
 use Rattle.px_table.specs.SupportShapes.{shape_of_support, without_object}
 use Rattle.px_table.specs.Tables.{IsTable, rows_of}
-use Rattle.px_general.specs.General.{shape_of, IsSoundFor}
+use Rattle.px_general.specs.General.{shape_of_table, IsSoundFor}
 use Rattle.px_replay.specs.FreshVariables.{fresh_in, is_object}
 use Rattle.px_replay.specs.Opened.{goal_objects, named_args, named_goal, opened_row, opened_rows, opened_steps, opened_terms, rows_opened, step_variables, steps_opened}
 use Rattle.px_general.specs.Replayed.{IsReplayed}
@@ -49,9 +49,11 @@ row_skeletons-under : (terms : List Term) (row : List Derivation) → map skelet
 row_skeletons-under terms [] = refl
 row_skeletons-under terms (d ∷ row) = let one = skeleton-under terms d in let rest = row_skeletons-under terms row in λ i. one i ∷ rest i
 
-pub rows_skeletons-under : (terms : List Term) (rows : List (List Derivation)) → map (map skeleton) (map (map (derivation_under terms)) rows) ≡ map (map skeleton) rows
+pub rows_skeletons-under : (terms : List Term) (rows : List (List Derivation))
+    → map (map skeleton) (map (map (derivation_under terms)) rows) ≡ map (map skeleton) rows
 rows_skeletons-under terms [] = refl
-rows_skeletons-under terms (row ∷ rows) = let one = row_skeletons-under terms row in let rest = rows_skeletons-under terms rows in λ i. one i ∷ rest i
+rows_skeletons-under terms (row ∷ rows) =
+    let one = row_skeletons-under terms row in let rest = rows_skeletons-under terms rows in λ i. one i ∷ rest i
 
 module _ (named : ℕ → ℕ → Atom) where
   mutual
@@ -64,15 +66,19 @@ module _ (named : ℕ → ℕ → Atom) where
 
     skeletons-opened : (first : ℕ) (ds : Derivations) → skeletons (all_opened named first ds) ≡ skeletons ds
     skeletons-opened first none = refl
-    skeletons-opened first (also d ds) = let one = skeleton-opened first d in let rest = skeletons-opened (first + fresh_in d) ds in λ i. also (one i) (rest i)
+    skeletons-opened first (also d ds) =
+        let one = skeleton-opened first d in let rest = skeletons-opened (first + fresh_in d) ds in λ i. also (one i) (rest i)
 
   row_skeletons-opened : (first : ℕ) (row : List Derivation) → map skeleton (opened_row named first row) ≡ map skeleton row
   row_skeletons-opened first [] = refl
-  row_skeletons-opened first (d ∷ row) = let one = skeleton-opened first d in let rest = row_skeletons-opened (first + fresh_in d) row in λ i. one i ∷ rest i
+  row_skeletons-opened first (d ∷ row) =
+      let one = skeleton-opened first d in let rest = row_skeletons-opened (first + fresh_in d) row in λ i. one i ∷ rest i
 
-  rows_skeletons-opened : (first : ℕ) (rows : List (List Derivation)) → map (map skeleton) (opened_rows named first rows) ≡ map (map skeleton) rows
+  rows_skeletons-opened : (first : ℕ) (rows : List (List Derivation))
+      → map (map skeleton) (opened_rows named first rows) ≡ map (map skeleton) rows
   rows_skeletons-opened first [] = refl
-  rows_skeletons-opened first (row ∷ rows) = let one = row_skeletons-opened first row in let rest = rows_skeletons-opened (first + _) rows in λ i. one i ∷ rest i
+  rows_skeletons-opened first (row ∷ rows) =
+      let one = row_skeletons-opened first row in let rest = rows_skeletons-opened (first + _) rows in λ i. one i ∷ rest i
 
 -- ---- the goal
 
@@ -82,65 +88,97 @@ without-object (Var v) is = absurd is
 without-object WildCard is = absurd is
 
 module _ (problem : Problem) (vars params : ℕ) (names : List Term) (sigma : List ℕ) (count : length sigma ≡ params) where
-  named_args-shape : (first : ℕ) (ts : List Term) → All (IsTermOf problem vars) ts → ((v : ℕ) → first ≤ v → v < first + count_by is_object ts → IsName problem.objects params (substitute names (Var v)))
+  named_args-shape : (first : ℕ) (ts : List Term) → All (IsTermOf problem vars) ts
+      → ((v : ℕ) → first ≤ v → v < first + count_by is_object ts → IsObjectOrParameter problem.objects params (substitute names (Var v)))
       → map without_object (map (substitute (map Obj sigma ++ variables vars)) (named_args names params first ts)) ≡ map without_object ts
   named_args-shape first [] are at = refl
   named_args-shape first (Obj n ∷ ts) are at =
       let counted = count-object n ts in
       let here = at first (omega arith) (omega (arith, counted)) in
-      let name = name-read problem.objects params (map Obj sigma) (variables vars) (substitute names (Var first)) (omega (arith, count, length-map sigma Obj)) here in
+      let name =
+      name-read problem.objects params (map Obj sigma) (variables vars) (substitute names (Var first))
+      (omega (arith, count, length-map sigma Obj)) here in
       let head : without_object (substitute (map Obj sigma ++ variables vars) (substitute names (Var first))) ≡ Obj 0 =
-      ap without_object name ∙ without-object (substitute (map Obj sigma) (substitute names (Var first))) (object-there problem sigma params count (substitute names (Var first)) here) in
-      let rest = named_args-shape (first + 1) ts (All-tail (IsTermOf problem vars) (Obj n) ts are) (λ v low high. at v (omega (arith, low)) (omega (arith, high, counted))) in
+      ap without_object name ∙ without-object (substitute (map Obj sigma) (substitute names (Var first)))
+      (object-there problem sigma params count (substitute names (Var first)) here) in
+      let rest =
+      named_args-shape (first + 1) ts (All-tail (IsTermOf problem vars) (Obj n) ts are)
+      (λ v low high. at v (omega (arith, low)) (omega (arith, high, counted))) in
       λ i. head i ∷ rest i
   named_args-shape first (Var v ∷ ts) are at =
       let below : v < vars = All-head (IsTermOf problem vars) (Var v) ts are in
       let counted = count-variable v ts in
       let head : without_object (substitute (map Obj sigma ++ variables vars) (Var (params + v))) ≡ Var v =
-      ap without_object (read-right (map Obj sigma) (variables vars) params v (omega (arith, count, length-map sigma Obj)) ∙ read-variable 0 vars v below ∙ ap Var (omega arith)) in
-      let rest = named_args-shape first ts (All-tail (IsTermOf problem vars) (Var v) ts are) (λ x low high. at x low (omega (arith, high, counted))) in
+      ap without_object (read-right (map Obj sigma) (variables vars) params v (omega (arith, count, length-map sigma Obj))
+      ∙ read-variable 0 vars v below ∙ ap Var (omega arith)) in
+      let rest =
+      named_args-shape first ts (All-tail (IsTermOf problem vars) (Var v) ts are)
+      (λ x low high. at x low (omega (arith, high, counted))) in
       λ i. head i ∷ rest i
   named_args-shape first (WildCard ∷ ts) are at = absurd (All-head (IsTermOf problem vars) WildCard ts are)
 
-  named_goal-shape : (first : ℕ) (goal : List Atom) → All (IsAtomOf problem vars) goal → ((v : ℕ) → first ≤ v → v < first + goal_objects goal → IsName problem.objects params (substitute names (Var v)))
-      → map atom_without (map (substitute_atom (map Obj sigma ++ variables vars)) (named_goal names params first goal)) ≡ map atom_without goal
+  named_goal-shape : (first : ℕ) (goal : List Atom) → All (IsAtomOf problem vars) goal
+      → ((v : ℕ) → first ≤ v → v < first + goal_objects goal → IsObjectOrParameter problem.objects params (substitute names (Var v)))
+      → map atom_without (map (substitute_atom (map Obj sigma ++ variables vars)) (named_goal names params first goal))
+      ≡ map atom_without goal
   named_goal-shape first [] are at = refl
   named_goal-shape first (a ∷ goal) are at =
       let counted = sum_by-cons (λ (atom : Atom). count_by is_object atom.args) a goal in
-      let args = named_args-shape first a.args (All-head (IsAtomOf problem vars) a goal are).1 (λ v low high. at v low (omega (arith, high, counted))) in
-      let rest = named_goal-shape (first + count_by is_object a.args) goal (All-tail (IsAtomOf problem vars) a goal are) (λ v low high. at v (omega (arith, low)) (omega (arith, high, counted))) in
+      let args =
+      named_args-shape first a.args (All-head (IsAtomOf problem vars) a goal are).1
+      (λ v low high. at v low (omega (arith, high, counted))) in
+      let rest =
+      named_goal-shape (first + count_by is_object a.args) goal (All-tail (IsAtomOf problem vars) a goal are)
+      (λ v low high. at v (omega (arith, low)) (omega (arith, high, counted))) in
       λ i. record { pred = a.pred; args = args i } ∷ rest i
 
 -- ---- all of it
 
 -- the names of the goal's slots are names
 pub slot-name : (problem : Problem) (plan general : Table) (names roots : List Term) → IsReplayed problem plan general names roots
-    → (v : ℕ) → step_variables plan.steps ≤ v → v < step_variables plan.steps + goal_objects plan.goal → IsName problem.objects general.params (substitute names (Var v))
+    → (v : ℕ) → step_variables plan.steps ≤ v → v < step_variables plan.steps + goal_objects plan.goal
+    → IsObjectOrParameter problem.objects general.params (substitute names (Var v))
 slot-name problem plan general names roots replayed v low high =
-    All-at (λ t. IsName problem.objects general.params (substitute names t)) (opened_terms problem plan) (Var v) replayed.are_names
-    (Contains-append_right _ _ (Var v) (Contains-append_left (variables_from (step_variables plan.steps) (goal_objects plan.goal)) _ (Var v) (variables-have (step_variables plan.steps) (goal_objects plan.goal) v low high)))
+    All-at (λ t. IsObjectOrParameter problem.objects general.params (substitute names t)) (opened_terms problem plan)
+    (Var v) replayed.are_names
+    (Contains-append_right _ _ (Var v) (Contains-append_left (variables_from (step_variables plan.steps) (goal_objects plan.goal)) _ (Var v)
+    (variables-have (step_variables plan.steps) (goal_objects plan.goal) v low high)))
 
-pub instance-shaped : (problem : Problem) (plan general : Table) (names roots : List Term) → IsTable problem plan → plan.params ≡ 0 → IsReplayed problem plan general names roots
-    → (objects : List ℕ) → length objects ≡ general.params → shape_of_support (steps_under general objects) (goal_under general objects) (rows_under general objects) ≡ shape_of plan
+pub instance-shaped : (problem : Problem) (plan general : Table) (names roots : List Term) → IsTable problem plan → plan.params ≡ 0
+    → IsReplayed problem plan general names roots
+    → (objects : List ℕ) → length objects ≡ general.params
+    → shape_of_support (steps_under general objects) (goal_under general objects) (rows_under general objects) ≡ shape_of_table plan
 instance-shaped problem plan general names roots is_table no_params replayed objects count =
     let terms : List Term = map Obj objects in
     let ops : map op_of (steps_under general objects) ≡ map op_of plan.steps =
     ops-under terms general.steps ∙ ap (map op_of) replayed.steps ∙ ops-under names (steps_opened plan) ∙ ops-opened 0 plan.steps in
-    let goal_are : All (IsAtomOf problem plan.goal_vars) plan.goal = subst (λ (n : ℕ). All (IsAtomOf problem n) plan.goal) (omega (arith, no_params)) is_table.in_range.goal in
+    let goal_are : All (IsAtomOf problem plan.goal_vars) plan.goal =
+    subst (λ (n : ℕ). All (IsAtomOf problem n) plan.goal) (omega (arith, no_params)) is_table.in_range.goal in
     let goals : map atom_without (goal_under general objects) ≡ map atom_without plan.goal =
     ap (λ l. map atom_without (map (substitute_atom (terms ++ variables general.goal_vars)) l)) replayed.goal
-    ∙ ap (λ n. map atom_without (map (substitute_atom (terms ++ variables n)) (named_goal names general.params (step_variables plan.steps) plan.goal))) replayed.goal_vars
-    ∙ named_goal-shape problem plan.goal_vars general.params names objects count (step_variables plan.steps) plan.goal goal_are (slot-name problem plan general names roots replayed) in
+    ∙ ap (λ n. map atom_without (map (substitute_atom (terms ++ variables n))
+    (named_goal names general.params (step_variables plan.steps) plan.goal))) replayed.goal_vars
+    ∙ named_goal-shape problem plan.goal_vars general.params names objects count (step_variables plan.steps) plan.goal goal_are
+    (slot-name problem plan general names roots replayed) in
     let rows : map (map skeleton) (rows_under general objects) ≡ map (map skeleton) (rows_of plan.proofs) =
-    rows_skeletons-under terms (rows_of general.proofs) ∙ ap (map (map skeleton)) replayed.rows ∙ rows_skeletons-under names (rows_opened problem plan) ∙ rows_skeletons-opened _ _ (rows_of plan.proofs) in
+    rows_skeletons-under terms (rows_of general.proofs) ∙ ap (map (map skeleton)) replayed.rows
+    ∙ rows_skeletons-under names (rows_opened problem plan) ∙ rows_skeletons-opened _ _ (rows_of plan.proofs) in
     λ i. record { operators = ops i; goal = goals i; rows = rows i }
 
-pub sound_for : (problem : Problem) (plan general : Table) (names roots : List Term) → IsTable problem plan → plan.params ≡ 0 → IsReplayed problem plan general names roots → IsTable problem general → IsSoundFor problem plan general
+pub sound_for : (problem : Problem) (plan general : Table) (names roots : List Term) → IsTable problem plan → plan.params ≡ 0
+    → IsReplayed problem plan general names roots → IsTable problem general → IsSoundFor problem plan general
 sound_for problem plan general names roots is_table no_params replayed is_general objects atoms steps goal rows is =
-    let supports : Supports problem atoms (steps_under general objects) (goal_under general objects) plan.goal_vars (rows_under general objects) = subst (λ (n : ℕ). Supports problem atoms (steps_under general objects) (goal_under general objects) n (rows_under general objects)) replayed.goal_vars
+    let supports : Supports problem atoms (steps_under general objects) (goal_under general objects) plan.goal_vars
+    (rows_under general objects) =
+    subst (λ (n : ℕ). Supports problem atoms (steps_under general objects) (goal_under general objects) n (rows_under general objects))
+    replayed.goal_vars
     (instance_supports problem general is_general objects is.count is.proper atoms is.kernel) in
     let shaped = instance-shaped problem plan general names roots is_table no_params replayed objects is.count in
-    subst (λ (s : List OpInst). Supports problem atoms s goal plan.goal_vars rows × (shape_of_support s goal rows ≡ shape_of plan)) (sym is.steps_are)
-    (subst (λ (g : List Atom). Supports problem atoms (steps_under general objects) g plan.goal_vars rows × (shape_of_support (steps_under general objects) g rows ≡ shape_of plan)) (sym is.goal_is)
-    (subst (λ (r : List (List Derivation)). Supports problem atoms (steps_under general objects) (goal_under general objects) plan.goal_vars r
-    × (shape_of_support (steps_under general objects) (goal_under general objects) r ≡ shape_of plan)) (sym is.rows_are) (supports, shaped)))
+    subst (λ (s : List OpInst). Supports problem atoms s goal plan.goal_vars rows × (shape_of_support s goal rows ≡ shape_of_table plan))
+    (sym is.steps_are)
+    (subst (λ (g : List Atom). Supports problem atoms (steps_under general objects) g plan.goal_vars rows
+    × (shape_of_support (steps_under general objects) g rows ≡ shape_of_table plan)) (sym is.goal_is)
+    (subst (λ (r : List (List Derivation)). Supports problem atoms (steps_under general objects)
+    (goal_under general objects) plan.goal_vars r
+    × (shape_of_support (steps_under general objects) (goal_under general objects) r ≡ shape_of_table plan)) (sym is.rows_are)
+    (supports, shaped)))

@@ -11,21 +11,21 @@ use Rattle.px_terms.specs.declared.problem.Problem.{Problem}
 use Rattle.px_terms.specs.declared.term.Term.{Term}
 use Rattle.px_terms.specs.declared.term.Term.TheVariants.{Obj, Var, Any as WildCard}
 use Rattle.px_terms.specs.Language.{substitute, IsObject}
-use Rattle.px_terms.specs.Substitution.{substitute_atom, substitute_instance}
+use Rattle.px_terms.specs.Substitution.{substitute_atom, substitute_instance, variables_from}
 use Rattle.px_terms.specs.Validity.{IsAtomOf, IsTermOf, IsGroundInstanceOf}
 use Rattle.px_proof.specs.Derivation.{Derivation, terms_of}
 use Rattle.px_proof.specs.PlaceLaws.{All-front, All-back, Contains-mapped}
-use Rattle.px_proof.specs.Proves.{IsName}
+use Rattle.px_proof.specs.Proves.{IsObjectOrParameter}
 use Rattle.px_proof.specs.Substitution.{derivation_under}
 use Rattle.px_table.specs.declared.mark.Mark.{Mark}
 use Rattle.px_table.specs.declared.table.Table.{Table}
 use Rattle.px_table.specs.KernelLaws.{Contains-from_map, from_kernel}
 use Rattle.px_table.specs.Kernels.{atom_under, goal_under, kernel_of, kernel_under, mark_under, rows_under, steps_under}
 use Rattle.px_table.specs.Marks.{IsKept, marks_from}
-use Rattle.px_table.specs.Supports.{Supports, variables, variables_from}
+use Rattle.px_table.specs.Supports.{Supports, variables}
 use Rattle.px_table.specs.SupportShapes.{SupportShape, shape_of_support, without_object}
 use Rattle.px_table.specs.Tables.{IsTable, rows_of}
-use Rattle.px_general.specs.General.{IsGeneralFor, IsTableInstance, shape_of}
+use Rattle.px_general.specs.General.{IsGeneralFor, IsTableInstance, shape_of_table}
 use Rattle.px_replay.specs.FreshVariables.{is_object}
 use Rattle.px_replay.specs.Opened.{goal_objects, named_args, named_goal, opened_terms, rows_opened, step_variables, steps_opened}
 use Rattle.px_replay.proofs.GoalSteps.{read-variable}
@@ -51,15 +51,19 @@ numbers-back (Var v ∷ ts) all = absurd (All-head IsObject (Var v) ts all)
 numbers-back (WildCard ∷ ts) all = absurd (All-head IsObject WildCard ts all)
 
 own_of_goal-are : (goal : List Atom) → All IsObject (own_of_goal goal)
-own_of_goal-are goal = All-flat_map IsObject (λ (atom : Atom). objects_among atom.args) goal (λ a has. objects_among-all IsObject a.args (λ n there. tt))
+own_of_goal-are goal =
+    All-flat_map IsObject (λ (atom : Atom). objects_among atom.args) goal (λ a has. objects_among-all IsObject a.args (λ n there. tt))
 
-steps_terms-objects : (problem : Problem) (steps : List OpInst) → All (IsGroundInstanceOf problem) steps → All IsObject (flat_map (λ (inst : OpInst). inst.args) steps)
-steps_terms-objects problem steps all = All-flat_map IsObject (λ (inst : OpInst). inst.args) steps (λ s has. (All-at (IsGroundInstanceOf problem) steps s all has).all_objects)
+steps_terms-objects : (problem : Problem) (steps : List OpInst) → All (IsGroundInstanceOf problem) steps
+    → All IsObject (flat_map (λ (inst : OpInst). inst.args) steps)
+steps_terms-objects problem steps all =
+    All-flat_map IsObject (λ (inst : OpInst). inst.args) steps (λ s has. (All-at (IsGroundInstanceOf problem) steps s all has).all_objects)
 
 -- ---- the goal
 
 -- a name of fewer parameters doesn't see what follows them
-pub name-read : (objects params : ℕ) (xs ys : List Term) (t : Term) → params ≤ length xs → IsName objects params t → substitute (xs ++ ys) t ≡ substitute xs t
+pub name-read : (objects params : ℕ) (xs ys : List Term) (t : Term) → params ≤ length xs → IsObjectOrParameter objects params t
+    → substitute (xs ++ ys) t ≡ substitute xs t
 name-read objects params xs ys (Obj n) enough is = refl
 name-read objects params xs ys (Var v) enough is = read-left xs ys v (omega (arith, enough, is))
 name-read objects params xs ys WildCard enough is = absurd is
@@ -67,28 +71,36 @@ name-read objects params xs ys WildCard enough is = absurd is
 module _ (problem : Problem) (vars params : ℕ) (terms names values : List Term) (count : length values ≡ params) where
   -- at the variable the terms are the names under the values, and its name is one
   abbrev pub IsNamedAt : ℕ → Type 0
-  IsNamedAt v = Agrees terms values names (Var v) × IsName problem.objects params (substitute names (Var v))
+  IsNamedAt v = Agrees terms values names (Var v) × IsObjectOrParameter problem.objects params (substitute names (Var v))
 
-  named_args-are : (first : ℕ) (ts us : List Term) → map without_object us ≡ map without_object ts → All (IsTermOf problem vars) ts → HasFrom terms first (objects_among us)
-      → ((v : ℕ) → first ≤ v → v < first + count_by is_object ts → IsNamedAt v) → map (substitute (values ++ variables vars)) (named_args names params first ts) ≡ us
+  named_args-are : (first : ℕ) (ts us : List Term) → map without_object us ≡ map without_object ts → All (IsTermOf problem vars) ts
+      → HasFrom terms first (objects_among us)
+      → ((v : ℕ) → first ≤ v → v < first + count_by is_object ts → IsNamedAt v)
+      → map (substitute (values ++ variables vars)) (named_args names params first ts) ≡ us
   named_args-are first [] [] same are has at = refl
   named_args-are first [] (u ∷ us) same are has at = absurd (cc)
   named_args-are first (t ∷ ts) [] same are has at = absurd (cc)
   named_args-are first (Obj n ∷ ts) (Obj m ∷ us) same are has at =
       let counted = count-object n ts in
       let here = at first (omega arith) (omega (arith, counted)) in
-      let one : substitute terms (Var first) ≡ Obj m = read-at terms first (Obj m) (subst (λ (k : ℕ). slice_get terms k ≡ Some (Obj m)) (omega arith) (has 0 (Obj m) refl)) in
+      let one : substitute terms (Var first) ≡ Obj m =
+      read-at terms first (Obj m) (subst (λ (k : ℕ). slice_get terms k ≡ Some (Obj m)) (omega arith) (has 0 (Obj m) refl)) in
       let name = name-read problem.objects params values (variables vars) (substitute names (Var first)) (omega (arith, count)) here.1 in
       let head : substitute (values ++ variables vars) (substitute names (Var first)) ≡ Obj m = name ∙ sym here.0 ∙ one in
-      let rest = named_args-are (first + 1) ts us (cons_same _ _ _ _ same).1 (All-tail (IsTermOf problem vars) (Obj n) ts are) (HasFrom-back terms first (first + 1) (Obj m ∷ []) (objects_among us) (omega arith) has)
+      let rest =
+      named_args-are (first + 1) ts us (cons_same _ _ _ _ same).1 (All-tail (IsTermOf problem vars) (Obj n) ts are)
+      (HasFrom-back terms first (first + 1) (Obj m ∷ []) (objects_among us) (omega arith) has)
       (λ v low high. at v (omega (arith, low)) (omega (arith, high, counted))) in
       λ i. head i ∷ rest i
   named_args-are first (Var v ∷ ts) (Var w ∷ us) same are has at =
       let same_var : w ≡ v = number (cons_same (Var w) (Var v) _ _ same).0 in
       let below : v < vars = All-head (IsTermOf problem vars) (Var v) ts are in
-      let head : substitute (values ++ variables vars) (Var (params + v)) ≡ Var w = read-right values (variables vars) params v (sym count) ∙ read-variable 0 vars v below ∙ ap Var (omega (arith, same_var)) in
+      let head : substitute (values ++ variables vars) (Var (params + v)) ≡ Var w =
+      read-right values (variables vars) params v (sym count) ∙ read-variable 0 vars v below ∙ ap Var (omega (arith, same_var)) in
       let counted = count-variable v ts in
-      let rest = named_args-are first ts us (cons_same _ _ _ _ same).1 (All-tail (IsTermOf problem vars) (Var v) ts are) has (λ x low high. at x low (omega (arith, high, counted))) in
+      let rest =
+      named_args-are first ts us (cons_same _ _ _ _ same).1 (All-tail (IsTermOf problem vars) (Var v) ts are) has
+      (λ x low high. at x low (omega (arith, high, counted))) in
       λ i. head i ∷ rest i
     where
       number : {v w : ℕ} → Var w ≡ Var v → w ≡ v
@@ -99,8 +111,10 @@ module _ (problem : Problem) (vars params : ℕ) (terms names values : List Term
   named_args-are first (Var v ∷ ts) (Obj m ∷ us) same are has at = absurd (cc)
   named_args-are first (Var v ∷ ts) (WildCard ∷ us) same are has at = absurd (cc)
 
-  pub named_goal-is : (first : ℕ) (goal others : List Atom) → map atom_without others ≡ map atom_without goal → All (IsAtomOf problem vars) goal → HasFrom terms first (own_of_goal others)
-      → ((v : ℕ) → first ≤ v → v < first + goal_objects goal → IsNamedAt v) → map (substitute_atom (values ++ variables vars)) (named_goal names params first goal) ≡ others
+  pub named_goal-is : (first : ℕ) (goal others : List Atom) → map atom_without others ≡ map atom_without goal
+      → All (IsAtomOf problem vars) goal → HasFrom terms first (own_of_goal others)
+      → ((v : ℕ) → first ≤ v → v < first + goal_objects goal → IsNamedAt v)
+      → map (substitute_atom (values ++ variables vars)) (named_goal names params first goal) ≡ others
   named_goal-is first [] [] same are has at = refl
   named_goal-is first [] (o ∷ others) same are has at = absurd (cc)
   named_goal-is first (a ∷ goal) [] same are has at = absurd (cc)
@@ -108,17 +122,22 @@ module _ (problem : Problem) (vars params : ℕ) (terms names values : List Term
       let both = cons_same (atom_without o) (atom_without a) (map atom_without others) (map atom_without goal) same in
       let same_args = ap (λ (x : Atom). x.args) both.0 in
       let counted = sum_by-cons (λ (atom : Atom). count_by is_object atom.args) a goal in
-      let args = named_args-are first a.args o.args same_args (All-head (IsAtomOf problem vars) a goal are).1 (HasFrom-front terms first (objects_among o.args) (own_of_goal others) has)
+      let args =
+      named_args-are first a.args o.args same_args (All-head (IsAtomOf problem vars) a goal are).1
+      (HasFrom-front terms first (objects_among o.args) (own_of_goal others) has)
       (λ v low high. at v low (omega (arith, high, counted))) in
       let rest = named_goal-is (first + count_by is_object a.args) goal others both.1 (All-tail (IsAtomOf problem vars) a goal are)
-      (HasFrom-back terms first (first + count_by is_object a.args) (objects_among o.args) (own_of_goal others) (omega (arith, objects-counted a.args o.args same_args)) has)
+      (HasFrom-back terms first (first + count_by is_object a.args) (objects_among o.args) (own_of_goal others)
+      (omega (arith, objects-counted a.args o.args same_args)) has)
       (λ v low high. at v (omega (arith, low)) (omega (arith, high, counted))) in
       λ i. record { pred = sym (ap (λ (x : Atom). x.pred) both.0) i; args = args i } ∷ rest i
 
 -- ---- the instance
 
-module _ (problem : Problem) (plan general : Table) (names roots : List Term) (is_table : IsTable problem plan) (no_params : plan.params ≡ 0) (replayed : IsReplayed problem plan general names roots)
-    (atoms : List Atom) (steps : List OpInst) (goal : List Atom) (rows : List (List Derivation)) (support : Supports problem atoms steps goal plan.goal_vars rows) (shape : shape_of_support steps goal rows ≡ shape_of plan) where
+module _ (problem : Problem) (plan general : Table) (names roots : List Term) (is_table : IsTable problem plan)
+    (no_params : plan.params ≡ 0) (replayed : IsReplayed problem plan general names roots)
+    (atoms : List Atom) (steps : List OpInst) (goal : List Atom) (rows : List (List Derivation))
+    (support : Supports problem atoms steps goal plan.goal_vars rows) (shape : shape_of_support steps goal rows ≡ shape_of_table plan) where
   have_arguments : All (HasItsArguments problem) steps
   have_arguments k d below = (support.instances k d below).count
 
@@ -151,15 +170,22 @@ module _ (problem : Problem) (plan general : Table) (names roots : List Term) (i
   own-objects : (t : Term) → Contains (opened_terms problem plan) t → IsObject (substitute own t)
   own-objects t has = elim (Contains-append_cases step_terms (goal_slots ++ row_terms) t has) [
     | inl in_steps ↦
-        All-at IsObject (flat_map (λ (inst : OpInst). inst.args) steps) (substitute own t) (steps_terms-objects problem steps support.instances)
-        (subst (λ (l : List Term). Contains l (substitute own t)) (sym (steps_terms-under own (steps_opened plan)) ∙ ap (flat_map (λ (inst : OpInst). inst.args)) solution.steps_are) (Contains-mapped (substitute own) step_terms t in_steps))
+        All-at IsObject (flat_map (λ (inst : OpInst). inst.args) steps) (substitute own t)
+        (steps_terms-objects problem steps support.instances)
+        (subst (λ (l : List Term). Contains l (substitute own t))
+        (sym (steps_terms-under own (steps_opened plan)) ∙ ap (flat_map (λ (inst : OpInst). inst.args)) solution.steps_are)
+        (Contains-mapped (substitute own) step_terms t in_steps))
     | inr later ↦ elim (Contains-append_cases goal_slots row_terms t later) [
       | inl in_goal ↦
           All-at IsObject (own_of_goal goal) (substitute own t) (own_of_goal-are goal)
-          (subst (λ (l : List Term). Contains l (substitute own t)) solution.objects_are (Contains-mapped (substitute own) goal_slots t in_goal))
+          (subst (λ (l : List Term). Contains l (substitute own t)) solution.objects_are
+          (Contains-mapped (substitute own) goal_slots t in_goal))
       | inr in_rows ↦
-          All-at IsObject (flat_map (flat_map terms_of) rows) (substitute own t) (rows_terms-allowed IsObject problem 0 goal plan.goal_vars steps rows support.prove)
-          (subst (λ (l : List Term). Contains l (substitute own t)) (sym (rows_terms-under own (rows_opened problem plan)) ∙ ap (flat_map (flat_map terms_of)) solution.rows_are) (Contains-mapped (substitute own) row_terms t in_rows))
+          All-at IsObject (flat_map (flat_map terms_of) rows) (substitute own t)
+          (rows_terms-allowed IsObject problem 0 goal plan.goal_vars steps rows support.prove)
+          (subst (λ (l : List Term). Contains l (substitute own t))
+          (sym (rows_terms-under own (rows_opened problem plan)) ∙ ap (flat_map (flat_map terms_of)) solution.rows_are)
+          (Contains-mapped (substitute own) row_terms t in_rows))
     ]
   ]
 
@@ -169,7 +195,8 @@ module _ (problem : Problem) (plan general : Table) (names roots : List Term) (i
   values-objects : All IsObject values
   values-objects = All-places IsObject values WildCard (λ v below.
       let used = replayed.used v (omega (arith, below, values-count)) in
-      let value : substitute own used.0 ≡ slice_index_or values v WildCard = replayed.most_general.factors own solution.equal used.0 used.1 ∙ ap (substitute values) used.2 in
+      let value : substitute own used.0 ≡ slice_index_or values v WildCard =
+      replayed.most_general.factors own solution.equal used.0 used.1 ∙ ap (substitute values) used.2 in
       subst IsObject value (own-objects used.0 used.1))
 
   values-are : map Obj objects ≡ values
@@ -177,26 +204,40 @@ module _ (problem : Problem) (plan general : Table) (names roots : List Term) (i
 
   steps-are : steps ≡ steps_under general objects
   steps-are =
-      sym solution.steps_are ∙ steps-agree own values names (steps_opened plan) (All-front (Agrees own values names) step_terms (goal_slots ++ row_terms) agree)
-      ∙ ap (λ l. map (substitute_instance l) (map (substitute_instance names) (steps_opened plan))) (sym values-are) ∙ ap (map (substitute_instance (map Obj objects))) (sym replayed.steps)
+      sym solution.steps_are ∙ steps-agree own values names (steps_opened plan)
+      (All-front (Agrees own values names) step_terms (goal_slots ++ row_terms) agree)
+      ∙ ap (λ l. map (substitute_instance l) (map (substitute_instance names) (steps_opened plan))) (sym values-are)
+      ∙ ap (map (substitute_instance (map Obj objects))) (sym replayed.steps)
 
   rows-are : rows ≡ rows_under general objects
   rows-are =
-      sym solution.rows_are ∙ rows-agree own values names (rows_opened problem plan) (All-back (Agrees own values names) goal_slots row_terms (All-back (Agrees own values names) step_terms (goal_slots ++ row_terms) agree))
-      ∙ ap (λ l. map (map (derivation_under l)) (map (map (derivation_under names)) (rows_opened problem plan))) (sym values-are) ∙ ap (map (map (derivation_under (map Obj objects)))) (sym replayed.rows)
+      sym solution.rows_are ∙ rows-agree own values names (rows_opened problem plan)
+      (All-back (Agrees own values names) goal_slots row_terms
+      (All-back (Agrees own values names) step_terms (goal_slots ++ row_terms) agree))
+      ∙ ap (λ l. map (map (derivation_under l)) (map (map (derivation_under names)) (rows_opened problem plan))) (sym values-are)
+      ∙ ap (map (map (derivation_under (map Obj objects)))) (sym replayed.rows)
 
-  slot-named : (v : ℕ) → step_variables plan.steps ≤ v → v < step_variables plan.steps + goal_objects plan.goal → IsNamedAt problem plan.goal_vars general.params own names values values-count v
+  slot-named : (v : ℕ) → step_variables plan.steps ≤ v → v < step_variables plan.steps + goal_objects plan.goal
+      → IsNamedAt problem plan.goal_vars general.params own names values values-count v
   slot-named v low high =
       let has : Contains (opened_terms problem plan) (Var v) = Contains-append_right step_terms (goal_slots ++ row_terms) (Var v)
-      (Contains-append_left goal_slots row_terms (Var v) (variables-have (step_variables plan.steps) (goal_objects plan.goal) v low high)) in
-      (replayed.most_general.factors own solution.equal (Var v) has, All-at (λ t. IsName problem.objects general.params (substitute names t)) (opened_terms problem plan) (Var v) replayed.are_names has)
+      (Contains-append_left goal_slots row_terms (Var v) (variables-have (step_variables plan.steps) (goal_objects plan.goal) v low high))
+      in (
+        replayed.most_general.factors own solution.equal (Var v) has,
+        All-at (λ t. IsObjectOrParameter problem.objects general.params (substitute names t)) (opened_terms problem plan)
+            (Var v) replayed.are_names has,
+      )
 
   goal-is : goal ≡ goal_under general objects
   goal-is =
-      let goal_are : All (IsAtomOf problem plan.goal_vars) plan.goal = subst (λ (n : ℕ). All (IsAtomOf problem n) plan.goal) (omega (arith, no_params)) is_table.in_range.goal in
-      sym (named_goal-is problem plan.goal_vars general.params own names values values-count (step_variables plan.steps) plan.goal goal (ap (λ (s : SupportShape). s.goal) shape) goal_are solution.objects slot-named)
-      ∙ ap (λ l. map (substitute_atom (l ++ variables plan.goal_vars)) (named_goal names general.params (step_variables plan.steps) plan.goal)) (sym values-are)
-      ∙ ap (λ n. map (substitute_atom (map Obj objects ++ variables n)) (named_goal names general.params (step_variables plan.steps) plan.goal)) (sym replayed.goal_vars)
+      let goal_are : All (IsAtomOf problem plan.goal_vars) plan.goal =
+      subst (λ (n : ℕ). All (IsAtomOf problem n) plan.goal) (omega (arith, no_params)) is_table.in_range.goal in
+      sym (named_goal-is problem plan.goal_vars general.params own names values values-count (step_variables plan.steps) plan.goal goal
+      (ap (λ (s : SupportShape). s.goal) shape) goal_are solution.objects slot-named)
+      ∙ ap (λ l. map (substitute_atom (l ++ variables plan.goal_vars))
+      (named_goal names general.params (step_variables plan.steps) plan.goal)) (sym values-are)
+      ∙ ap (λ n. map (substitute_atom (map Obj objects ++ variables n))
+      (named_goal names general.params (step_variables plan.steps) plan.goal)) (sym replayed.goal_vars)
       ∙ ap (map (substitute_atom (map Obj objects ++ variables general.goal_vars))) (sym replayed.goal)
 
   -- the instance of each mark of the general table is a mark of the support
@@ -219,9 +260,13 @@ module _ (problem : Problem) (plan general : Table) (names roots : List Term) (i
         let from = Contains-from_map (atom_under objects) (kernel_of general 1) atom has in
         let mark = from_kernel general 1 from.0 from.1 in
         subst (Contains atoms) (ap (atom_under objects) mark.2 ∙ from.2)
-        (All-at (λ (m : Mark). m.column ≡ 0 → Contains atoms m.atom) (marks_from 1 rows) (mark_under objects mark.0) support.given (mark-there mark.0 mark.1) (omega (arith, mark.4))));
+        (All-at (λ (m : Mark). m.column ≡ 0 → Contains atoms m.atom) (marks_from 1 rows) (mark_under objects mark.0) support.given
+        (mark-there mark.0 mark.1) (omega (arith, mark.4))));
   }
 
-pub general_for : (problem : Problem) (plan general : Table) (names roots : List Term) → IsTable problem plan → plan.params ≡ 0 → IsReplayed problem plan general names roots → IsGeneralFor problem plan general
-general_for problem plan general names roots is_table no_params replayed atoms steps goal rows support shape =
-    (objects problem plan general names roots is_table no_params replayed atoms steps goal rows support shape, support-is_instance problem plan general names roots is_table no_params replayed atoms steps goal rows support shape)
+pub general_for : (problem : Problem) (plan general : Table) (names roots : List Term) → IsTable problem plan → plan.params ≡ 0
+    → IsReplayed problem plan general names roots → IsGeneralFor problem plan general
+general_for problem plan general names roots is_table no_params replayed atoms steps goal rows support shape = (
+  objects problem plan general names roots is_table no_params replayed atoms steps goal rows support shape,
+  support-is_instance problem plan general names roots is_table no_params replayed atoms steps goal rows support shape,
+)

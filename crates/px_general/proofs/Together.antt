@@ -11,7 +11,8 @@ use Rattle.px_general.proofs.GeneralTable.{general-is_table}
 use Rattle.px_general.proofs.Shaped.{sound_for}
 use Rattle.px_general.proofs.SupportInstances.{general_for}
 
-pub generalises : (problem : Problem) (plan general : Table) (names roots : List Term) → IsValid problem → IsTable problem plan → plan.params ≡ 0 → IsReplayed problem plan general names roots → IsNumbered general → Generalises problem plan general
+pub generalises : (problem : Problem) (plan general : Table) (names roots : List Term) → IsValid problem → IsTable problem plan
+    → plan.params ≡ 0 → IsReplayed problem plan general names roots → IsNumbered general → Generalises problem plan general
 generalises problem plan general names roots valid is_table no_params replayed numbered =
     let is_general = general-is_table problem valid plan general names roots is_table no_params replayed in
     record {

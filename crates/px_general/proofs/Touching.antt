@@ -19,12 +19,13 @@ use Rattle.px_table.specs.Marks.{IsKept, IsNamed}
 use Rattle.px_table.specs.Supports.{IsProofOf, Supports}
 use Rattle.px_table.specs.SupportShapes.{shape_of_support}
 use Rattle.px_table.specs.Tables.{rows_of}
-use Rattle.px_general.specs.General.{Generalises, IsNumbered, is_parameter, row_terms, shape_of}
+use Rattle.px_general.specs.General.{Generalises, IsNumbered, is_parameter, row_terms, shape_of_table}
 use Rattle.px_replay.specs.FreshVariables.{fresh_in, fresh_variables}
 use Rattle.px_general.specs.WorkedGeneral.{GeneralFacts, of_second, plan, touch, touched, touching, touching_twice}
 
 -- the proofs of the table, as derivations
-rows_are : (params : ℕ) (first second : Term) → rows_of (touching_twice params first second).proofs ≡ [] ∷ [] ∷ (fact (of_second second) ∷ []) ∷ []
+rows_are : (params : ℕ) (first second : Term)
+    → rows_of (touching_twice params first second).proofs ≡ [] ∷ [] ∷ (fact (of_second second) ∷ []) ∷ []
 rows_are params first second = ap (λ (d : Derivation). [] ∷ [] ∷ (d ∷ []) ∷ []) (derivation_of-fact (of_second second))
 
 -- ---- numbers
@@ -63,14 +64,22 @@ is_proof = record { proves = (refl, (Contains-first (touched (Obj 1)) [], one Is
 
 supports : Supports touching [] other_steps other_goal 0 other_rows
 supports = record {
-  instances = All-cons (IsGroundInstanceOf touching) (touch (Obj 0)) (touch (Obj 1) ∷ []) (is_step 0) (one (IsGroundInstanceOf touching) (touch (Obj 1)) (is_step 1));
+  instances =
+      All-cons (IsGroundInstanceOf touching) (touch (Obj 0)) (touch (Obj 1) ∷ []) (is_step 0)
+      (one (IsGroundInstanceOf touching) (touch (Obj 1)) (is_step 1));
   prove = (tt, (tt, ([], refl, (is_proof, tt))));
-  named = one (IsNamed touching other_steps) its_mark (record { earlier = omega arith; initial = λ e. absurd (omega (arith, e)); added = λ _. (touch (Obj 1), refl, refl) });
+  named =
+      one (IsNamed touching other_steps) its_mark (record {
+        earlier =
+            omega arith;
+        initial = λ e. absurd (omega (arith, e));
+        added = λ _. (touch (Obj 1), refl, refl);
+      });
   given = one (λ (mark : Mark). mark.column ≡ 0 → Contains [] mark.atom) its_mark (λ e. absurd (omega (arith, e)));
   kept = one (IsKept touching other_steps 1) its_mark (λ k inst first after before at deleted. absurd (omega (arith, after, before)));
 }
 
-same_shape : shape_of_support other_steps other_goal other_rows ≡ shape_of plan
+same_shape : shape_of_support other_steps other_goal other_rows ≡ shape_of_table plan
 same_shape = ap (shape_of_support plan.steps plan.goal) (sym (rows_are 0 (Obj 0) (Obj 0)))
 
 -- both steps of the support aren't one

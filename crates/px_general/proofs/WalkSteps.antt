@@ -17,10 +17,12 @@ use Rattle.px_general.specs.Naming.{args_of_leaves, leaf_terms}
 pub collected : {X A : Type 0} (f : X → List A) (xs : List X) (k : ℕ) (x : X) (start now after : List A) → k < length xs → x ≡ get_or xs k x
     → now ≡ start ++ flat_map f (take k xs) → after ≡ now ++ f x → after ≡ start ++ flat_map f (take (k + 1) xs)
 collected f xs k x start now after below is now_is after_is =
-    after_is ∙ ap (λ l. l ++ f x) now_is ∙ flat_map_more f start (take k xs) x ∙ ap (λ l. start ++ flat_map f l) (sym (take_next xs k x below is))
+    after_is ∙ ap (λ l. l ++ f x) now_is ∙ flat_map_more f start (take k xs) x
+    ∙ ap (λ l. start ++ flat_map f l) (sym (take_next xs k x below is))
 
 -- all items
-pub collected_all : {X A : Type 0} (f : X → List A) (xs : List X) (k : ℕ) (start now : List A) → length xs ≤ k → now ≡ start ++ flat_map f (take k xs) → now ≡ start ++ flat_map f xs
+pub collected_all : {X A : Type 0} (f : X → List A) (xs : List X) (k : ℕ) (start now : List A) → length xs ≤ k
+    → now ≡ start ++ flat_map f (take k xs) → now ≡ start ++ flat_map f xs
 collected_all f xs k start now past now_is = now_is ∙ ap (λ l. start ++ flat_map f l) (whole_taken xs (take k xs) k refl past)
 
 -- ---- the terms of proofs
@@ -41,7 +43,8 @@ each-row (p ∷ row) = ap (λ l. proof_terms p ++ l) (each-row row)
 
 pub rows-terms : (rows : List (List Proof)) → flat_map row_terms_of rows ≡ row_terms (rows_of rows)
 rows-terms [] = refl
-rows-terms (row ∷ rows) = ap (λ l. l ++ flat_map row_terms_of rows) (each-row row) ∙ ap (λ l. flat_map terms_of (map derivation_of row) ++ l) (rows-terms rows)
+rows-terms (row ∷ rows) =
+    ap (λ l. l ++ flat_map row_terms_of rows) (each-row row) ∙ ap (λ l. flat_map terms_of (map derivation_of row) ++ l) (rows-terms rows)
 
 -- ---- the terms of leaves
 
@@ -50,11 +53,14 @@ proof_leaf_terms p = args_of_leaves (leaves_of (derivation_of p))
 
 args-append : (xs ys : List Leaf) → args_of_leaves (xs ++ ys) ≡ args_of_leaves xs ++ args_of_leaves ys
 args-append [] ys = refl
-args-append (x ∷ xs) ys = ap (λ l. x.atom.args ++ l) (args-append xs ys) ∙ sym (append_assoc x.atom.args (args_of_leaves xs) (args_of_leaves ys))
+args-append (x ∷ xs) ys =
+    ap (λ l. x.atom.args ++ l) (args-append xs ys) ∙ sym (append_assoc x.atom.args (args_of_leaves xs) (args_of_leaves ys))
 
 pub row-leaf_terms : (row : List Proof) → flat_map proof_leaf_terms row ≡ args_of_leaves (row_leaves (map derivation_of row))
 row-leaf_terms [] = refl
-row-leaf_terms (p ∷ row) = ap (λ l. proof_leaf_terms p ++ l) (row-leaf_terms row) ∙ sym (args-append (leaves_of (derivation_of p)) (row_leaves (map derivation_of row)))
+row-leaf_terms (p ∷ row) =
+    ap (λ l. proof_leaf_terms p ++ l) (row-leaf_terms row)
+    ∙ sym (args-append (leaves_of (derivation_of p)) (row_leaves (map derivation_of row)))
 
 abbrev pub row_leaf_terms_of : List Proof → List Term
 row_leaf_terms_of row = args_of_leaves (row_leaves (map derivation_of row))

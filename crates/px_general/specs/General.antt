@@ -17,8 +17,8 @@ use Rattle.px_table.specs.SupportShapes.{SupportShape, shape_of_support}
 use Rattle.px_table.specs.Tables.{IsTable, rows_of}
 
 -- the shape of a table's own steps, goal and proofs
-abbrev pub shape_of : Table → SupportShape
-shape_of table = shape_of_support table.steps table.goal (rows_of table.proofs)
+abbrev pub shape_of_table : Table → SupportShape
+shape_of_table table = shape_of_support table.steps table.goal (rows_of table.proofs)
 
 -- the steps, the goal and the proofs are the table's with these objects for its parameters, which are proper from the first step on,
 -- and the atoms have its first kernel
@@ -64,13 +64,13 @@ abbrev pub IsSoundFor : Problem → Table → Table → Type 0
 IsSoundFor problem plan general =
     (objects : List ℕ) (atoms : List Atom) (steps : List OpInst) (goal : List Atom) (rows : List (List Derivation))
     → IsTableInstance problem general objects atoms steps goal rows
-    → Supports problem atoms steps goal plan.goal_vars rows × (shape_of_support steps goal rows ≡ shape_of plan)
+    → Supports problem atoms steps goal plan.goal_vars rows × (shape_of_support steps goal rows ≡ shape_of_table plan)
 
 -- each support of the plan's shape is a proper instance
 abbrev pub IsGeneralFor : Problem → Table → Table → Type 0
 IsGeneralFor problem plan general =
     (atoms : List Atom) (steps : List OpInst) (goal : List Atom) (rows : List (List Derivation))
-    → Supports problem atoms steps goal plan.goal_vars rows → shape_of_support steps goal rows ≡ shape_of plan
+    → Supports problem atoms steps goal plan.goal_vars rows → shape_of_support steps goal rows ≡ shape_of_table plan
     → (objects : List ℕ) × IsTableInstance problem general objects atoms steps goal rows
 
 -- The plan's table has no parameters, and the proper instances of the general one are the supports of the plan's shape. Any whole
@@ -83,7 +83,7 @@ pub record Generalises (problem : Problem) (plan general : Table) : Type 0 where
   pub sound : IsSoundFor problem plan general
   pub all : IsGeneralFor problem plan general
 
--- A plan whose own steps delete nothing that its later rows rest on has at most one general table. (Of other plans that isn't so: where
+-- A plan whose own steps delete nothing that its later rows rest on has at most one general table. (This isn't so of other plans: where
 -- no support has the plan's shape, each table without proper instances generalises it.)
 abbrev pub GeneralIsOne : Type 0
 GeneralIsOne = (problem : Problem) (plan one other : Table) → IsValid problem → IsTable problem plan → IsProper problem plan [] 1

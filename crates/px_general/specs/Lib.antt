@@ -1,3 +1,4 @@
+-- The files of definitions and laws.
 pub mod General
 pub mod Limits
 pub mod Naming

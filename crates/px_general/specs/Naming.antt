@@ -13,11 +13,11 @@ use Rattle.px_proof.specs.declared.proof.Leaf.{Leaf}
 use Rattle.px_proof.specs.Derivation.{Derivation, terms_of}
 use Rattle.px_table.specs.declared.table.Table.{Table}
 use Rattle.px_proof.specs.Substitution.{derivation_under}
-use Rattle.px_terms.specs.Substitution.{substitute_instance}
+use Rattle.px_terms.specs.Substitution.{substitute_instance, variables_from}
 use Rattle.px_table.specs.Marks.{marks_from, row_leaves}
 use Rattle.px_table.specs.Tables.{rows_of}
 use Rattle.px_table.specs.Once.{each_once}
-use Rattle.px_table.specs.Supports.{variables, variables_from}
+use Rattle.px_table.specs.Supports.{variables}
 use Rattle.px_general.specs.General.{is_parameter}
 use Rattle.px_replay.specs.Opened.{goal_objects, named_goal, rows_opened, step_variables, steps_opened}
 
@@ -58,20 +58,20 @@ walked_terms problem plan =
     ++ flat_map (flat_map terms_of) (rows_opened problem plan)))
 
 -- along the walk the names are the parameters in order, where each stands first
-abbrev pub AreNumbered : Problem → Table → List Term → ℕ → Type 0
-AreNumbered problem plan names params = each_once term_eq (filter (is_parameter params)
+abbrev pub AreParametersNumbered : Problem → Table → List Term → ℕ → Type 0
+AreParametersNumbered problem plan names params = each_once term_eq (filter (is_parameter params)
     (map (substitute names) (walked_terms problem plan))) ≡ variables params
 
-abbrev pub is_variable : Term → Bool
-is_variable (Obj n) = false
-is_variable (Var v) = true
-is_variable WildCard = false
+abbrev pub is_variable_term : Term → Bool
+is_variable_term (Obj n) = false
+is_variable_term (Var v) = true
+is_variable_term WildCard = false
 
 -- the variables that the terms are bound to in the end, each where it stands first
 abbrev pub roots_of : List Term → List Term → List Term
-roots_of resolved walked = each_once term_eq (filter is_variable (map (substitute resolved) walked))
+roots_of resolved walked = each_once term_eq (filter is_variable_term (map (substitute resolved) walked))
 
--- So many labels were given along the walk: the root at place p has the label that is parameter p, and nothing else has one.
+-- `next` labels were given along the walk: the root at place p has the label that is parameter p, and nothing else has one.
 pub record AreLabels (resolved labels : List Term) (next : ℕ) (walked : List Term) : Type 0 where
   pub count : length (roots_of resolved walked) ≡ next
   pub exact : (v p : ℕ) → (slice_get labels v ≡ Some (Var p)) ↔ (slice_get (roots_of resolved walked) p ≡ Some (Var v))
@@ -90,7 +90,7 @@ pub record IsMadeOf (steps : List OpInst) (rows : List (List Derivation)) (first
 abbrev pub IsBuilt : Problem → Table → Table → List Term → Type 0
 IsBuilt problem plan general names = IsMadeOf (steps_opened plan) (rows_opened problem plan) (step_variables plan.steps) plan general names
 
--- Bindings of this number of variables fit just what makes the pairs equal, and each variable was followed to its end in them.
+-- Bindings of this number of variables fit exactly what makes the pairs equal, and each variable was followed to its end in them.
 pub record IsSolvedBy (changes : List Change) (pairs : List (Atom × Atom)) (count : ℕ) (resolved : List Term) : Type 0 where
   pub solutions : HasSolutions changes
   pub fits : (terms : List Term) → Fits terms changes ↔ MakesEachEqual pairs terms

@@ -7,7 +7,7 @@ use Rattle.px_terms.specs.declared.term.Term.TheVariants.{Var}
 use Rattle.px_terms.specs.Language.{substitute}
 use Rattle.px_terms.specs.Substitution.{substitute_instance}
 use Rattle.px_unify.specs.Changes.{MakesEachEqual}
-use Rattle.px_proof.specs.Proves.{IsName}
+use Rattle.px_proof.specs.Proves.{IsObjectOrParameter}
 use Rattle.px_proof.specs.Substitution.{derivation_under}
 use Rattle.px_table.specs.declared.table.Table.{Table}
 use Rattle.px_table.specs.Marks.{marks_from}
@@ -26,7 +26,7 @@ pub record IsMostGeneral (pairs : List (Atom × Atom)) (at : List Term) (names r
 -- The table is the opened plan under a most general solution of the replay, in whose terms each parameter occurs.
 pub record IsReplayed (problem : Problem) (plan general : Table) (names roots : List Term) : Type 0 where
   pub most_general : IsMostGeneral (replay_pairs problem plan) (opened_terms problem plan) names roots
-  pub are_names : All (λ t. IsName problem.objects general.params (substitute names t)) (opened_terms problem plan)
+  pub are_names : All (λ t. IsObjectOrParameter problem.objects general.params (substitute names t)) (opened_terms problem plan)
   pub used : (v : ℕ) → v < general.params → (t : Term) × Contains (opened_terms problem plan) t × (substitute names t ≡ Var v)
   pub count : length roots ≡ general.params
   pub steps : general.steps ≡ map (substitute_instance names) (steps_opened plan)

@@ -55,8 +55,8 @@ mixed_proof =
     (also (fact (record { column = 0; index = 0; atom = record { pred = 1; args = Obj 0 ∷ Obj 1 ∷ [] } }))
     (also (fact (of_second (Obj 0))) none))
 
--- The parameter of the second step occurs first, in the mark. Two parameters in the other order aren't numbered so; the plan itself and
--- the table with one parameter for both things don't generalise the plan.
+-- The parameter of the second step occurs first, in the mark. With the two parameters in the other order the table isn't numbered; the
+-- plan itself and the table with one parameter for both things don't generalise the plan.
 pub record GeneralFacts : Type 0 where
   pub numbered : IsNumbered (touching_twice 2 (Var 1) (Var 0))
   pub misnumbered : ¬ IsNumbered (touching_twice 2 (Var 0) (Var 1))

@@ -15,7 +15,7 @@ use px_table::Row;
 use px_terms::{OpInst, Term, apply_inst};
 use std::alloc::Global;
 
-/// The steps with these names for their variables.
+/// Returns the steps with these names for their variables.
 pub fn named_steps(alloc: Global, names: &[Term], steps: &[OpInst]) -> Result<Vec<OpInst>, NoMemory>
     requires { All (IsVariableBelow (length names.now)) (step_terms steps.now) }
     ensures { IfOk result (λ made. made.items ≡ map (substitute_instance names.now) steps.now) }
@@ -27,7 +27,7 @@ pub fn named_steps(alloc: Global, names: &[Term], steps: &[OpInst]) -> Result<Ve
     Ok(made)
 }
 
-/// The rows with these names for their variables.
+/// Returns the rows with these names for their variables.
 pub fn named_rows(alloc: Global, names: &[Term], rows: &[Row]) -> Result<Vec<Row>, NoMemory>
     requires { All (IsVariableBelow (length names.now)) (row_terms (rows_of rows.now)) }
     ensures { IfOk result (λ made. rows_of made.items ≡ map (map (derivation_under names.now)) (rows_of rows.now)) }
@@ -40,7 +40,7 @@ pub fn named_rows(alloc: Global, names: &[Term], rows: &[Row]) -> Result<Vec<Row
     Ok(made)
 }
 
-/// The proofs with these names for their variables.
+/// Returns the proofs with these names for their variables.
 fn named_proofs(alloc: Global, names: &[Term], proofs: &[Proof]) -> Result<Vec<Proof>, NoMemory>
     requires { All (IsVariableBelow (length names.now)) (flat_map terms_of (map derivation_of proofs.now)) }
     ensures { IfOk result (λ made. map derivation_of made.items ≡ map (derivation_under names.now) (map derivation_of proofs.now)) }

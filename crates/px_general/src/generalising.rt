@@ -28,8 +28,8 @@ use std::alloc::Global;
 /// Returns the table whose proper instances are the supports of the plan's shape.
 ///
 /// # Errors
-/// `TooLong` exactly of more than 64 steps; `TooDeep` exactly of at most 64 steps and a proof that is higher than 56; `TooWide` exactly
-/// where neither is so and the plan takes more than 1,000,000 fresh variables; `NoMemory`.
+/// `TooLong` exactly where there are more than 64 steps; `TooDeep` exactly where there are at most 64 steps and a proof is higher than 56;
+/// `TooWide` exactly where neither is so and the plan takes more than 1,000,000 fresh variables; `NoMemory` where there is no memory.
 pub fn generalise(alloc: Global, problem: &Problem, table: &Table) -> Result<Table, GeneralErr>
     requires problem { IsValid problem.now }
     requires table { IsTable problem.now table.now }
@@ -40,7 +40,7 @@ pub fn generalise(alloc: Global, problem: &Problem, table: &Table) -> Result<Tab
     // Each proper instance of each of its kernels carries the steps that are left to the goal.
     ensures kernels { IfOk result (λ general. KernelsCarry problem.now general) }
 
-    // Each refusal comes just where it is so, the first in this order.
+    // Each refusal comes exactly where its cause is there and none before it in this order is.
     ensures too_long { (result ≡ Err GeneralErr.TooLong) ↔ IsTooLong table.now }
     ensures too_deep { (result ≡ Err GeneralErr.TooDeep) ↔ ((¬ IsTooLong table.now) × IsTooDeep table.now) }
     ensures too_wide { (result ≡ Err GeneralErr.TooWide) ↔ ((¬ IsTooLong table.now) × (¬ IsTooDeep table.now) × IsTooWide table.now) }
@@ -61,7 +61,7 @@ pub fn generalise(alloc: Global, problem: &Problem, table: &Table) -> Result<Tab
     }
 }
 
-/// The general table of a plan that takes `count` fresh variables.
+/// Returns the general table of a plan that takes `count` fresh variables.
 fn general_table(
     alloc: Global,
     problem: &Problem,
@@ -89,7 +89,7 @@ fn general_table(
     build_general(alloc, table, &plan, labels.params, &names)
 }
 
-/// What each of `count` fresh variables is bound to after the replay of the plan.
+/// Returns what each of `count` fresh variables is bound to after the replay of the plan.
 fn replayed(
     alloc: Global,
     problem: &Problem,
@@ -121,7 +121,7 @@ fn replayed(
     resolve_all(alloc, &bind)
 }
 
-/// The table of the opened plan with these names for its variables.
+/// Returns the table of the opened plan with these names for its variables.
 fn build_general(
     alloc: Global,
     table: &Table,

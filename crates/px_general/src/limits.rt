@@ -7,21 +7,21 @@ ghost use Rattle.px_general.specs.Limits.{IsTooDeep};
 use px_proof::{Proof, higher_than};
 use px_table::{Row, Table};
 
-/// Is a proof of the plan higher than 56?
+/// Returns whether a proof of the plan is higher than 56.
 pub fn is_too_deep(table: &Table) -> bool
     ensures { IsTrue result ↔ IsTooDeep table.now }
 {
     has_high_row(table.proofs.as_slice())
 }
 
-/// Is a proof of the rows higher than 56?
+/// Returns whether a proof of the rows is higher than 56.
 fn has_high_row(rows: &[Row]) -> bool
     ensures { IsTrue result ↔ Any (λ row. Any (λ proof. 56 < height (derivation_of proof)) row) rows.now }
 {
     rows.iter().any(|row| has_high_proof(row.proofs()))
 }
 
-/// Is one of the proofs higher than 56?
+/// Returns whether one of the proofs is higher than 56.
 fn has_high_proof(proofs: &[Proof]) -> bool
     ensures { IsTrue result ↔ Any (λ proof. 56 < height (derivation_of proof)) proofs.now }
 {

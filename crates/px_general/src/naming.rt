@@ -6,12 +6,11 @@ ghost use Rattle.px_terms.specs.Language.{IsVariableBelow};
 ghost use Rattle.px_general.specs.Naming.{AreLabels, HasRootsBelow, IsResolved, unlabelled};
 
 use px_base::{NoMemory, push};
-use px_proof::apply_term;
-use px_terms::Term;
+use px_terms::{Term, apply_term};
 use px_unify::Bind;
 use std::alloc::Global;
 
-/// What each variable is bound to in the end.
+/// Returns what each variable is bound to in the end.
 pub fn resolve_all(alloc: Global, bind: &Bind) -> Result<Vec<Term>, NoMemory>
     ensures { IfOk result (λ resolved. IsResolved bind.now resolved.items) }
 {
@@ -23,7 +22,7 @@ pub fn resolve_all(alloc: Global, bind: &Bind) -> Result<Vec<Term>, NoMemory>
     Ok(resolved)
 }
 
-/// Gives the root of the term the next label, if it is a variable without one. Answers the next label then.
+/// Gives the root of the term the next label, if it is a variable without one. Returns the label that is then next.
 fn label(labels: &mut [Term], next: u32, resolved: &[Term], term: Term) -> u32
     requires room { next + unlabelled labels.old ≤ 1000000 }
     requires roots { HasRootsBelow (length labels.old) resolved.now }
@@ -45,7 +44,7 @@ fn label(labels: &mut [Term], next: u32, resolved: &[Term], term: Term) -> u32
     }
 }
 
-/// The same of each of the terms, in order.
+/// Gives the roots of the terms their labels, in order. Returns the label that is then next.
 fn label_each(labels: &mut [Term], next: u32, resolved: &[Term], terms: &[Term]) -> u32
     requires room { next + unlabelled labels.old ≤ 1000000 }
     requires roots { HasRootsBelow (length labels.old) resolved.now }
@@ -62,7 +61,7 @@ fn label_each(labels: &mut [Term], next: u32, resolved: &[Term], terms: &[Term])
     given
 }
 
-/// `count` wild cards.
+/// Returns `count` wild cards.
 fn no_labels(alloc: Global, count: usize) -> Result<Vec<Term>, NoMemory>
     ensures { IfOk result (λ labels. labels.items ≡ replicate count WildCard) }
 {
@@ -79,7 +78,7 @@ pub struct Labels {
     pub terms: Vec<Term>,
 }
 
-/// Numbers what the terms are bound to as it first occurs.
+/// Numbers the variables that the terms are bound to in the order in which they first occur.
 pub fn labels_along(alloc: Global, resolved: &[Term], walked: &[Term]) -> Result<Labels, NoMemory>
     requires few { length resolved.now ≤ 1000000 }
     requires roots { HasRootsBelow (length resolved.now) resolved.now }

@@ -3,7 +3,7 @@ ghost use Rattle.std.specs.Prelude.{◌≡◌, ◌≤◌, ◌+◌, ◌++◌, IfO
 ghost use Rattle.px_proof.specs.Derivation.{all_terms_of, derivations, terms_of};
 ghost use Rattle.px_proof.specs.ProofTerm.{derivation_of};
 ghost use Rattle.px_table.specs.Marks.{row_leaves};
-ghost use Rattle.px_table.specs.Supports.{variables_from};
+ghost use Rattle.px_terms.specs.Substitution.{variables_from};
 ghost use Rattle.px_table.specs.Tables.{rows_of};
 ghost use Rattle.px_general.specs.Naming.{args_of_leaves, leaf_terms};
 ghost use Rattle.px_general.specs.General.{row_terms, step_terms};
@@ -15,7 +15,7 @@ use px_table::Row;
 use px_terms::{OpInst, Term};
 use std::alloc::Global;
 
-/// The terms of the leaves by rows, those of the steps, `objects` variables from number `first` on, and the terms of the proofs.
+/// Returns the terms of the leaves by rows, those of the steps, `objects` variables from number `first` on, and the terms of the proofs.
 pub fn walk(
     alloc: Global,
     steps: &[OpInst],
@@ -36,7 +36,7 @@ pub fn walk(
     Ok(walked)
 }
 
-/// Puts the terms of the leaves last, by rows.
+/// Appends the terms of the leaves, by rows.
 fn add_leaves(walked: &mut Vec<Term>, alloc: Global, rows: &[Row]) -> Result<(), NoMemory>
     ensures { IfOk result (λ _. walked.new.items ≡ walked.old.items ++ leaf_terms (rows_of rows.now)) }
 {
@@ -46,7 +46,7 @@ fn add_leaves(walked: &mut Vec<Term>, alloc: Global, rows: &[Row]) -> Result<(),
     Ok(())
 }
 
-/// Puts the terms of the proofs' leaves last.
+/// Appends the terms of the proofs' leaves.
 fn add_row_leaves(walked: &mut Vec<Term>, alloc: Global, proofs: &[Proof]) -> Result<(), NoMemory>
     ensures { IfOk result (λ _. walked.new.items ≡ walked.old.items ++ args_of_leaves (row_leaves (map derivation_of proofs.now))) }
 {
@@ -57,7 +57,7 @@ fn add_row_leaves(walked: &mut Vec<Term>, alloc: Global, proofs: &[Proof]) -> Re
     Ok(())
 }
 
-/// Puts the leaves' arguments last.
+/// Appends the leaves' arguments.
 fn add_args(walked: &mut Vec<Term>, leaves: &[Leaf]) -> Result<(), NoMemory>
     ensures { IfOk result (λ _. walked.new.items ≡ walked.old.items ++ args_of_leaves leaves.now) }
 {
@@ -67,7 +67,7 @@ fn add_args(walked: &mut Vec<Term>, leaves: &[Leaf]) -> Result<(), NoMemory>
     Ok(())
 }
 
-/// Puts the steps' arguments last.
+/// Appends the steps' arguments.
 fn add_steps(walked: &mut Vec<Term>, steps: &[OpInst]) -> Result<(), NoMemory>
     ensures { IfOk result (λ _. walked.new.items ≡ walked.old.items ++ step_terms steps.now) }
 {
@@ -77,7 +77,7 @@ fn add_steps(walked: &mut Vec<Term>, steps: &[OpInst]) -> Result<(), NoMemory>
     Ok(())
 }
 
-/// Puts the terms of the proofs last, by rows.
+/// Appends the terms of the proofs, by rows.
 fn add_rows(walked: &mut Vec<Term>, rows: &[Row]) -> Result<(), NoMemory>
     ensures { IfOk result (λ _. walked.new.items ≡ walked.old.items ++ row_terms (rows_of rows.now)) }
 {
@@ -87,7 +87,7 @@ fn add_rows(walked: &mut Vec<Term>, rows: &[Row]) -> Result<(), NoMemory>
     Ok(())
 }
 
-/// Puts the terms of the proof last, in preorder.
+/// Appends the terms of the proof, in preorder.
 #[cycle(terms)]
 fn add_proof(walked: &mut Vec<Term>, proof: &Proof) -> Result<(), NoMemory>
     ensures { IfOk result (λ _. walked.new.items ≡ walked.old.items ++ terms_of (derivation_of proof.now)) }
@@ -103,7 +103,7 @@ fn add_proof(walked: &mut Vec<Term>, proof: &Proof) -> Result<(), NoMemory>
     }
 }
 
-/// The same of each of the proofs.
+/// Appends the terms of each of the proofs.
 #[cycle(terms)]
 fn add_each(walked: &mut Vec<Term>, proofs: &[Proof]) -> Result<(), NoMemory>
     ensures { IfOk result (λ _. walked.new.items ≡ walked.old.items ++ all_terms_of (derivations (map derivation_of proofs.now))) }

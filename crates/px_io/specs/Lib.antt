@@ -1,3 +1,4 @@
+-- The files of definitions and laws.
 pub mod Causes
 pub mod Reading
 pub mod Writing

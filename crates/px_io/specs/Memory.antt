@@ -24,10 +24,6 @@ pub record SinkValue : Type 0 where
 abbrev pub next_call : ℕ → ℕ
 next_call call = min (call + 1) (2 ^ 32 - 1)
 
--- one more fault, which stops at the last value of 64 bits
-abbrev pub next_fault : ℕ → ℕ
-next_fault faults = min (faults + 1) (2 ^ 64 - 1)
-
 -- no call is listed as one that fails
 abbrev pub lists_none : List ℕ → Bool
 lists_none [] = true

@@ -11,9 +11,9 @@ pub record AppendsFront (old new : Option (List ℕ)) (text front rest : List �
 abbrev pub AppendsProperFront : Option (List ℕ) → Option (List ℕ) → List ℕ → Type 0
 AppendsProperFront old new text = (front : List ℕ) × (rest : List ℕ) × AppendsFront old new text front rest × (0 < length rest)
 
--- A sink holds all that it is sure to take. Where it is sure of nothing, or doesn't tell what it holds, nothing is said.
-abbrev pub IsFull : Option ℕ → Option (List ℕ) → Type 0
-IsFull sure written = IfSome sure (λ room. IfSome written (λ held. room ≤ length held))
+-- A sink holds all that it is sure to take. Where it is sure of nothing, or doesn't show what it holds, nothing is said.
+abbrev pub FillsItsRoom : Option ℕ → Option (List ℕ) → Type 0
+FillsItsRoom sure written = IfSome sure (λ room. IfSome written (λ held. room ≤ length held))
 
 -- what a sink holds and the text together are more than it is sure to take
 abbrev pub HasNoRoomFor : Option ℕ → Option (List ℕ) → List ℕ → Type 0

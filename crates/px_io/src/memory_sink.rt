@@ -2,9 +2,10 @@
 ghost use Rattle.std.specs.Prelude.{◌≡◌, ◌≤◌, ◌<◌, ◌+◌, ◌-◌, ◌^◌, ◌++◌, ◌↔◌, ◌⊎◌, [], ℕ, length, take, min, Contains, IsErr, IsTrue, IfOk, OnErr, Some};
 ghost use Rattle.std.specs.Io.{WritesAtMost};
 ghost use Rattle.std.specs.Io.KnownBytes.{WriteAppends};
+ghost use Rattle.px_base.specs.Counting.{next_count};
 ghost use Rattle.px_io.specs.Causes.{HasCause};
-ghost use Rattle.px_io.specs.Writing.{IsFull};
-ghost use Rattle.px_io.specs.Memory.{next_call, next_fault, sure_room, WriteFails};
+ghost use Rattle.px_io.specs.Writing.{FillsItsRoom};
+ghost use Rattle.px_io.specs.Memory.{next_call, sure_room, WriteFails};
 
 use crate::{Failed, NoMemory, Sink};
 use std::alloc::Global;
@@ -34,8 +35,8 @@ impl Model for MemSink {
 }
 
 impl MemSink {
-    /// Returns an empty sink with room for `room` bytes. A write fails whose number, counted from 0, stands in `failing`;
-    /// the counting stops at the last number of 32 bits, which can't be listed.
+    /// Returns an empty sink with room for `room` bytes. A write fails if its number, counted from 0, stands in `failing`; the counting
+    /// stops at the last number of 32 bits, which can't be listed.
     ///
     /// # Errors
     /// `NoMemory` where there is no memory for the room.
@@ -52,7 +53,7 @@ impl MemSink {
         })
     }
 
-    // Does the next write of `len` bytes fail?
+    // Returns whether the next write of `len` bytes fails.
     fn fails(&self, len: usize) -> bool
         ensures { IsTrue result ↔ WriteFails self.now len }
     {
@@ -80,13 +81,13 @@ impl Sink for MemSink {
         ensures bytes { WriteAppends (Some self.old.written) (Some self.new.written) result bytes.now }
         ensures progress { IfOk result (λ count. 0 < length bytes.now → 0 < count) }
         ensures cause { HasCause self.old.faults self.new.faults result }
-        ensures full { OnErr result (IsFull (sure_room self.old) (Some self.old.written)) }
+        ensures full { OnErr result (FillsItsRoom (sure_room self.old) (Some self.old.written)) }
         ensures nature { sure_room self.new ≡ sure_room self.old }
         ensures listed { IsErr result ↔ WriteFails self.old (length bytes.now) }
         ensures amount { IfOk result (λ count. count ≡ min (length bytes.now) (self.old.room - length self.old.written)) }
         ensures ok { IfOk result (λ count. self.new ≡ record self.old
             { written = self.old.written ++ take count bytes.now; call = next_call self.old.call }) }
-        ensures err { OnErr result (self.new ≡ record self.old { call = next_call self.old.call; faults = next_fault self.old.faults }) }
+        ensures err { OnErr result (self.new ≡ record self.old { call = next_call self.old.call; faults = next_count self.old.faults }) }
     {
         let fails = self.fails(bytes.len());
         self.call = self.call.saturating_add(1);

@@ -3,8 +3,9 @@ ghost use Rattle.std.specs.Prelude.{◌≡◌, ◌≤◌, ◌+◌, ◌-◌, ◌^
 ghost use Rattle.std.specs.Result.{result_unwrap_or};
 ghost use Rattle.std.specs.Io.{ReadsAtMost};
 ghost use Rattle.std.specs.Io.KnownBytes.{ReadConsumes};
+ghost use Rattle.px_base.specs.Counting.{next_count};
 ghost use Rattle.px_io.specs.Causes.{HasCause};
-ghost use Rattle.px_io.specs.Memory.{next_call, next_fault, lists_none};
+ghost use Rattle.px_io.specs.Memory.{next_call, lists_none};
 
 use crate::{Failed, Source};
 use std::marker::Model;
@@ -40,8 +41,8 @@ impl Model for MemSource {
 }
 
 impl MemSource {
-    /// Returns a source of `bytes` that gives at most `most` of them at a read. A read fails whose number, counted from 0,
-    /// stands in `failing`; the counting stops at the last number of 32 bits, which can't be listed. Does not allocate.
+    /// Returns a source of `bytes` that gives at most `most` of them at a read. A read fails if its number, counted from 0, stands in
+    /// `failing`; the counting stops at the last number of 32 bits, which can't be listed. Does not allocate.
     pub fn new(bytes: Vec<u8>, most: usize, failing: Vec<u32>) -> MemSource
         requires most { 1 ≤ most }
         requires failing { ¬ Contains failing.items (2 ^ 32 - 1) }
@@ -78,7 +79,7 @@ impl Source for MemSource {
         ensures amount { IfOk result (λ count. count ≡ min (min (length self.old.left) (length into.old)) self.old.most) }
         ensures ok { IfOk result (λ count. self.new ≡ record self.old
             { left = drop count self.old.left; taken = self.old.taken + count; call = next_call self.old.call }) }
-        ensures err { OnErr result (self.new ≡ record self.old { call = next_call self.old.call; faults = next_fault self.old.faults }) }
+        ensures err { OnErr result (self.new ≡ record self.old { call = next_call self.old.call; faults = next_count self.old.faults }) }
         ensures piece { OnErr result (into.new ≡ into.old) }
     {
         let call = self.call;

@@ -9,7 +9,7 @@ use crate::Failed;
 
 /// A source of bytes that counts the bytes that were taken and the reads that failed.
 pub trait Source {
-    /// The bytes that are left, where the source tells them.
+    /// The bytes that are left, where the source shows them.
     ghost left: { Self → Option (List ℕ) };
 
     /// How many bytes were taken.
@@ -21,7 +21,7 @@ pub trait Source {
     /// No read fails.
     ghost never_fails: { Self → Bool };
 
-    /// Reads into the front of `into`, and answers how many bytes came.
+    /// Reads into the front of `into`, and returns how many bytes came.
     /// The answer 0 for a piece that isn't empty is the end of the input.
     ///
     /// # Errors

@@ -1,4 +1,4 @@
-//! The standard streams. They tell nothing of content.
+//! The standard streams. They show nothing of content.
 ghost use Rattle.std.specs.Prelude.{None, ℕ, ◌≡◌, false};
 
 use crate::reading::PIECE;
@@ -6,9 +6,9 @@ use crate::{Failed, Sink, Source};
 use std::io::{Read, Write};
 use std::marker::Model;
 
-/// Standard input, or another reader. That it hands on what the reader gives is trusted and tested. This is how the code
-/// goes, and no clause says it: a read fails where the reader fails, also where it was only interrupted, and where the
-/// number of bytes taken would pass the last value of 64 bits; and it asks the reader for at most 4,096 bytes.
+/// Standard input, or another reader. That it hands on what the reader gives is trusted and tested. The code does this, though no clause
+/// says so: a read fails where the reader fails, also where it was only interrupted, and where the number of bytes taken would pass the
+/// last value of 64 bits; and it asks the reader for at most 4,096 bytes.
 #[derive(Drop)]
 pub struct StdSource<R: Read + Drop> {
     reader: R,
@@ -46,7 +46,7 @@ impl<R: Read + Drop> Source for StdSource<R> {
 
     ghost never_fails = { λ s. false };
 
-    // A reader that fails may have written into what it was lent, so it is lent a piece of its own.
+    // A reader that fails may have written into what it borrowed, so it gets a piece of its own.
     fn read(&mut self, into: &mut [u8]) -> Result<usize, Failed> {
         let mut piece = [0; PIECE];
         let room = into.len().min(PIECE);
@@ -62,8 +62,8 @@ impl<R: Read + Drop> Source for StdSource<R> {
     }
 }
 
-/// Standard output, or another writer. That it hands on what it is given is trusted and tested. This is how the code
-/// goes, and no clause says it: a write fails where the writer fails, also where it was only interrupted.
+/// Standard output, or another writer. That it hands on what it is given is trusted and tested. The code does this, though no clause says
+/// so: a write fails where the writer fails, also where it was only interrupted.
 #[derive(Drop)]
 pub struct StdSink<W: Write + Drop> {
     writer: W,

@@ -5,7 +5,7 @@ use crate::{MemSink, MemSource, NoMemory, ReadErr, StdSink, StdSource, put, read
 use std::alloc::Global;
 use std::rt::HostRuntime;
 
-// The numbers in a list of their own.
+// Returns a list of the numbers.
 fn listed(alloc: Global, numbers: &[u32]) -> Result<Vec<u32>, NoMemory>
     ensures { IfOk result (λ list. list.items ≡ numbers.now) }
 {
@@ -14,7 +14,7 @@ fn listed(alloc: Global, numbers: &[u32]) -> Result<Vec<u32>, NoMemory>
     Ok(list)
 }
 
-// A source of "abcd" that gives a byte at a read, and whose read `failing` fails.
+// Returns a source of "abcd" that gives a byte at a read, and of which the read of number `failing` fails.
 fn byte_by_byte(alloc: Global, failing: u8) -> Result<MemSource, NoMemory> {
     let bytes = b"abcd".to_vec(alloc)?;
     Ok(MemSource::new(bytes, 1, listed(alloc, &[u32::from(failing)])?))

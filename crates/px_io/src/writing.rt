@@ -9,8 +9,8 @@ use crate::{Fault, Sink};
 /// Writes all of the bytes. Does not allocate.
 ///
 /// # Errors
-/// `Fault` where a write failed; only where the sink's count of faults rose. A part of the bytes from their start
-/// was written then, and not all of them: so for no bytes it never comes.
+/// `Fault` where a write failed; only where the sink's count of faults rose. A part of the bytes from their start was written then, and
+/// not all of them: so there is no fault where there are no bytes.
 pub fn put<K: Sink>(sink: &mut K, bytes: &[u8]) -> Result<(), Fault>
     ensures whole { OnOk result (Appends (K.written sink.old) (K.written sink.new) bytes.now) }
     ensures part { OnErr result (AppendsProperFront (K.written sink.old) (K.written sink.new) bytes.now) }

@@ -1,1 +1,2 @@
+-- The files of definitions and laws.
 pub mod Libraries

@@ -6,7 +6,7 @@
 //!   Contracts see it as two lists, the names and the tables (`LibraryValue` in `specs/Libraries`). `learn` puts a table
 //!   last; `find` gives the table of a name (`table_named`), and `tables` all of them.
 //! - It has at most 32 tables. `learn` answers `Duplicate` exactly where the name has a table, and `Full` exactly where there
-//!   are 32 and it has none. After a refusal the library is as it was, and the table is dropped.
+//!   are 32 and the name has none. After a refusal the library is as it was, and the table is dropped.
 //! - `find` and `tables` do not allocate.
 #![tactic(auto)]
 

@@ -1,7 +1,8 @@
 //! Learned tables by name.
-ghost use Rattle.std.specs.Prelude.{◌≡◌, ◌↔◌, ◌<◌, ◌++◌, ◌∷◌, [], Contains, vec_len, vec_capacity, length, OnOk, OnErr, option_map};
+ghost use Rattle.std.specs.Prelude.{◌≡◌, ◌↔◌, Contains, length, OnOk, OnErr, option_map};
 ghost use Rattle.px_library.specs.Libraries.{no_tables, table_named, with_table};
 
+use px_base::push_within;
 use px_table::Table;
 use std::alloc::Global;
 use thiserror::Error;
@@ -45,7 +46,7 @@ impl std::marker::Model for Library {
 }
 
 impl Library {
-    /// The library without a table. Does not allocate.
+    /// Returns the library without a table. Does not allocate.
     pub fn new(alloc: Global) -> Library
         ensures { result ≡ no_tables }
     {
@@ -55,7 +56,7 @@ impl Library {
         }
     }
 
-    /// Puts a table last, under a new name.
+    /// Appends a table, under a new name.
     ///
     /// # Errors
     /// `Duplicate` exactly where the name has a table; `Full` exactly where there are 32 tables and the name has none;
@@ -80,7 +81,7 @@ impl Library {
         Ok(())
     }
 
-    /// The table of that name, or `None` where the name has none. Does not allocate.
+    /// Returns the table of that name, or `None` where the name has none. Does not allocate.
     pub fn find(&self, name: u32) -> Option<&Table>
         ensures { option_map (λ table. table.now) result ≡ table_named self.now name }
     {
@@ -92,21 +93,10 @@ impl Library {
         None
     }
 
-    /// The tables, in the order of learning. Does not allocate.
+    /// Returns the tables, in the order of learning. Does not allocate.
     pub fn tables(&self) -> &[Table]
         ensures { result.now ≡ self.now.tables }
     {
         &self.tables
-    }
-}
-
-/// Puts an item last where there is room for it.
-fn push_within<T: Drop>(items: &mut Vec<T>, item: T)
-    requires room { vec_len items.old < vec_capacity items.old }
-    ensures { items.new.items ≡ items.old.items ++ item ∷ [] }
-{
-    match items.push(item) {
-        Ok(()) => {}
-        Err(_) => unreachable!(),
     }
 }

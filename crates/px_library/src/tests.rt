@@ -5,7 +5,7 @@ use px_terms::Sequence;
 use std::alloc::Global;
 use std::rt::HostRuntime;
 
-/// A table without steps, with `params` parameters.
+/// Returns a table without steps, with `params` parameters.
 fn table(alloc: Global, params: u32) -> Table {
     Table {
         params,

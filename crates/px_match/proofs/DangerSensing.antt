@@ -9,10 +9,10 @@ use Rattle.px_base.specs.ListLaws.{Contains-one, Contains-first, Contains-later,
 use Rattle.px_terms.specs.declared.atom.Atom.{Atom}
 use Rattle.px_terms.specs.declared.term.Term.{Term}
 use Rattle.px_terms.specs.declared.term.Term.TheVariants.{Obj}
-use Rattle.px_terms.specs.MergedNamesLaws.{nothing, one}
-use Rattle.px_proof.specs.PlaceLaws.{some_same}
+use Rattle.px_terms.specs.MergedNamesLaws.{All-nothing, one}
+use Rattle.px_base.specs.Answers.{some_same}
 use Rattle.px_match.specs.Matching.{Extends, IsSensed, KernelFits}
-use Rattle.px_match.specs.WorkedDanger.{AreChosen, DangerSensed, a, b, danger, danger_facts, danger_table, g, kernel, p, q, r}
+use Rattle.px_match.specs.WorkedDanger.{AreBothChosen, DangerSensed, a, b, danger, danger_facts, danger_table, g, kernel, p, q, r}
 use Rattle.px_match.proofs.DangerLaws.{danger_kernels}
 
 -- ---- which kernel fits with which objects
@@ -23,14 +23,17 @@ ByKernel atoms i x y =
     ⊎ (((i ≡ 2) × Contains atoms (r (Obj x)) × Contains atoms (q (Obj y))) ⊎ ((i ≡ 3) × Contains atoms (g (Obj x))))
 
 abbrev pub Fitting : List (ℕ × ℕ) → List Atom → ℕ → List ℕ → Type 0
-Fitting bound atoms i objects = (x : ℕ) × ((y : ℕ) × (objects ≡ x ∷ y ∷ []) × AreChosen bound x y × ByKernel atoms i x y)
+Fitting bound atoms i objects = (x : ℕ) × ((y : ℕ) × (objects ≡ x ∷ y ∷ []) × AreBothChosen bound x y × ByKernel atoms i x y)
 
 module _ (bound : List (ℕ × ℕ)) (atoms : List Atom) where
   by_number : (i x y : ℕ) → KernelFits danger danger_table bound atoms i (x ∷ y ∷ []) → Fitting bound atoms i (x ∷ y ∷ [])
   by_number zero x y fits = absurd (omega (arith, fits.from_one))
-  by_number (suc zero) x y fits = let found = (danger_kernels.first bound atoms x y).0 fits in (x, (y, refl, found.0, inl (refl, found.1.0, found.1.1, found.2)))
-  by_number (suc (suc zero)) x y fits = let found = (danger_kernels.second bound atoms x y).0 fits in (x, (y, refl, found.0, inr (inl (refl, found.1.0, found.1.1))))
-  by_number (suc (suc (suc zero))) x y fits = let found = (danger_kernels.third bound atoms x y).0 fits in (x, (y, refl, found.0, inr (inr (refl, found.1))))
+  by_number (suc zero) x y fits =
+      let found = (danger_kernels.first bound atoms x y).0 fits in (x, (y, refl, found.0, inl (refl, found.1.0, found.1.1, found.2)))
+  by_number (suc (suc zero)) x y fits =
+      let found = (danger_kernels.second bound atoms x y).0 fits in (x, (y, refl, found.0, inr (inl (refl, found.1.0, found.1.1))))
+  by_number (suc (suc (suc zero))) x y fits =
+      let found = (danger_kernels.third bound atoms x y).0 fits in (x, (y, refl, found.0, inr (inr (refl, found.1))))
   by_number (suc (suc (suc (suc k)))) x y fits = absurd (omega (arith, fits.to_goal))
 
   pub fitting : (i : ℕ) (objects : List ℕ) → KernelFits danger danger_table bound atoms i objects → Fitting bound atoms i objects
@@ -42,12 +45,12 @@ module _ (bound : List (ℕ × ℕ)) (atoms : List Atom) where
 -- ---- bound parameters, and atoms that aren't there
 
 pub first_bound : (x y n : ℕ) → (k : ℕ) × (1 ≡ suc k) × (slice_get (x ∷ y ∷ []) k ≡ Some n) → x ≡ n
-first_bound x y n (zero, is, at) = some_same x n at
+first_bound x y n (zero, is, at) = some_same at
 first_bound x y n (suc k, is, at) = absurd (omega (arith, is))
 
 second_bound : (x y n : ℕ) → (k : ℕ) × (2 ≡ suc k) × (slice_get (x ∷ y ∷ []) k ≡ Some n) → y ≡ n
 second_bound x y n (zero, is, at) = absurd (omega (arith, is))
-second_bound x y n (suc zero, is, at) = some_same y n at
+second_bound x y n (suc zero, is, at) = some_same at
 second_bound x y n (suc (suc k), is, at) = absurd (omega (arith, is))
 
 first_object : List Term → ℕ
@@ -72,7 +75,8 @@ Differs atom other = other.pred ≢ atom.pred
 pub facts_lack : (atom : Atom) → 2 ≤ atom.pred → ¬ Contains danger_facts atom
 facts_lack atom high = lacks danger_facts atom
     (All-cons (Differs atom) (p (Obj a)) (q (Obj a) ∷ q (Obj b) ∷ []) (λ e. omega (arith, e, high))
-    (All-cons (Differs atom) (q (Obj a)) (q (Obj b) ∷ []) (λ e. omega (arith, e, high)) (one (Differs atom) (q (Obj b)) (λ e. omega (arith, e, high)))))
+    (All-cons (Differs atom) (q (Obj a)) (q (Obj b) ∷ []) (λ e. omega (arith, e, high))
+    (one (Differs atom) (q (Obj b)) (λ e. omega (arith, e, high)))))
 
 -- ---- the order of lists
 
@@ -99,7 +103,8 @@ one_object i objects fits = none_fits (fitting ((1, a) ∷ (2, a) ∷ []) danger
     none_fits : ¬ Fitting ((1, a) ∷ (2, a) ∷ []) danger_facts i objects
     none_fits (x, (y, is, are, inl (number, has_p, has_q, differ))) =
         differ (first_bound x y a (All-head (IsBound (x ∷ y ∷ [])) (1, a) ((2, a) ∷ []) are.2)
-        ∙ sym (second_bound x y a (All-at (IsBound (x ∷ y ∷ [])) ((1, a) ∷ (2, a) ∷ []) (2, a) are.2 (Contains-later (1, a) ((2, a) ∷ []) (2, a) (Contains-first (2, a) [])))))
+        ∙ sym (second_bound x y a (All-at (IsBound (x ∷ y ∷ [])) ((1, a) ∷ (2, a) ∷ []) (2, a) are.2
+        (Contains-later (1, a) ((2, a) ∷ []) (2, a) (Contains-first (2, a) [])))))
     none_fits (x, (y, is, are, inr (inl (number, has_r, has_q)))) = facts_lack (r (Obj x)) (omega arith) has_r
     none_fits (x, (y, is, are, inr (inr (number, has_g)))) = facts_lack (g (Obj x)) (omega arith) has_g
 
@@ -108,7 +113,11 @@ one_object i objects fits = none_fits (fitting ((1, a) ∷ (2, a) ∷ []) danger
 next_fits : KernelFits danger danger_table ((1, a) ∷ []) danger_facts 1 (a ∷ b ∷ [])
 next_fits = (danger_kernels.first ((1, a) ∷ []) danger_facts a b).1 (
   (omega arith, omega arith, one (IsBound (a ∷ b ∷ [])) (1, a) (0, refl, refl)),
-  (Contains-first (p (Obj a)) (q (Obj a) ∷ q (Obj b) ∷ []), Contains-later (p (Obj a)) (q (Obj a) ∷ q (Obj b) ∷ []) (q (Obj b)) (Contains-later (q (Obj a)) (q (Obj b) ∷ []) (q (Obj b)) (Contains-first (q (Obj b)) []))),
+  (
+    Contains-first (p (Obj a)) (q (Obj a) ∷ q (Obj b) ∷ []),
+    Contains-later (p (Obj a)) (q (Obj a) ∷ q (Obj b) ∷ []) (q (Obj b))
+        (Contains-later (q (Obj a)) (q (Obj b) ∷ []) (q (Obj b)) (Contains-first (q (Obj b)) [])),
+  ),
   λ e. omega (arith, e),
 )
 
@@ -121,7 +130,8 @@ next_first : (others : List ℕ) → Fitting ((1, a) ∷ []) danger_facts 1 othe
 next_first others (x, (y, is, are, inl (number, has_p, has_q, differ))) =
     let first : x ≡ a = first_bound x y a (All-head (IsBound (x ∷ y ∷ [])) (1, a) [] are.2) in
     let second : y ≡ b = grind (arith, are.1, differ, first) in
-    subst (λ (xs : List ℕ). NotLess xs (a ∷ b ∷ [])) (sym (is ∙ ap (λ n. n ∷ y ∷ []) first ∙ ap (λ n. a ∷ n ∷ []) second)) (same_not_less (a ∷ b ∷ []) (a ∷ b ∷ []) refl)
+    subst (λ (xs : List ℕ). NotLess xs (a ∷ b ∷ [])) (sym (is ∙ ap (λ n. n ∷ y ∷ []) first ∙ ap (λ n. a ∷ n ∷ []) second))
+    (same_not_less (a ∷ b ∷ []) (a ∷ b ∷ []) refl)
 next_first others (x, (y, is, are, inr (inl (number, has_r, has_q)))) = absurd (omega (arith, number))
 next_first others (x, (y, is, are, inr (inr (number, has_g)))) = absurd (omega (arith, number))
 
@@ -139,19 +149,23 @@ with_r = p (Obj a) ∷ q (Obj a) ∷ q (Obj b) ∷ r (Obj a) ∷ []
 
 has_r : Contains with_r (r (Obj a))
 has_r = Contains-later (p (Obj a)) (q (Obj a) ∷ q (Obj b) ∷ r (Obj a) ∷ []) (r (Obj a))
-    (Contains-later (q (Obj a)) (q (Obj b) ∷ r (Obj a) ∷ []) (r (Obj a)) (Contains-later (q (Obj b)) (r (Obj a) ∷ []) (r (Obj a)) (Contains-first (r (Obj a)) [])))
+    (Contains-later (q (Obj a)) (q (Obj b) ∷ r (Obj a) ∷ []) (r (Obj a))
+    (Contains-later (q (Obj b)) (r (Obj a) ∷ []) (r (Obj a)) (Contains-first (r (Obj a)) [])))
 
 has_q : Contains with_r (q (Obj a))
-has_q = Contains-later (p (Obj a)) (q (Obj a) ∷ q (Obj b) ∷ r (Obj a) ∷ []) (q (Obj a)) (Contains-first (q (Obj a)) (q (Obj b) ∷ r (Obj a) ∷ []))
+has_q =
+    Contains-later (p (Obj a)) (q (Obj a) ∷ q (Obj b) ∷ r (Obj a) ∷ []) (q (Obj a))
+    (Contains-first (q (Obj a)) (q (Obj b) ∷ r (Obj a) ∷ []))
 
 no_g : (x : ℕ) → ¬ Contains with_r (g (Obj x))
 no_g x = lacks with_r (g (Obj x))
     (All-cons (Differs (g (Obj x))) (p (Obj a)) (q (Obj a) ∷ q (Obj b) ∷ r (Obj a) ∷ []) (λ e. omega (arith, e))
     (All-cons (Differs (g (Obj x))) (q (Obj a)) (q (Obj b) ∷ r (Obj a) ∷ []) (λ e. omega (arith, e))
-    (All-cons (Differs (g (Obj x))) (q (Obj b)) (r (Obj a) ∷ []) (λ e. omega (arith, e)) (one (Differs (g (Obj x))) (r (Obj a)) (λ e. omega (arith, e))))))
+    (All-cons (Differs (g (Obj x))) (q (Obj b)) (r (Obj a) ∷ []) (λ e. omega (arith, e))
+    (one (Differs (g (Obj x))) (r (Obj a)) (λ e. omega (arith, e))))))
 
 no_bound : (objects : List ℕ) → Extends [] objects
-no_bound objects = nothing (IsBound objects)
+no_bound objects = All-nothing (IsBound objects)
 
 higher_highest : (j : ℕ) (others : List ℕ) → Fitting [] with_r j others → j ≤ 2
 higher_highest j others (x, (y, is, are, inl (number, has_p, has_q, differ))) = omega (arith, number)
@@ -162,8 +176,10 @@ higher_highest j others (x, (y, is, are, inr (inr (number, has_g)))) = absurd (n
 least_first : (x y : ℕ) → x < 2 → y < 2 → NotLess (x ∷ y ∷ []) (a ∷ a ∷ [])
 least_first x y low below =
     below_two (λ n. NotLess (n ∷ y ∷ []) (a ∷ a ∷ []))
-    (below_two (λ m. NotLess (0 ∷ m ∷ []) (a ∷ a ∷ [])) (same_not_less (0 ∷ 0 ∷ []) (a ∷ a ∷ []) refl) (greater_not_less (0 ∷ 1 ∷ []) (a ∷ a ∷ []) refl) y below)
-    (below_two (λ m. NotLess (1 ∷ m ∷ []) (a ∷ a ∷ [])) (greater_not_less (1 ∷ 0 ∷ []) (a ∷ a ∷ []) refl) (greater_not_less (1 ∷ 1 ∷ []) (a ∷ a ∷ []) refl) y below)
+    (below_two (λ m. NotLess (0 ∷ m ∷ []) (a ∷ a ∷ [])) (same_not_less (0 ∷ 0 ∷ []) (a ∷ a ∷ []) refl)
+    (greater_not_less (0 ∷ 1 ∷ []) (a ∷ a ∷ []) refl) y below)
+    (below_two (λ m. NotLess (1 ∷ m ∷ []) (a ∷ a ∷ [])) (greater_not_less (1 ∷ 0 ∷ []) (a ∷ a ∷ []) refl)
+    (greater_not_less (1 ∷ 1 ∷ []) (a ∷ a ∷ []) refl) y below)
     x low
 
 higher_first : (others : List ℕ) → Fitting [] with_r 2 others → NotLess others (a ∷ a ∷ [])
@@ -184,14 +200,26 @@ last_first others (x, (y, is, are, inr (inl (number, has_r, has_q)))) = absurd (
 last_first others (x, (y, is, are, inr (inr (number, has_g)))) =
     let same : b ≡ x = object_of_g b x (Contains-one (g (Obj b)) (g (Obj x)) has_g) in
     subst (λ (xs : List ℕ). NotLess xs (b ∷ a ∷ [])) (sym (is ∙ ap (λ n. n ∷ y ∷ []) (sym same)))
-    (below_two (λ m. NotLess (1 ∷ m ∷ []) (b ∷ a ∷ [])) (same_not_less (1 ∷ 0 ∷ []) (b ∷ a ∷ []) refl) (greater_not_less (1 ∷ 1 ∷ []) (b ∷ a ∷ []) refl) y are.1)
+    (below_two (λ m. NotLess (1 ∷ m ∷ []) (b ∷ a ∷ [])) (same_not_less (1 ∷ 0 ∷ []) (b ∷ a ∷ []) refl)
+    (greater_not_less (1 ∷ 1 ∷ []) (b ∷ a ∷ []) refl) y are.1)
 
 unused : IsSensed danger danger_table [] (g (Obj b) ∷ []) (Some (kernel 3 b a))
 unused = record {
-  fits = (danger_kernels.third [] (g (Obj b) ∷ []) b a).1 ((omega arith, omega arith, no_bound (b ∷ a ∷ [])), Contains-first (g (Obj b)) []);
+  fits =
+      (danger_kernels.third [] (g (Obj b) ∷ []) b a).1 ((omega arith, omega arith, no_bound (b ∷ a ∷ [])), Contains-first (g (Obj b)) []);
   highest = λ j others fits. fits.to_goal;
   first = λ others fits. last_first others (fitting [] (g (Obj b) ∷ []) 3 others fits);
 }
 
 pub danger_sensed : DangerSensed
-danger_sensed = record { one_object = one_object; next_object = next_object; higher = higher; unused = unused; above = refl; zero = refl; within = refl }
+danger_sensed =
+    record {
+      one_object =
+          one_object;
+      next_object = next_object;
+      higher = higher;
+      unused = unused;
+      above = refl;
+      zero = refl;
+      within = refl;
+    }

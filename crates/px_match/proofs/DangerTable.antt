@@ -6,7 +6,7 @@ use Rattle.std.specs.List.{list_all}
 use Rattle.std.proofs.lemmas.List.Elements.{All-cons}
 use Rattle.px_terms.specs.declared.term.Term.TheVariants.{Var}
 use Rattle.px_terms.specs.Clauses.{IsClause}
-use Rattle.px_terms.specs.MergedNamesLaws.{nothing, one}
+use Rattle.px_terms.specs.MergedNamesLaws.{All-nothing, one}
 use Rattle.px_terms.specs.Operators.{no_schema}
 use Rattle.px_terms.specs.Validity.{IsAtomOf, IsAxiomOf, IsPatternOf, IsPatternTermOf, IsSchemaOf, IsTermOf, IsValid}
 use Rattle.px_proof.specs.Derivation.{Derivation, fact}
@@ -38,7 +38,7 @@ b_is_schema = record {
   params = omega arith;
   pre = All-cons (IsAtomOf danger 2) (r (Var 0)) (q (Var 1) ∷ []) ((omega arith, refl), argument 2 0 (omega arith))
       (one (IsAtomOf danger 2) (q (Var 1)) ((omega arith, refl), argument 2 1 (omega arith)));
-  del = nothing (IsPatternOf danger 2);
+  del = All-nothing (IsPatternOf danger 2);
   add = one (IsAtomOf danger 2) (g (Var 0)) ((omega arith, refl), argument 2 0 (omega arith));
   short = (omega arith, omega arith, omega arith);
 }
@@ -52,8 +52,8 @@ each_schema (suc (suc k)) below = absurd (omega (arith, below))
 pub danger-valid : IsValid danger
 danger-valid = record {
   schemas = each_schema;
-  axioms = nothing (IsAxiomOf danger);
-  arena = record { each = nothing IsClause; most = omega arith };
+  axioms = All-nothing (IsAxiomOf danger);
+  arena = record { each = All-nothing IsClause; most = omega arith };
   short = (omega arith, omega arith);
   height = (omega arith, omega arith);
   nodes = (omega arith, omega arith);
@@ -64,7 +64,9 @@ danger-valid = record {
 -- ---- the table
 
 abbrev rows : List (List Derivation)
-rows = (fact (leaf_at 0 (p (Var 0))) ∷ []) ∷ (fact (leaf_at 1 (r (Var 0))) ∷ fact (leaf_at 0 (q (Var 1))) ∷ []) ∷ (fact (leaf_at 2 (g (Var 0))) ∷ []) ∷ []
+rows =
+    (fact (leaf_at 0 (p (Var 0))) ∷ []) ∷ (fact (leaf_at 1 (r (Var 0))) ∷ fact (leaf_at 0 (q (Var 1))) ∷ [])
+    ∷ (fact (leaf_at 2 (g (Var 0))) ∷ []) ∷ []
 
 rows-are : rows_of danger_table.proofs ≡ rows
 rows-are = λ i.
@@ -75,9 +77,11 @@ rows-are = λ i.
 
 test : is_table danger danger_table ≡ true
 test =
-    subst (λ (made : List (List Derivation)). (is_in_range danger danger_table && (rows_prove danger.objects danger_table.params danger.axioms danger danger_table.steps danger_table.goal made
+    subst (λ (made : List (List Derivation)). (is_in_range danger danger_table &&
+    (rows_prove danger.objects danger_table.params danger.axioms danger danger_table.steps danger_table.goal made
     && (pointwise mark_eq danger_table.marks (marks_from 1 made)
-    && (list_all (λ mark. is_atom_of danger danger_table.params mark.atom) danger_table.marks && list_all (is_named danger danger_table.steps) danger_table.marks)))) ≡ true)
+    && (list_all (λ mark. is_atom_of danger danger_table.params mark.atom) danger_table.marks && list_all
+    (is_named danger danger_table.steps) danger_table.marks)))) ≡ true)
     (sym rows-are) refl
 
 pub danger-table : IsTable danger danger_table

@@ -27,7 +27,8 @@ module _ (c : Atom → Bool) (atom : Atom) (atoms : List Atom) (set : IsAtomSet 
 
   pub taken-covered : filter c (without_atom atom atoms) ≡ without_atom atom (filter c atoms)
   taken-covered =
-      one_set (filter c (without_atom atom atoms)) (without_atom atom (filter c atoms)) (kept_set _ (without_atom-ascending atom atoms set)) (without_atom-ascending atom _ (kept_set atoms set)) (λ q. (
+      one_set (filter c (without_atom atom atoms)) (without_atom atom (filter c atoms)) (kept_set _ (without_atom-ascending atom atoms set))
+      (without_atom-ascending atom _ (kept_set atoms set)) (λ q. (
         λ h.
             let there = (Contains-filter c (without_atom atom atoms) q).0 h in
             let other = (without_atom-members atom atoms q).0 there.0 in
@@ -40,18 +41,21 @@ module _ (c : Atom → Bool) (atom : Atom) (atoms : List Atom) (set : IsAtomSet 
 
   pub taken-other : c atom ≡ false → filter c (without_atom atom atoms) ≡ filter c atoms
   taken-other fails =
-      one_set (filter c (without_atom atom atoms)) (filter c atoms) (kept_set _ (without_atom-ascending atom atoms set)) (kept_set atoms set) (λ q. (
+      one_set (filter c (without_atom atom atoms)) (filter c atoms) (kept_set _ (without_atom-ascending atom atoms set))
+      (kept_set atoms set) (λ q. (
         λ h.
             let there = (Contains-filter c (without_atom atom atoms) q).0 h in
             (Contains-filter c atoms q).1 (((without_atom-members atom atoms q).0 there.0).0, there.1),
         λ h.
             let there = (Contains-filter c atoms q).0 h in
-            (Contains-filter c (without_atom atom atoms) q).1 ((without_atom-members atom atoms q).1 (there.0, λ same. clash (c q) there.1 (ap c same ∙ fails)), there.1),
+            (Contains-filter c (without_atom atom atoms) q).1
+            ((without_atom-members atom atoms q).1 (there.0, λ same. clash (c q) there.1 (ap c same ∙ fails)), there.1),
       ))
 
   pub put-covered : c atom ≡ true → filter c (with_atom atom atoms) ≡ with_atom atom (filter c atoms)
   put-covered passes =
-      one_set (filter c (with_atom atom atoms)) (with_atom atom (filter c atoms)) (kept_set _ (with_set atoms set)) (with_set _ (kept_set atoms set)) (λ q. (
+      one_set (filter c (with_atom atom atoms)) (with_atom atom (filter c atoms)) (kept_set _ (with_set atoms set))
+      (with_set _ (kept_set atoms set)) (λ q. (
         λ h.
             let there = (Contains-filter c (with_atom atom atoms) q).0 h in
             (with_item-members atom_cmp atom_cmp-total atom_cmp-same atom (filter c atoms) q).1
@@ -61,9 +65,13 @@ module _ (c : Atom → Bool) (atom : Atom) (atoms : List Atom) (set : IsAtomSet 
             ]),
         λ h.
             (Contains-filter c (with_atom atom atoms) q).1
-            (elim (Contains-cases atom (filter c atoms) q ((with_item-members atom_cmp atom_cmp-total atom_cmp-same atom (filter c atoms) q).0 h)) [
-              | inl same ↦
-                  ((with_item-members atom_cmp atom_cmp-total atom_cmp-same atom atoms q).1 (subst (Contains (atom ∷ atoms)) same (Contains-first atom atoms)), ap c (sym same) ∙ passes)
+            (elim (Contains-cases atom (filter c atoms) q
+            ((with_item-members atom_cmp atom_cmp-total atom_cmp-same atom (filter c atoms) q).0 h)) [
+              | inl same ↦ (
+                (with_item-members atom_cmp atom_cmp-total atom_cmp-same atom atoms q).1
+                    (subst (Contains (atom ∷ atoms)) same (Contains-first atom atoms)),
+                ap c (sym same) ∙ passes,
+              )
               | inr old ↦
                   let there = (Contains-filter c atoms q).0 old in
                   ((with_item-members atom_cmp atom_cmp-total atom_cmp-same atom atoms q).1 (Contains-later atom atoms q there.0), there.1)
@@ -82,7 +90,8 @@ module _ (c : Atom → Bool) (atom : Atom) (atoms : List Atom) (set : IsAtomSet 
             ]),
         λ h.
             let there = (Contains-filter c atoms q).0 h in
-            (Contains-filter c (with_atom atom atoms) q).1 ((with_item-members atom_cmp atom_cmp-total atom_cmp-same atom atoms q).1 (Contains-later atom atoms q there.0), there.1),
+            (Contains-filter c (with_atom atom atoms) q).1
+            ((with_item-members atom_cmp atom_cmp-total atom_cmp-same atom atoms q).1 (Contains-later atom atoms q there.0), there.1),
       ))
 
 -- what a mark covers of a set is one
@@ -90,5 +99,7 @@ pub matches_set : (mark : Atom) (atoms list : List Atom) → IsAtomSet atoms →
 matches_set mark atoms list set is = subst IsAtomSet (sym is) (IsStrictlySortedBy-filter atom_cmp (covers mark) atoms set)
 
 -- and has only atoms of the set
-pub matches_without : (mark : Atom) (atoms list : List Atom) (atom : Atom) → list ≡ matches mark atoms → ¬ Contains atoms atom → ¬ Contains list atom
-matches_without mark atoms list atom is hasnt = λ has. hasnt ((Contains-filter (covers mark) atoms atom).0 (subst (λ l. Contains l atom) is has)).0
+pub matches_without : (mark : Atom) (atoms list : List Atom) (atom : Atom) → list ≡ matches mark atoms → ¬ Contains atoms atom
+    → ¬ Contains list atom
+matches_without mark atoms list atom is hasnt =
+    λ has. hasnt ((Contains-filter (covers mark) atoms atom).0 (subst (λ l. Contains l atom) is has)).0

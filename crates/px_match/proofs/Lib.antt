@@ -1,3 +1,4 @@
+-- The files of lemmas.
 pub mod Sensing
 pub mod DangerLaws
 pub mod DangerSensing

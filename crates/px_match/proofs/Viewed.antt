@@ -9,13 +9,18 @@ use Rattle.px_table.specs.declared.table.Table.{Table}
 use Rattle.px_match.specs.Matching.{IsHighest, NoKernelFits}
 use Rattle.px_match.specs.MatcherValue.{MatcherValue, kernel_with}
 
-pub none_viewed : (value : MatcherValue) (problem : Problem) (table : Table) (bound : List (ℕ × ℕ)) (room : ℕ) (instance : List ℕ) (pairs : List (ℕ × ℕ)) (atoms : List Atom)
-    → value ≡ record { problem = problem; table = table; bound = bound; room = room; instance = instance } → pairs ≡ bound → NoKernelFits problem table pairs atoms → NoKernelFits value.problem value.table value.bound atoms
+pub none_viewed : (value : MatcherValue) (problem : Problem) (table : Table) (bound : List (ℕ × ℕ)) (room : ℕ) (instance : List ℕ)
+    (pairs : List (ℕ × ℕ)) (atoms : List Atom)
+    → value ≡ record { problem = problem; table = table; bound = bound; room = room; instance = instance } → pairs ≡ bound
+    → NoKernelFits problem table pairs atoms → NoKernelFits value.problem value.table value.bound atoms
 none_viewed value problem table bound room instance pairs atoms view same none =
-    subst (λ (v : MatcherValue). NoKernelFits v.problem v.table v.bound atoms) (sym view) (subst (λ b. NoKernelFits problem table b atoms) same none)
+    subst (λ (v : MatcherValue). NoKernelFits v.problem v.table v.bound atoms) (sym view)
+    (subst (λ b. NoKernelFits problem table b atoms) same none)
 
-pub highest_viewed : (value : MatcherValue) (problem : Problem) (table : Table) (bound : List (ℕ × ℕ)) (room : ℕ) (instance : List ℕ) (pairs : List (ℕ × ℕ)) (atoms : List Atom) (work objects : List ℕ) (number : ℕ)
-    → value ≡ record { problem = problem; table = table; bound = bound; room = room; instance = instance } → pairs ≡ bound → objects ≡ work → IsHighest problem table pairs atoms (kernel_with work number)
+pub highest_viewed : (value : MatcherValue) (problem : Problem) (table : Table) (bound : List (ℕ × ℕ)) (room : ℕ) (instance : List ℕ)
+    (pairs : List (ℕ × ℕ)) (atoms : List Atom) (work objects : List ℕ) (number : ℕ)
+    → value ≡ record { problem = problem; table = table; bound = bound; room = room; instance = instance } → pairs ≡ bound → objects ≡ work
+    → IsHighest problem table pairs atoms (kernel_with work number)
     → IsHighest value.problem value.table value.bound atoms (kernel_with objects number)
 highest_viewed value problem table bound room instance pairs atoms work objects number view same copied highest =
     subst (λ (v : MatcherValue). IsHighest v.problem v.table v.bound atoms (kernel_with objects number)) (sym view)
@@ -24,14 +29,16 @@ highest_viewed value problem table bound room instance pairs atoms work objects 
 
 -- ---- the first item that passes
 
-pub find_next : {X : Type 0} (p : X → Bool) (xs : List X) (i : ℕ) (d : X) → i < length xs → p (get_or xs i d) ≡ false → find p (drop i xs) ≡ find p (drop (i + 1) xs)
+pub find_next : {X : Type 0} (p : X → Bool) (xs : List X) (i : ℕ) (d : X) → i < length xs → p (get_or xs i d) ≡ false
+    → find p (drop i xs) ≡ find p (drop (i + 1) xs)
 find_next p [] i d below fails = absurd (omega (arith, below))
 find_next p (x ∷ xs) zero d below fails = ap (λ b. cond b (Some x) (find p xs)) fails
 find_next p (x ∷ xs) (suc i) d below fails =
     let up : suc i + 1 ≡ suc (i + 1) = omega arith in
     subst (λ n. find p (drop i xs) ≡ find p (drop n (x ∷ xs))) (sym up) (find_next p xs i d (omega (arith, below)) fails)
 
-pub find_here : {X : Type 0} (p : X → Bool) (xs : List X) (i : ℕ) (d : X) → i < length xs → p (get_or xs i d) ≡ true → find p (drop i xs) ≡ Some (get_or xs i d)
+pub find_here : {X : Type 0} (p : X → Bool) (xs : List X) (i : ℕ) (d : X) → i < length xs → p (get_or xs i d) ≡ true
+    → find p (drop i xs) ≡ Some (get_or xs i d)
 find_here p [] i d below passes = absurd (omega (arith, below))
 find_here p (x ∷ xs) zero d below passes = ap (λ b. cond b (Some x) (find p xs)) passes
 find_here p (x ∷ xs) (suc i) d below passes = find_here p xs i d (omega (arith, below)) passes
@@ -55,6 +62,8 @@ is_among a params low high = grind (arith, nat_tests)
 
 -- ---- a list that was written whole
 
-pub written_whole : {X : Type 0} (n : ℕ) (written old : List X) → length written ≡ length old → n ≡ length written → take n (written ++ drop (length written) old) ≡ written
+pub written_whole : {X : Type 0} (n : ℕ) (written old : List X) → length written ≡ length old → n ≡ length written
+    → take n (written ++ drop (length written) old) ≡ written
 written_whole n written old lengths all =
-    ap (λ l. take n (written ++ l)) (drop_all (length written) old (omega (arith, lengths))) ∙ ap (take n) (append-nil written) ∙ take_all n written (omega (arith, all))
+    ap (λ l. take n (written ++ l)) (drop_all (length written) old (omega (arith, lengths))) ∙ ap (take n) (append-nil written)
+    ∙ take_all n written (omega (arith, all))

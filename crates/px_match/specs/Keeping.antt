@@ -10,7 +10,7 @@ use Rattle.px_ops.specs.Models.{without_atom}
 use Rattle.px_ops.specs.ModelValue.{ModelValue}
 use Rattle.px_table.specs.declared.mark.Mark.{Mark}
 
--- an object covers itself alone, and a parameter each term
+-- an object covers only itself, and a parameter each term
 abbrev pub covers_term : Term → Term → Bool
 covers_term (Obj n) term = term_eq (Obj n) term
 covers_term (Var v) term = true
@@ -31,41 +31,41 @@ pub record AreMatches (marks : List Mark) (atoms : List Atom) (lists : List Mode
       → (slice_index_or lists k l).atoms ≡ matches (slice_index_or marks k m).atom atoms
 
 -- there are places for this number of atoms, those that are there included
-abbrev pub HasRoom : ℕ → ModelValue → Type 0
-HasRoom room list = room ≤ list.spare + length list.atoms
+abbrev pub HasCapacity : ℕ → ModelValue → Type 0
+HasCapacity room list = room ≤ list.spare + length list.atoms
 
 -- the list has the atoms that the mark covers, and room for the given number
 pub record IsListOf (room : ℕ) (mark : Atom) (atoms : List Atom) (list : ModelValue) : Type 0 where
   pub same : list.atoms ≡ matches mark atoms
-  pub places : HasRoom room list
+  pub places : HasCapacity room list
 
--- the lists of all marks are such, and the given number of atoms may be kept
+-- the list of each mark has the atoms that it covers, and there is room for the given number of atoms
 pub record AreKept (room : ℕ) (marks : List Mark) (kept : ModelValue) (lists : List ModelValue) : Type 0 where
-  pub places : HasRoom room kept
+  pub places : HasCapacity room kept
   pub same : length lists ≡ length marks
   pub each : (k : ℕ) (l : ModelValue) (m : Mark) → k < length marks
       → IsListOf room (slice_index_or marks k m).atom kept.atoms (slice_index_or lists k l)
 
--- when an atom is taken, a list of a mark's atoms among whatever ones is one among the others
-pub record IsTaken (mark atom : Atom) (old new : ModelValue) : Type 0 where
+-- if the old list is the mark's list of some atoms, the new one is its list of these without the atom
+pub record IsTakenOut (mark atom : Atom) (old new : ModelValue) : Type 0 where
   pub each : (room : ℕ) (atoms : List Atom) → IsAtomSet atoms → IsListOf room mark atoms old
       → IsListOf room mark (without_atom atom atoms) new
 
--- and when a new one is put, among these with it
-pub record IsPut (mark atom : Atom) (old new : ModelValue) : Type 0 where
+-- if the old list is the mark's list of some atoms without the new one, the new list is its list of these with it
+pub record IsPutIn (mark atom : Atom) (old new : ModelValue) : Type 0 where
   pub each : (room : ℕ) (atoms : List Atom) → IsAtomSet atoms → ¬ Contains atoms atom → IsListOf room mark atoms old
       → IsListOf room mark (with_atom atom atoms) new
 
--- the same of the list of each mark
-pub record AreTaken (marks : List Mark) (atom : Atom) (old new : List ModelValue) : Type 0 where
+-- if the old lists are the marks' lists of some atoms, the new ones are their lists of these without the atom
+pub record AreTakenOut (marks : List Mark) (atom : Atom) (old new : List ModelValue) : Type 0 where
   pub same : length new ≡ length old
   pub each : (k : ℕ) (l : ModelValue) (m : Mark) → k < length marks
-      → IsTaken (slice_index_or marks k m).atom atom (slice_index_or old k l) (slice_index_or new k l)
+      → IsTakenOut (slice_index_or marks k m).atom atom (slice_index_or old k l) (slice_index_or new k l)
 
-pub record ArePut (marks : List Mark) (atom : Atom) (old new : List ModelValue) : Type 0 where
+pub record ArePutIn (marks : List Mark) (atom : Atom) (old new : List ModelValue) : Type 0 where
   pub same : length new ≡ length old
   pub each : (k : ℕ) (l : ModelValue) (m : Mark) → k < length marks
-      → IsPut (slice_index_or marks k m).atom atom (slice_index_or old k l) (slice_index_or new k l)
+      → IsPutIn (slice_index_or marks k m).atom atom (slice_index_or old k l) (slice_index_or new k l)
 
 -- `count` lists without atoms, each with room for `room`
 pub record AreEmpty (room count : ℕ) (lists : List ModelValue) : Type 0 where

@@ -1,3 +1,4 @@
+-- The files of definitions and laws.
 pub mod Matching
 pub mod MatcherValue
 pub mod WorkedDanger

@@ -86,22 +86,22 @@ danger_table = record {
 }
 
 -- two objects of the problem, as they are bound
-abbrev pub AreChosen : List (ℕ × ℕ) → ℕ → ℕ → Type 0
-AreChosen bound x y = (x < 2) × (y < 2) × Extends bound (x ∷ y ∷ [])
+abbrev pub AreBothChosen : List (ℕ × ℕ) → ℕ → ℕ → Type 0
+AreBothChosen bound x y = (x < 2) × (y < 2) × Extends bound (x ∷ y ∷ [])
 
 -- The plan is a table of a valid problem. Kernel 1 fits where P(p1) and Q(p2) are true and the objects differ: else the first step would
--- delete what the second one needs. Kernel 2 fits where R(p1) and Q(p2) are true, and kernel 3 where G(p1) is. There is no other.
+-- delete what the second one needs. Kernel 2 fits where R(p1) and Q(p2) are true, and kernel 3 where G(p1) is. There is no other kernel.
 pub record DangerKernels : Type 0 where
   pub valid : IsValid danger
   pub table : IsTable danger danger_table
   pub first : (bound : List (ℕ × ℕ)) (atoms : List Atom) (x y : ℕ)
       → KernelFits danger danger_table bound atoms 1 (x ∷ y ∷ [])
-      ↔ (AreChosen bound x y × (Contains atoms (p (Obj x)) × Contains atoms (q (Obj y))) × (x ≢ y))
+      ↔ (AreBothChosen bound x y × (Contains atoms (p (Obj x)) × Contains atoms (q (Obj y))) × (x ≢ y))
   pub second : (bound : List (ℕ × ℕ)) (atoms : List Atom) (x y : ℕ)
       → KernelFits danger danger_table bound atoms 2 (x ∷ y ∷ [])
-      ↔ (AreChosen bound x y × (Contains atoms (r (Obj x)) × Contains atoms (q (Obj y))))
+      ↔ (AreBothChosen bound x y × (Contains atoms (r (Obj x)) × Contains atoms (q (Obj y))))
   pub third : (bound : List (ℕ × ℕ)) (atoms : List Atom) (x y : ℕ)
-      → KernelFits danger danger_table bound atoms 3 (x ∷ y ∷ []) ↔ (AreChosen bound x y × Contains atoms (g (Obj x)))
+      → KernelFits danger danger_table bound atoms 3 (x ∷ y ∷ []) ↔ (AreBothChosen bound x y × Contains atoms (g (Obj x)))
   pub no_other : (bound : List (ℕ × ℕ)) (atoms : List Atom) (i : ℕ) (objects : List ℕ)
       → KernelFits danger danger_table bound atoms i objects → (1 ≤ i) × (i ≤ 3) × (length objects ≡ 2)
 

@@ -12,7 +12,7 @@ use std::alloc::Global;
 
 /// A delete pattern of a step that may delete a mark between whose column and row the step stands.
 #[derive(Clone, Copy)]
-pub struct Clash {
+pub struct MarkClash {
     pub mark: usize,
     pub step: usize,
     pub pattern: usize,
@@ -24,7 +24,7 @@ pub struct Hints {
     /// The marks that have it; for the first place those without parameters, too.
     pub marks: Vec<usize>,
     /// The clashes whose last parameter it is; for the first place those without parameters, too.
-    pub clashes: Vec<Clash>,
+    pub clashes: Vec<MarkClash>,
     /// Later places, but not the next one, on whose objects a mark that has this parameter and another mark have to agree.
     pub meetings: Vec<usize>,
 }
@@ -39,7 +39,7 @@ impl Hints {
     }
 }
 
-/// May the terms be the same for some objects?
+/// Returns whether the terms may be the same for some objects.
 fn may_meet(pattern: Term, term: Term) -> bool {
     match (pattern, term) {
         (Term::Obj(one), Term::Obj(other)) => one == other,
@@ -47,7 +47,7 @@ fn may_meet(pattern: Term, term: Term) -> bool {
     }
 }
 
-/// May the pattern stand for the atom?
+/// Returns whether the pattern may stand for the atom.
 fn may_delete(pattern: &Atom, atom: &Atom) -> bool {
     if pattern.pred() != atom.pred() {
         return false;
@@ -61,7 +61,7 @@ fn may_delete(pattern: &Atom, atom: &Atom) -> bool {
     true
 }
 
-/// The last parameter among the terms, or `so_far` where none is later.
+/// Returns the last parameter among the terms, or `so_far` where none is later.
 fn last_parameter(terms: &[Term], so_far: u32) -> u32 {
     let mut last = so_far;
     for term in terms {
@@ -74,7 +74,7 @@ fn last_parameter(terms: &[Term], so_far: u32) -> u32 {
     last
 }
 
-/// Puts the number, if it isn't the last one.
+/// Appends the number, unless it is the last one.
 fn put_once(numbers: &mut Vec<usize>, number: usize) -> Result<(), NoMemory> {
     if numbers.last() != Some(&number) {
         numbers.push(number)?;
@@ -82,7 +82,7 @@ fn put_once(numbers: &mut Vec<usize>, number: usize) -> Result<(), NoMemory> {
     Ok(())
 }
 
-/// Puts the mark at the places of its parameters, or at the first place where it has none.
+/// Records the mark at the places of its parameters, or at the first place where it has none.
 fn put_mark(hints: &mut [Hints], mark: usize, atom: &Atom) -> Result<(), NoMemory> {
     let mut is_plain = true;
     for term in atom.args() {
@@ -99,7 +99,7 @@ fn put_mark(hints: &mut [Hints], mark: usize, atom: &Atom) -> Result<(), NoMemor
     Ok(())
 }
 
-/// Puts the patterns of the step that may delete the mark.
+/// Records the patterns of the step that may delete the mark.
 fn put_clashes(
     hints: &mut [Hints],
     schema: &Schema,
@@ -115,7 +115,7 @@ fn put_clashes(
         let pattern = apply(inst.args(), raw);
         let place = last_parameter(atom.args(), last_parameter(pattern.args(), 0)) as usize;
         if may_delete(&pattern, atom) && place < hints.len() {
-            hints[place].clashes.push(Clash {
+            hints[place].clashes.push(MarkClash {
                 mark,
                 step,
                 pattern: at,
@@ -125,7 +125,7 @@ fn put_clashes(
     Ok(())
 }
 
-/// Puts what may delete the mark.
+/// Records what may delete the mark.
 fn put_clashes_of(
     hints: &mut [Hints],
     problem: &Problem,
@@ -145,7 +145,7 @@ fn put_clashes_of(
     Ok(())
 }
 
-/// The place after the last parameter before `later` among the terms, or 0.
+/// Returns the place after the last parameter before `later` among the terms, or 0.
 fn end_before(terms: &[Term], later: usize) -> usize {
     let mut end = 0;
     for term in terms {
@@ -159,7 +159,7 @@ fn end_before(terms: &[Term], later: usize) -> usize {
     end
 }
 
-/// The second of these ends, in ascending order, of the marks of these numbers.
+/// Returns the second of these ends, in ascending order, of the marks of these numbers.
 fn second_end(numbers: &[usize], marks: &[Mark], later: usize) -> usize {
     let mut first = usize::MAX;
     let mut second = usize::MAX;
@@ -177,8 +177,8 @@ fn second_end(numbers: &[usize], marks: &[Mark], later: usize) -> usize {
     second
 }
 
-/// The last place before `later` of the mark at that place of the numbers, if an earlier or the same one is the last of another
-/// mark that has it, and the place isn't the one just before.
+/// Returns the last place before `later` of the mark at that place of the numbers, if it isn't before that of every other mark that has
+/// the parameter of `later`, and isn't the place just before.
 fn meeting_place(
     numbers: &[usize],
     marks: &[Mark],
@@ -196,7 +196,7 @@ fn meeting_place(
     Some(end - 1)
 }
 
-/// Puts the later place where two marks that have it are known but for its object.
+/// Records the later place where two marks that have it are known but for its object.
 fn put_meetings(hints: &mut [Hints], marks: &[Mark], later: usize) -> Result<(), NoMemory> {
     if later >= hints.len() {
         return Ok(());
@@ -213,7 +213,7 @@ fn put_meetings(hints: &mut [Hints], marks: &[Mark], later: usize) -> Result<(),
     Ok(())
 }
 
-/// What to look at, for each place.
+/// Returns what to look at, for each place.
 pub fn hints_of(alloc: Global, problem: &Problem, table: &Table) -> Result<Vec<Hints>, NoMemory>
     requires problem { IsValid problem.now }
     requires steps { All (IsStepOf problem.now table.now.params) table.now.steps }

@@ -6,13 +6,13 @@ ghost use Rattle.px_terms.specs.Order.{atom_eq, term_eq};
 ghost use Rattle.px_terms.specs.AtomSets.{IsAtomSet, with_atom};
 ghost use Rattle.px_ops.specs.Models.{without_atom};
 ghost use Rattle.px_ops.specs.ModelValue.{ModelValue};
-ghost use Rattle.px_match.specs.Keeping.{AreKept, AreMatches, ArePut, AreTaken, IsPut, IsTaken, covers as spec_covers, covers_term as spec_covers_term};
+ghost use Rattle.px_match.specs.Keeping.{AreKept, AreMatches, ArePutIn, AreTakenOut, IsPutIn, IsTakenOut, covers as spec_covers, covers_term as spec_covers_term};
 
 use px_ops::Model;
 use px_table::Mark;
 use px_terms::{Atom, Term};
 
-/// May the term become the other one?
+/// Returns whether the term may become the other one.
 fn covers_term(term: Term, found: Term) -> bool
     ensures { result ≡ spec_covers_term term found }
 {
@@ -22,7 +22,7 @@ fn covers_term(term: Term, found: Term) -> bool
     }
 }
 
-/// May each of the terms become the other one?
+/// Returns whether each of the terms may become the other one at its place.
 fn cover_terms(terms: &[Term], found: &[Term]) -> bool
     ensures { result ≡ pointwise spec_covers_term terms.now found.now }
 {
@@ -37,7 +37,7 @@ fn cover_terms(terms: &[Term], found: &[Term]) -> bool
     true
 }
 
-/// May the mark become the atom?
+/// Returns whether the mark may become the atom.
 fn covers(mark: &Atom, atom: &Atom) -> bool
     ensures { result ≡ spec_covers mark.now atom.now }
 {
@@ -46,7 +46,7 @@ fn covers(mark: &Atom, atom: &Atom) -> bool
 
 /// Takes the atom from the list, if the mark covers it.
 fn take_one(list: &mut Model, mark: &Atom, atom: &Atom)
-    ensures { IsTaken mark.now atom.now list.old list.new }
+    ensures { IsTakenOut mark.now atom.now list.old list.new }
 {
     if covers(mark, atom) {
         list.remove(atom);
@@ -57,7 +57,7 @@ fn take_one(list: &mut Model, mark: &Atom, atom: &Atom)
 fn put_one(list: &mut Model, mark: &Atom, atom: &Atom)
     requires is_ground { IsGround atom.now }
     requires room { 1 ≤ list.old.spare }
-    ensures { IsPut mark.now atom.now list.old list.new }
+    ensures { IsPutIn mark.now atom.now list.old list.new }
 {
     if covers(mark, atom) {
         list.insert_spare(*atom);
@@ -67,7 +67,7 @@ fn put_one(list: &mut Model, mark: &Atom, atom: &Atom)
 /// Takes the atom from the lists of the marks that cover it.
 fn take_from(lists: &mut [Model], marks: &[Mark], atom: &Atom)
     requires same { length lists.old ≡ length marks.now }
-    ensures { AreTaken marks.now atom.now lists.old lists.new }
+    ensures { AreTakenOut marks.now atom.now lists.old lists.new }
 {
     for (at, mark) in marks.iter().enumerate() {
         take_one(&mut lists[at], &mark.atom, atom);
@@ -79,14 +79,14 @@ fn put_into(lists: &mut [Model], marks: &[Mark], atom: &Atom)
     requires same { length lists.old ≡ length marks.now }
     requires is_ground { IsGround atom.now }
     requires room { (k : ℕ) (l : ModelValue) → k < length lists.old → 1 ≤ (slice_index_or lists.old k l).spare }
-    ensures { ArePut marks.now atom.now lists.old lists.new }
+    ensures { ArePutIn marks.now atom.now lists.old lists.new }
 {
     for (at, mark) in marks.iter().enumerate() {
         put_one(&mut lists[at], &mark.atom, atom);
     }
 }
 
-/// Are the terms the same?
+/// Returns whether the terms are the same.
 fn are_same(terms: &[Term], found: &[Term]) -> bool
     ensures { result ≡ pointwise term_eq terms.now found.now }
 {
@@ -101,15 +101,15 @@ fn are_same(terms: &[Term], found: &[Term]) -> bool
     true
 }
 
-/// Are the atoms the same?
+/// Returns whether the atoms are the same.
 pub fn is_same(one: &Atom, other: &Atom) -> bool
     ensures { result ≡ atom_eq one.now other.now }
 {
     one.pred() == other.pred() && are_same(one.args(), other.args())
 }
 
-/// Is the atom in the model? A walk over ascending atoms goes on in the model from the place. Nothing rests on the place: an
-/// atom that the walk doesn't meet is looked up.
+/// Returns whether the atom is in the model. A walk over ascending atoms goes on in the model from the place. Nothing rests on the place:
+/// an atom that the walk doesn't meet is looked up.
 fn meets(model: &Model, atom: &Atom, place: &mut usize) -> bool
     ensures { IsTrue result ↔ Contains model.now.atoms atom.now }
 {

@@ -1,4 +1,4 @@
-//! From which kernel on the instances with the objects that were found last are proper, so that it is tested once.
+//! From which kernel on the instances with the objects that were found last are proper, so that this is tested once.
 ghost use Rattle.std.specs.Prelude.{◌≡◌, ◌↔◌, ◌≤◌, ◌+◌, IsTrue, length};
 ghost use Rattle.px_terms.specs.Validity.{IsValid};
 ghost use Rattle.px_table.specs.Kernels.{IsInstantiation, IsProper};
@@ -9,7 +9,7 @@ use crate::question::Question;
 use px_table::{Table, proper};
 use px_terms::Problem;
 
-/// The number of the goal's kernel, which is proper with any objects: no step is left.
+/// Returns the number of the goal's kernel, which is proper with any objects: no step is left.
 pub fn goal_number(problem: &Problem, table: &Table, objects: &[u32]) -> u32
     requires table { IsTable problem.now table.now }
     ensures number { result ≡ length table.now.steps + 1 }
@@ -18,7 +18,7 @@ pub fn goal_number(problem: &Problem, table: &Table, objects: &[u32]) -> u32
     table.steps.len() as u32 + 1
 }
 
-/// Is the kernel's instance with these objects proper?
+/// Returns whether the kernel's instance with these objects is proper.
 pub fn is_proper(question: &Question, work: &[u32]) -> bool
     requires asked { IsQuestion question.now }
     requires work { IsInstantiation question.now.problem.now question.now.table.now work.now }
@@ -30,7 +30,7 @@ pub fn is_proper(question: &Question, work: &[u32]) -> bool
     proper(question.problem, question.table, work, question.number)
 }
 
-/// Keeps the objects with which a kernel was found, and answers from which number on the kernels are now known to be proper.
+/// Keeps the objects with which a kernel was found, and returns from which number on the kernels are now known to be proper.
 pub fn keep_found(
     problem: &Problem,
     table: &Table,

@@ -9,13 +9,13 @@
 //!   some bound parameter, with the first such one.
 //! - A binding is a list of pairs, each a parameter, counted from 1, and its object. `first_bad` in `specs/Matching` is the
 //!   first parameter of it that the table does not have.
-//! - [`Matcher::best`] answers the number of the highest kernel that fits a model, and `None` exactly where none does.
-//!   [`Matcher::instance`] then gives the first objects with which that kernel fits; where `best` found none they stay, and at
-//!   first there are none. Neither takes memory.
+//! - [`Matcher::best`] returns the number of the highest kernel that fits a model, and `None` exactly where none does.
+//!   [`Matcher::instance`] then gives the first objects with which that kernel fits; where `best` found no kernel they stay, and at
+//!   first there are no objects. Neither takes memory.
 //! - Contracts see a matcher as `MatcherValue`: its problem, table, binding, room and objects. All but the objects stay.
 //! - `KernelFits` says that objects for the parameters extend the binding, that the instance of kernel `i` under them is
 //!   proper, and that all its atoms are true. `IsHighest` is the greatest `i` for which some objects fit, with the first
-//!   such objects, compared parameter by parameter; `NoKernelFits` says that there are none. A parameter that stands in no
+//!   such objects, compared parameter by parameter; `NoKernelFits` says that no objects fit. A parameter that stands in no
 //!   mark of the kernel has the least object with which the instance is proper.
 //! - `IsSensed` is what sensing finds in a set of atoms. It is determined ([`sensed_is_one`]).
 //! - A worked example, in `specs/WorkedDanger`, is a plan that would delete what it needs if one object stood for two: when each
@@ -26,22 +26,22 @@
 //! A matcher keeps the atoms of the last sensing, and for each mark the list of those that it may become. The next sensing takes
 //! away what is gone and adds what has come. That the lists are exactly these is the invariant of the type.
 //!
-//! Kernels with a mark whose list is empty are passed over in one walk over the marks. Whether an instance is proper doesn't depend on
-//! the model, and later kernels are proper where one is: the number from which on they are known to be so for the objects that were found
-//! last is kept, and it is tested anew only below it or for other objects.
+//! Kernels with a mark whose list is empty are passed over in one walk over the marks. Whether an instance is proper doesn't depend on the
+//! model, and where one is, those of later kernels are: so the number from which on they are known to be proper for the objects that were
+//! found last is kept, and it is tested anew only below it or for other objects.
 //!
-//! A kernel is matched parameter by parameter, each from the first object up. Objects are passed over that no atom of a
-//! mark's list has there, given the objects before, those with which a step deletes a mark whatever comes later, and those with
-//! which no object is left for a later parameter. Each time this has its reasons, the earlier parameters on whose objects it
-//! rests. Where no object is left, the search goes back to the last reason, over all parameters between. What was found for these is
-//! kept as long as the objects on which it rests stand, so that marks without a common parameter aren't searched anew for each
-//! other. What is found first is the first in the order of objects. In a list the atom is found by halves, since it ascends, where
-//! the mark's terms are known from the left up to the parameter. Which marks, deletions and later parameters are looked at, and
-//! when, is a hint: each passing over is proved by itself, and a full list of objects is tested.
+//! A kernel is matched parameter by parameter, each from the first object up. Three kinds of objects are passed over: those that no atom
+//! of a mark's list has there, given the objects before; those with which a step deletes a mark whatever comes later; and those with which
+//! no object is left for a later parameter. Each time this has its reasons, the earlier parameters on whose objects it rests. Where no
+//! object is left, the search goes back to the last reason, over all parameters between. What was found for these is kept as long as the
+//! objects on which it rests stand, so that marks without a common parameter aren't searched anew for each other. What is found first is
+//! the first in the order of objects. In a list the atom is found by binary search, since it ascends, where the mark's terms are known
+//! from the left up to the parameter. Which marks, deletions and later parameters are looked at, and when, is a hint: each passing over is
+//! proved by itself, and a full list of objects is tested.
 //!
-//! What contracts of public calls cite stands in `specs/Matching`, `specs/MatcherValue` and `specs/WorkedDanger`. The other files of
-//! `specs/` are cited by private functions: the reasons (`Reasons`), what the search looks for (`Asking`, `Filling`), on which side of
-//! an atom what a mark becomes stands (`Seeking`), its turns with the measure by which they end (`Turns`), and the lists (`Keeping`).
+//! What contracts of public calls cite stands in `specs/Matching`, `specs/MatcherValue` and `specs/WorkedDanger`. Only private functions
+//! cite the other files of `specs/`: the reasons (`Reasons`), what the search looks for (`Asking`, `Filling`), on which side of an atom
+//! what a mark becomes stands (`Seeking`), its turns with the measure by which they end (`Turns`), and the lists (`Keeping`).
 #![tactic(auto)]
 
 mod checking;

@@ -1,14 +1,14 @@
 //! The marks of the kernel that is asked about, and the objects that they allow.
 ghost use Rattle.std.specs.Prelude.{◌<◌, ◌≤◌, ℕ, List, All, IfSome, length};
 ghost use Rattle.px_table.specs.Kernels.{IsInstantiation};
-ghost use Rattle.px_match.specs.Asking.{IsAnswer, IsMarkOf, IsQuestion};
+ghost use Rattle.px_match.specs.Asking.{IsFitFor, IsMarkOf, IsQuestion};
 ghost use Rattle.px_match.specs.Reasons.{IsAtMost, IsSameBefore, object_at};
 
 use crate::filling::least;
 use crate::question::Question;
 use px_table::Mark;
 
-/// The mark of that number, if the kernel has it.
+/// Returns the mark of that number, if the kernel has it.
 pub fn mark_of<'a>(question: &Question<'a>, number: usize) -> Option<&'a Mark>
     ensures { IfSome result (λ mark. IsMarkOf question.now number mark.now) }
 {
@@ -19,7 +19,7 @@ pub fn mark_of<'a>(question: &Question<'a>, number: usize) -> Option<&'a Mark>
     Some(mark)
 }
 
-/// The least object from `from` on that the mark of that number allows at the place, given the objects before.
+/// Returns the least object from `from` on that the mark of that number allows at the place, given the objects before.
 pub fn least_of(
     question: &Question,
     work: &[u32],
@@ -33,7 +33,7 @@ pub fn least_of(
     requires place { place < length work.now }
     requires mark { IsMarkOf question.now number mark.now }
     ensures at_least { IfSome result (λ r. from ≤ r) }
-    ensures at_most { (objects : List ℕ) → IsAnswer question.now objects → All (IsSameBefore work.now place objects) mark.now.atom.args
+    ensures at_most { (objects : List ℕ) → IsFitFor question.now objects → All (IsSameBefore work.now place objects) mark.now.atom.args
         → from ≤ object_at objects place → IsAtMost result (object_at objects place) }
 {
     least(

@@ -37,7 +37,7 @@ pub struct Matcher<'a> {
     instance: Vec<u32>,
     /// With the objects of `instance` the kernels from this one on are proper.
     proper_from: u32,
-    /// Is there an instance yet?
+    /// Whether there is an instance yet.
     is_found: bool,
 }
 
@@ -69,7 +69,7 @@ impl<'a> std::marker::Model for Matcher<'a> {
         × AreProperFrom m.problem.now m.table.now m.instance.items m.proper_from };
 }
 
-/// The first bound parameter that the table does not have.
+/// Returns the first bound parameter that the table does not have.
 fn first_bad(table: &Table, bind: &[(u32, u32)]) -> Option<u32>
     ensures { result ≡ spec_first_bad table.now bind.now }
 {
@@ -81,7 +81,7 @@ fn first_bad(table: &Table, bind: &[(u32, u32)]) -> Option<u32>
     None
 }
 
-/// No atoms, with room for `room` of them.
+/// Returns a model of no atoms, with room for `room` of them.
 fn model_with_room(alloc: Global, room: usize) -> Result<Model, NoMemory>
     ensures empty { IfOk result (λ model. model.atoms ≡ []) }
     ensures room { IfOk result (λ model. room ≤ model.spare) }
@@ -91,7 +91,7 @@ fn model_with_room(alloc: Global, room: usize) -> Result<Model, NoMemory>
     Ok(model)
 }
 
-/// For each mark a list of no atoms, with room for `room` of them.
+/// Returns for each mark a list of no atoms, with room for `room` of them.
 #[tactic(auto, using(crate::proofs::Renewed::none_empty, crate::proofs::Renewed::one_more_empty))]
 fn lists_of(alloc: Global, count: usize, room: usize) -> Result<Vec<Model>, NoMemory>
     ensures { IfOk result (λ lists. AreEmpty room count lists.items) }
@@ -104,7 +104,7 @@ fn lists_of(alloc: Global, count: usize, room: usize) -> Result<Vec<Model>, NoMe
 }
 
 impl<'a> Matcher<'a> {
-    /// A matcher for the table in which these parameters, counted from 1, have these objects. Takes all memory that it needs.
+    /// Returns a matcher for the table in which these parameters, counted from 1, have these objects. Takes all memory that it needs.
     ///
     /// # Errors
     /// `BadParam` with the first parameter that the table does not have, and `NoMemory`.
@@ -157,8 +157,8 @@ impl<'a> Matcher<'a> {
         })
     }
 
-    /// The highest kernel of which an instance that extends the binding and is proper holds in the model; `None` exactly where
-    /// there is none. Does not allocate.
+    /// Returns the highest kernel of which an instance that extends the binding and is proper holds in the model; `None` exactly where
+    /// there is no such kernel. Does not allocate.
     pub fn best(&mut self, model: &Model) -> Option<u32>
         requires room { length model.now.atoms ≤ self.old.room }
         ensures none { (result ≡ None) ↔ NoKernelFits self.old.problem self.old.table self.old.bound model.now.atoms }
@@ -200,7 +200,7 @@ impl<'a> Matcher<'a> {
         }
     }
 
-    /// The first objects with which the kernel of the last `best` that found one fits; none before. Does not allocate.
+    /// Returns the first objects with which the kernel of the last `best` that found one fits; no objects before. Does not allocate.
     pub fn instance(&self) -> &[u32]
         ensures { result.now ≡ self.now.instance }
     {

@@ -1,7 +1,7 @@
-//! Passing over an object because none is left for a later parameter: marks that have it and no other parameter after the
+//! Passing over an object because no object is left for a later parameter: marks that have this one and no other parameter after the
 //! place don't agree on its object.
 ghost use Rattle.std.specs.Prelude.{◌≡◌, ◌≢◌, ◌<◌, ◌≤◌, ◌+◌, ℕ, List, Option, All, IsTrue, IfSome, length};
-ghost use Rattle.px_match.specs.Asking.{IsAnswer, IsLeft, IsTried};
+ghost use Rattle.px_match.specs.Asking.{IsFitFor, IsLeft, IsTried};
 ghost use Rattle.px_match.specs.Reasons.{Agree, Grown, IsBlamed, IsNear, object_at};
 
 use crate::marks::{least_of, mark_of};
@@ -9,7 +9,7 @@ use crate::question::Question;
 use crate::reasons::blame;
 use px_terms::Term;
 
-/// Is the term no parameter between the place and the later one?
+/// Returns whether the term is no parameter between the place and the later one.
 fn is_near(term: Term, place: usize, later: usize) -> bool
     ensures { IsTrue result → IsNear place later term }
 {
@@ -19,14 +19,14 @@ fn is_near(term: Term, place: usize, later: usize) -> bool
     }
 }
 
-/// Is no parameter of the terms between the place and the later one?
+/// Returns whether no parameter of the terms is between the place and the later one.
 fn are_near(terms: &[Term], place: usize, later: usize) -> bool
     ensures { IsTrue result → All (IsNear place later) terms.now }
 {
     terms.iter().all(|term| is_near(*term, place, later))
 }
 
-/// The parameters among the terms that come before the place are reasons, where that is asked.
+/// Records the parameters among the terms that come before the place as reasons, where that is asked.
 fn blame_if(cells: &mut [bool], params: usize, place: usize, terms: &[Term], is_blamed: bool)
     requires params { params ≤ 4294967295 }
     requires place { place < params }
@@ -38,7 +38,7 @@ fn blame_if(cells: &mut [bool], params: usize, place: usize, terms: &[Term], is_
     }
 }
 
-/// The least object from `from` on that the mark of that number allows at the later place, whatever stands between.
+/// Returns the least object from `from` on that the mark of that number allows at the later place, whatever stands between.
 // Alike: `least_left_by_marks`, which asks the marks in turn; the parameters and clauses of `is_none_left` are like them, too.
 fn least_left(
     question: &Question,
@@ -66,7 +66,7 @@ fn least_left(
     least_of(question, work, later, from, number, mark)
 }
 
-/// The same for all marks that have the parameter of the later place, in turn.
+/// Returns the least object from `from` on that all marks with the parameter of the later place, in turn, allow there.
 #[tactic(auto, using(crate::proofs::Left::left_itself, crate::proofs::Left::left_then))]
 fn least_left_by_marks(
     question: &Question,
@@ -98,7 +98,7 @@ fn least_left_by_marks(
     Some(object)
 }
 
-/// Is no object left for the later place?
+/// Returns whether no object is left for the later place.
 #[tactic(auto, using(crate::proofs::Left::left_itself, crate::proofs::Left::left_then, crate::proofs::Left::none_left))]
 fn is_none_left(
     question: &Question,
@@ -111,7 +111,7 @@ fn is_none_left(
     requires tried { IsTried question.now work.now later }
     requires place { place < later }
     ensures grown { Grown cells.old cells.new }
-    ensures never { IsTrue is_blamed → IsTrue result → (objects : List ℕ) → IsAnswer question.now objects
+    ensures never { IsTrue is_blamed → IsTrue result → (objects : List ℕ) → IsFitFor question.now objects
         → Agree cells.new (length work.now) work.now place objects → object_at work.now place ≢ object_at objects place }
 {
     let mut from = 0;
@@ -128,12 +128,12 @@ fn is_none_left(
     }
 }
 
-/// Is no object left for a later place? Reasons are put only where that is so.
-// Alike: `has_clash`, since the yes of both says that the object of the place is in no answer, for another reason.
+/// Returns whether no object is left for a later place. Reasons are recorded only where that is so.
+// Alike: `has_clash`. `true` from either says that the object of the place is in no answer, for another reason.
 pub fn has_meeting(question: &Question, cells: &mut [bool], work: &[u32], place: usize) -> bool
     requires { IsTried question.now work.now place }
     ensures grown { Grown cells.old cells.new }
-    ensures never { IsTrue result → (objects : List ℕ) → IsAnswer question.now objects
+    ensures never { IsTrue result → (objects : List ℕ) → IsFitFor question.now objects
         → Agree cells.new (length work.now) work.now place objects → object_at work.now place ≢ object_at objects place }
 {
     let Some(hints) = question.hints.get(place) else {

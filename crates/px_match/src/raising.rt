@@ -1,12 +1,12 @@
-//! Passing over objects at a place that can't stand there, with the reasons.
+//! Passing over objects that can't stand at a place, with the reasons.
 ghost use Rattle.std.specs.Prelude.{◌≡◌, ◌≢◌, ◌↔◌, ◌<◌, ◌≤◌, ◌+◌, ℕ, List, Option, Some, None, All, IsTrue, IfSome, length};
 ghost use Rattle.px_terms.specs.Language.{IsVariableBelow};
 ghost use Rattle.px_table.specs.Kernels.{IsInstantiation};
-ghost use Rattle.px_match.specs.Asking.{Excludes, IsAnswer, IsQuestion, IsRaised, IsTried};
+ghost use Rattle.px_match.specs.Asking.{Excludes, IsFitFor, IsQuestion, IsRaised, IsTried};
 ghost use Rattle.px_match.specs.Matching.{Extends};
 ghost use Rattle.px_match.specs.Reasons.{Agree, Grown, IsAtMost, IsChanged, IsReason, IsStale, object_at};
 
-use crate::hints::Clash;
+use crate::hints::MarkClash;
 use crate::marks::{least_of, mark_of};
 use crate::meeting::has_meeting;
 use crate::question::Question;
@@ -15,7 +15,7 @@ use px_ops::schema_of;
 use px_table::atom_with;
 use px_terms::{Atom, Term, apply, instance_of};
 
-/// Is the term no parameter after the place?
+/// Returns whether the term is no parameter after the place.
 fn is_up_to(term: Term, place: usize) -> bool
     ensures { IsTrue result → IsVariableBelow (place + 1) term }
 {
@@ -25,14 +25,14 @@ fn is_up_to(term: Term, place: usize) -> bool
     }
 }
 
-/// Are all parameters among the terms up to the place?
+/// Returns whether all parameters among the terms are up to the place.
 fn are_up_to(terms: &[Term], place: usize) -> bool
     ensures { IsTrue result → All (IsVariableBelow (place + 1)) terms.now }
 {
     terms.iter().all(|term| is_up_to(*term, place))
 }
 
-/// The least object from `from` on that the binding allows at the place.
+/// Returns the least object from `from` on that the binding allows at the place.
 fn least_bound(bound: &[(u32, u32)], place: usize, from: u32) -> Option<u32>
     requires place { place < 4294967295 }
     ensures at_least { IfSome result (λ r. from ≤ r) }
@@ -50,7 +50,7 @@ fn least_bound(bound: &[(u32, u32)], place: usize, from: u32) -> Option<u32>
     Some(from)
 }
 
-/// The first object from that of the place on that the mark of that number allows.
+/// Returns the first object from that of the place on that the mark of that number allows.
 // Alike: `raise_by_marks` and `raise`, since each is a part of the next.
 fn raise_by_mark(
     question: &Question,
@@ -75,7 +75,7 @@ fn raise_by_mark(
     raised
 }
 
-/// The first object from that of the place on that the first mark which passes over one allows.
+/// Returns the first object from that of the place on that the first mark which passes over one allows.
 fn raise_by_marks(
     question: &Question,
     cells: &mut [bool],
@@ -99,9 +99,13 @@ fn raise_by_marks(
     Some(from)
 }
 
-/// The pattern over the table's parameters, if it and the mark have all their parameters up to the place and it deletes the
-/// mark.
-fn deleting(question: &Question, work: &[u32], place: usize, clash: &Clash) -> Option<(Atom, Atom)>
+/// Returns the pattern over the table's parameters, if it and the mark have all their parameters up to the place and it deletes the mark.
+fn deleting(
+    question: &Question,
+    work: &[u32],
+    place: usize,
+    clash: &MarkClash,
+) -> Option<(Atom, Atom)>
     requires { IsTried question.now work.now place }
     ensures { IfSome result (λ pair. Excludes question.now work.now (place + 1) pair.0 pair.1) }
 {
@@ -133,11 +137,11 @@ fn deleting(question: &Question, work: &[u32], place: usize, clash: &Clash) -> O
     Some((pattern, mark.atom))
 }
 
-/// Does a step delete a mark, whatever the objects after the place?
+/// Returns whether a step deletes a mark, whatever the objects after the place are.
 fn has_clash(question: &Question, cells: &mut [bool], work: &[u32], place: usize) -> bool
     requires { IsTried question.now work.now place }
     ensures grown { Grown cells.old cells.new }
-    ensures never { IsTrue result → (objects : List ℕ) → IsAnswer question.now objects
+    ensures never { IsTrue result → (objects : List ℕ) → IsFitFor question.now objects
         → Agree cells.new (length work.now) work.now place objects → object_at work.now place ≢ object_at objects place }
 {
     let Some(hints) = question.hints.get(place) else {
@@ -153,7 +157,7 @@ fn has_clash(question: &Question, cells: &mut [bool], work: &[u32], place: usize
     false
 }
 
-/// The first object from that of the place on that isn't passed over at once.
+/// Returns the first object from that of the place on that isn't passed over at once.
 fn raise(question: &Question, cells: &mut [bool], work: &[u32], place: usize) -> Option<u32>
     requires { IsTried question.now work.now place }
     ensures grown { Grown cells.old cells.new }
@@ -193,7 +197,7 @@ fn put_object(cells: &mut [bool], work: &mut [u32], place: usize, object: u32)
     make_stale_after(cells, work.len(), place);
 }
 
-/// Puts the object at the place, and answers the first object from it on that isn't passed over at once.
+/// Puts the object at the place, and returns the first object from it on that isn't passed over at once.
 #[tactic(auto, using(crate::proofs::Floors::unchanged))]
 pub fn try_object(
     question: &Question,

@@ -4,13 +4,13 @@ ghost use Rattle.std.specs.Prelude.{◌≡◌, ◌≢◌, ◌⊎◌, ◌<◌, �
 ghost use Rattle.std.specs.declared.cmp.Ordering.TheVariants.{Less, Greater};
 ghost use Rattle.px_terms.specs.AtomSets.{IsAtomSet};
 ghost use Rattle.px_terms.specs.Language.{IsVariableBelow};
-ghost use Rattle.px_match.specs.Seeking.{AreAbove, AreBelow, AreTermsAbove, AreTermsBelow, IsExpected, IsNoneBefore, IsPast};
+ghost use Rattle.px_match.specs.Seeking.{IsAboveInstances, IsBelowInstances, AreTermsAbove, AreTermsBelow, IsExpected, IsNoneBefore, IsPast};
 
 use px_terms::{Atom, Term};
 use std::cmp::Ordering;
 
-/// What an atom has where the mark has the term: the object of `work` for a parameter before the place, and for the one of the
-/// place the limit. None where nothing is known of it.
+/// Returns what an atom has where the mark has the term: the object of `work` for a parameter before the place, and for the parameter of
+/// the place the limit. `None` where nothing is known of it.
 fn expected(term: Term, work: &[u32], place: usize, limit: Option<u32>) -> Option<Term>
     requires variable { IsVariableBelow (length work.now) term }
     ensures { IfSome result (IsExpected work.now place limit term) }
@@ -34,7 +34,7 @@ fn expected(term: Term, work: &[u32], place: usize, limit: Option<u32>) -> Optio
     }
 }
 
-/// Less where the found terms stand before all that the terms become with at least the limit at the place, greater where they
+/// Returns `Less` where the found terms stand before all that the terms become with at least the limit at the place, `Greater` where they
 /// stand after all that these become with at most the limit.
 #[tactic(auto, using(crate::proofs::Sides::side_less, crate::proofs::Sides::side_greater, crate::proofs::Sides::side_next))]
 fn side_of(
@@ -62,12 +62,13 @@ fn side_of(
     Ordering::Equal
 }
 
-/// The same of the atoms that the mark becomes.
+/// Returns `Less` where the atom stands before all that the mark becomes with at least the limit at the place, `Greater` where it
+/// stands after all that this becomes with at most the limit.
 #[tactic(auto, using(crate::proofs::Sides::mark_below, crate::proofs::Sides::mark_above))]
 fn side(mark: &Atom, atom: &Atom, work: &[u32], place: usize, limit: Option<u32>) -> Ordering
     requires variables { All (IsVariableBelow (length work.now)) mark.now.args }
-    ensures below { result ≡ Less → AreBelow work.now place limit mark.now atom.now }
-    ensures above { result ≡ Greater → AreAbove work.now place limit mark.now atom.now }
+    ensures below { result ≡ Less → IsBelowInstances work.now place limit mark.now atom.now }
+    ensures above { result ≡ Greater → IsAboveInstances work.now place limit mark.now atom.now }
 {
     if mark.pred() != atom.pred() || mark.args().len() != atom.args().len() {
         return Ordering::Equal;
@@ -75,7 +76,7 @@ fn side(mark: &Atom, atom: &Atom, work: &[u32], place: usize, limit: Option<u32>
     side_of(mark.args(), atom.args(), work, place, limit)
 }
 
-/// A place before which the mark becomes none of the atoms with at least `from` at the place, found by halves.
+/// Returns a place, found by binary search, before which the mark becomes none of the atoms with at least `from` at the place.
 #[tactic(auto, using(crate::proofs::Sides::none_yet, crate::proofs::Sides::none_so_far))]
 pub fn first_near(atoms: &[Atom], mark: &Atom, work: &[u32], place: usize, from: u32) -> usize
     requires set { IsAtomSet atoms.now }
@@ -94,7 +95,7 @@ pub fn first_near(atoms: &[Atom], mark: &Atom, work: &[u32], place: usize, from:
     low
 }
 
-/// Do all atoms that the mark becomes stand before this one, but for those that have at least the best object at the place?
+/// Returns whether all atoms that the mark becomes stand before this one, but for those that have at least the best object at the place.
 #[tactic(auto, using(crate::proofs::Sides::past_all, crate::proofs::Sides::past_first, crate::proofs::Sides::past_best))]
 pub fn is_past(
     atom: &Atom,

@@ -22,7 +22,9 @@ pub position-map : {X Y : Type 0} (p : Y → Bool) (f : X → Y) (xs : List X) �
 position-map p f xs = rw (length_map f xs, prefix_len-map (λ x. not (p x)) f xs) refl
 
 -- a key whose name isn't there goes last
-pub names-insert_key : {K : Type 0} (f : K → List ℕ) (name : List ℕ) (keys new : List K) (value : K) → f value ≡ name → list_any (bytes_eq name) (map f keys) ≡ false → new ≡ insert_key (λ a b. bytes_eq (f a) (f b)) keys value → map f new ≡ map f keys ++ name ∷ []
+pub names-insert_key : {K : Type 0} (f : K → List ℕ) (name : List ℕ) (keys new : List K) (value : K) → f value ≡ name
+    → list_any (bytes_eq name) (map f keys) ≡ false → new ≡ insert_key (λ a b. bytes_eq (f a) (f b)) keys value
+    → map f new ≡ map f keys ++ name ∷ []
 names-insert_key f name keys new value named absent inserted =
     let absent_key : list_any (λ k. bytes_eq (f value) (f k)) keys ≡ false = rw (named, ← list_any-map (bytes_eq name) f keys) absent in
     rw (inserted, absent_key, map-append, named) refl

@@ -1,3 +1,4 @@
+-- The files of definitions and laws.
 pub mod Lists
 pub mod Name
 pub mod NameLaws

@@ -42,15 +42,15 @@ has_name-decides name (x ∷ xs) =
 distinct_rest : (x : List ℕ) (xs : List (List ℕ)) → AreDistinct (x ∷ xs) → AreDistinct xs
 distinct_rest x xs distinct i j d before within = distinct (suc i) (suc j) d (omega (arith, before)) (omega (arith, within))
 
-place_of : (names : List (List ℕ)) (number : ℕ) (name : List ℕ) → AreDistinct names → slice_get names number ≡ Some name
+position_of-number : (names : List (List ℕ)) (number : ℕ) (name : List ℕ) → AreDistinct names → slice_get names number ≡ Some name
     → position_or_len (bytes_eq name) names ≡ number
-place_of [] number name distinct is = cc
-place_of (x ∷ xs) zero name distinct is = let same : x ≡ name = cc in rw (same, bytes_eq-itself) refl
-place_of (x ∷ xs) (suc number) name distinct is =
+position_of-number [] number name distinct is = cc
+position_of-number (x ∷ xs) zero name distinct is = let same : x ≡ name = cc in rw (same, bytes_eq-itself) refl
+position_of-number (x ∷ xs) (suc number) name distinct is =
     let within : number < length xs = slice_get_within xs number name is in
     let other : name ≢ x = λ same. distinct 0 (suc number) x (omega arith) (omega (arith, within))
     (sym same ∙ sym (get_or_from_slice_get xs number name x is)) in
-    let rest : position_or_len (bytes_eq name) xs ≡ number = place_of xs number name (distinct_rest x xs distinct) is in
+    let rest : position_or_len (bytes_eq name) xs ≡ number = position_of-number xs number name (distinct_rest x xs distinct) is in
     let more : 1 + position_or_len (bytes_eq name) xs ≡ suc number = omega (arith, rest) in
     rw (bytes_eq-other name x other) more
 
@@ -59,7 +59,7 @@ pub number_of_name : (names : List (List ℕ)) (number : ℕ) (name : List ℕ) 
     → position (bytes_eq name) names ≡ Some number
 number_of_name names number name distinct is =
     let within : number < length names = slice_get_within names number name is in
-    rw (place_of names number name distinct is) (let test : nat_lt number (length names) ≡ true = grind arith in rw test refl)
+    rw (position_of-number names number name distinct is) (let test : nat_lt number (length names) ≡ true = grind arith in rw test refl)
 
 -- the name of a number that was found is the name that was looked for
 pub name_of_number : (names : List (List ℕ)) (name : List ℕ) (found : Option ℕ) → found ≡ position (bytes_eq name) names

@@ -20,7 +20,7 @@ pub enum Kind {
 }
 
 impl Kind {
-    /// How many names of the kind there may be.
+    /// Returns how many names of the kind there may be.
     pub fn limit(self) -> u32
         ensures { result ≡ limit_of self }
     {

@@ -36,10 +36,10 @@ impl Model for Names {
 }
 
 impl Names {
-    /// No names of any kind.
+    /// Returns no names of any kind.
     ///
     /// # Errors
-    /// `NoMemory` is kept for a list that takes its room beforehand; this one takes none, and always answers.
+    /// `NoMemory` is kept for a list that takes its room beforehand; this one takes none, so it never comes.
     pub fn new(alloc: Global) -> Result<Names, NoMemory>
         ensures empty { result ≡ Ok no_names }
     {
@@ -51,10 +51,10 @@ impl Names {
         })
     }
 
-    /// Adds a name as the last one of its kind, and answers its number: how many names the kind had.
+    /// Adds a name as the last one of its kind, and returns its number: how many names the kind had.
     ///
     /// # Errors
-    /// The first of these is answered, and the names stay as they were.
+    /// The first of these is returned, and the names stay as they were.
     /// - `BadName` exactly where the text isn't a name.
     /// - `Duplicate` exactly where the kind has the name.
     /// - `Full` exactly where the kind has as many names as it may have: 256 objects, 64 predicates, 32 operators or
@@ -83,7 +83,7 @@ impl Names {
         Ok(number)
     }
 
-    /// The number of a name, or `None` exactly where no name of that kind is the given one.
+    /// Returns the number of a name, or `None` exactly where no name of that kind is the given one.
     ///
     /// `number` is the contract. `position` and `found` say the same by tests that compute, for callers whose own
     /// definitions compute numbers.
@@ -98,7 +98,7 @@ impl Names {
         Some(number as u32)
     }
 
-    /// The name of a number.
+    /// Returns the name of a number.
     pub fn text(&self, kind: Kind, number: u32) -> &str
         requires { number < length (names_of kind self.now) }
         ensures text { slice_get (names_of kind self.now) number ≡ Some result.now }
@@ -108,7 +108,7 @@ impl Names {
         self.list(kind).text(number as usize)
     }
 
-    /// How many names the kind has.
+    /// Returns how many names the kind has.
     pub fn count(&self, kind: Kind) -> u32
         ensures count { result ≡ length (names_of kind self.now) }
         ensures names { AreNames kind (names_of kind self.now) }

@@ -1,4 +1,4 @@
-//! Names of each kind, and texts that are names or none.
+//! Names of each kind, and texts that are names or aren't.
 use crate::{Kind, NameErr, Names, is_name, split_first, starts_name};
 use std::rt::HostRuntime;
 

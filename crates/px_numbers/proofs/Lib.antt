@@ -1,3 +1,4 @@
+-- The files of lemmas.
 pub mod Equality
 pub mod NodewiseLaws
 pub mod NumberSteps

@@ -1,3 +1,4 @@
+-- The files of definitions and laws.
 pub mod NumberLaws
 pub mod Numbers
 pub mod Nodewise

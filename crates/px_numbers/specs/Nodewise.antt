@@ -9,19 +9,19 @@ use Rattle.px_numbers.specs.declared.stacks.Frame.{Frame}
 use Rattle.px_numbers.specs.Numbers.{Kept, AllStand}
 
 -- the item, if there is one
-abbrev pub items_of : {X : Type 0} → Option X → List X
-items_of None = []
-items_of (Some x) = x ∷ []
+abbrev pub items_or_none : {X : Type 0} → Option X → List X
+items_or_none None = []
+items_or_none (Some x) = x ∷ []
 
 -- the items at the places
 unfoldable pub items_at : {X : Type 0} → List X → List ℕ → List X
 items_at items [] = []
-items_at items (place ∷ places) = items_of (slice_get items place) ++ items_at items places
+items_at items (place ∷ places) = items_or_none (slice_get items place) ++ items_at items places
 
 -- the atoms of these numbers, if there are any
-abbrev pub atoms_of : List Atom → Option (List ℕ) → List Atom
-atoms_of atoms None = []
-atoms_of atoms (Some numbers) = items_at atoms numbers
+abbrev pub atoms_numbered : List Atom → Option (List ℕ) → List Atom
+atoms_numbered atoms None = []
+atoms_numbered atoms (Some numbers) = items_at atoms numbers
 
 -- the number of the stack below
 abbrev pub below_of : Option Frame → ℕ
@@ -31,7 +31,7 @@ below_of (Some frame) = frame.below
 -- the top entry, if there is one
 abbrev pub top_of : List Entry → Option Frame → List Entry
 top_of entries None = []
-top_of entries (Some frame) = items_of (slice_get entries frame.entry)
+top_of entries (Some frame) = items_or_none (slice_get entries frame.entry)
 
 -- the stack of the number, of which at most the first number of entries are looked up
 unfoldable pub stack_of : Kept → ℕ → ℕ → List Entry
@@ -41,12 +41,13 @@ stack_of kept (suc most) (suc place) = top_of kept.entries (slice_get kept.frame
     (below_of (slice_get kept.frames place))
 
 -- the node of the pair
-abbrev pub node_of : Kept → NodeKey → Node
-node_of kept key = record { model = atoms_of kept.atoms (slice_get kept.lists key.model); stack = stack_of kept key.stack key.stack }
+abbrev pub kept_node : Kept → NodeKey → Node
+kept_node kept key =
+    record { model = atoms_numbered kept.atoms (slice_get kept.lists key.model); stack = stack_of kept key.stack key.stack }
 
 -- the nodes of the pairs, in order
 abbrev pub nodes_of : Kept → List NodeKey → List Node
-nodes_of kept keys = map (node_of kept) keys
+nodes_of kept keys = map (kept_node kept) keys
 
 -- there are at least that many pairs, and each stands for the node that is made of it
 pub record AreFirst (kept : Kept) (keys : List NodeKey) (count : ℕ) : Type 0 where

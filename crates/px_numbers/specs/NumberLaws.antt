@@ -7,7 +7,7 @@ use Rattle.px_table.specs.declared.node.Node.{Node}
 use Rattle.px_numbers.specs.declared.nodes.NodeKey.{NodeKey}
 use Rattle.px_numbers.specs.declared.stacks.Frame.{Frame}
 use Rattle.px_ops.specs.Keeping.{AreOnce, KeepsPlaces}
-use Rattle.px_ops.specs.KeepLaws.{place_in, has_at, at_has, push-cases}
+use Rattle.px_ops.specs.KeepLaws.{place_within, has_at, at_has, push-cases}
 use Rattle.px_numbers.specs.Numbers.{Kept, AreEachOnce, AreNumbersOf, IsModelOf, IsModelAt, IsStackAt, IsKeyOf, KeepsAll, AllStand}
 
 -- ---- places of lists
@@ -159,14 +159,14 @@ pub node_of_key : (kept : Kept) (keys : List NodeKey) (nodes : List Node) (k : �
     → slice_get keys k ≡ Some key
     → (node : Node) × (slice_get nodes k ≡ Some node) × IsKeyOf kept key node
 node_of_key kept keys nodes k key all at =
-    let there = item_in nodes k (omega (arith, all.count, place_in keys k key at)) in
+    let there = item_in nodes k (omega (arith, all.count, place_within keys k key at)) in
     (there.0, there.1, all.each k key there.0 at there.1)
 
 pub key_of_node : (kept : Kept) (keys : List NodeKey) (nodes : List Node) (k : ℕ) (node : Node) → AllStand kept keys nodes
     → slice_get nodes k ≡ Some node
     → (key : NodeKey) × (slice_get keys k ≡ Some key) × IsKeyOf kept key node
 key_of_node kept keys nodes k node all at =
-    let there = item_in keys k (omega (arith, all.count, place_in nodes k node at)) in
+    let there = item_in keys k (omega (arith, all.count, place_within nodes k node at)) in
     (there.0, there.1, all.each k there.0 node there.1 at)
 
 -- a pair that was found is a node that was found
@@ -194,20 +194,20 @@ all_stand-push kept keys nodes key node all stands = record {
   each = λ k key' node' at_key at_node. elim (push-cases keys key key' k at_key) [
     | inl old ↦ elim (push-cases nodes node node' k at_node) [
       | inl old' ↦ all.each k key' node' old old'
-      | inr new ↦ absurd (omega (arith, place_in keys k key' old, new.0, all.count))
+      | inr new ↦ absurd (omega (arith, place_within keys k key' old, new.0, all.count))
     ]
     | inr new ↦ elim (push-cases nodes node node' k at_node) [
-      | inl old' ↦ absurd (omega (arith, place_in nodes k node' old', new.0, all.count))
+      | inl old' ↦ absurd (omega (arith, place_within nodes k node' old', new.0, all.count))
       | inr new' ↦ subst (λ (x : NodeKey). IsKeyOf kept x node') new.1 (subst (λ (x : Node). IsKeyOf kept key x) new'.1 stands)
     ]
   ];
 }
 
--- no pair is no node
+-- the empty list of pairs stands for the empty list of nodes
 pub all_stand-none : (kept : Kept) (keys : List NodeKey) → keys ≡ [] → AllStand kept keys []
 all_stand-none kept keys none = record {
   count = ap length none;
-  each = λ k key node at_key at_node. absurd (omega (arith, place_in [] k node at_node));
+  each = λ k key node at_key at_node. absurd (omega (arith, place_within [] k node at_node));
 }
 
 pub tails_stand : (kept : Kept) (key : NodeKey) (keys : List NodeKey) (node : Node) (nodes : List Node)

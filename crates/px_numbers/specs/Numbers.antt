@@ -66,7 +66,7 @@ pub record IsKeyOf (kept : Kept) (key : NodeKey) (node : Node) : Type 0 where
   pub model : IsModelAt kept key.model node.model
   pub stack : IsStackAt kept key.stack node.stack
 
--- what is kept has its number still
+-- what is kept still has its number
 pub record KeepsAll (old new : Kept) : Type 0 where
   pub atoms : KeepsPlaces old.atoms new.atoms
   pub lists : KeepsPlaces old.lists new.lists

@@ -27,7 +27,7 @@ impl Model for EntryIndex {
 }
 
 impl EntryIndex {
-    /// No entry.
+    /// Returns an index without entries.
     pub fn new(alloc: Global) -> EntryIndex
         ensures { result ≡ [] }
     {

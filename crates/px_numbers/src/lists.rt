@@ -25,7 +25,7 @@ impl Model for NumberLists {
 }
 
 impl NumberLists {
-    /// No list.
+    /// Returns an index without lists.
     pub fn new(alloc: Global) -> NumberLists
         ensures { result ≡ [] }
     {

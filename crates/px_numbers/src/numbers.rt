@@ -86,7 +86,7 @@ fn model_of(alloc: Global, index: &AtomIndex, numbers: &[u32]) -> Result<Model, 
 }
 
 impl Numbers {
-    /// Nothing is kept.
+    /// Returns a store in which nothing is kept.
     pub fn new(alloc: Global) -> Numbers
         ensures { result ≡ record { atoms = []; lists = []; entries = []; frames = [] } }
     {
@@ -98,7 +98,7 @@ impl Numbers {
         }
     }
 
-    /// What is true of all that is kept. (It does nothing: its contract is a law.)
+    /// Says what is true of all that is kept. (It does nothing: its contract is a law.)
     pub fn sound(&self)
         ensures { AreSound self.now }
     {
@@ -161,7 +161,7 @@ impl Numbers {
         Ok(place + 1)
     }
 
-    /// Returns the top entry of the stack, and the stack below. None where it is empty. Does not allocate.
+    /// Returns the top entry of the stack, and the stack below. `None` where it is empty. Does not allocate.
     pub fn top(&self, stack: u32) -> Option<Frame>
         requires { (entries : List Entry) × IsStackAt self.now stack entries }
         ensures top { (entries : List Entry) → IsStackAt self.now stack entries → IsTopOf self.now entries result }
@@ -174,7 +174,7 @@ impl Numbers {
         }
     }
 
-    /// Is the entry on the stack? Does not allocate.
+    /// Returns whether the entry is on the stack. Does not allocate.
     pub fn is_stacked(&self, stack: u32, entry: u32) -> bool
         requires { (entries : List Entry) × IsStackAt self.now stack entries }
         ensures { (entries : List Entry) (one : Entry) → IsStackAt self.now stack entries → slice_get self.now.entries entry ≡ Some one

@@ -27,7 +27,7 @@ fn number_of_one(
     numbers.model_number(alloc, &model)
 }
 
-/// Have two models numbers of their own, and the first the same again?
+/// Returns whether two models have numbers of their own, and the first has the same again.
 fn are_models_numbered(
     alloc: Global,
     numbers: &mut Numbers,
@@ -67,7 +67,7 @@ fn entry_number(numbers: &mut Numbers, op: u32, rt: &impl Abort) -> Result<u32, 
     numbers.entry_number(Entry::Op(inst))
 }
 
-/// Have two entries numbers of their own, the first the same again, and a stack the same twice?
+/// Returns whether two entries have numbers of their own, the first the same again, and a stack the same twice.
 fn are_stacks_numbered(numbers: &mut Numbers, rt: &impl Abort) -> Result<bool, NoMemory> {
     let first = entry_number(numbers, 7, rt)?;
     let second = entry_number(numbers, 5, rt)?;
@@ -84,7 +84,7 @@ fn entries_and_stacks_are_numbered_once(rt: HostRuntime) {
     assert!(&rt; matches!(found, Ok(true)));
 }
 
-/// Have two nodes places of their own, and the first the same again?
+/// Returns whether two nodes have places of their own, and the first has the same again.
 fn are_nodes_placed(nodes: &mut NodeSet) -> Result<bool, NoMemory> {
     let first = nodes.intern(NodeKey { model: 0, stack: 0 })?;
     let second = nodes.intern(NodeKey { model: 0, stack: 1 })?;

@@ -7,7 +7,8 @@ use Rattle.px_terms.specs.Instances.{IsGround}
 use Rattle.px_ops.specs.Keeping.{IsAtomIndex, Keeps}
 use Rattle.px_ops.specs.KeepLaws.{keeps-once}
 
-pub kept_index : {E : Type 0} (old new : List Atom) (atom : Atom) (result : Result ℕ E) → IsAtomIndex old → IsGround atom → IfOk result (Keeps old new atom) → OnErr result (new ≡ old)
+pub kept_index : {E : Type 0} (old new : List Atom) (atom : Atom) (result : Result ℕ E) → IsAtomIndex old → IsGround atom
+    → IfOk result (Keeps old new atom) → OnErr result (new ≡ old)
     → length new ≤ 4294967295 → IsAtomIndex new
 kept_index old new atom (Ok number) index is_ground kept same short = record {
   once = keeps-once old new atom number kept index.once;

@@ -1,3 +1,4 @@
+-- The files of lemmas.
 pub mod IndexLemmas
 pub mod ModelLemmas
 pub mod OperatorLemmas

@@ -38,7 +38,9 @@ searched_place atoms atom (Err i) sorted below found =
       below,
       record {
         below = front_of _ atoms i below parts.0;
-        above = back_of _ atoms i (λ k d low high. atom_cmp-total.antisymm atom (get_or atoms k d) ∙ ap ordering_reverse (parts.1 k d low high));
+        above =
+            back_of _ atoms i (λ k d low high. atom_cmp-total.antisymm atom (get_or atoms k d)
+            ∙ ap ordering_reverse (parts.1 k d low high));
       },
     )
 
@@ -48,15 +50,18 @@ less_is Equal is = cc
 less_is Greater is = cc
 
 -- an atom above the last one comes after all
-pub last_place : (atoms : List Atom) (atom default : Atom) → IsAtomSet atoms → 0 < length atoms → atom_cmp (get_or atoms (length atoms - 1) default) atom ≡ Less → IsPlace atoms atom (Err (length atoms))
+pub last_place : (atoms : List Atom) (atom default : Atom) → IsAtomSet atoms → 0 < length atoms
+    → atom_cmp (get_or atoms (length atoms - 1) default) atom ≡ Less → IsPlace atoms atom (Err (length atoms))
 last_place atoms atom default sorted some above =
     let last = length atoms - 1 in
     let within : last < length atoms = omega (arith, some) in
-    let last_below : (d : Atom) → atom_cmp (get_or atoms last d) atom ≡ Less = λ d. subst (λ (a : Atom). atom_cmp a atom ≡ Less) (get_or_default atoms last default d within) above in (
+    let last_below : (d : Atom) → atom_cmp (get_or atoms last d) atom ≡ Less =
+    λ d. subst (λ (a : Atom). atom_cmp a atom ≡ Less) (get_or_default atoms last default d within) above in (
       omega arith,
       record {
         below = front_of _ atoms (length atoms) (omega arith) (λ k d low high. elim (level_or_below k last (omega (arith, high, some))) [
-          | inl before ↦ atom_cmp-total.trans _ _ atom (sorted_pair atom_cmp atom_cmp-total atoms k last d sorted before within) (last_below d)
+          | inl before ↦ atom_cmp-total.trans _ _ atom (sorted_pair atom_cmp atom_cmp-total atoms k last d sorted before within)
+              (last_below d)
           | inr level ↦ rw level (last_below d)
         ]);
         above = back_of _ atoms (length atoms) (λ k d low high. absurd (omega (arith, low, high)));
@@ -89,17 +94,21 @@ found_there atoms atom i place = (i, place.0, place.1)
 -- a set that has the atom stays as it is
 pub with_atom-there : (atoms : List Atom) (atom : Atom) → IsAtomSet atoms → Contains atoms atom → atoms ≡ with_atom atom atoms
 with_atom-there atoms atom sorted there =
-    same_set atom_cmp atom_cmp-total atom_cmp-same atoms (with_atom atom atoms) sorted (with_item-sorted atom_cmp atom_cmp-total atom_cmp-same atom atoms sorted)
+    same_set atom_cmp atom_cmp-total atom_cmp-same atoms (with_atom atom atoms) sorted
+    (with_item-sorted atom_cmp atom_cmp-total atom_cmp-same atom atoms sorted)
     (λ q.
-    let members = with_item-members atom_cmp atom_cmp-total atom_cmp-same atom atoms q in
-    (λ h. members.1 (Contains-later atom atoms q h), λ h. elim (Contains-cases atom atoms q (members.0 h)) [ inl is ↦ subst (Contains atoms) is there | inr later ↦ later ]))
+    let members = with_item-members atom_cmp atom_cmp-total atom_cmp-same atom atoms q in (
+      λ h. members.1 (Contains-later atom atoms q h),
+      λ h. elim (Contains-cases atom atoms q (members.0 h)) [ inl is ↦ subst (Contains atoms) is there | inr later ↦ later ],
+    ))
 
 pub insert-place : (atoms : List Atom) (atom : Atom) (i : ℕ) → IsPlace atoms atom (Err i) → insert atoms i atom ≡ with_atom atom atoms
 insert-place atoms atom i place =
     sym (with_item-between atom_cmp atom_cmp-total atom (take i atoms) (drop i atoms) place.1.below place.1.above)
     ∙ ap (with_atom atom) (take-append-drop i atoms)
 
-pub with_atom-model : (atoms : List Atom) (atom : Atom) → IsModel atoms → IsGround atom → length (with_atom atom atoms) ≤ 4294967295 → IsModel (with_atom atom atoms)
+pub with_atom-model : (atoms : List Atom) (atom : Atom) → IsModel atoms → IsGround atom → length (with_atom atom atoms) ≤ 4294967295
+    → IsModel (with_atom atom atoms)
 with_atom-model atoms atom model is_ground short =
     record {
       ascending = with_item-sorted atom_cmp atom_cmp-total atom_cmp-same atom atoms model.ascending;
@@ -112,12 +121,17 @@ other_than : (atom other : Atom) → atom_cmp other atom ≡ Less → not (atom_
 other_than atom other below = ap not (atom_cmp-matches_eq other atom ∙ ap is_eq below)
 
 other_than_above : (atom other : Atom) → atom_cmp atom other ≡ Less → not (atom_eq other atom) ≡ true
-other_than_above atom other above = ap not (atom_cmp-matches_eq other atom ∙ ap is_eq (atom_cmp-total.antisymm other atom ∙ ap ordering_reverse above))
+other_than_above atom other above =
+    ap not (atom_cmp-matches_eq other atom ∙ ap is_eq (atom_cmp-total.antisymm other atom ∙ ap ordering_reverse above))
 
 -- removing an atom keeps the atoms below it and above it
 parts_kept : (atom : Atom) (before after : List Atom) → Parts atom before after → without_atom atom (before ++ after) ≡ before ++ after
 parts_kept atom before after parts =
-    rw (filter-append, filter_all _ before (AllByRecursion-map _ _ (other_than atom) before parts.below), filter_all _ after (AllByRecursion-map _ _ (other_than_above atom) after parts.above))
+    rw (
+      filter-append,
+      filter_all _ before (AllByRecursion-map _ _ (other_than atom) before parts.below),
+      filter_all _ after (AllByRecursion-map _ _ (other_than_above atom) after parts.above),
+    )
 
 pub without-missing : (atoms : List Atom) (atom : Atom) (i : ℕ) → IsPlace atoms atom (Err i) → atoms ≡ without_atom atom atoms
 without-missing atoms atom i place =
@@ -131,7 +145,8 @@ remove-place atoms atom i place =
     let before = take i atoms in
     let after = drop (suc i) atoms in
     let parts : Parts atom before after = rw (add-one i) at place.2 in
-    let whole : atoms ≡ before ++ atom ∷ after = sym (take-append-drop i atoms) ∙ ap (λ l. before ++ l) (drop-cons atoms i atom place.0 ∙ ap (λ a. a ∷ after) place.1) in
+    let whole : atoms ≡ before ++ atom ∷ after =
+    sym (take-append-drop i atoms) ∙ ap (λ l. before ++ l) (drop-cons atoms i atom place.0 ∙ ap (λ a. a ∷ after) place.1) in
     sym (ap (without_atom atom) whole
     ∙ filter-append _ before (atom ∷ after)
     ∙ ap (λ l. without_atom atom before ++ l) (itself_removed atom after)
@@ -162,7 +177,8 @@ place-decides atoms atom (Ok i) place = (λ _. found_there atoms atom i place, �
 place-decides atoms atom (Err i) place = (λ h. cc, λ h. absurd (missing atoms atom i place h))
 
 -- an insertion at the place
-pub inserted : (old new : List Atom) (atom : Atom) (i : ℕ) (ok : Bool) → IsPlace old atom (Err i) → new ≡ cond ok (insert old i atom) old → ok ≡ true → new ≡ with_atom atom old
+pub inserted : (old new : List Atom) (atom : Atom) (i : ℕ) (ok : Bool) → IsPlace old atom (Err i) → new ≡ cond ok (insert old i atom) old
+    → ok ≡ true → new ≡ with_atom atom old
 inserted old new atom i ok place is done = is ∙ ap (λ b. cond b (insert old i atom) old) done ∙ insert-place old atom i place
 
 inserted_model : (old new : List Atom) (atom : Atom) (i : ℕ) (ok : Bool) → IsPlace old atom (Err i) → new ≡ cond ok (insert old i atom) old
@@ -175,7 +191,8 @@ inserted_model old new atom i ok place is model is_ground short =
       | false ↦ λ e. rw e model
     ] is
 
-inserted_short : (old new : List Atom) (atom : Atom) (i : ℕ) (ok : Bool) → new ≡ cond ok (insert old i atom) old → length old < 4294967295 → length new ≤ 4294967295
+inserted_short : (old new : List Atom) (atom : Atom) (i : ℕ) (ok : Bool) → new ≡ cond ok (insert old i atom) old → length old < 4294967295
+    → length new ≤ 4294967295
 inserted_short old new atom i ok is short =
     elim ok as (λ b. new ≡ cond b (insert old i atom) old → length new ≤ 4294967295) [
       | true ↦ λ e. rw e (simp (length-append, length-take, length-drop) (omega arith))
@@ -183,9 +200,11 @@ inserted_short old new atom i ok is short =
     ] is
 
 -- a model stays one when an atom is put at its place, where there is room
-pub put_model : (old new : List Atom) (atom : Atom) (i capacity : ℕ) (ok : Bool) → IsPlace old atom (Err i) → new ≡ cond ok (insert old i atom) old → IsModel old → IsGround atom
+pub put_model : (old new : List Atom) (atom : Atom) (i capacity : ℕ) (ok : Bool) → IsPlace old atom (Err i)
+    → new ≡ cond ok (insert old i atom) old → IsModel old → IsGround atom
     → 1 ≤ min capacity 4294967295 - length old → IsModel new
-put_model old new atom i capacity ok place is model is_ground room = inserted_model old new atom i ok place is model is_ground (inserted_short old new atom i ok is (omega (arith, room)))
+put_model old new atom i capacity ok place is model is_ground room =
+    inserted_model old new atom i ok place is model is_ground (inserted_short old new atom i ok is (omega (arith, room)))
 
 -- and when an atom is taken from its place
 pub removed_model : (old new : List Atom) (atom : Atom) (i : ℕ) → IsPlace old atom (Ok i) → new ≡ remove old i → IsModel old → IsModel new
@@ -200,9 +219,12 @@ pub next_added : (old added : List Atom) (k : ℕ) (atom : Atom) (before after :
 next_added old added k atom before after below is was put =
     put ∙ ap (with_atom atom) was
     ∙ set_of-push atom_cmp atom_cmp-total atom_cmp-same (old ++ take k added) atom
-    ∙ ap atom_set (append_assoc old (take k added) (atom ∷ []) ∙ ap (λ l. old ++ l) (ap (λ a. take k added ++ a ∷ []) is ∙ sym (take-suc added k atom below) ∙ ap (λ n. take n added) (sym (add-one k))))
+    ∙ ap atom_set (append_assoc old (take k added) (atom ∷ [])
+    ∙ ap (λ l. old ++ l) (ap (λ a. take k added ++ a ∷ []) is ∙ sym (take-suc added k atom below)
+    ∙ ap (λ n. take n added) (sym (add-one k))))
 
 -- a filter in place has yet to move what it has not reached
-pub kept_rest : (p : Atom → Bool) (xs ys : List Atom) (k i : ℕ) (d : Atom) → FiltersInPlace p xs ys k i → i < length xs → get_or ys i d ≡ get_or xs i d
+pub kept_rest : (p : Atom → Bool) (xs ys : List Atom) (k i : ℕ) (d : Atom) → FiltersInPlace p xs ys k i → i < length xs
+    → get_or ys i d ≡ get_or xs i d
 kept_rest p xs ys k i d filtered below =
     sym (rw add-zero at (get_or-drop i ys 0 d)) ∙ ap (λ l. get_or l 0 d) filtered.rest ∙ rw add-zero at (get_or-drop i xs 0 d)

@@ -19,10 +19,12 @@ instance_at atoms inst k atom below is =
     slice_get-map f atoms k ∙ ap (option_map f) (slice_get_read atoms (length atoms) k atom refl below is)
 
 -- a search passes an element that fails
-pub list_any-next : {X : Type 0} (p : X → Bool) (xs : List X) (i : ℕ) (x : X) → i < length xs → x ≡ get_or xs i x → p x ≡ false → list_any p (drop i xs) ≡ list_any p (drop (i + 1) xs)
+pub list_any-next : {X : Type 0} (p : X → Bool) (xs : List X) (i : ℕ) (x : X) → i < length xs → x ≡ get_or xs i x → p x ≡ false
+    → list_any p (drop i xs) ≡ list_any p (drop (i + 1) xs)
 list_any-next p xs i x below is fails = rw (add-one, drop-cons xs i x below, sym is, fails)
 
-pub list_any-here : {X : Type 0} (p : X → Bool) (xs : List X) (i : ℕ) (x : X) → i < length xs → x ≡ get_or xs i x → p x ≡ true → list_any p (drop i xs) ≡ true
+pub list_any-here : {X : Type 0} (p : X → Bool) (xs : List X) (i : ℕ) (x : X) → i < length xs → x ≡ get_or xs i x → p x ≡ true
+    → list_any p (drop i xs) ≡ true
 list_any-here p xs i x below is passes = rw (drop-cons xs i x below, sym is, passes)
 
 pub list_any-end : {X : Type 0} (p : X → Bool) (xs : List X) (i : ℕ) → length xs ≤ i → list_any p (drop i xs) ≡ false

@@ -20,13 +20,16 @@ all_at P (x ∷ xs) (suc j) d all h = all_at P xs j d all.1 (omega (arith, h))
 pub front_of : {X : Type 0} (P : X → Type 0) (xs : List X) (i : ℕ) → i ≤ length xs → AllWithin P xs 0 i → AllByRecursion P (take i xs)
 front_of P xs zero h all = tt
 front_of P [] (suc i) h all = absurd (omega (arith, h))
-front_of P (x ∷ xs) (suc i) h all =
-    (all 0 x (omega arith) (omega arith), front_of P xs i (omega (arith, h)) (λ k d low high. all (suc k) d (omega arith) (omega (arith, high))))
+front_of P (x ∷ xs) (suc i) h all = (
+  all 0 x (omega arith) (omega arith),
+  front_of P xs i (omega (arith, h)) (λ k d low high. all (suc k) d (omega arith) (omega (arith, high))),
+)
 
 pub back_of : {X : Type 0} (P : X → Type 0) (xs : List X) (i : ℕ) → AllWithin P xs i (length xs) → AllByRecursion P (drop i xs)
 back_of P [] zero all = tt
 back_of P [] (suc i) all = tt
-back_of P (x ∷ xs) zero all = (all 0 x (omega arith) (omega arith), back_of P xs zero (λ k d low high. all (suc k) d (omega arith) (omega (arith, high))))
+back_of P (x ∷ xs) zero all =
+    (all 0 x (omega arith) (omega arith), back_of P xs zero (λ k d low high. all (suc k) d (omega arith) (omega (arith, high))))
 back_of P (x ∷ xs) (suc i) all = back_of P xs i (λ k d low high. all (suc k) d (omega (arith, low)) (omega (arith, high)))
 
 pub filter_all : {X : Type 0} (p : X → Bool) (xs : List X) → AllByRecursion (λ x. p x ≡ true) xs → filter p xs ≡ xs
@@ -34,7 +37,8 @@ filter_all p [] all = refl
 filter_all p (x ∷ xs) all = rw all.0 (ap (λ l. x ∷ l) (filter_all p xs all.1))
 
 module _ {K : Type 0} (R : K → K → Ordering) (o : IsTotalOrder R) where
-  pub sorted_pair : (xs : List K) (i j : ℕ) (d : K) → IsStrictlySortedBy R xs → i < j → j < length xs → R (get_or xs i d) (get_or xs j d) ≡ Less
+  pub sorted_pair : (xs : List K) (i j : ℕ) (d : K) → IsStrictlySortedBy R xs → i < j → j < length xs
+      → R (get_or xs i d) (get_or xs j d) ≡ Less
   unfolding IsStrictlySortedBy
   sorted_pair [] i j d sorted h k = absurd (omega (arith, k))
   sorted_pair (x ∷ xs) i zero d sorted h k = absurd (omega (arith, h))
@@ -62,7 +66,8 @@ module _ {K : Type 0} (R : K → K → Ordering) (o : IsTotalOrder R) where
       ]
 
   -- an item stands between those below it and those above it
-  pub with_item-between : (a : K) (before after : List K) → AllByRecursion (λ y. R y a ≡ Less) before → AllByRecursion (λ y. R a y ≡ Less) after
+  pub with_item-between : (a : K) (before after : List K) → AllByRecursion (λ y. R y a ≡ Less) before
+      → AllByRecursion (λ y. R a y ≡ Less) after
       → with_item R a (before ++ after) ≡ before ++ a ∷ after
   unfolding with_item
   with_item-between a [] after below above = with_item-below R a after above
@@ -75,6 +80,8 @@ module _ {K : Type 0} (R : K → K → Ordering) (o : IsTotalOrder R) where
       → AllByRecursion (λ y. R y a ≡ Less) (take i xs) × AllByRecursion (λ y. R a y ≡ Less) (drop (i + 1) xs)
   around xs a i sorted here is =
       let itself : (d : K) → get_or xs i d ≡ a = λ d. get_or_default xs i d a here ∙ is in (
-        front_of _ xs i (omega arith) (λ k d low high. subst (λ y. R (get_or xs k d) y ≡ Less) (itself d) (sorted_pair xs k i d sorted high here)),
-        back_of _ xs (i + 1) (λ k d low high. subst (λ y. R y (get_or xs k d) ≡ Less) (itself d) (sorted_pair xs i k d sorted (omega (arith, low)) high)),
+        front_of _ xs i (omega arith) (λ k d low high. subst (λ y. R (get_or xs k d) y ≡ Less) (itself d)
+            (sorted_pair xs k i d sorted high here)),
+        back_of _ xs (i + 1) (λ k d low high. subst (λ y. R y (get_or xs k d) ≡ Less) (itself d)
+            (sorted_pair xs i k d sorted (omega (arith, low)) high)),
       )

@@ -9,10 +9,10 @@ use Rattle.px_base.specs.Answers.{both_answers}
 use Rattle.px_terms.specs.OrderLaws.{decides_equiv}
 use Rattle.px_ops.specs.Keeping.{AreOnce, Keeps, KeepsPlaces}
 
-pub place_in : {X : Type 0} (xs : List X) (k : ℕ) (x : X) → slice_get xs k ≡ Some x → k < length xs
-place_in [] k x e = absurd (cc)
-place_in (y ∷ xs) zero x e = omega arith
-place_in (y ∷ xs) (suc k) x e = let r = place_in xs k x e in omega (arith, r)
+pub place_within : {X : Type 0} (xs : List X) (k : ℕ) (x : X) → slice_get xs k ≡ Some x → k < length xs
+place_within [] k x e = absurd (cc)
+place_within (y ∷ xs) zero x e = omega arith
+place_within (y ∷ xs) (suc k) x e = let r = place_within xs k x e in omega (arith, r)
 
 pub has_at : {X : Type 0} (xs : List X) (k : ℕ) (x : X) → slice_get xs k ≡ Some x → Contains xs x
 has_at [] k x e = absurd (cc)
@@ -36,7 +36,7 @@ push-cases [] y x (suc k) e = absurd (cc)
 push-cases (z ∷ xs) y x zero e = inl e
 push-cases (z ∷ xs) y x (suc k) e = elim (push-cases xs y x k e) [ inl h ↦ inl h | inr h ↦ inr (ap suc h.0, h.1) ]
 
--- what was kept before has its number still
+-- what was kept before still has its number
 pub keeps-places : {X : Type 0} (old new : List X) (item : X) (number : ℕ) → Keeps old new item number → KeepsPlaces old new
 keeps-places {X} old new item number kept = elim kept.change [
   | inl same ↦ subst (KeepsPlaces old) (sym same.1) (λ k x e. e)

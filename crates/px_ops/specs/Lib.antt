@@ -1,3 +1,4 @@
+-- The files of definitions and laws.
 pub mod KeepLaws
 pub mod Keeping
 pub mod ModelLaws

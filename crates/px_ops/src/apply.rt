@@ -35,7 +35,7 @@ pub fn apply_op(
     Ok(next)
 }
 
-/// Changes the model to that one, where there is room for what the instance adds. Does not allocate.
+/// Changes the model to the one that the instance leaves, where there is room for what it adds. Does not allocate.
 pub fn apply_in(problem: &Problem, model: &mut Model, inst: &OpInst)
     requires problem { IsValid problem.now }
     requires inst { IsGroundInstanceOf problem.now inst.now }
@@ -49,7 +49,7 @@ pub fn apply_in(problem: &Problem, model: &mut Model, inst: &OpInst)
     let _known = model.atoms();
 }
 
-/// Changes the model so, by the lists of atoms.
+/// Changes the model to the one that the instance leaves, by the lists of atoms.
 fn replace(problem: &Problem, model: &mut Model, inst: &OpInst)
     requires problem { IsValid problem.now }
     requires inst { IsGroundInstanceOf problem.now inst.now }

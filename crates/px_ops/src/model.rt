@@ -63,7 +63,7 @@ impl Model {
         &self.atoms
     }
 
-    /// Returns where the atom stands, or where it would.
+    /// Returns the place where the atom stands, or where it would.
     fn place(&self, atom: &Atom) -> Result<usize, usize>
         ensures place { IsPlace self.now.atoms atom.now result }
         ensures model { IsModel self.now.atoms }
@@ -71,7 +71,7 @@ impl Model {
         self.atoms.binary_search(atom)
     }
 
-    /// Returns the same place. An atom that comes after all others is told by one comparison, as where a model is filled in order.
+    /// Returns the same place. If the atom comes after all others, one comparison is enough, as when a model is filled in order.
     fn place_from_end(&self, atom: &Atom) -> Result<usize, usize>
         ensures place { IsPlace self.now.atoms atom.now result }
         ensures model { IsModel self.now.atoms }
@@ -84,14 +84,14 @@ impl Model {
         self.place(atom)
     }
 
-    /// Is the atom in the model? Does not allocate.
+    /// Returns whether the atom is in the model. Does not allocate.
     pub fn holds(&self, atom: &Atom) -> bool
         ensures { IsTrue result ↔ Contains self.now.atoms atom.now }
     {
         self.place(atom).is_ok()
     }
 
-    /// Adds a ground atom. Ok(true) exactly where it wasn't there.
+    /// Adds a ground atom. `Ok(true)` exactly where it wasn't there.
     ///
     /// # Errors
     /// `NoMemory` where there is no place for the atom and no memory for one. The model is then as it was.
@@ -130,7 +130,7 @@ impl Model {
         }
     }
 
-    /// Afterwards there is room for `more` further atoms.
+    /// Makes room for `more` further atoms.
     ///
     /// # Errors
     /// `NoMemory` where there is no memory for them, or where the model would have more than 4,294,967,295 places. The model
@@ -150,8 +150,8 @@ impl Model {
         Ok(())
     }
 
-    /// Adds a ground atom where there is room for one. True exactly where it wasn't there; a place of the room is
-    /// taken at most. Does not allocate.
+    /// Adds a ground atom where there is room for one. Returns true exactly where it wasn't there; it takes at most one place of the room.
+    /// Does not allocate.
     pub fn insert_spare(&mut self, atom: Atom) -> bool
         requires is_ground { IsGround atom }
         requires room { 1 ≤ self.old.spare }
@@ -169,7 +169,7 @@ impl Model {
         }
     }
 
-    /// Takes the atom away. True exactly where it was there; its place is then room. Does not allocate.
+    /// Takes the atom away. Returns true exactly where it was there; its place is then room. Does not allocate.
     pub fn remove(&mut self, atom: &Atom) -> bool
         ensures atoms { self.new.atoms ≡ without_atom atom.now self.old.atoms }
         ensures model { IsModel self.new.atoms }
@@ -196,7 +196,7 @@ impl Model {
         self.copy_in(*self.atoms.allocator())
     }
 
-    /// Returns such a model in memory of another allocator.
+    /// Returns a model of the same atoms in memory of another allocator.
     pub(crate) fn copy_in(&self, alloc: Global) -> Result<Model, NoMemory>
         ensures { IfOk result (λ copy. copy.atoms ≡ self.now.atoms) }
     {

@@ -9,8 +9,8 @@ ghost use Rattle.px_ops.specs.Models.{IsInstanceOfSchema};
 
 use px_terms::{Atom, OpInst, Schema, apply, instance_of};
 
-/// Does the instance delete the atom? It does where putting objects in the place of the wild cards of one of its
-/// delete patterns gives the atom (Fikes and Nilsson 1971). Does not allocate.
+/// Returns whether the instance deletes the atom: whether putting objects in the place of the wild cards of one of its delete patterns
+/// gives the atom (Fikes and Nilsson 1971). Does not allocate.
 pub fn deletes(schema: &Schema, inst: &OpInst, atom: &Atom) -> bool
     requires schema { IsSchemaWellFormed schema.now }
     requires inst { IsInstanceOfSchema schema.now inst.now }
@@ -22,7 +22,7 @@ pub fn deletes(schema: &Schema, inst: &OpInst, atom: &Atom) -> bool
     passes_a_pattern(schema, inst, atom)
 }
 
-/// Is the atom an instance of one of the delete patterns under the instance's arguments?
+/// Returns whether the atom is an instance of one of the delete patterns under the instance's arguments.
 fn passes_a_pattern(schema: &Schema, inst: &OpInst, atom: &Atom) -> bool
     requires schema { IsSchemaWellFormed schema.now }
     requires inst { IsInstanceOfSchema schema.now inst.now }

@@ -44,7 +44,7 @@ pub fn precondition_of(
     Ok(atoms)
 }
 
-/// Has the schema an add with the predicate?
+/// Returns whether the schema has an add with the predicate.
 fn adds_predicate(schema: &Schema, predicate: u32) -> bool
     ensures { IsTrue result ↔ Any (λ added. added.pred ≡ predicate) schema.now.add }
 {
@@ -55,14 +55,20 @@ fn adds_predicate(schema: &Schema, predicate: u32) -> bool
         .any(|added| added.pred() == predicate)
 }
 
-/// Returns whether some operator has the atom's predicate in its add list. Does not allocate.
-pub fn is_addable(problem: &Problem, atom: &Atom) -> bool
-    ensures { IsTrue result ↔ IsAddable problem.now atom.now }
+/// Returns whether some operator has the predicate in its add list. Does not allocate.
+pub fn is_added(problem: &Problem, predicate: u32) -> bool
+    ensures { IsTrue result ↔ Any (λ schema. Any (λ added. added.pred ≡ predicate) schema.add) problem.now.schemas }
 {
-    let predicate = atom.pred();
     problem
         .schemas
         .as_slice()
         .iter()
         .any(|schema| adds_predicate(schema, predicate))
+}
+
+/// Returns whether some operator has the atom's predicate in its add list. Does not allocate.
+pub fn is_addable(problem: &Problem, atom: &Atom) -> bool
+    ensures { IsTrue result ↔ IsAddable problem.now atom.now }
+{
+    is_added(problem, atom.pred())
 }

@@ -4,7 +4,7 @@ use Rattle.std.proofs.Common.{zero, suc, sym, ap, subst, arith}
 use Rattle.px_terms.specs.declared.atom.Atom.{Atom}
 use Rattle.px_terms.specs.declared.problem.Problem.{Problem}
 use Rattle.px_terms.specs.Validity.{IsValid}
-use Rattle.px_proof.specs.PlaceLaws.{some_same}
+use Rattle.px_base.specs.Answers.{some_same}
 use Rattle.px_table.specs.declared.table.Table.{Table}
 use Rattle.px_table.specs.Tables.{IsTable}
 use Rattle.px_match.specs.Matching.{KernelInstance, IsSensed}
@@ -15,14 +15,19 @@ use Rattle.px_planex.specs.Execution.{Happens, Running, Traces}
 use Rattle.px_planex.specs.Progress.{ClimbsToGoal, GoalIsReached, alternating}
 use Rattle.px_planex.proofs.Progressing.{acts_and_goes_on}
 
-module _ {E : Type 0} (leaves : E → List Atom → List Atom) (problem : Problem) (table : Table) (bound : List (ℕ × ℕ)) (valid : IsValid problem) (is_table : IsTable problem table) where
+module _ {E : Type 0} (leaves : E → List Atom → List Atom) (problem : Problem) (table : Table) (bound : List (ℕ × ℕ))
+    (valid : IsValid problem) (is_table : IsTable problem table) where
   -- what is sensed after the action, where only a greater kernel is
   abbrev Greater : ℕ → Running → Type 0
-  Greater i acted = (answer : Option KernelInstance) → IsSensed problem table bound acted.atoms answer → (next : KernelInstance) × (answer ≡ Some next) × (i < next.number)
+  Greater i acted =
+      (answer : Option KernelInstance) → IsSensed problem table bound acted.atoms answer
+      → (next : KernelInstance) × (answer ≡ Some next) × (i < next.number)
 
   -- the sensing after the action finds the goal, or a greater kernel from which the rest climbs
-  further : (i : ℕ) (acted mid : Running) (outcome : Outcome) (outcomes : List Outcome) → Greater i acted → Happens leaves problem table bound acted Sense outcome mid
-      → ((j : ℕ) → i < j → Happens leaves problem table bound acted Sense (Sensed j) mid → ClimbsToGoal j outcomes) → ClimbsToGoal i (Acted ∷ outcome ∷ outcomes)
+  further : (i : ℕ) (acted mid : Running) (outcome : Outcome) (outcomes : List Outcome) → Greater i acted
+      → Happens leaves problem table bound acted Sense outcome mid
+      → ((j : ℕ) → i < j → Happens leaves problem table bound acted Sense (Sensed j) mid → ClimbsToGoal j outcomes)
+      → ClimbsToGoal i (Acted ∷ outcome ∷ outcomes)
   further i acted mid Disturbed outcomes greater sense rest = absurd sense
   further i acted mid Acted outcomes greater sense rest = absurd sense
   further i acted mid Slipped outcomes greater sense rest = absurd sense
@@ -31,11 +36,12 @@ module _ {E : Type 0} (leaves : E → List Atom → List Atom) (problem : Proble
   further i acted mid NoKernel outcomes greater sense rest = absurd (let next = greater None sense.0 in cc (next.1))
   further i acted mid (Sensed j) outcomes greater sense rest =
       let next = greater (Some sense.0) sense.1 in
-      let same : sense.0 ≡ next.0 = some_same sense.0 next.0 next.1 in
+      let same : sense.0 ≡ next.0 = some_same next.1 in
       let above : i < j = omega (arith, next.2, ap (λ (k : KernelInstance). k.number) same, sense.2) in
       (above, rest j above sense)
 
-  climbs : (count i : ℕ) (old sensed new : Running) (outcomes : List Outcome) → length table.steps + 1 ≤ i + count → Happens leaves problem table bound old Sense (Sensed i) sensed
+  climbs : (count i : ℕ) (old sensed new : Running) (outcomes : List Outcome) → length table.steps + 1 ≤ i + count
+      → Happens leaves problem table bound old Sense (Sensed i) sensed
       → Traces leaves problem table bound sensed (alternating count) outcomes new → ClimbsToGoal i outcomes
   climbs zero i old sensed new outcomes enough sense trace = absurd (omega (arith, enough, sense.3))
   climbs (suc count) i old sensed new [] enough sense trace = absurd trace

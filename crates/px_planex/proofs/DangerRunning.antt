@@ -18,7 +18,7 @@ use Rattle.px_world.specs.declared.edits.AtomEdit.TheVariants.{Add, Remove}
 use Rattle.px_world.specs.Worlds.{edited}
 use Rattle.px_planex.specs.declared.event.Event.TheVariants.{Sense, Act}
 use Rattle.px_planex.specs.declared.event.Outcome.TheVariants.{NotSensed, Acted, Sensed, Goal, NoKernel}
-use Rattle.px_planex.specs.Execution.{Traces, RowHolds, Running, nothing_sensed}
+use Rattle.px_planex.specs.Execution.{Traces, KernelRowHolds, Running, nothing_sensed}
 use Rattle.px_planex.specs.Turns.{ByActing, BySlipping, RunsTable}
 use Rattle.px_planex.specs.WorkedRuns.{DangerRuns, arrived, lost, tried}
 
@@ -60,7 +60,8 @@ is_a x y extends = first_bound x y a (All-head (IsBound (x ∷ y ∷ [])) (1, a)
 
 -- ---- what the rows need
 
-row_holds : (x y i : ℕ) (atoms : List Atom) → (i ≡ 1 → Contains atoms (p (Obj x))) → (i ≡ 2 → Contains atoms (r (Obj x)) × Contains atoms (q (Obj y))) → i ≤ 2 → RowHolds danger_table (kernel i x y) atoms
+row_holds : (x y i : ℕ) (atoms : List Atom) → (i ≡ 1 → Contains atoms (p (Obj x)))
+    → (i ≡ 2 → Contains atoms (r (Obj x)) × Contains atoms (q (Obj y))) → i ≤ 2 → KernelRowHolds danger_table (kernel i x y) atoms
 row_holds x y i atoms first second within mark has row =
     All-at (λ (m : Mark). m.row ≡ i → Contains atoms (atom_under (x ∷ y ∷ []) m.atom)) danger_table.marks mark
     (each_mark (λ (m : Mark). m.row ≡ i → Contains atoms (atom_under (x ∷ y ∷ []) m.atom))
@@ -71,7 +72,8 @@ row_holds x y i atoms first second within mark has row =
 after_a-no_g : (x : ℕ) → ¬ Contains after_a (g (Obj x))
 after_a-no_g x = lacks after_a (g (Obj x))
     (All-cons (Differs (g (Obj x))) (p (Obj a)) (q (Obj b) ∷ r (Obj a) ∷ []) (λ e. omega (arith, e))
-    (All-cons (Differs (g (Obj x))) (q (Obj b)) (r (Obj a) ∷ []) (λ e. omega (arith, e)) (one (Differs (g (Obj x))) (r (Obj a)) (λ e. omega (arith, e)))))
+    (All-cons (Differs (g (Obj x))) (q (Obj b)) (r (Obj a) ∷ []) (λ e. omega (arith, e))
+    (one (Differs (g (Obj x))) (r (Obj a)) (λ e. omega (arith, e)))))
 
 -- of Q only Q(b) is left
 only_b : (y : ℕ) → Contains after_a (q (Obj y)) → y ≡ b
@@ -87,12 +89,16 @@ has_q_b : Contains after_a (q (Obj b))
 has_q_b = Contains-later (p (Obj a)) (q (Obj b) ∷ r (Obj a) ∷ []) (q (Obj b)) (Contains-first (q (Obj b)) (r (Obj a) ∷ []))
 
 has_r_a : Contains after_a (r (Obj a))
-has_r_a = Contains-later (p (Obj a)) (q (Obj b) ∷ r (Obj a) ∷ []) (r (Obj a)) (Contains-later (q (Obj b)) (r (Obj a) ∷ []) (r (Obj a)) (Contains-first (r (Obj a)) []))
+has_r_a =
+    Contains-later (p (Obj a)) (q (Obj b) ∷ r (Obj a) ∷ []) (r (Obj a))
+    (Contains-later (q (Obj b)) (r (Obj a) ∷ []) (r (Obj a)) (Contains-first (r (Obj a)) []))
 
 second_first : (others : List ℕ) → Fitting chosen_a after_a 2 others → NotLess others (a ∷ b ∷ [])
 second_first others (x, (y, is, are, inl (number, has_p, has_q, differ))) = absurd (omega (arith, number))
 second_first others (x, (y, is, are, inr (inl (number, has_r, has_q)))) =
-    subst (λ (xs : List ℕ). NotLess xs (a ∷ b ∷ [])) (sym (is ∙ ap (λ n. n ∷ y ∷ []) (is_a x y are.2) ∙ ap (λ n. a ∷ n ∷ []) (only_b y has_q))) (same_not_less (a ∷ b ∷ []) (a ∷ b ∷ []) refl)
+    subst (λ (xs : List ℕ). NotLess xs (a ∷ b ∷ []))
+    (sym (is ∙ ap (λ n. n ∷ y ∷ []) (is_a x y are.2) ∙ ap (λ n. a ∷ n ∷ []) (only_b y has_q)))
+    (same_not_less (a ∷ b ∷ []) (a ∷ b ∷ []) refl)
 second_first others (x, (y, is, are, inr (inr (number, has_g)))) = absurd (omega (arith, number))
 
 second_highest : (j : ℕ) (others : List ℕ) → Fitting chosen_a after_a j others → j ≤ 2
@@ -111,12 +117,14 @@ second_sensed = record {
 
 has_g_a : Contains after_b (g (Obj a))
 has_g_a = Contains-later (p (Obj a)) (q (Obj b) ∷ r (Obj a) ∷ g (Obj a) ∷ []) (g (Obj a))
-    (Contains-later (q (Obj b)) (r (Obj a) ∷ g (Obj a) ∷ []) (g (Obj a)) (Contains-later (r (Obj a)) (g (Obj a) ∷ []) (g (Obj a)) (Contains-first (g (Obj a)) [])))
+    (Contains-later (q (Obj b)) (r (Obj a) ∷ g (Obj a) ∷ []) (g (Obj a))
+    (Contains-later (r (Obj a)) (g (Obj a) ∷ []) (g (Obj a)) (Contains-first (g (Obj a)) [])))
 
 third_first : (others : List ℕ) → Fitting chosen_a after_b 3 others → NotLess others (a ∷ a ∷ [])
 third_first others (x, (y, is, are, by)) =
     subst (λ (xs : List ℕ). NotLess xs (a ∷ a ∷ [])) (sym (is ∙ ap (λ n. n ∷ y ∷ []) (is_a x y are.2)))
-    (below_two (λ n. NotLess (a ∷ n ∷ []) (a ∷ a ∷ [])) (same_not_less (a ∷ a ∷ []) (a ∷ a ∷ []) refl) (greater_not_less (a ∷ b ∷ []) (a ∷ a ∷ []) refl) y are.1)
+    (below_two (λ n. NotLess (a ∷ n ∷ []) (a ∷ a ∷ [])) (same_not_less (a ∷ a ∷ []) (a ∷ a ∷ []) refl)
+    (greater_not_less (a ∷ b ∷ []) (a ∷ a ∷ []) refl) y are.1)
 
 third_sensed : IsHighest danger danger_table chosen_a after_b (kernel 3 a a)
 third_sensed = record {
@@ -148,12 +156,21 @@ no_kernel i objects fits = nothing_fits i objects (fitting chosen_a only_q i obj
 abbrev at : List Atom → Option KernelInstance → List ℕ → Running
 at atoms remembered objects = record { atoms = atoms; memory = record { remembered = remembered; instance = objects } }
 
-stuck : RunsTable edited danger danger_table ((1, a) ∷ (2, a) ∷ []) (record { turn = 1; between = false; edits = Add (q (Obj a)) ∷ [] } ∷ []) (p (Obj a) ∷ q (Obj b) ∷ []) (lost ∷ []) danger_facts
+stuck : RunsTable edited danger danger_table ((1, a) ∷ (2, a) ∷ [])
+    (record { turn = 1; between = false; edits = Add (q (Obj a)) ∷ [] } ∷ []) (p (Obj a) ∷ q (Obj b) ∷ []) (lost ∷ []) danger_facts
 unfolding with_item
-stuck = (nothing_sensed, (at danger_facts None [], (NoKernel, (at danger_facts None [], (danger_sensed.one_object, refl), (refl, refl))), inl (tt, refl, refl)))
+stuck = (
+  nothing_sensed,
+  (
+    at danger_facts None [],
+    (NoKernel, (at danger_facts None [], (danger_sensed.one_object, refl), (refl, refl))),
+    inl (tt, refl, refl),
+  ),
+)
 
 -- Alike: `slipped`, since each run is written out turn by turn.
-straight : RunsTable edited danger danger_table chosen_a [] danger_facts (tried 1 (a_step (Obj a)) ByActing ∷ tried 2 (b_step (Obj a) (Obj b)) ByActing ∷ arrived ∷ []) after_b
+straight : RunsTable edited danger danger_table chosen_a [] danger_facts
+    (tried 1 (a_step (Obj a)) ByActing ∷ tried 2 (b_step (Obj a) (Obj b)) ByActing ∷ arrived ∷ []) after_b
 unfolding with_item set_of
 straight = (
   record { remembered = None; instance = a ∷ a ∷ [] },
@@ -164,7 +181,15 @@ straight = (
       (
         at danger_facts (Some (kernel 1 a b)) (a ∷ b ∷ []),
         (kernel 1 a b, danger_sensed.next_object, refl, omega arith, refl),
-        inl (refl, (kernel 1 a b, refl, row_holds a b 1 danger_facts (λ _. Contains-first (p (Obj a)) only_q) (λ e. absurd (omega (arith, e))) (omega arith), (a_step (Obj a), refl, refl))),
+        inl (
+          refl,
+          (
+            kernel 1 a b,
+            refl,
+            row_holds a b 1 danger_facts (λ _. Contains-first (p (Obj a)) only_q) (λ e. absurd (omega (arith, e))) (omega arith),
+            (a_step (Obj a), refl, refl),
+          ),
+        ),
       ),
     ),
     inr (
@@ -176,7 +201,15 @@ straight = (
           (
             at after_a (Some (kernel 2 a b)) (a ∷ b ∷ []),
             (kernel 2 a b, second_sensed, refl, omega arith, refl),
-            inl (refl, (kernel 2 a b, refl, row_holds a b 2 after_a (λ e. absurd (omega (arith, e))) (λ _. (has_r_a, has_q_b)) (omega arith), (b_step (Obj a) (Obj b), refl, refl))),
+            inl (
+              refl,
+              (
+                kernel 2 a b,
+                refl,
+                row_holds a b 2 after_a (λ e. absurd (omega (arith, e))) (λ _. (has_r_a, has_q_b)) (omega arith),
+                (b_step (Obj a) (Obj b), refl, refl),
+              ),
+            ),
           ),
         ),
         inr (
@@ -192,7 +225,9 @@ straight = (
   ),
 )
 
-slipped : RunsTable edited danger danger_table chosen_a (record { turn = 1; between = true; edits = Remove (p (Obj a)) ∷ [] } ∷ []) danger_facts (tried 1 (a_step (Obj a)) BySlipping ∷ lost ∷ []) only_q
+slipped : RunsTable edited danger danger_table chosen_a
+    (record { turn = 1; between = true; edits = Remove (p (Obj a)) ∷ [] } ∷ []) danger_facts
+    (tried 1 (a_step (Obj a)) BySlipping ∷ lost ∷ []) only_q
 slipped = (
   record { remembered = None; instance = a ∷ b ∷ [] },
   (
@@ -227,7 +262,13 @@ unsensed = (
     (kernel 1 a b, danger_sensed.next_object, refl, omega arith, refl),
     (
       at after_a None (a ∷ b ∷ []),
-      (kernel 1 a b, refl, row_holds a b 1 danger_facts (λ _. Contains-first (p (Obj a)) only_q) (λ e. absurd (omega (arith, e))) (omega arith), (a_step (Obj a), refl, refl)),
+      (
+        kernel 1 a b,
+        refl,
+        row_holds a b 1 danger_facts (λ _. Contains-first (p (Obj a)) only_q) (λ e. absurd (omega (arith, e)))
+            (omega arith),
+        (a_step (Obj a), refl, refl),
+      ),
       (at after_a None (a ∷ b ∷ []), (refl, refl), refl),
     ),
   ),

@@ -24,7 +24,7 @@ use Rattle.px_planex.specs.declared.event.Event.{Event}
 use Rattle.px_planex.specs.declared.event.Event.TheVariants.{Disturb, Sense, Act}
 use Rattle.px_planex.specs.declared.event.Outcome.{Outcome}
 use Rattle.px_planex.specs.declared.event.Outcome.TheVariants.{Disturbed, Sensed, Acted, Slipped, Goal, NoKernel, NotSensed}
-use Rattle.px_planex.specs.Execution.{Happens, RowFails, RowHolds, Running, Traces, forgetting, sensing, step_of_kernel}
+use Rattle.px_planex.specs.Execution.{Happens, RowFails, KernelRowHolds, Running, Traces, forgetting, sensing, step_of_kernel}
 use Rattle.px_planex.specs.Executors.{IsActable}
 use Rattle.px_planex.specs.Existing.{TracesExist}
 use Rattle.px_planex.proofs.Decided.{Decided, decided-all, decided-contains, decided-if, decided-le, decided-lt, decided-not}
@@ -206,7 +206,7 @@ module _ (problem : Problem) (valid : IsValid problem) (table : Table) (is_table
 
   -- ---- rows
 
-  decided-row : (kernel : KernelInstance) (atoms : List Atom) → RowHolds table kernel atoms ⊎ RowFails table kernel atoms
+  decided-row : (kernel : KernelInstance) (atoms : List Atom) → KernelRowHolds table kernel atoms ⊎ RowFails table kernel atoms
   decided-row kernel atoms = each table.marks
     where
       Row : List Mark → Type 0
@@ -260,7 +260,7 @@ module _ (problem : Problem) (valid : IsValid problem) (table : Table) (is_table
     act-comes old None is can = (NotSensed, (old, ((is, refl), subst (IsActable problem table) (sym is) can)))
     act-comes old (Some kernel) is can = by (decided-row kernel old.atoms)
       where
-        by : RowHolds table kernel old.atoms ⊎ RowFails table kernel old.atoms → Comes old Act
+        by : KernelRowHolds table kernel old.atoms ⊎ RowFails table kernel old.atoms → Comes old Act
         by (inr fails) = (Slipped, (forgetting old old.atoms, ((kernel, is, fails, refl), tt)))
         by (inl holds) =
             let step = some-step table.steps kernel.number can.0 can.1 in

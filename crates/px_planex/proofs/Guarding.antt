@@ -15,11 +15,13 @@ use Rattle.px_world.specs.Worlds.{HaveSameRules}
 use Rattle.px_planex.specs.Guards.{GuardNever}
 
 same_precondition : (one other : Problem) (inst : OpInst) → HaveSameRules one other → precondition one inst ≡ precondition other inst
-same_precondition one other inst same = ap (λ (schemas : List Schema). atoms_of (slice_index_or schemas inst.op no_schema).pre inst) same.schemas
+same_precondition one other inst same =
+    ap (λ (schemas : List Schema). atoms_of (slice_index_or schemas inst.op no_schema).pre inst) same.schemas
 
 same_axioms : (one other : Problem) (state : State) → HaveSameRules one other → AxiomsHold one state → AxiomsHold other state
 same_axioms one other state same hold =
-    subst (λ (axioms : List Clause). All (λ (clause : Clause). (values : List ℕ) → AreValues state clause.vars values → Any (LiteralHoldsUnder state values) clause.lits) axioms) same.axioms hold
+    subst (λ (axioms : List Clause). All (λ (clause : Clause). (values : List ℕ) → AreValues state clause.vars values
+    → Any (LiteralHoldsUnder state values) clause.lits) axioms) same.axioms hold
 
 pub guard_never : GuardNever
 guard_never rules problem table kernel atoms inst is_table given same row at refused =

@@ -1,3 +1,4 @@
+-- The files of lemmas.
 pub mod Alternating
 pub mod Guarding
 pub mod InAtoms

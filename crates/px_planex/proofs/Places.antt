@@ -22,10 +22,12 @@ module _ {E : Type 0} (leaves : E → List Atom → List Atom) (problem : Proble
   same_adds : (places : ℕ) (old new : Running) (outcome : Outcome) → new.atoms ≡ old.atoms → Adds places old outcome new
   same_adds places old new outcome same = (omega (arith, ap length same), λ _. same)
 
-  changing_adds : (places : ℕ) (old new : Running) (outcome : Outcome) → (¬ ChangesNothing outcome) → length new.atoms ≤ length old.atoms + places → Adds places old outcome new
+  changing_adds : (places : ℕ) (old new : Running) (outcome : Outcome) → (¬ ChangesNothing outcome)
+      → length new.atoms ≤ length old.atoms + places → Adds places old outcome new
   changing_adds places old new outcome changes within = (within, λ nothing. absurd (changes nothing))
 
-  sense_adds : (old new : Running) (answer : Option KernelInstance) (outcome : Outcome) → SenseGives leaves problem table bound old answer outcome new → Adds 0 old outcome new
+  sense_adds : (old new : Running) (answer : Option KernelInstance) (outcome : Outcome)
+      → SenseGives leaves problem table bound old answer outcome new → Adds 0 old outcome new
   sense_adds old new None outcome gives = same_adds 0 old new outcome (ap (λ (r : Running). r.atoms) gives.1)
   sense_adds old new (Some kernel) outcome (inl gives) = same_adds 0 old new outcome (ap (λ (r : Running). r.atoms) gives.2)
   sense_adds old new (Some kernel) outcome (inr gives) = same_adds 0 old new outcome (ap (λ (r : Running). r.atoms) gives.2)
@@ -37,13 +39,16 @@ module _ {E : Type 0} (leaves : E → List Atom → List Atom) (problem : Proble
   abbrev pub places_by : Option KernelInstance → ℕ
   places_by remembered = step_places (elim remembered [ None ↦ None | Some kernel ↦ step_of_kernel table kernel ])
 
-  pub act_adds : (old new : Running) (remembered : Option KernelInstance) (outcome : Outcome) → ActGives leaves problem table bound old remembered outcome new → Adds (places_by remembered) old outcome new
+  pub act_adds : (old new : Running) (remembered : Option KernelInstance) (outcome : Outcome)
+      → ActGives leaves problem table bound old remembered outcome new → Adds (places_by remembered) old outcome new
   act_adds old new None outcome gives = same_adds 0 old new outcome (ap (λ (r : Running). r.atoms) gives.1)
-  act_adds old new (Some kernel) outcome (inl gives) = same_adds (places_by (Some kernel)) old new outcome (ap (λ (r : Running). r.atoms) gives.2)
+  act_adds old new (Some kernel) outcome (inl gives) =
+      same_adds (places_by (Some kernel)) old new outcome (ap (λ (r : Running). r.atoms) gives.2)
   act_adds old new (Some kernel) outcome (inr gives) =
       let inst = gives.2.0 in
       let more = result_of-length problem old.atoms inst in
-      let within : length new.atoms ≤ length old.atoms + length (adds problem inst) = omega (arith, more, ap (λ (r : Running). length r.atoms) gives.2.2) in
+      let within : length new.atoms ≤ length old.atoms + length (adds problem inst) =
+      omega (arith, more, ap (λ (r : Running). length r.atoms) gives.2.2) in
       changing_adds (places_by (Some kernel)) old new outcome (λ nothing. subst ChangesNothing gives.1 nothing)
       (subst (λ (step : Option OpInst). length new.atoms ≤ length old.atoms + step_places step) (sym gives.2.1) within)
 
@@ -51,7 +56,8 @@ pub events_take_places : {E : Type 0} (leaves : E → List Atom → List Atom) �
 events_take_places leaves problem table bound old new (Disturb edit) outcome few happens =
     let gives = disturb_gives leaves problem table bound edit old new outcome happens in
     let one = few edit old.atoms in
-    changing_adds leaves problem table bound 1 old new outcome (λ nothing. subst ChangesNothing gives.0 nothing) (omega (arith, one, ap (λ (r : Running). length r.atoms) gives.1))
+    changing_adds leaves problem table bound 1 old new outcome (λ nothing. subst ChangesNothing gives.0 nothing)
+    (omega (arith, one, ap (λ (r : Running). length r.atoms) gives.1))
 events_take_places leaves problem table bound old new Sense outcome few happens =
     let gives = sense_gives leaves problem table bound old new outcome happens in
     sense_adds leaves problem table bound old new gives.0 outcome gives.2
@@ -59,7 +65,10 @@ events_take_places leaves problem table bound old new Act outcome few happens =
     act_adds leaves problem table bound old new old.memory.remembered outcome (act_gives leaves problem table bound old new outcome happens)
 
 -- an action adds at most as many atoms as it may want places
-pub act_number : {E : Type 0} (leaves : E → List Atom → List Atom) (problem : Problem) (table : Table) (bound : List (ℕ × ℕ)) (old new : Running) (outcome : Outcome)
-    → Happens leaves problem table bound old Act outcome new → length new.atoms ≤ length old.atoms + places_for problem (remembered_step table old.memory)
+pub act_number : {E : Type 0} (leaves : E → List Atom → List Atom) (problem : Problem) (table : Table) (bound : List (ℕ × ℕ))
+    (old new : Running) (outcome : Outcome)
+    → Happens leaves problem table bound old Act outcome new
+    → length new.atoms ≤ length old.atoms + places_for problem (remembered_step table old.memory)
 act_number leaves problem table bound old new outcome happens =
-    (act_adds leaves problem table bound old new old.memory.remembered outcome (act_gives leaves problem table bound old new outcome happens)).0
+    (act_adds leaves problem table bound old new old.memory.remembered outcome
+    (act_gives leaves problem table bound old new outcome happens)).0

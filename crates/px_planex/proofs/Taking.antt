@@ -19,15 +19,17 @@ use Rattle.px_table.specs.Tables.{IsStepOf, IsTable}
 use Rattle.px_table.specs.UnderLaws.{step_at-map, step_under-is_of}
 use Rattle.px_match.specs.MatcherValue.{kernel_with}
 use Rattle.px_world.specs.Worlds.{HaveSameRules}
-use Rattle.px_planex.specs.Execution.{RowHolds, step_of_kernel}
+use Rattle.px_planex.specs.Execution.{KernelRowHolds, step_of_kernel}
 
 pub step_here : (table : Table) (objects : List ℕ) (number : ℕ) (step inst : OpInst) → 1 ≤ number → number ≤ length table.steps
-    → step ≡ get_or table.steps (number - 1) step → inst ≡ instance_under objects step → step_of_kernel table (kernel_with objects number) ≡ Some inst
+    → step ≡ get_or table.steps (number - 1) step → inst ≡ instance_under objects step
+    → step_of_kernel table (kernel_with objects number) ≡ Some inst
 step_here table objects zero step inst low high is made = absurd (omega (arith, low))
 step_here table objects (suc k) step inst low high is made =
     let before : suc k - 1 ≡ k = omega arith in
     let here : step ≡ get_or table.steps k step = rw before at is in
-    step_at-map (instance_under objects) table.steps (suc k) step (slice_get_read table.steps (length table.steps) k step refl (omega (arith, high)) here)
+    step_at-map (instance_under objects) table.steps (suc k) step
+    (slice_get_read table.steps (length table.steps) k step refl (omega (arith, high)) here)
     ∙ ap Some (sym made)
 
 -- ---- rules that are the same
@@ -35,8 +37,10 @@ step_here table objects (suc k) step inst low high is made =
 pub same_adds : (one other : Problem) (inst : OpInst) → HaveSameRules one other → adds one inst ≡ adds other inst
 same_adds one other inst same = ap (λ (schemas : List Schema). atoms_of (slice_index_or schemas inst.op no_schema).add inst) same.schemas
 
-pub same_result : (one other : Problem) (atoms : List Atom) (inst : OpInst) → HaveSameRules one other → result_of one atoms inst ≡ result_of other atoms inst
-same_result one other atoms inst same = ap (λ (schemas : List Schema). result_by (slice_index_or schemas inst.op no_schema) atoms inst) same.schemas
+pub same_result : (one other : Problem) (atoms : List Atom) (inst : OpInst) → HaveSameRules one other
+    → result_of one atoms inst ≡ result_of other atoms inst
+same_result one other atoms inst same =
+    ap (λ (schemas : List Schema). result_by (slice_index_or schemas inst.op no_schema) atoms inst) same.schemas
 
 -- ---- the marks of a row
 
@@ -45,8 +49,9 @@ abbrev pub HoldsIfOf : ℕ → List ℕ → List Atom → Mark → Type 0
 HoldsIfOf row objects atoms mark = mark.row ≡ row → Contains atoms (atom_under objects mark.atom)
 
 pub row_is_true : (table : Table) (objects : List ℕ) (row i : ℕ) (atoms : List Atom)
-    → AllBefore (HoldsIfOf row objects atoms) table.marks i → length table.marks ≤ i → RowHolds table (kernel_with objects row) atoms
-row_is_true table objects row i atoms before past mark has = All-at (HoldsIfOf row objects atoms) table.marks mark (all_whole (HoldsIfOf row objects atoms) table.marks i before past) has
+    → AllBefore (HoldsIfOf row objects atoms) table.marks i → length table.marks ≤ i → KernelRowHolds table (kernel_with objects row) atoms
+row_is_true table objects row i atoms before past mark has =
+    All-at (HoldsIfOf row objects atoms) table.marks mark (all_whole (HoldsIfOf row objects atoms) table.marks i before past) has
 
 -- a term of the one is a term of the other
 same_term : (one other : Problem) (term : Term) → one.objects ≡ other.objects → IsTermOf other 0 term → IsTermOf one 0 term
@@ -58,11 +63,15 @@ pub same_instance : (one other : Problem) (inst : OpInst) → HaveSameRules one 
 same_instance one other inst same is = record {
   op = subst (λ (schemas : List Schema). inst.op < length schemas) (sym same.schemas) is.op;
   count = is.count ∙ ap (λ (schemas : List Schema). (slice_index_or schemas inst.op no_schema).params) (sym same.schemas);
-  objects = All-each (IsTermOf one 0) inst.args (λ term has. same_term one other term same.objects (All-at (IsTermOf other 0) inst.args term is.objects has));
+  objects =
+      All-each (IsTermOf one 0) inst.args (λ term has. same_term one other term same.objects
+      (All-at (IsTermOf other 0) inst.args term is.objects has));
 }
 
-pub instance_here : (problem : Problem) (table : Table) (objects : List ℕ) (number : ℕ) (step inst : OpInst) → 1 ≤ number → number ≤ length table.steps
-    → step ≡ get_or table.steps (number - 1) step → inst ≡ instance_under objects step → IsTable problem table → IsInstantiation problem table objects
+pub instance_here : (problem : Problem) (table : Table) (objects : List ℕ) (number : ℕ) (step inst : OpInst) → 1 ≤ number
+    → number ≤ length table.steps
+    → step ≡ get_or table.steps (number - 1) step → inst ≡ instance_under objects step → IsTable problem table
+    → IsInstantiation problem table objects
     → IsInstanceOf problem inst
 instance_here problem table objects number step inst low high is made whole given =
     let has = contains_here table.steps (number - 1) step (omega (arith, low, high)) is in

@@ -28,11 +28,13 @@ later_test : (number turn : ℕ) (b : Bool) → after_test (suc number) turn b �
 later_test number turn true e = grind (arith, nat_tests)
 later_test number turn false e = grind (arith, nat_tests)
 
-before_test : (number turn : ℕ) (b : Bool) → (turn == suc number) && beq b false ≡ true → (after_test number turn b ≡ true) × (after_test (suc number) turn b ≡ false)
+before_test : (number turn : ℕ) (b : Bool) → (turn == suc number) && beq b false ≡ true
+    → (after_test number turn b ≡ true) × (after_test (suc number) turn b ≡ false)
 before_test number turn true e = (grind (arith, nat_tests), grind (arith, nat_tests))
 before_test number turn false e = (grind (arith, nat_tests), grind (arith, nat_tests))
 
-between_test : (number turn : ℕ) (b : Bool) → (turn == number) && beq b true ≡ true → (after_test number turn b ≡ true) × (after_test (suc number) turn b ≡ false)
+between_test : (number turn : ℕ) (b : Bool) → (turn == number) && beq b true ≡ true
+    → (after_test number turn b ≡ true) × (after_test (suc number) turn b ≡ false)
 between_test number turn true e = (grind (arith, nat_tests), grind (arith, nat_tests))
 between_test number turn false e = (grind (arith, nat_tests), grind (arith, nat_tests))
 
@@ -69,32 +71,48 @@ module _ {E : Type 0} where
 
   count_falls : (number : ℕ) (rs : List (Recorded E)) → count_after (suc number) rs ≤ count_after number rs
   count_falls number [] = omega arith
-  count_falls number (r ∷ rs) = count_step (after_test (suc number) r.turn r.between) (after_test number r.turn r.between) _ _ (later_test number r.turn r.between) (count_falls number rs)
+  count_falls number (r ∷ rs) =
+      count_step (after_test (suc number) r.turn r.between) (after_test number r.turn r.between) _ _ (later_test number r.turn r.between)
+      (count_falls number rs)
 
   -- an edit before the next sensing, or one between this sensing and the action, is one fewer that comes later
-  edits_before : (number : ℕ) (rs : List (Recorded E)) → (edits_at rs (suc number) false ≡ []) ⊎ (count_after (suc number) rs < count_after number rs)
+  edits_before : (number : ℕ) (rs : List (Recorded E))
+      → (edits_at rs (suc number) false ≡ []) ⊎ (count_after (suc number) rs < count_after number rs)
   edits_before number [] = inl refl
   edits_before number (r ∷ rs) = by ((r.turn == suc number) && beq r.between false) refl (edits_before number rs)
     where
-      by : (b : Bool) → (r.turn == suc number) && beq r.between false ≡ b → (edits_at rs (suc number) false ≡ []) ⊎ (count_after (suc number) rs < count_after number rs) →
-          (flat_map (λ (r : Recorded E). r.edits) (cond b (r ∷ filter (is_at (suc number) false) rs) (filter (is_at (suc number) false) rs)) ≡ [])
+      by : (b : Bool) → (r.turn == suc number) && beq r.between false ≡ b
+          → (edits_at rs (suc number) false ≡ []) ⊎ (count_after (suc number) rs < count_after number rs)
+          → (flat_map (λ (r : Recorded E). r.edits)
+          (cond b (r ∷ filter (is_at (suc number) false) rs) (filter (is_at (suc number) false) rs)) ≡ [])
           ⊎ (count_after (suc number) (r ∷ rs) < count_after number (r ∷ rs))
-      by true e h = inr (count_used (after_test (suc number) r.turn r.between) (after_test number r.turn r.between) _ _ (before_test number r.turn r.between e) (count_falls number rs))
+      by true e h =
+          inr (count_used (after_test (suc number) r.turn r.between) (after_test number r.turn r.between) _ _
+          (before_test number r.turn r.between e) (count_falls number rs))
       by false e (inl h) = inl h
-      by false e (inr h) = inr (count_less (after_test (suc number) r.turn r.between) (after_test number r.turn r.between) _ _ (later_test number r.turn r.between) h)
+      by false e (inr h) =
+          inr (count_less (after_test (suc number) r.turn r.between) (after_test number r.turn r.between) _ _
+          (later_test number r.turn r.between) h)
 
-  edits_between : (number : ℕ) (rs : List (Recorded E)) → (edits_at rs number true ≡ []) ⊎ (count_after (suc number) rs < count_after number rs)
+  edits_between : (number : ℕ) (rs : List (Recorded E))
+      → (edits_at rs number true ≡ []) ⊎ (count_after (suc number) rs < count_after number rs)
   edits_between number [] = inl refl
   edits_between number (r ∷ rs) = by ((r.turn == number) && beq r.between true) refl (edits_between number rs)
     where
-      by : (b : Bool) → (r.turn == number) && beq r.between true ≡ b → (edits_at rs number true ≡ []) ⊎ (count_after (suc number) rs < count_after number rs) →
-          (flat_map (λ (r : Recorded E). r.edits) (cond b (r ∷ filter (is_at number true) rs) (filter (is_at number true) rs)) ≡ [])
+      by : (b : Bool) → (r.turn == number) && beq r.between true ≡ b
+          → (edits_at rs number true ≡ []) ⊎ (count_after (suc number) rs < count_after number rs)
+          → (flat_map (λ (r : Recorded E). r.edits) (cond b (r ∷ filter (is_at number true) rs) (filter (is_at number true) rs)) ≡ [])
           ⊎ (count_after (suc number) (r ∷ rs) < count_after number (r ∷ rs))
-      by true e h = inr (count_used (after_test (suc number) r.turn r.between) (after_test number r.turn r.between) _ _ (between_test number r.turn r.between e) (count_falls number rs))
+      by true e h =
+          inr (count_used (after_test (suc number) r.turn r.between) (after_test number r.turn r.between) _ _
+          (between_test number r.turn r.between e) (count_falls number rs))
       by false e (inl h) = inl h
-      by false e (inr h) = inr (count_less (after_test (suc number) r.turn r.between) (after_test number r.turn r.between) _ _ (later_test number r.turn r.between) h)
+      by false e (inr h) =
+          inr (count_less (after_test (suc number) r.turn r.between) (after_test number r.turn r.between) _ _
+          (later_test number r.turn r.between) h)
 
-module _ (p : Problem) (valid : IsValid p) (t : Table) (table : IsTable p t) (binding : List (ℕ × ℕ)) {E : Type 0} (leaves : E → List Atom → List Atom) (recorded : List (Recorded E)) where
+module _ (p : Problem) (valid : IsValid p) (t : Table) (table : IsTable p t) (binding : List (ℕ × ℕ)) {E : Type 0}
+    (leaves : E → List Atom → List Atom) (recorded : List (Recorded E)) where
   abbrev n : ℕ
   n = length t.steps
 
@@ -103,46 +121,65 @@ module _ (p : Problem) (valid : IsValid p) (t : Table) (table : IsTable p t) (bi
   turns_left None number = 1
   turns_left (Some kernel) number = (n + 2 - kernel.number) + (n + 1) * count_after number recorded
 
-  turns_left-any : (answer : Option KernelInstance) (number : ℕ) (atoms : List Atom) → IsSensed p t binding atoms answer → turns_left answer number ≤ (n + 1) + (n + 1) * count_after number recorded
+  turns_left-any : (answer : Option KernelInstance) (number : ℕ) (atoms : List Atom) → IsSensed p t binding atoms answer
+      → turns_left answer number ≤ (n + 1) + (n + 1) * count_after number recorded
   turns_left-any None number atoms senses = omega arith
   turns_left-any (Some kernel) number atoms senses = omega (arith, senses.fits.from_one)
 
   -- what the turns after this one are at most, where they are bounded
   abbrev RestBounded : ℕ → List TurnValue → List Atom → Type 0
-  RestBounded number turns after = (mid : List Atom) (rest : RunInAtoms leaves p t binding recorded number mid turns after) →
-      (answer : Option KernelInstance) × IsSensed p t binding (after_edits leaves (edits_at recorded number false) mid) answer × (length turns ≤ turns_left answer number)
+  RestBounded number turns after = (mid : List Atom) (rest : RunInAtoms leaves p t binding recorded number mid turns after)
+      → (answer : Option KernelInstance) × IsSensed p t binding (after_edits leaves (edits_at recorded number false) mid) answer
+      × (length turns ≤ turns_left answer number)
 
   -- a disturbance came in between
-  disturbed : (kernel : ℕ) (number : ℕ) (turns : List TurnValue) (after mid : List Atom) → kernel ≤ n + 1 → count_after (suc number) recorded < count_after number recorded →
-      RestBounded (suc number) turns after → RunInAtoms leaves p t binding recorded (suc number) mid turns after →
-      suc (length turns) ≤ (n + 2 - kernel) + (n + 1) * count_after number recorded
+  disturbed : (kernel : ℕ) (number : ℕ) (turns : List TurnValue) (after mid : List Atom) → kernel ≤ n + 1
+      → count_after (suc number) recorded < count_after number recorded
+      → RestBounded (suc number) turns after → RunInAtoms leaves p t binding recorded (suc number) mid turns after
+      → suc (length turns) ≤ (n + 2 - kernel) + (n + 1) * count_after number recorded
   disturbed kernel number turns after mid within less bound rest =
       let b = bound mid rest in
       let any = turns_left-any b.0 (suc number) _ b.1 in
-      let product : (n + 1) * (count_after (suc number) recorded + 1) ≤ (n + 1) * count_after number recorded = mul-le-mul_left (n + 1) (omega (arith, less)) in
+      let product : (n + 1) * (count_after (suc number) recorded + 1) ≤ (n + 1) * count_after number recorded =
+      mul-le-mul_left (n + 1) (omega (arith, less)) in
       omega (arith, b.2, any, product)
 
-  undisturbed : (kernel : KernelInstance) (number : ℕ) (turn : TurnValue) (turns : List TurnValue) (atoms mid after : List Atom) → KernelFits p t binding atoms kernel.number kernel.objects →
-      (¬ IsLastTurn turn.end) → TurnInAtoms p t (Some kernel) atoms atoms turn mid → RestBounded (suc number) turns after → RunInAtoms leaves p t binding recorded (suc number) mid turns after →
-      suc (length turns) ≤ (n + 2 - kernel.number) + (n + 1) * count_after number recorded
-  undisturbed kernel number turn turns atoms mid after fits not_last (inl goal) bound rest = absurd (not_last (subst IsLastTurn (sym goal.1) tt))
-  undisturbed kernel number turn turns atoms mid after fits not_last (inr (inl fails)) bound rest = absurd (fails.3 (row_of_kernel_holds p valid t table binding atoms kernel fits fails.0 fails.1 fails.2))
+  undisturbed : (kernel : KernelInstance) (number : ℕ) (turn : TurnValue) (turns : List TurnValue) (atoms mid after : List Atom)
+      → KernelFits p t binding atoms kernel.number kernel.objects
+      → (¬ IsLastTurn turn.end) → TurnInAtoms p t (Some kernel) atoms atoms turn mid → RestBounded (suc number) turns after
+      → RunInAtoms leaves p t binding recorded (suc number) mid turns after
+      → suc (length turns) ≤ (n + 2 - kernel.number) + (n + 1) * count_after number recorded
+  undisturbed kernel number turn turns atoms mid after fits not_last (inl goal) bound rest =
+      absurd (not_last (subst IsLastTurn (sym goal.1) tt))
+  undisturbed kernel number turn turns atoms mid after fits not_last (inr (inl fails)) bound rest =
+      absurd (fails.3 (row_of_kernel_holds p valid t table binding atoms kernel fits fails.0 fails.1 fails.2))
   undisturbed kernel number turn turns atoms mid after fits not_last (inr (inr taken)) bound rest =
-      let within : kernel.number ≤ n = omega (arith, last_step (steps_under t kernel.objects) kernel.number taken.0 taken.1, length-map t.steps (instance_under kernel.objects)) in
-      let next : KernelFits p t binding mid (suc kernel.number) kernel.objects = subst (λ (x : List Atom). KernelFits p t binding x (suc kernel.number) kernel.objects) (sym taken.2) (next_kernel_fits p valid t table binding atoms kernel.number kernel.objects taken.0 fits within taken.1) in
+      let within : kernel.number ≤ n =
+      omega (
+        arith,
+        last_step (steps_under t kernel.objects) kernel.number taken.0 taken.1,
+        length-map t.steps (instance_under kernel.objects),
+      ) in
+      let next : KernelFits p t binding mid (suc kernel.number) kernel.objects =
+      subst (λ (x : List Atom). KernelFits p t binding x (suc kernel.number) kernel.objects) (sym taken.2)
+      (next_kernel_fits p valid t table binding atoms kernel.number kernel.objects taken.0 fits within taken.1) in
       elim (edits_before number recorded) [
         | inr less ↦ disturbed kernel.number number turns after mid (omega arith) less bound rest
         | inl none ↦
             let b = bound mid rest in
-            let senses : IsSensed p t binding mid b.0 = subst (λ (xs : List E). IsSensed p t binding (after_edits leaves xs mid) b.0) none b.1 in
+            let senses : IsSensed p t binding mid b.0 =
+            subst (λ (xs : List E). IsSensed p t binding (after_edits leaves xs mid) b.0) none b.1 in
             greater kernel number turns mid within next b.0 senses b.2
       ]
     where
-      greater : (kernel : KernelInstance) (number : ℕ) (turns : List TurnValue) (mid : List Atom) → kernel.number ≤ n → KernelFits p t binding mid (suc kernel.number) kernel.objects → (answer : Option KernelInstance) →
-          IsSensed p t binding mid answer → length turns ≤ turns_left answer (suc number) → suc (length turns) ≤ (n + 2 - kernel.number) + (n + 1) * count_after number recorded
+      greater : (kernel : KernelInstance) (number : ℕ) (turns : List TurnValue) (mid : List Atom) → kernel.number ≤ n
+          → KernelFits p t binding mid (suc kernel.number) kernel.objects → (answer : Option KernelInstance)
+          → IsSensed p t binding mid answer → length turns ≤ turns_left answer (suc number)
+          → suc (length turns) ≤ (n + 2 - kernel.number) + (n + 1) * count_after number recorded
       greater kernel number turns mid within next None senses left = absurd (senses (suc kernel.number) kernel.objects next)
       greater kernel number turns mid within next (Some higher) senses left =
-          let product : (n + 1) * count_after (suc number) recorded ≤ (n + 1) * count_after number recorded = mul-le-mul_left (n + 1) (count_falls number recorded) in
+          let product : (n + 1) * count_after (suc number) recorded ≤ (n + 1) * count_after number recorded =
+          mul-le-mul_left (n + 1) (count_falls number recorded) in
           omega (arith, left, product, senses.highest (suc kernel.number) kernel.objects next)
 
   bounded : (turns : List TurnValue) (number : ℕ) (after : List Atom) → RestBounded number turns after
@@ -153,9 +190,11 @@ module _ (p : Problem) (valid : IsValid p) (t : Table) (table : IsTable p t) (bi
       sensed : List Atom
       sensed = after_edits leaves (edits_at recorded number false) atoms
 
-      by : (answer : Option KernelInstance) → IsSensed p t binding sensed answer → (mid : List Atom) → TurnInAtoms p t answer sensed (after_edits leaves (edits_at recorded number true) sensed) turn mid →
-          ((IsLastTurn turn.end × (turns ≡ []) × (after ≡ mid)) ⊎ ((¬ IsLastTurn turn.end) × RunInAtoms leaves p t binding recorded (suc number) mid turns after)) →
-          RestBounded (suc number) turns after → suc (length turns) ≤ turns_left answer number
+      by : (answer : Option KernelInstance) → IsSensed p t binding sensed answer → (mid : List Atom)
+          → TurnInAtoms p t answer sensed (after_edits leaves (edits_at recorded number true) sensed) turn mid
+          → ((IsLastTurn turn.end × (turns ≡ []) × (after ≡ mid))
+          ⊎ ((¬ IsLastTurn turn.end) × RunInAtoms leaves p t binding recorded (suc number) mid turns after))
+          → RestBounded (suc number) turns after → suc (length turns) ≤ turns_left answer number
       by None senses mid takes (inl last) bound = omega (arith, ap length last.1)
       by None senses mid takes (inr more) bound = absurd (more.0 (subst IsLastTurn (sym takes.0) tt))
       by (Some kernel) senses mid takes (inl last) bound = omega (arith, ap length last.1, senses.fits.to_goal)
@@ -166,7 +205,8 @@ module _ (p : Problem) (valid : IsValid p) (t : Table) (table : IsTable p t) (bi
       ]
 
   -- a run with D recorded disturbances has at most (D + 1) * (n + 1) turns
-  pub turns-bounded : (turns : List TurnValue) (atoms after : List Atom) → RunInAtoms leaves p t binding recorded 1 atoms turns after → length turns ≤ (length recorded + 1) * (n + 1)
+  pub turns-bounded : (turns : List TurnValue) (atoms after : List Atom) → RunInAtoms leaves p t binding recorded 1 atoms turns after
+      → length turns ≤ (length recorded + 1) * (n + 1)
   turns-bounded turns atoms after run =
       let b = bounded turns 1 after atoms run in
       let any = turns_left-any b.0 1 _ b.1 in
@@ -175,42 +215,61 @@ module _ (p : Problem) (valid : IsValid p) (t : Table) (table : IsTable p t) (bi
 
   -- ---- the same turn by turn, as the loop of a run needs it: what is left falls from each sensing to the next
 
-  fall_disturbed : (kernel number : ℕ) (mid : List Atom) (next : Option KernelInstance) → kernel ≤ n + 1 → count_after (suc number) recorded < count_after number recorded →
-      IsSensed p t binding mid next → turns_left next (suc number) < (n + 2 - kernel) + (n + 1) * count_after number recorded
+  fall_disturbed : (kernel number : ℕ) (mid : List Atom) (next : Option KernelInstance) → kernel ≤ n + 1
+      → count_after (suc number) recorded < count_after number recorded
+      → IsSensed p t binding mid next → turns_left next (suc number) < (n + 2 - kernel) + (n + 1) * count_after number recorded
   fall_disturbed kernel number mid next within less senses =
       let any = turns_left-any next (suc number) mid senses in
-      let product : (n + 1) * (count_after (suc number) recorded + 1) ≤ (n + 1) * count_after number recorded = mul-le-mul_left (n + 1) (omega (arith, less)) in
+      let product : (n + 1) * (count_after (suc number) recorded + 1) ≤ (n + 1) * count_after number recorded =
+      mul-le-mul_left (n + 1) (omega (arith, less)) in
       omega (arith, any, product)
 
-  pub turns-fall : (kernel : KernelInstance) (number : ℕ) (turn : TurnValue) (atoms mid : List Atom) (next : Option KernelInstance) →
-      KernelFits p t binding atoms kernel.number kernel.objects → (¬ IsLastTurn turn.end) →
-      TurnInAtoms p t (Some kernel) atoms (after_edits leaves (edits_at recorded number true) atoms) turn mid →
-      IsSensed p t binding (after_edits leaves (edits_at recorded (suc number) false) mid) next →
-      turns_left next (suc number) < turns_left (Some kernel) number
+  pub turns-fall : (kernel : KernelInstance) (number : ℕ) (turn : TurnValue) (atoms mid : List Atom) (next : Option KernelInstance)
+      → KernelFits p t binding atoms kernel.number kernel.objects → (¬ IsLastTurn turn.end)
+      → TurnInAtoms p t (Some kernel) atoms (after_edits leaves (edits_at recorded number true) atoms) turn mid
+      → IsSensed p t binding (after_edits leaves (edits_at recorded (suc number) false) mid) next
+      → turns_left next (suc number) < turns_left (Some kernel) number
   turns-fall kernel number turn atoms mid next fits not_last takes senses = elim (edits_between number recorded) [
     | inr less ↦ fall_disturbed kernel.number number _ next fits.to_goal less senses
     | inl none ↦ quiet (subst (λ (xs : List E). TurnInAtoms p t (Some kernel) atoms (after_edits leaves xs atoms) turn mid) none takes)
   ]
     where
-      higher : (o : OpInst) → step_at (steps_under t kernel.objects) kernel.number ≡ Some o → KernelFits p t binding mid (suc kernel.number) kernel.objects → (next : Option KernelInstance) →
-          IsSensed p t binding mid next → turns_left next (suc number) < turns_left (Some kernel) number
+      higher : (o : OpInst) → step_at (steps_under t kernel.objects) kernel.number ≡ Some o
+          → KernelFits p t binding mid (suc kernel.number) kernel.objects → (next : Option KernelInstance)
+          → IsSensed p t binding mid next → turns_left next (suc number) < turns_left (Some kernel) number
       higher o at fits' None senses = absurd (senses (suc kernel.number) kernel.objects fits')
       higher o at fits' (Some found) senses =
           let within = last_step (steps_under t kernel.objects) kernel.number o at in
-          let product : (n + 1) * count_after (suc number) recorded ≤ (n + 1) * count_after number recorded = mul-le-mul_left (n + 1) (count_falls number recorded) in
-          omega (arith, product, senses.highest (suc kernel.number) kernel.objects fits', within, length-map t.steps (instance_under kernel.objects))
+          let product : (n + 1) * count_after (suc number) recorded ≤ (n + 1) * count_after number recorded =
+          mul-le-mul_left (n + 1) (count_falls number recorded) in
+          omega (
+            arith,
+            product,
+            senses.highest (suc kernel.number) kernel.objects fits',
+            within,
+            length-map t.steps (instance_under kernel.objects),
+          )
 
       quiet : TurnInAtoms p t (Some kernel) atoms atoms turn mid → turns_left next (suc number) < turns_left (Some kernel) number
       quiet (inl goal) = absurd (not_last (subst IsLastTurn (sym goal.1) tt))
       quiet (inr (inl fails)) = absurd (fails.3 (row_of_kernel_holds p valid t table binding atoms kernel fits fails.0 fails.1 fails.2))
       quiet (inr (inr taken)) =
-          let within : kernel.number ≤ n = omega (arith, last_step (steps_under t kernel.objects) kernel.number taken.0 taken.1, length-map t.steps (instance_under kernel.objects)) in
-          let fits' : KernelFits p t binding mid (suc kernel.number) kernel.objects = subst (λ (x : List Atom). KernelFits p t binding x (suc kernel.number) kernel.objects) (sym taken.2) (next_kernel_fits p valid t table binding atoms kernel.number kernel.objects taken.0 fits within taken.1) in
+          let within : kernel.number ≤ n =
+          omega (
+            arith,
+            last_step (steps_under t kernel.objects) kernel.number taken.0 taken.1,
+            length-map t.steps (instance_under kernel.objects),
+          ) in
+          let fits' : KernelFits p t binding mid (suc kernel.number) kernel.objects =
+          subst (λ (x : List Atom). KernelFits p t binding x (suc kernel.number) kernel.objects) (sym taken.2)
+          (next_kernel_fits p valid t table binding atoms kernel.number kernel.objects taken.0 fits within taken.1) in
           elim (edits_before number recorded) [
             | inr less ↦ fall_disturbed kernel.number number _ next fits.to_goal less senses
-            | inl none ↦ higher taken.0 taken.1 fits' next (subst (λ (xs : List E). IsSensed p t binding (after_edits leaves xs mid) next) none senses)
+            | inl none ↦ higher taken.0 taken.1 fits' next
+                (subst (λ (xs : List E). IsSensed p t binding (after_edits leaves xs mid) next) none senses)
           ]
 
 pub turns_are_few : {E : Type 0} (leaves : E → List Atom → List Atom) → TurnsAreFew leaves
 turns_are_few leaves problem table bound recorded atoms turns after valid is_table run =
-    turns-bounded problem valid table is_table bound leaves recorded turns atoms after (run_in_atoms leaves problem table bound recorded turns 1 _ _ run.1)
+    turns-bounded problem valid table is_table bound leaves recorded turns atoms after
+    (run_in_atoms leaves problem table bound recorded turns 1 _ _ run.1)

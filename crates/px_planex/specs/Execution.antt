@@ -29,11 +29,11 @@ pub record Running : Type 0 where
   pub memory : Memory
 
 -- each mark of the row that has the kernel's number is true in the atoms
-abbrev pub RowHolds : Table → KernelInstance → List Atom → Type 0
-RowHolds table kernel atoms = (mark : Mark) → Contains table.marks mark → mark.row ≡ kernel.number
+abbrev pub KernelRowHolds : Table → KernelInstance → List Atom → Type 0
+KernelRowHolds table kernel atoms = (mark : Mark) → Contains table.marks mark → mark.row ≡ kernel.number
     → Contains atoms (atom_under kernel.objects mark.atom)
 
--- some mark of that row isn't
+-- some mark of that row isn't true in the atoms
 abbrev pub RowFails : Table → KernelInstance → List Atom → Type 0
 RowFails table kernel atoms = (mark : Mark) × Contains table.marks mark × (mark.row ≡ kernel.number)
     × (¬ Contains atoms (atom_under kernel.objects mark.atom))
@@ -53,7 +53,7 @@ forgetting old atoms = record { atoms = atoms; memory = record { remembered = No
 abbrev pub sensing : Running → Option KernelInstance → KernelInstance → Running
 sensing old remembered kernel = record { atoms = old.atoms; memory = record { remembered = remembered; instance = kernel.objects } }
 
--- an executor of the table with this binding, in a world in which an edit leaves those atoms
+-- an executor of the table with this binding, in a world in which an edit leaves these atoms
 module _ {E : Type 0} (leaves : E → List Atom → List Atom) (problem : Problem) (table : Table) (bound : List (ℕ × ℕ)) where
   -- the event may have this outcome, and lead from the one to the other; no other event has an outcome
   abbrev pub Happens : Running → Event E → Outcome → Running → Type 0
@@ -69,7 +69,7 @@ module _ {E : Type 0} (leaves : E → List Atom → List Atom) (problem : Proble
   Happens old Act Slipped new =
       (kernel : KernelInstance) × (old.memory.remembered ≡ Some kernel) × RowFails table kernel old.atoms × (new ≡ forgetting old old.atoms)
   Happens old Act Acted new =
-      (kernel : KernelInstance) × (old.memory.remembered ≡ Some kernel) × RowHolds table kernel old.atoms
+      (kernel : KernelInstance) × (old.memory.remembered ≡ Some kernel) × KernelRowHolds table kernel old.atoms
       × ((inst : OpInst) × (step_of_kernel table kernel ≡ Some inst) × (new ≡ forgetting old (result_of problem old.atoms inst)))
   Happens old event outcome new = ⊥
 

@@ -10,7 +10,7 @@ use Rattle.px_table.specs.Kernels.{IsInstantiation}
 use Rattle.px_table.specs.Tables.{IsTable}
 use Rattle.px_match.specs.Matching.{KernelInstance}
 use Rattle.px_match.specs.MatcherValue.{MatcherValue}
-use Rattle.px_planex.specs.Execution.{Happens, Memory, RowHolds, Running, remembered_step, step_of_kernel}
+use Rattle.px_planex.specs.Execution.{Happens, Memory, KernelRowHolds, Running, remembered_step, step_of_kernel}
 use Rattle.px_planex.specs.declared.event.Event.{Event}
 use Rattle.px_planex.specs.declared.event.Event.TheVariants.{Disturb, Sense, Act}
 use Rattle.px_planex.specs.declared.event.Outcome.{Outcome}
@@ -65,7 +65,7 @@ EventsTakePlaces {E} leaves = (problem : Problem) (table : Table) (bound : List 
 -- ---- what an executor keeps
 
 -- the matcher is the table's, there is room for the atoms of a world, and what is remembered can be acted by
-pub record IsReady (problem : Problem) (table : Table) (matcher : MatcherValue) (sensed : ModelValue) (room : ℕ)
+pub record IsExecutorReady (problem : Problem) (table : Table) (matcher : MatcherValue) (sensed : ModelValue) (room : ℕ)
     (remembered : Option KernelInstance) : Type 0 where
   pub is_table : IsTable problem table
   pub same_problem : matcher.problem ≡ problem
@@ -75,6 +75,7 @@ pub record IsReady (problem : Problem) (table : Table) (matcher : MatcherValue) 
   pub actable : IsActable problem table remembered
 
 -- each mark of the kernel's row is true before, and after the kernel's step the atoms are what it leaves
-abbrev pub IsTaken : Problem → Table → KernelInstance → List Atom → List Atom → Type 0
-IsTaken problem table kernel before after =
-    RowHolds table kernel before × ((inst : OpInst) × (step_of_kernel table kernel ≡ Some inst) × (after ≡ result_of problem before inst))
+abbrev pub IsKernelStepTaken : Problem → Table → KernelInstance → List Atom → List Atom → Type 0
+IsKernelStepTaken problem table kernel before after =
+    KernelRowHolds table kernel before
+    × ((inst : OpInst) × (step_of_kernel table kernel ≡ Some inst) × (after ≡ result_of problem before inst))

@@ -7,10 +7,10 @@ use Rattle.px_table.specs.declared.table.Table.{Table}
 use Rattle.px_table.specs.Kernels.{IsInstantiation}
 use Rattle.px_table.specs.Tables.{IsTable}
 use Rattle.px_match.specs.Matching.{KernelInstance}
-use Rattle.px_world.specs.Worlds.{HaveSameRules, IsRefused}
-use Rattle.px_planex.specs.Execution.{RowHolds, step_of_kernel}
+use Rattle.px_world.specs.Worlds.{HaveSameRules, IsActionRefused}
+use Rattle.px_planex.specs.Execution.{KernelRowHolds, step_of_kernel}
 
 abbrev pub GuardNever : Type 0
 GuardNever = (rules problem : Problem) (table : Table) (kernel : KernelInstance) (atoms : List Atom) (inst : OpInst)
     → IsTable problem table → IsInstantiation problem table kernel.objects → HaveSameRules rules problem
-    → RowHolds table kernel atoms → step_of_kernel table kernel ≡ Some inst → ¬ IsRefused rules atoms inst
+    → KernelRowHolds table kernel atoms → step_of_kernel table kernel ≡ Some inst → ¬ IsActionRefused rules atoms inst

@@ -1,3 +1,4 @@
+-- The files of definitions and laws.
 pub mod Execution
 pub mod Executors
 pub mod Existing

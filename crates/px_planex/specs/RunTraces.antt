@@ -19,7 +19,7 @@ abbrev pub all_disturbed : {E : Type 0} → List E → List Outcome
 all_disturbed {E} edits = map (λ (edit : E). Disturbed) edits
 
 module _ {E : Type 0} (recorded : List (Recorded E)) where
-  -- the turn's events: the edits before, the sensing, and unless it ends the run the edits between and the action
+  -- the turn's events: the edits before, the sensing, and unless this ends the run, the edits between and the action
   abbrev pub turn_events : ℕ → TurnEnd → List (Event E)
   turn_events number AtGoal = disturbing (edits_at recorded number false) ++ Sense ∷ []
   turn_events number AtNoKernel = disturbing (edits_at recorded number false) ++ Sense ∷ []
@@ -28,7 +28,7 @@ module _ {E : Type 0} (recorded : List (Recorded E)) where
   turn_events number BySlipping = disturbing (edits_at recorded number false) ++ Sense ∷
       (disturbing (edits_at recorded number true) ++ Act ∷ [])
 
-  -- and their outcomes, where the turn had this kernel
+  -- and the outcomes of these events, where the turn had this kernel
   abbrev pub turn_outcomes : ℕ → ℕ → TurnEnd → List Outcome
   turn_outcomes number kernel AtGoal = all_disturbed (edits_at recorded number false) ++ Goal ∷ []
   turn_outcomes number kernel AtNoKernel = all_disturbed (edits_at recorded number false) ++ NoKernel ∷ []
@@ -37,7 +37,7 @@ module _ {E : Type 0} (recorded : List (Recorded E)) where
   turn_outcomes number kernel BySlipping =
       all_disturbed (edits_at recorded number false) ++ Sensed kernel ∷ (all_disturbed (edits_at recorded number true) ++ Slipped ∷ [])
 
-  -- those of the turns from that number on
+  -- the events of the turns from that number on
   abbrev pub run_events : ℕ → List TurnValue → List (Event E)
   run_events number [] = []
   run_events number (turn ∷ turns) = turn_events number turn.end ++ run_events (suc number) turns

@@ -32,7 +32,7 @@ abbrev pub after_edits : {E : Type 0} → (E → List Atom → List Atom) → Li
 after_edits leaves [] atoms = atoms
 after_edits leaves (edit ∷ edits) atoms = after_edits leaves edits (leaves edit atoms)
 
--- the same where an executor runs
+-- what the edits leave where an executor runs, one after the other
 abbrev pub disturbed_by : {E : Type 0} → (E → List Atom → List Atom) → List E → Running → Running
 disturbed_by leaves edits old = record { atoms = after_edits leaves edits old.atoms; memory = old.memory }
 
@@ -40,7 +40,7 @@ disturbed_by leaves edits old = record { atoms = after_edits leaves edits old.at
 pub data TurnEnd : Type 0 where
   AtGoal AtNoKernel ByActing BySlipping : TurnEnd
 
--- the kernel, 0 for none; the step that was tried, if one was; how the turn ended
+-- the kernel, or 0 for no kernel; the step that was tried, if one was; how the turn ended
 pub record TurnValue : Type 0 where
   pub kernel : ℕ
   pub op : Option OpInst
@@ -53,7 +53,7 @@ IsLastTurn AtNoKernel = Unit {0}
 IsLastTurn ByActing = ⊥
 IsLastTurn BySlipping = ⊥
 
--- an executor of the table with this binding, in a world in which an edit leaves those atoms
+-- an executor of the table with this binding, in a world in which an edit leaves these atoms
 module _ {E : Type 0} (leaves : E → List Atom → List Atom) (problem : Problem) (table : Table) (bound : List (ℕ × ℕ)) where
   -- what is left of the turn where its sensing had this outcome: nothing, or the edits that come between and the action
   abbrev pub EndsTurn : List E → Running → Outcome → TurnValue → Running → Type 0

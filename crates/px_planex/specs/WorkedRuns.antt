@@ -26,7 +26,7 @@ pub record DangerRuns : Type 0 where
   pub stuck : RunsTable edited danger danger_table ((1, a) ∷ (2, a) ∷ [])
       (record { turn = 1; between = false; edits = Add (q (Obj a)) ∷ [] } ∷ [])
       (p (Obj a) ∷ q (Obj b) ∷ []) (lost ∷ []) danger_facts
-  -- with the first parameter bound alone, two steps lead to the goal
+  -- with only the first parameter bound, two steps lead to the goal
   pub straight : RunsTable edited danger danger_table ((1, a) ∷ []) []
       danger_facts (tried 1 (a_step (Obj a)) ByActing ∷ tried 2 (b_step (Obj a) (Obj b)) ByActing ∷ arrived ∷ [])
       (p (Obj a) ∷ q (Obj b) ∷ r (Obj a) ∷ g (Obj a) ∷ [])

@@ -7,14 +7,14 @@ ghost use Rattle.px_table.specs.Kernels.{IsInstantiation};
 ghost use Rattle.px_table.specs.Tables.{IsTable};
 ghost use Rattle.px_match.specs.MatcherValue.{kernel_with};
 ghost use Rattle.px_world.specs.Worlds.{HaveSameRules};
-ghost use Rattle.px_planex.specs.Execution.{RowFails, RowHolds, step_of_kernel};
-ghost use Rattle.px_planex.specs.Executors.{IsTaken, places_for};
+ghost use Rattle.px_planex.specs.Execution.{RowFails, KernelRowHolds, step_of_kernel};
+ghost use Rattle.px_planex.specs.Executors.{IsKernelStepTaken, places_for};
 
 use px_table::{Table, atom_with, instance_with};
 use px_terms::{OpInst as Instance, Problem};
 use px_world::World;
 
-/// The step of that number, with these objects for the parameters.
+/// Returns the step of that number, with these objects for the parameters.
 pub(crate) fn step_of(problem: &Problem, table: &Table, objects: &[u32], number: u32) -> Instance
     requires table { IsTable problem.now table.now }
     requires objects { IsInstantiation problem.now table.now objects.now }
@@ -25,7 +25,7 @@ pub(crate) fn step_of(problem: &Problem, table: &Table, objects: &[u32], number:
     instance_with(objects, &table.steps.as_slice()[number as usize - 1])
 }
 
-/// Is each mark of the row true in the world, with these objects for the parameters?
+/// Returns whether each mark of the row is true in the world, with these objects for the parameters.
 fn row_holds<W: World>(
     problem: &Problem,
     table: &Table,
@@ -35,7 +35,7 @@ fn row_holds<W: World>(
 ) -> bool
     requires table { IsTable problem.now table.now }
     requires objects { IsInstantiation problem.now table.now objects.now }
-    ensures { MatchBool result (RowHolds table.now (kernel_with objects.now row) (W.atoms world.now))
+    ensures { MatchBool result (KernelRowHolds table.now (kernel_with objects.now row) (W.atoms world.now))
         (RowFails table.now (kernel_with objects.now row) (W.atoms world.now)) }
 {
     for mark in table.marks.as_slice() {
@@ -46,7 +46,7 @@ fn row_holds<W: World>(
     true
 }
 
-/// Takes the step of that number with these objects, if each mark of its row is true. Was it taken?
+/// Takes the step of that number with these objects, if each mark of its row is true, and returns whether it was taken.
 pub(crate) fn act_by<W: World>(
     problem: &Problem,
     table: &Table,
@@ -59,7 +59,7 @@ pub(crate) fn act_by<W: World>(
     requires objects { IsInstantiation problem.now table.now objects.now }
     requires number { (1 ≤ number) × (number ≤ length table.now.steps) }
     requires places { places_for problem.now (step_of_kernel table.now (kernel_with objects.now number)) ≤ W.spare world.old }
-    ensures taken { MatchBool result (IsTaken problem.now table.now (kernel_with objects.now number) (W.atoms world.old)
+    ensures taken { MatchBool result (IsKernelStepTaken problem.now table.now (kernel_with objects.now number) (W.atoms world.old)
         (W.atoms world.new)) (RowFails table.now (kernel_with objects.now number) (W.atoms world.old) × (world.new ≡ world.old)) }
     ensures spare { W.spare world.old ≤ W.spare world.new + places_for problem.now
         (step_of_kernel table.now (kernel_with objects.now number)) }

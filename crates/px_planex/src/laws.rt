@@ -21,8 +21,8 @@ pub fn traces_exist<W: World>()
     ensures { TracesExist W.leaves }
 {}
 
-/// Where an edit leaves at most one atom more, an event leaves at most as many more as it may want places, and the same atoms
-/// where its outcome changes nothing.
+/// Where an edit leaves at most one atom more, an event leaves at most as many more as it may want places for, and the same atoms where
+/// its outcome changes nothing.
 pub fn events_take_places<W: World>()
     ensures { EventsTakePlaces W.leaves }
 {}
@@ -60,8 +60,8 @@ pub fn turns_are_few<W: World>()
     ensures { TurnsAreFew W.leaves }
 {}
 
-/// Three runs of the plan that one object for two would spoil: one that senses no kernel, one that takes two steps to the goal,
-/// and one in which a disturbance makes the action slip; and that an action that wasn't sensed isn't taken.
+/// Three runs of the plan that one object for two would spoil: one that senses no kernel, one that takes two steps to the goal, and one in
+/// which a disturbance makes the action slip. And an action before which nothing was sensed takes no step.
 pub fn danger_runs()
     ensures { DangerRuns }
 {}

@@ -8,13 +8,13 @@
 //! - An [`Event`] is one step: the world is disturbed, or the executor senses, or it acts. [`Planex::step`] asks that the world's
 //!   objects, axioms and operators are the problem's (`HaveSameRules` of `px_world`), that it has at most as many atoms as there is
 //!   room for, that it admits a disturbance, and that it has the places that the event may take (`places_of`): one for a
-//!   disturbance, none for a sensing, and for an action as many as the remembered step adds. It does not allocate.
+//!   disturbance, none for a sensing, and for an action as many as the remembered step has adds. It does not allocate.
 //! - Its [`Outcome`] is determined by the world's atoms and by what the executor remembers: at most one kernel, and the objects of the last
 //!   kernel that it sensed. `Happens` in `specs/Execution` is the table of events and outcomes, line by line, and the clause
-//!   `happens` of `step`. A sensing remembers the highest kernel that fits; where it is the last one that is the goal. An action takes
+//!   `happens` of `step`. A sensing remembers the highest kernel that fits; if it is the last one, that is the goal. An action takes
 //!   the remembered step if each mark of its row is true, and slips if one isn't. The world is as it was unless it was disturbed or a
-//!   step was taken (`unchanged`). No world refuses a step whose row is true, so no outcome says it.
-//! - [`Planex::action`] is the remembered step, which is there exactly where an action wouldn't be told as not sensed;
+//!   step was taken (`unchanged`). No world refuses a step whose row is true, so no outcome says that one did.
+//! - [`Planex::action`] is the remembered step: `None` exactly where an action would have the outcome `NotSensed`.
 //!   [`Planex::instance`] has the objects of the last kernel that was sensed.
 //! - `Traces` is a list of events with their outcomes. Each list of events has one ([`traces_exist`]), and it is determined
 //!   ([`traces_are_one`]). `RunsTable` in `specs/Turns` is a run: turn by

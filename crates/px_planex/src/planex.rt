@@ -41,7 +41,7 @@ impl<'a> std::marker::Model for Planex<'a> {
     ghost use Rattle.std.specs.Coded.{codes};
     ghost use Rattle.px_match.specs.MatcherValue.{kernel_with};
     ghost use Rattle.px_proof.specs.contracts.proof.Proof as term;
-    ghost use Rattle.px_planex.specs.Executors.{IsReady, PlanexValue};
+    ghost use Rattle.px_planex.specs.Executors.{IsExecutorReady, PlanexValue};
 
     ghost Value = { PlanexValue };
 
@@ -55,12 +55,12 @@ impl<'a> std::marker::Model for Planex<'a> {
       memory = record { remembered = option_map (kernel_with p.matcher.instance) p.remembered; instance = p.matcher.instance };
     } };
 
-    ghost invariant = { λ p. IsReady p.problem.now p.table.now p.matcher p.sensed p.room
+    ghost invariant = { λ p. IsExecutorReady p.problem.now p.table.now p.matcher p.sensed p.room
         (option_map (kernel_with p.matcher.instance) p.remembered) };
 }
 
 impl<'a> Planex<'a> {
-    /// An executor of the table in which these parameters, counted from 1, have these objects, for worlds of at most `room` atoms.
+    /// Returns an executor of the table in which these parameters, counted from 1, have these objects, for worlds of at most `room` atoms.
     /// Takes all memory that it will need.
     ///
     /// # Errors
@@ -103,8 +103,8 @@ impl<'a> Planex<'a> {
         })
     }
 
-    /// The step that the next action will take, unless a mark of its row isn't true then. `None` exactly where an action would be
-    /// told as not sensed. Does not allocate.
+    /// Returns the step that the next action will take, unless a mark of its row isn't true then. `None` exactly where an action would
+    /// have the outcome `NotSensed`: no step is remembered. Does not allocate.
     pub fn action(&self) -> Option<StepInst>
         ensures step { result ≡ remembered_step self.now.table self.now.memory }
         ensures sensed { (result ≡ None) ↔ (self.now.memory.remembered ≡ None) }
@@ -120,14 +120,14 @@ impl<'a> Planex<'a> {
         }
     }
 
-    /// The objects of the last kernel that was sensed; none before. Does not allocate.
+    /// Returns the objects of the last kernel that was sensed; no objects before. Does not allocate.
     pub fn instance(&self) -> &[u32]
         ensures { result.now ≡ self.now.memory.instance }
     {
         self.matcher.instance()
     }
 
-    /// What comes of the event: the world is disturbed, or the executor senses, or it acts. Does not allocate.
+    /// Returns what comes of the event: the world is disturbed, or the executor senses, or it acts. Does not allocate.
     ///
     /// The world's objects, axioms and operators are those of the problem, and it has at most as many atoms as there is room
     /// for. The world admits the disturbance, if the event is one, and has the places that the event may take.

@@ -1,3 +1,4 @@
+-- The files of definitions and laws.
 pub mod Notices
 pub mod Texts
 pub mod Rows

@@ -7,7 +7,7 @@ use Rattle.px_table.specs.declared.mark.Mark.{Mark}
 use Rattle.px_table.specs.declared.table.Table.{Table}
 use Rattle.px_terms.specs.declared.atom.Atom.{Atom}
 use Rattle.px_terms.specs.declared.instance.OpInst.{OpInst}
-use Rattle.px_printer.specs.Texts.{IsNamedAtom, IsNamedInstance, after_spaces, atom_text, indented_line, instance_text, line}
+use Rattle.px_printer.specs.Texts.{IsNamedAtom, IsNamedInstance, after_spaces, atom_text, indented_line, instance_text, text_line}
 
 -- each number that the table's rows print as a name has one
 pub record IsNamedTable (names : NameLists) (table : Table) : Type 0 where
@@ -27,7 +27,7 @@ mark_lines names params marks row = flat_map (mark_line names params) (filter (�
 abbrev pub step_rows : NameLists → ℕ → List Mark → ℕ → List OpInst → List ℕ
 step_rows names params marks row [] = []
 step_rows names params marks row (step ∷ steps) =
-    line (codes "row" ∷ decimal row ∷ instance_text names params step ∷ [])
+    text_line (codes "row" ∷ decimal row ∷ instance_text names params step ∷ [])
     ++ (mark_lines names params marks row ++ step_rows names params marks (row + 1) steps)
 
 -- the line of the last row: the goal's atoms, each after a space

@@ -68,18 +68,18 @@ instance_text names params inst = name_text names kind.Operator inst.op ++ argum
 -- ---- lines
 
 -- a line of words: a space between two words, a line feed at the end
-abbrev pub line : List (List ℕ) → List ℕ
-line [] = codes "\n"
-line (word ∷ []) = word ++ codes "\n"
-line (word ∷ next ∷ words) = word ++ (codes " " ++ line (next ∷ words))
+abbrev pub text_line : List (List ℕ) → List ℕ
+text_line [] = codes "\n"
+text_line (word ∷ []) = word ++ codes "\n"
+text_line (word ∷ next ∷ words) = word ++ (codes " " ++ text_line (next ∷ words))
 
 -- words, each after a space
 abbrev pub after_spaces : List (List ℕ) → List ℕ
 after_spaces words = flat_map (λ word. codes " " ++ word) words
 
--- the same, beginning with two spaces
+-- a line of words that begins with two spaces
 abbrev pub indented_line : List (List ℕ) → List ℕ
-indented_line words = codes "  " ++ line words
+indented_line words = codes "  " ++ text_line words
 
 -- a line for each text, with its number; the first has this one
 abbrev pub numbered_lines : ℕ → List (List ℕ) → List ℕ
@@ -87,5 +87,5 @@ numbered_lines number [] = []
 numbered_lines number (text ∷ texts) = indented_line (decimal number ∷ text ∷ []) ++ numbered_lines (number + 1) texts
 
 -- a line for each text
-abbrev pub lines_of : List (List ℕ) → List ℕ
-lines_of texts = flat_map (λ text. indented_line (text ∷ [])) texts
+abbrev pub indented_lines : List (List ℕ) → List ℕ
+indented_lines texts = flat_map (λ text. indented_line (text ∷ [])) texts

@@ -49,12 +49,12 @@ pub enum Reply {
         /// The operator instances of the plan, in order.
         steps: Sequence<OpInst>,
     },
-    /// All nodes were searched, and none is solved.
+    /// All nodes were searched, and no node is solved.
     Exhausted {
         /// The number of the plan's name.
         name: u32,
     },
-    /// The search kept as many nodes as it may, and none is solved.
+    /// The search kept as many nodes as it may, and no node is solved.
     NodeLimit {
         /// The number of the plan's name.
         name: u32,
@@ -87,7 +87,7 @@ pub enum Reply {
     LearnRefused {
         /// The number of the table's name.
         name: u32,
-        /// Why.
+        /// Why it isn't learned.
         why: Why,
     },
     /// The table of a plan, or a learned table.

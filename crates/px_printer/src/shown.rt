@@ -84,7 +84,7 @@ fn write_rest<W: fmt::Write>(
     Ok(())
 }
 
-// Alike: `ShownInstance` below, since each lends a value of a type of its own, with another fact about its names.
+// Alike: `ShownInstance` below, since each borrows a value of a type of its own, with another fact about its names.
 /// An atom that prints as in a script. `params` is as in [`ShownTerm`].
 #[derive(Clone, Copy)]
 pub struct ShownAtom<'a> {

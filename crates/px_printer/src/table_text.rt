@@ -3,7 +3,7 @@ ghost use Rattle.std.specs.Prelude.{◌≡◌, ◌∷◌, [], ◌++◌, All, OnO
 ghost use Rattle.std.specs.Fmt.{decimal};
 ghost use Rattle.px_table.specs.declared.mark.Mark.{Mark};
 ghost use Rattle.px_printer.specs.Rows.{IsNamedTable, goal_line, goal_row, mark_line, mark_lines, row_lines};
-ghost use Rattle.px_printer.specs.Texts.{IsNamedAtom, IsNamedInstance, after_spaces, atom_text, instance_text, line};
+ghost use Rattle.px_printer.specs.Texts.{IsNamedAtom, IsNamedInstance, after_spaces, atom_text, instance_text, text_line};
 
 use crate::shown::{ShownAtom, ShownInstance};
 use px_names::Names;
@@ -22,7 +22,7 @@ pub(crate) fn push_table(
 ) -> Result<(), AllocError>
     requires { IsNamedTable names.now table.now }
     ensures { OnOk result (string_bytes text.new ≡ string_bytes text.old
-        ++ (line (codes "table" ∷ name.now ∷ decimal table.now.params ∷ codes "parameters" ∷ decimal (length table.now.steps)
+        ++ (text_line (codes "table" ∷ name.now ∷ decimal table.now.params ∷ codes "parameters" ∷ decimal (length table.now.steps)
         ∷ codes "steps" ∷ []) ++ row_lines names.now table.now)) }
 {
     push_table_line(text, name, table.params, table.steps.len())?;
@@ -37,7 +37,7 @@ fn push_table_line(
     count: usize,
 ) -> Result<(), AllocError>
     ensures { OnOk result (string_bytes text.new ≡ string_bytes text.old
-        ++ line (codes "table" ∷ name.now ∷ decimal params ∷ codes "parameters" ∷ decimal count ∷ codes "steps" ∷ [])) }
+        ++ text_line (codes "table" ∷ name.now ∷ decimal params ∷ codes "parameters" ∷ decimal count ∷ codes "steps" ∷ [])) }
 {
     write!(text, "table {name} {params} parameters {count} steps\n")
 }
@@ -64,7 +64,7 @@ fn push_step_row(
     requires step { IsNamedInstance names.now step.now }
     requires marks { All (λ (mark : Mark). IsNamedAtom names.now mark.atom) table.now.marks }
     ensures { OnOk result (string_bytes text.new ≡ string_bytes text.old
-        ++ (line (codes "row" ∷ decimal row ∷ instance_text names.now table.now.params step.now ∷ [])
+        ++ (text_line (codes "row" ∷ decimal row ∷ instance_text names.now table.now.params step.now ∷ [])
         ++ mark_lines names.now table.now.params table.now.marks row)) }
 {
     let step = ShownInstance {

@@ -1,8 +1,8 @@
 //! The texts of replies. Each kind of line has one function that appends it, and each list of lines one loop.
 ghost use Rattle.std.specs.Prelude.{◌≡◌, ◌∷◌, [], ◌++◌, All, IfOk, OnOk, codes, map, string_bytes};
 ghost use Rattle.std.specs.Fmt.{decimal};
-ghost use Rattle.px_printer.specs.Texts.{IsNamedAtom, IsNamedInstance, atom_text, instance_text, indented_line, line, numbered_lines, lines_of};
-ghost use Rattle.px_printer.specs.Replies.{IsNamed, reply_text};
+ghost use Rattle.px_printer.specs.Texts.{IsNamedAtom, IsNamedInstance, atom_text, instance_text, indented_line, text_line, numbered_lines, indented_lines};
+ghost use Rattle.px_printer.specs.Replies.{IsReplyNamed, reply_text};
 
 use crate::reply::Reply;
 use crate::shown::{ShownAtom, ShownInstance};
@@ -19,7 +19,7 @@ use std::fmt::Write;
 /// # Errors
 /// `NoMemory` where there is no memory for the text.
 pub fn reply_text(alloc: Global, reply: &Reply, names: &Names) -> Result<Vec<u8>, NoMemory>
-    requires named { IsNamed names.now reply.now }
+    requires named { IsReplyNamed names.now reply.now }
     ensures text { IfOk result (λ text. text.items ≡ reply_text names.now reply.now) }
 {
     let mut text = String::new(alloc);
@@ -29,7 +29,7 @@ pub fn reply_text(alloc: Global, reply: &Reply, names: &Names) -> Result<Vec<u8>
 
 /// Appends the lines of a reply.
 fn push_reply(text: &mut String, reply: &Reply, names: &Names) -> Result<(), AllocError>
-    requires named { IsNamed names.now reply.now }
+    requires named { IsReplyNamed names.now reply.now }
     ensures { OnOk result (string_bytes text.new ≡ string_bytes text.old ++ reply_text names.now reply.now) }
 {
     match reply {
@@ -91,14 +91,14 @@ fn push_reply(text: &mut String, reply: &Reply, names: &Names) -> Result<(), All
 /// Appends the line of a table that was learned.
 fn push_learned(text: &mut String, name: &str, params: u32, steps: u32) -> Result<(), AllocError>
     ensures { OnOk result (string_bytes text.new ≡ string_bytes text.old
-        ++ line (codes "learned" ∷ name.now ∷ decimal params ∷ codes "parameters" ∷ decimal steps ∷ codes "steps" ∷ [])) }
+        ++ text_line (codes "learned" ∷ name.now ∷ decimal params ∷ codes "parameters" ∷ decimal steps ∷ codes "steps" ∷ [])) }
 {
     write!(text, "learned {name} {params} parameters {steps} steps\n")
 }
 
 /// Appends the line of a plan that was not learned.
 fn push_not_learned(text: &mut String, name: &str, why: &str) -> Result<(), AllocError>
-    ensures { OnOk result (string_bytes text.new ≡ string_bytes text.old ++ line (codes "notlearned" ∷ name.now ∷ why.now ∷ [])) }
+    ensures { OnOk result (string_bytes text.new ≡ string_bytes text.old ++ text_line (codes "notlearned" ∷ name.now ∷ why.now ∷ [])) }
 {
     write!(text, "notlearned {name} {why}\n")
 }
@@ -136,7 +136,7 @@ fn push_step(
 /// Appends a line for each atom.
 fn push_atoms(text: &mut String, atoms: &[Atom], names: &Names) -> Result<(), AllocError>
     requires { All (IsNamedAtom names.now) atoms.now }
-    ensures { OnOk result (string_bytes text.new ≡ string_bytes text.old ++ lines_of (map (atom_text names.now 0) atoms.now)) }
+    ensures { OnOk result (string_bytes text.new ≡ string_bytes text.old ++ indented_lines (map (atom_text names.now 0) atoms.now)) }
 {
     for atom in atoms {
         push_atom(text, atom, names)?;

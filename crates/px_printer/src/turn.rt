@@ -17,7 +17,7 @@ pub enum TurnEnd {
 /// A turn of a run.
 #[derive(Clone, Copy, PartialEq, Eq, Debug)]
 pub struct Turn {
-    /// The number of the kernel that was sensed, 0 for none.
+    /// The number of the kernel that was sensed, or 0 if no kernel was.
     pub kernel: u32,
     /// The step that was tried, where one was.
     pub op: Option<OpInst>,

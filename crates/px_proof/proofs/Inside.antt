@@ -12,7 +12,8 @@ use Rattle.px_proof.specs.Substitution.{derivation_under, derivations_under}
 abbrev of_all : List Proof → Derivations
 of_all proofs = derivations (map derivation_of proofs)
 
-pub highest : (proofs : List Proof) (k : ℕ) (d : Proof) → k < length proofs → height (derivation_of (get_or proofs k d)) ≤ greatest_height (of_all proofs)
+pub highest : (proofs : List Proof) (k : ℕ) (d : Proof) → k < length proofs
+    → height (derivation_of (get_or proofs k d)) ≤ greatest_height (of_all proofs)
 highest [] k d below = absurd (omega (arith, below))
 highest (p ∷ ps) zero d below = le-max_left (height (derivation_of p)) (greatest_height (of_all ps))
 highest (p ∷ ps) (suc k) d below =
@@ -20,16 +21,22 @@ highest (p ∷ ps) (suc k) d below =
     let most = le-max_right (height (derivation_of p)) (greatest_height (of_all ps)) in
     omega (arith, rest, most)
 
-pub none_higher : (proofs : List Proof) (limit : ℕ) → ((k : ℕ) (d : Proof) → k < length proofs → height (derivation_of (get_or proofs k d)) ≤ limit) → greatest_height (of_all proofs) ≤ limit
+pub none_higher : (proofs : List Proof) (limit : ℕ)
+    → ((k : ℕ) (d : Proof) → k < length proofs → height (derivation_of (get_or proofs k d)) ≤ limit)
+    → greatest_height (of_all proofs) ≤ limit
 none_higher [] limit each = omega arith
-none_higher (p ∷ ps) limit each = max-le (each 0 p (omega arith)) (none_higher ps limit (λ k d below. each (suc k) d (omega (arith, below))))
+none_higher (p ∷ ps) limit each =
+    max-le (each 0 p (omega arith)) (none_higher ps limit (λ k d below. each (suc k) d (omega (arith, below))))
 
-pub terms_of_one : (P : Term → Type 0) (proofs : List Proof) (k : ℕ) (d : Proof) → k < length proofs → All P (all_terms_of (of_all proofs)) → All P (terms_of (derivation_of (get_or proofs k d)))
+pub terms_of_one : (P : Term → Type 0) (proofs : List Proof) (k : ℕ) (d : Proof) → k < length proofs → All P (all_terms_of (of_all proofs))
+    → All P (terms_of (derivation_of (get_or proofs k d)))
 terms_of_one P [] k d below all = absurd (omega (arith, below))
 terms_of_one P (p ∷ ps) zero d below all = All-front P (terms_of (derivation_of p)) (all_terms_of (of_all ps)) all
-terms_of_one P (p ∷ ps) (suc k) d below all = terms_of_one P ps k d (omega (arith, below)) (All-back P (terms_of (derivation_of p)) (all_terms_of (of_all ps)) all)
+terms_of_one P (p ∷ ps) (suc k) d below all =
+    terms_of_one P ps k d (omega (arith, below)) (All-back P (terms_of (derivation_of p)) (all_terms_of (of_all ps)) all)
 
-pub under_each : (terms : List Term) (ds : List Derivation) → derivations_under terms (derivations ds) ≡ derivations (map (derivation_under terms) ds)
+pub under_each : (terms : List Term) (ds : List Derivation)
+    → derivations_under terms (derivations ds) ≡ derivations (map (derivation_under terms) ds)
 under_each terms [] = refl
 under_each terms (d ∷ ds) = ap (λ rest. also (derivation_under terms d) rest) (under_each terms ds)
 

@@ -1,3 +1,4 @@
+-- The files of lemmas.
 pub mod Each
 pub mod Grafts
 pub mod Inside

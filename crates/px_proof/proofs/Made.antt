@@ -8,6 +8,7 @@ use Rattle.px_proof.specs.declared.proof.Proof.{Proof}
 use Rattle.px_proof.specs.Derivation.{Derivation}
 use Rattle.px_proof.specs.ProofTerm.{derivation_of}
 
-pub of_made : (P : Derivation → Type 0) (wanted : Derivation) (r : Result Proof NoMemory) → P wanted → IfOk r (λ made. derivation_of made ≡ wanted) → IfOk r (λ made. P (derivation_of made))
+pub of_made : (P : Derivation → Type 0) (wanted : Derivation) (r : Result Proof NoMemory) → P wanted
+    → IfOk r (λ made. derivation_of made ≡ wanted) → IfOk r (λ made. P (derivation_of made))
 of_made P wanted (Ok made) holds is = subst P (sym is) holds
 of_made P wanted (Err e) holds is = tt

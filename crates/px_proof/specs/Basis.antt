@@ -2,13 +2,13 @@
 use Rattle.std.specs.Prelude.{ℕ, All}
 use Rattle.px_proof.specs.declared.basis.Basis.{Basis}
 use Rattle.px_proof.specs.declared.basis.Basis.TheVariants.{Facts, Names}
-use Rattle.px_proof.specs.Proves.{Rules, from_facts, IsName}
+use Rattle.px_proof.specs.Proves.{Rules, from_facts, IsObjectOrParameter}
 
 -- proofs over names from whatever leaves they have
 abbrev pub over_names : ℕ → ℕ → Rules
 over_names objects params = record {
-  IsChoice = IsName objects params;
-  IsFact = λ leaf. All (IsName objects params) leaf.atom.args;
+  IsChoice = IsObjectOrParameter objects params;
+  IsFact = λ leaf. All (IsObjectOrParameter objects params) leaf.atom.args;
   IsGap =
       λ atom. ⊥;
   IsOpen = ⊥;

@@ -45,7 +45,7 @@ module _ (R : Leaf → Derivation → Type 0) where
       let both = subst (λ (ls : List Leaf). EachHas R ls parts) (filter-append (λ (leaf : Leaf). leaf.column == 0) xs ys) has in
       (each_has-front (first_leaves xs) (first_leaves ys) parts both, each_has-back (first_leaves xs) (first_leaves ys) parts both)
 
--- where the atoms have their parts, the leaves have
+-- where the atoms have their parts, the leaves have them
 pub each_has-atoms : (R : Atom → Derivation → Type 0) (leaves : List Leaf) (parts : List Derivation) → AllZip R (leaf_atoms leaves) parts
     → EachHas (λ leaf part. R leaf.atom part) leaves parts
 each_has-atoms R [] parts all = tt
@@ -75,7 +75,7 @@ module _ (axioms : List Clause) (old new : Rules) (allows : Allows old new) (shi
   abbrev Closes : Leaf → Derivation → Type 0
   Closes leaf part = Proves new axioms [] (positive_of leaf.atom) part
 
-  -- such leaves in later columns may stand in their higher columns
+  -- leaves in later columns that the old rules allow may stand in their higher columns by the new ones
   abbrev Rise : List Leaf → Type 0
   Rise leaves = (leaf : Leaf) → Contains leaves leaf → (leaf.column == 0) ≡ false → old.IsFact leaf → new.IsFact (raised shift leaf)
 
@@ -160,11 +160,11 @@ graft_proves shift parts d axioms old_facts facts path lit later each proved =
 
 -- ---- the leaves of a grafted derivation
 
-drop_first : (is_first : Bool) (leaf : Leaf) (firsts : List Leaf) (parts : List Derivation)
+drop_one_more : (is_first : Bool) (leaf : Leaf) (firsts : List Leaf) (parts : List Derivation)
     → drop (length (cond is_first (leaf ∷ firsts) firsts)) parts ≡ drop (length firsts) (cond is_first (drop 1 parts) parts)
-drop_first true leaf firsts [] = sym (drop-nil (length firsts))
-drop_first true leaf firsts (part ∷ parts) = refl
-drop_first false leaf firsts parts = refl
+drop_one_more true leaf firsts [] = sym (drop-nil (length firsts))
+drop_one_more true leaf firsts (part ∷ parts) = refl
+drop_one_more false leaf firsts parts = refl
 
 in_places-append : (shift : ℕ) (parts : List Derivation) (xs ys : List Leaf)
     → in_places_of shift parts (xs ++ ys) ≡ in_places_of shift parts xs ++ in_places_of shift (drop (length (first_leaves xs)) parts) ys
@@ -173,7 +173,7 @@ in_places-append shift parts (x ∷ xs) ys =
     ap (λ ds. in_place_of shift parts x ∷ ds)
     (in_places-append shift (if x.column == 0 then drop 1 parts else parts) xs ys
     ∙ ap (λ (rest : List Derivation). in_places_of shift (if x.column == 0 then drop 1 parts else parts) xs ++ in_places_of shift rest ys)
-    (sym (drop_first (x.column == 0) x (first_leaves xs) parts)))
+    (sym (drop_one_more (x.column == 0) x (first_leaves xs) parts)))
 
 mutual
   -- they are the leaves of what comes in the places of its leaves

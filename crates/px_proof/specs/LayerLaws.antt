@@ -17,15 +17,15 @@ use Rattle.px_proof.specs.declared.proof.Proof.TheOpen.{Proof-F}
 use Rattle.px_proof.specs.declared.proof.Proof.TheVariants.{Fact, Anc, Gap}
 use Rattle.px_proof.specs.declared.proof.Proof.TheViews.{Step, roll-Proof, rolls-Fact, rolls-Anc, rolls-Step, rolls-Gap}
 use Rattle.px_proof.specs.Derivation.{Derivation, Derivations, derivations, fact, ancestor, step, gap, open_place, none, also}
-use Rattle.px_proof.specs.Path.{literals_of, literals_step}
+use Rattle.px_proof.specs.Path.{path_literals, literals_step}
 use Rattle.px_proof.specs.ProofTerm.{derivation_of, derivation_step, DerivationsTellProofs}
 
-pub literals_of-root : literals_of Root ≡ []
-literals_of-root = ap literals_of (sym rolls-Root) ∙ fold-roll-Path (List Lit) literals_step path_layer.Root
+pub path_literals-root : path_literals Root ≡ []
+path_literals-root = ap path_literals (sym rolls-Root) ∙ fold-roll-Path (List Lit) literals_step path_layer.Root
 
-pub literals_of-under : (lit : Bor Lit) (above : Bor Path) → literals_of (Under lit above) ≡ lit.now ∷ literals_of above.now
-literals_of-under lit above =
-    ap literals_of (sym (rolls-Under lit above)) ∙ fold-roll-Path (List Lit) literals_step (path_layer.Under lit above)
+pub path_literals-under : (lit : Bor Lit) (above : Bor Path) → path_literals (Under lit above) ≡ lit.now ∷ path_literals above.now
+path_literals-under lit above =
+    ap path_literals (sym (rolls-Under lit above)) ∙ fold-roll-Path (List Lit) literals_step (path_layer.Under lit above)
 
 -- ---- the derivation of each form
 
@@ -44,7 +44,7 @@ derivation_of-step clause theta place subs =
 pub derivation_of-gap : (atom : Atom) → derivation_of (Gap atom) ≡ gap atom
 derivation_of-gap atom = ap derivation_of (sym (rolls-Gap atom)) ∙ fold-roll-Proof Derivation derivation_step (layer.Gap atom)
 
--- ---- the proof term that stands for a derivation; an open place, which none has, is given a form
+-- ---- the proof term that stands for a derivation; an open place, which no proof term has, is given a form
 
 abbrev mutual
   pub proof_of : Derivation → Proof

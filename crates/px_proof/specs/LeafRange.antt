@@ -85,7 +85,7 @@ module _ (problem : Problem) (params : ℕ) (valid_axioms : All (IsAxiomOf probl
       → Proves rules problem.axioms path lit d → All (IsAtomOf problem params) (leaf_atoms (leaves_of d))
   leaves_of_problem = leaves_in (IsAtomOf problem params) rules problem.axioms instance_of_problem
 
-  -- and if the gaps have such terms, all terms of the proof are such
+  -- and if the gaps have only terms of the problem, so has the whole proof
   pub terms_of_problem : ((atom : Atom) → rules.IsGap atom → All (IsTermOf problem params) atom.args)
       → (path : List Lit) (lit : Lit) (d : Derivation)
       → IsAtomOf problem params lit.atom → Proves rules problem.axioms path lit d → All (IsTermOf problem params) (terms_of d)

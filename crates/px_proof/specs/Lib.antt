@@ -1,3 +1,4 @@
+-- The files of definitions and laws.
 pub mod Basis
 pub mod Derivation
 pub mod GraftLaws

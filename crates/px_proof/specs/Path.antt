@@ -8,5 +8,5 @@ abbrev pub literals_step : Path-F (List Lit) → List Lit
 literals_step Root = []
 literals_step (Under lit above) = lit.now ∷ above.now
 
-abbrev pub literals_of : Path → List Lit
-literals_of = fold-Path (List Lit) literals_step
+abbrev pub path_literals : Path → List Lit
+path_literals = fold-Path (List Lit) literals_step

@@ -2,10 +2,8 @@
 use Rattle.std.specs.Prelude.{◌≡◌, ◌⊎◌, ℕ, ◌<◌, ◌≤◌, List, [], ◌∷◌, ◌++◌, length, map, remove, slice_get, All, Contains}
 use Rattle.std.proofs.Common.{◌≢◌, ◌-◌, zero, suc, Some, get_or, refl, ap, subst, inl, inr, arith}
 use Rattle.std.proofs.lemmas.List.Elements.{Contains-append_left, Contains-append_right}
+use Rattle.px_base.specs.Answers.{some_same}
 use Rattle.px_base.specs.ListLaws.{All-at, All-each, Contains-none, Contains-first, Contains-later, Contains-cases}
-
-pub some_same : {X : Type 0} (a b : X) → Some a ≡ Some b → a ≡ b
-some_same a b e = cc
 
 pub slice_get-rest : {X : Type 0} (x : X) (xs : List X) (k : ℕ) → k ≢ 0 → slice_get (x ∷ xs) k ≡ slice_get xs (k - 1)
 slice_get-rest x xs zero ne = absurd (ne refl)
@@ -51,7 +49,7 @@ slice_get-within (y ∷ ys) (suc k) x at = omega (arith, slice_get-within ys k x
 
 pub All-got : {X : Type 0} (P : X → Type 0) (xs : List X) (k : ℕ) (x : X) → All P xs → slice_get xs k ≡ Some x → P x
 All-got P [] k x all at = absurd (cc)
-All-got P (y ∷ ys) zero x all at = subst P (some_same y x at) (all 0 y (omega arith))
+All-got P (y ∷ ys) zero x all at = subst P (some_same at) (all 0 y (omega arith))
 All-got P (y ∷ ys) (suc k) x all at = All-got P ys k x (λ j d below. all (suc j) d (omega (arith, below))) at
 
 -- an element stands at the place, or is among the others

@@ -64,7 +64,7 @@ from_atoms IsTerm atoms = record {
   IsOpen = ⊥;
 }
 
--- ground proofs from facts; a fact with a variable counts for nothing
+-- ground proofs from facts; a fact with a variable doesn't count
 abbrev pub from_facts : List Atom → Rules
 from_facts = from_atoms IsObject
 
@@ -77,30 +77,30 @@ from_places IsTerm atoms = record {
   IsOpen = ⊥;
 }
 
--- the same proofs, and those in which such atoms are closed by a gap
+-- the proofs by the rules, and those in which such atoms are closed by a gap
 abbrev pub with_gaps : (Atom → Type 0) → Rules → Rules
 with_gaps IsGap rules = record { IsChoice = rules.IsChoice; IsFact = rules.IsFact; IsGap = IsGap; IsOpen = rules.IsOpen }
 
--- the same proofs, and unfinished ones
+-- the proofs by the rules, and unfinished ones
 abbrev pub or_open : Rules → Rules
 or_open rules = record { IsChoice = rules.IsChoice; IsFact = rules.IsFact; IsGap = rules.IsGap; IsOpen = Unit {0} }
 
 -- an object or a parameter, by its number; parameters count as further objects
-abbrev pub IsName : ℕ → ℕ → Term → Type 0
-IsName objects params (Obj n) = n < objects
-IsName objects params (Var v) = v < params
-IsName objects params Any = ⊥
+abbrev pub IsObjectOrParameter : ℕ → ℕ → Term → Type 0
+IsObjectOrParameter objects params (Obj n) = n < objects
+IsObjectOrParameter objects params (Var v) = v < params
+IsObjectOrParameter objects params Any = ⊥
 
 -- a proof of the literal under the empty path from the atoms of its own leaves. All terms, those of the literal too, are objects
 -- and parameters with numbers below these
 pub record IsTree (axioms : List Clause) (objects params : ℕ) (lit : Lit) (d : Derivation) : Type 0 where
-  pub proves : Proves (from_atoms (IsName objects params) (leaf_atoms (leaves_of d))) axioms [] lit d
-  pub terms : All (IsName objects params) lit.atom.args
+  pub proves : Proves (from_atoms (IsObjectOrParameter objects params) (leaf_atoms (leaves_of d))) axioms [] lit d
+  pub terms : All (IsObjectOrParameter objects params) lit.atom.args
 
 -- what is proved under a path is proved under each path that goes on from it upwards; so what is proved under the empty
 -- path is proved under any
 abbrev pub StaysUnderLongerPaths : Type 0
 StaysUnderLongerPaths =
     (axioms : List Clause) (objects params : ℕ) (atoms : List Atom) (path far : List Lit) (lit : Lit) (d : Derivation)
-    → Proves (from_atoms (IsName objects params) atoms) axioms path lit d
-    → Proves (from_atoms (IsName objects params) atoms) axioms (path ++ far) lit d
+    → Proves (from_atoms (IsObjectOrParameter objects params) atoms) axioms path lit d
+    → Proves (from_atoms (IsObjectOrParameter objects params) atoms) axioms (path ++ far) lit d

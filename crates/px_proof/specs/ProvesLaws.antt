@@ -15,20 +15,20 @@ use Rattle.px_proof.specs.Basis.{over_names}
 use Rattle.px_proof.specs.Derivation.{Derivation, Derivations, fact, ancestor, step, gap, open_place, none, also, leaves_of, all_leaves_of, leaf_atoms, terms_of, all_terms_of}
 use Rattle.px_proof.specs.Literals.{complement_of}
 use Rattle.px_proof.specs.PlaceLaws.{Contains-mapped}
-use Rattle.px_proof.specs.Proves.{Rules, Proves, ProvesEach, parts_of, from_atoms, IsName, StaysUnderLongerPaths}
+use Rattle.px_proof.specs.Proves.{Rules, Proves, ProvesEach, parts_of, from_atoms, IsObjectOrParameter, StaysUnderLongerPaths}
 
 -- a term of the problem is a name of it, and a name is a term
-pub name_of_term : (problem : Problem) (params : ℕ) (t : Term) → IsTermOf problem params t → IsName problem.objects params t
+pub name_of_term : (problem : Problem) (params : ℕ) (t : Term) → IsTermOf problem params t → IsObjectOrParameter problem.objects params t
 name_of_term problem params (Obj n) is = is
 name_of_term problem params (Var v) is = is
 name_of_term problem params WildCard is = is
 
-pub term_of_name : (problem : Problem) (params : ℕ) (t : Term) → IsName problem.objects params t → IsTermOf problem params t
+pub term_of_name : (problem : Problem) (params : ℕ) (t : Term) → IsObjectOrParameter problem.objects params t → IsTermOf problem params t
 term_of_name problem params (Obj n) is = is
 term_of_name problem params (Var v) is = is
 term_of_name problem params WildCard is = is
 
--- what the one rules allow beside facts, the others allow
+-- what the one rules allow besides facts, the others allow
 pub record Allows (old new : Rules) : Type 0 where
   pub choices : (t : Term) → old.IsChoice t → new.IsChoice t
   pub gaps : (atom : Atom) → old.IsGap atom → new.IsGap atom
@@ -36,7 +36,7 @@ pub record Allows (old new : Rules) : Type 0 where
 
 module _ (axioms : List Clause) (old new : Rules) (allows : Allows old new) where
   mutual
-    -- it is enough that the facts at its own leaves are allowed
+    -- it is enough that the rules allow the facts at its own leaves
     pub proves_by : (path : List Lit) (lit : Lit) (d : Derivation)
         → ((leaf : Leaf) → Contains (leaves_of d) leaf → old.IsFact leaf → new.IsFact leaf)
         → Proves old axioms path lit d → Proves new axioms path lit d
@@ -56,8 +56,8 @@ module _ (axioms : List Clause) (old new : Rules) (allows : Allows old new) wher
     proves_by path lit (gap atom) facts proved = (proved.0, allows.gaps atom proved.1)
     proves_by path lit open_place facts proved = allows.opens proved
 
-    pub each_by : (path lits : List Lit) (ds : Derivations) →
-        ((leaf : Leaf) → Contains (all_leaves_of ds) leaf → old.IsFact leaf → new.IsFact leaf)
+    pub each_by : (path lits : List Lit) (ds : Derivations)
+        → ((leaf : Leaf) → Contains (all_leaves_of ds) leaf → old.IsFact leaf → new.IsFact leaf)
         → ProvesEach old axioms path lits ds → ProvesEach new axioms path lits ds
     each_by path [] none facts each = tt
     each_by path (lit ∷ lits) (also d ds) facts each = (
@@ -93,7 +93,7 @@ module _ (rules : Rules) (axioms : List Clause) (far : List Lit) where
 
 pub stays_under_longer_paths : StaysUnderLongerPaths
 stays_under_longer_paths axioms objects params atoms path far lit d =
-    proves_longer (from_atoms (IsName objects params) atoms) axioms far path lit d
+    proves_longer (from_atoms (IsObjectOrParameter objects params) atoms) axioms far path lit d
 
 -- each leaf is a fact that the rules allow
 module _ (rules : Rules) (axioms : List Clause) where
@@ -139,7 +139,7 @@ module _ (axioms : List Clause) (IsTerm : Term → Type 0) (rules : Rules) (only
     only_terms_each path [] (also d ds) each = absurd each
     only_terms_each path (lit ∷ lits) none each = absurd each
 
--- a proof from given atoms has no other terms than those that may be chosen
+-- a proof from given atoms has only terms that may be chosen
 pub terms_from : (IsTerm : Term → Type 0) (axioms : List Clause) (atoms : List Atom) (path : List Lit) (lit : Lit) (d : Derivation)
     → Proves (from_atoms IsTerm atoms) axioms path lit d → All IsTerm (terms_of d)
 terms_from IsTerm axioms atoms path lit d =
@@ -148,12 +148,13 @@ terms_from IsTerm axioms atoms path lit d =
 
 -- each leaf closes its own atom, so of the leaves only their terms are asked
 pub own_leaves : (axioms : List Clause) (objects params : ℕ) (path : List Lit) (lit : Lit) (d : Derivation)
-    → Proves (over_names objects params) axioms path lit d ↔ Proves (from_atoms (IsName objects params) (leaf_atoms (leaves_of d))) axioms
+    → Proves (over_names objects params) axioms path lit d
+    ↔ Proves (from_atoms (IsObjectOrParameter objects params) (leaf_atoms (leaves_of d))) axioms
     path lit d
 own_leaves axioms objects params path lit d = (
-  proves_by axioms (over_names objects params) (from_atoms (IsName objects params) (leaf_atoms (leaves_of d)))
+  proves_by axioms (over_names objects params) (from_atoms (IsObjectOrParameter objects params) (leaf_atoms (leaves_of d)))
       (record { choices = λ t h. h; gaps = λ atom h. h; opens = λ h. h }) path lit d
       (λ leaf has names. (Contains-mapped (λ (l : Leaf). l.atom) (leaves_of d) leaf has, names)),
-  proves_by axioms (from_atoms (IsName objects params) (leaf_atoms (leaves_of d))) (over_names objects params)
+  proves_by axioms (from_atoms (IsObjectOrParameter objects params) (leaf_atoms (leaves_of d))) (over_names objects params)
       (record { choices = λ t h. h; gaps = λ atom h. h; opens = λ h. h }) path lit d (λ leaf has h. h.1),
 )

@@ -13,21 +13,22 @@ use Rattle.px_terms.specs.States.{State, Holds, HoldsUnder, LiteralHoldsUnder, e
 use Rattle.px_proof.specs.declared.proof.Leaf.{Leaf}
 use Rattle.px_proof.specs.Derivation.{Derivation, Derivations, fact, ancestor, step, gap, open_place, none, also, leaves_of, leaf_atoms}
 use Rattle.px_proof.specs.Literals.{substitute_literal, complement_of}
-use Rattle.px_proof.specs.PlaceLaws.{some_same, slice_get-map, slice_get-read, All-got, other_part}
-use Rattle.px_proof.specs.Proves.{Rules, Proves, ProvesEach, UsesClause, instance_of, parts_of, from_atoms, from_facts, IsName, IsTree}
+use Rattle.px_base.specs.Answers.{some_same}
+use Rattle.px_proof.specs.PlaceLaws.{slice_get-map, slice_get-read, All-got, other_part}
+use Rattle.px_proof.specs.Proves.{Rules, Proves, ProvesEach, UsesClause, instance_of, parts_of, from_atoms, from_facts, IsObjectOrParameter, IsTree}
 use Rattle.px_proof.specs.Truth.{ClauseHolds, ClausesHold, Follows, FollowsUnder}
 use Rattle.px_proof.specs.TruthLaws.{elements_of, literal-decided, complement-fails, complement-holds, literal-under, object-within, name-within}
 
 -- where the variables have these elements, the axioms and all leaves that the rules allow hold in the state, and the
 -- rules allow no gap and no open place
-pub record IsModel (state : State) (values : List ℕ) (rules : Rules) (axioms : List Clause) : Type 1 where
+pub record Satisfies (state : State) (values : List ℕ) (rules : Rules) (axioms : List Clause) : Type 1 where
   pub axioms_hold : ClausesHold axioms state
   pub choices : (t : Term) → rules.IsChoice t → element_of state values t < state.size
   pub facts_hold : (leaf : Leaf) → rules.IsFact leaf → HoldsUnder state values leaf.atom
   pub no_gap : (atom : Atom) → ¬ rules.IsGap atom
   pub no_open : ¬ rules.IsOpen
 
-module _ (state : State) (values : List ℕ) (rules : Rules) (axioms : List Clause) (model : IsModel state values rules axioms) where
+module _ (state : State) (values : List ℕ) (rules : Rules) (axioms : List Clause) (model : Satisfies state values rules axioms) where
   abbrev IsTrueHere : Lit → Type 0
   IsTrueHere = LiteralHoldsUnder state values
 
@@ -36,7 +37,7 @@ module _ (state : State) (values : List ℕ) (rules : Rules) (axioms : List Clau
   PathFalse path = (i : ℕ) (lit : Lit) → slice_get path i ≡ Some lit → ¬ IsTrueHere lit
 
   path_false-under : (path : List Lit) (lit : Lit) → (¬ IsTrueHere lit) → PathFalse path → PathFalse (lit ∷ path)
-  path_false-under path lit here above zero other at = subst (λ l. ¬ IsTrueHere l) (some_same lit other at) here
+  path_false-under path lit here above zero other at = subst (λ l. ¬ IsTrueHere l) (some_same at) here
   path_false-under path lit here above (suc i) other at = above i other at
 
   -- the literal of the clause that is true is the one at the place, where the complements of all others are true
@@ -47,7 +48,7 @@ module _ (state : State) (values : List ℕ) (rules : Rules) (axioms : List Clau
       let here = (literal-under state values theta l).1 holds in
       let at_k = slice_get-map (substitute_literal theta) lits k l (slice_get-read lits k l below ∙ ap Some is) in
       elim (other_part (instance_of lits theta) place k (substitute_literal theta l) at_k) [
-        | inl same ↦ subst IsTrueHere (some_same _ _ (sym at_k ∙ ap (slice_get (instance_of lits theta)) same ∙ at)) here
+        | inl same ↦ subst IsTrueHere (some_same (sym at_k ∙ ap (slice_get (instance_of lits theta)) same ∙ at)) here
         | inr part ↦ absurd (complement-fails state values (substitute_literal theta l)
             (others part.0 (complement_of (substitute_literal theta l))
             (slice_get-map complement_of (remove (instance_of lits theta) place) part.0 (substitute_literal theta l) part.1)) here)
@@ -82,7 +83,7 @@ module _ (state : State) (values : List ℕ) (rules : Rules) (axioms : List Clau
         → (k : ℕ) (other : Lit) → slice_get lits k ≡ Some other → IsTrueHere other
     sound_each path [] none each path_false k other at = absurd (cc)
     sound_each path (lit ∷ lits) (also d ds) each path_false zero other at =
-        subst IsTrueHere (some_same lit other at) (sound_under path lit d each.0 path_false)
+        subst IsTrueHere (some_same at) (sound_under path lit d each.0 path_false)
     sound_each path (lit ∷ lits) (also d ds) each path_false (suc k) other at = sound_each path lits ds each.1 path_false k other at
     sound_each path [] (also d ds) each path_false k other at = absurd each
     sound_each path (lit ∷ lits) none each path_false k other at = absurd each
@@ -109,7 +110,7 @@ follows axioms facts lit d proved state is axioms_hold facts_hold =
 pub tree_follows : (axioms : List Clause) (objects params : ℕ) (lit : Lit) (d : Derivation) → IsTree axioms objects params lit d
     → FollowsUnder axioms params (leaf_atoms (leaves_of d)) lit
 tree_follows axioms objects params lit d tree state is axioms_hold values are atoms_hold =
-    sound state values (from_atoms (IsName objects params) (leaf_atoms (leaves_of d))) axioms
+    sound state values (from_atoms (IsObjectOrParameter objects params) (leaf_atoms (leaves_of d))) axioms
     record {
       axioms_hold = axioms_hold;
       choices = name-within state is objects params values are;

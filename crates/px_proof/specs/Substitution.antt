@@ -9,7 +9,7 @@ use Rattle.px_terms.specs.declared.term.Term.{Term}
 use Rattle.px_proof.specs.declared.proof.Leaf.{Leaf}
 use Rattle.px_proof.specs.Derivation.{Derivation, Derivations, fact, ancestor, step, gap, open_place, none, also, leaves_of, leaf_atoms, skeleton}
 use Rattle.px_proof.specs.Literals.{substitute_literal}
-use Rattle.px_proof.specs.Proves.{Proves, from_atoms, from_facts, IsName, IsTree}
+use Rattle.px_proof.specs.Proves.{Proves, from_atoms, from_facts, IsObjectOrParameter, IsTree}
 
 abbrev pub leaf_under : List Term → Leaf → Leaf
 leaf_under terms leaf = record { column = leaf.column; index = leaf.index; atom = substitute_atom terms leaf.atom }
@@ -42,9 +42,11 @@ ShapesStay = (terms : List Term) (d : Derivation) → skeleton (derivation_under
 -- objects, below which those of the terms are
 abbrev pub StaysProof : List Term → Derivation → Derivation → Type 0
 StaysProof terms old new =
-    (axioms : List Clause) (objects params : ℕ) (atoms : List Atom) (path : List Lit) (lit : Lit) → All (IsName objects params) terms
-    → Proves (from_atoms (IsName objects (length terms)) atoms) axioms path lit old
-    → Proves (from_atoms (IsName objects params) (map (substitute_atom terms) atoms)) axioms (map (substitute_literal terms) path)
+    (axioms : List Clause) (objects params : ℕ) (atoms : List Atom) (path : List Lit) (lit : Lit)
+    → All (IsObjectOrParameter objects params) terms
+    → Proves (from_atoms (IsObjectOrParameter objects (length terms)) atoms) axioms path lit old
+    → Proves (from_atoms (IsObjectOrParameter objects params) (map (substitute_atom terms) atoms)) axioms
+    (map (substitute_literal terms) path)
     (substitute_literal terms lit) new
 
 -- of whatever literal the old one is a tree, over objects and no more parameters than there are terms, of that literal
@@ -52,13 +54,13 @@ StaysProof terms old new =
 -- objects, below which those of the terms are
 abbrev pub StaysTree : List Term → Derivation → Derivation → Type 0
 StaysTree terms old new =
-    (axioms : List Clause) (objects params new_params : ℕ) (lit : Lit) → params ≤ length terms → All (IsName objects new_params) terms
+    (axioms : List Clause) (objects params new_params : ℕ) (lit : Lit) → params ≤ length terms
+    → All (IsObjectOrParameter objects new_params) terms
     → IsTree axioms objects params lit old
     → IsTree axioms objects new_params (substitute_literal terms lit) new
 
--- where the terms are objects: of whatever literal the old one is a tree, the new one is a proof of that literal under
--- the terms, from any facts among which each leaf's atom under the terms is. The objects may have any numbers, also such
--- as the old one's objects don't reach
+-- where the terms are objects: of whatever literal the old one is a tree, the new one is a proof of that literal under the terms, from any
+-- facts that have each leaf's atom under the terms. The objects may have any numbers, also numbers that the old one's objects don't reach
 abbrev pub ProvesFromFacts : List Term → Derivation → Derivation → Type 0
 ProvesFromFacts terms old new =
     (axioms : List Clause) (objects params : ℕ) (facts : List Atom) (lit : Lit) → params ≤ length terms → All IsObject terms

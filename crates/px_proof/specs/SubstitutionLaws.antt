@@ -15,7 +15,7 @@ use Rattle.px_proof.specs.declared.proof.Leaf.{Leaf}
 use Rattle.px_proof.specs.Derivation.{Derivation, Derivations, fact, ancestor, step, gap, open_place, none, also, leaves_of, all_leaves_of, leaf_atoms, skeleton, skeletons}
 use Rattle.px_proof.specs.Literals.{substitute_literal, complement_of}
 use Rattle.px_proof.specs.PlaceLaws.{slice_get-map, map-remove, Contains-mapped}
-use Rattle.px_proof.specs.Proves.{Rules, Proves, ProvesEach, instance_of, parts_of, from_atoms, from_facts, IsName}
+use Rattle.px_proof.specs.Proves.{Rules, Proves, ProvesEach, instance_of, parts_of, from_atoms, from_facts, IsObjectOrParameter}
 use Rattle.px_proof.specs.Substitution.{leaf_under, derivation_under, derivations_under, StaysProof, StaysTree, ProvesFromFacts}
 
 -- ---- replacing twice is replacing once
@@ -135,21 +135,23 @@ module _ (axioms : List Clause) (terms : List Term) (old new : Rules) (allows : 
     each_under path (lit ∷ lits) none each = absurd each
 
 -- a name under names is a name
-pub name_under : (objects params : ℕ) (terms : List Term) → All (IsName objects params) terms → (t : Term) → IsName objects (length terms) t
-    → IsName objects params (substitute terms t)
+pub name_under : (objects params : ℕ) (terms : List Term) → All (IsObjectOrParameter objects params) terms → (t : Term)
+    → IsObjectOrParameter objects (length terms) t
+    → IsObjectOrParameter objects params (substitute terms t)
 name_under objects params terms names (Obj n) h = h
 name_under objects params terms names (Var v) h = names v Any h
 name_under objects params terms names Any h = absurd h
 
 pub stays_proof : (terms : List Term) (d : Derivation) → StaysProof terms d (derivation_under terms d)
 stays_proof terms d axioms objects params atoms path lit names proved =
-    proves_under axioms terms (from_atoms (IsName objects (length terms)) atoms)
-    (from_atoms (IsName objects params) (map (substitute_atom terms) atoms))
+    proves_under axioms terms (from_atoms (IsObjectOrParameter objects (length terms)) atoms)
+    (from_atoms (IsObjectOrParameter objects params) (map (substitute_atom terms) atoms))
     record {
       choices = name_under objects params terms names;
       facts = λ leaf from. (
         Contains-mapped (substitute_atom terms) atoms leaf.atom from.0,
-        each_choice terms (IsName objects (length terms)) (IsName objects params) (name_under objects params terms names) leaf.atom.args
+        each_choice terms (IsObjectOrParameter objects (length terms)) (IsObjectOrParameter objects params)
+            (name_under objects params terms names) leaf.atom.args
             from.1,
       );
       gaps = λ atom h. h;
@@ -175,62 +177,63 @@ mutual
       ∙ sym (map-append (leaf_under terms) (leaves_of d) (all_leaves_of ds))
 
 -- the atoms of the leaves with their variables replaced
-atoms_under : (terms : List Term) (leaves : List Leaf) → leaf_atoms (map (leaf_under terms) leaves) ≡ map (substitute_atom terms)
+leaf_atoms_under : (terms : List Term) (leaves : List Leaf) → leaf_atoms (map (leaf_under terms) leaves) ≡ map (substitute_atom terms)
     (leaf_atoms leaves)
-atoms_under terms [] = refl
-atoms_under terms (leaf ∷ leaves) = ap (λ atoms. substitute_atom terms leaf.atom ∷ atoms) (atoms_under terms leaves)
+leaf_atoms_under terms [] = refl
+leaf_atoms_under terms (leaf ∷ leaves) = ap (λ atoms. substitute_atom terms leaf.atom ∷ atoms) (leaf_atoms_under terms leaves)
 
 pub leaf_atoms-under : (terms : List Term) (d : Derivation) → leaf_atoms (leaves_of (derivation_under terms d)) ≡ map
     (substitute_atom terms) (leaf_atoms (leaves_of d))
-leaf_atoms-under terms d = ap leaf_atoms (leaves-under terms d) ∙ atoms_under terms (leaves_of d)
+leaf_atoms-under terms d = ap leaf_atoms (leaves-under terms d) ∙ leaf_atoms_under terms (leaves_of d)
 
 -- ---- trees
 
 -- a name of fewer parameters is a name of more
-name_of_more : (objects few many : ℕ) → few ≤ many → (t : Term) → IsName objects few t → IsName objects many t
+name_of_more : (objects few many : ℕ) → few ≤ many → (t : Term) → IsObjectOrParameter objects few t → IsObjectOrParameter objects many t
 name_of_more objects few many more (Obj n) h = h
 name_of_more objects few many more (Var v) h = omega (arith, more, h)
 name_of_more objects few many more Any h = absurd h
 
 -- a name under objects is an object
-pub object_under : (objects : ℕ) (terms : List Term) → All IsObject terms → (t : Term) → IsName objects (length terms) t
+pub object_under-is_object : (objects : ℕ) (terms : List Term) → All IsObject terms → (t : Term)
+    → IsObjectOrParameter objects (length terms) t
     → IsObject (substitute terms t)
-object_under objects terms all (Obj n) h = tt
-object_under objects terms all (Var v) h = all v Any h
-object_under objects terms all Any h = absurd h
+object_under-is_object objects terms all (Obj n) h = tt
+object_under-is_object objects terms all (Var v) h = all v Any h
+object_under-is_object objects terms all Any h = absurd h
 
 pub stays_tree : (terms : List Term) (d : Derivation) → StaysTree terms d (derivation_under terms d)
 stays_tree terms d axioms objects params new_params lit enough names tree =
-    let goes : (t : Term) → IsName objects params t → IsName objects new_params (substitute terms t) =
+    let goes : (t : Term) → IsObjectOrParameter objects params t → IsObjectOrParameter objects new_params (substitute terms t) =
     λ t h. name_under objects new_params terms names t (name_of_more objects params (length terms) enough t h) in
     record {
-      proves = proves_under axioms terms (from_atoms (IsName objects params) (leaf_atoms (leaves_of d)))
-          (from_atoms (IsName objects new_params) (leaf_atoms (leaves_of (derivation_under terms d))))
+      proves = proves_under axioms terms (from_atoms (IsObjectOrParameter objects params) (leaf_atoms (leaves_of d)))
+          (from_atoms (IsObjectOrParameter objects new_params) (leaf_atoms (leaves_of (derivation_under terms d))))
           record {
             choices = goes;
             facts = λ leaf from. (
               subst (λ (atoms : List Atom). Contains atoms (substitute_atom terms leaf.atom)) (sym (leaf_atoms-under terms d))
                   (Contains-mapped (substitute_atom terms) (leaf_atoms (leaves_of d)) leaf.atom from.0),
-              each_choice terms (IsName objects params) (IsName objects new_params) goes leaf.atom.args from.1,
+              each_choice terms (IsObjectOrParameter objects params) (IsObjectOrParameter objects new_params) goes leaf.atom.args from.1,
             );
             gaps = λ atom h. h;
             opens = λ h. h;
           }
           [] lit d tree.proves;
-      terms = each_choice terms (IsName objects params) (IsName objects new_params) goes lit.atom.args tree.terms;
+      terms = each_choice terms (IsObjectOrParameter objects params) (IsObjectOrParameter objects new_params) goes lit.atom.args tree.terms;
     }
 
 pub proves_from_facts : (terms : List Term) (d : Derivation) → ProvesFromFacts terms d (derivation_under terms d)
 proves_from_facts terms d axioms objects params facts lit enough all among tree =
-    let goes : (t : Term) → IsName objects params t → IsObject (substitute terms t) =
-    λ t h. object_under objects terms all t (name_of_more objects params (length terms) enough t h) in
-    proves_under axioms terms (from_atoms (IsName objects params) (leaf_atoms (leaves_of d))) (from_facts facts)
+    let goes : (t : Term) → IsObjectOrParameter objects params t → IsObject (substitute terms t) =
+    λ t h. object_under-is_object objects terms all t (name_of_more objects params (length terms) enough t h) in
+    proves_under axioms terms (from_atoms (IsObjectOrParameter objects params) (leaf_atoms (leaves_of d))) (from_facts facts)
     record {
       choices = goes;
       facts = λ leaf from. (
         All-at (Contains facts) (map (substitute_atom terms) (leaf_atoms (leaves_of d))) (substitute_atom terms leaf.atom) among
             (Contains-mapped (substitute_atom terms) (leaf_atoms (leaves_of d)) leaf.atom from.0),
-        each_choice terms (IsName objects params) IsObject goes leaf.atom.args from.1,
+        each_choice terms (IsObjectOrParameter objects params) IsObject goes leaf.atom.args from.1,
       );
       gaps = λ atom h. h;
       opens = λ h. h;

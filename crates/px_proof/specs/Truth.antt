@@ -9,7 +9,7 @@ use Rattle.px_terms.specs.States.{State, IsState, Holds, HoldsUnder, AreValues, 
 abbrev pub ClauseHolds : State → Clause → Type 0
 ClauseHolds state clause = (values : List ℕ) → AreValues state clause.vars values → Any (LiteralHoldsUnder state values) clause.lits
 
--- `AxiomsHold problem state` is this of the problem's axioms
+-- `AxiomsHold problem state` says this of the problem's axioms
 abbrev pub ClausesHold : List Clause → State → Type 0
 ClausesHold axioms state = All (ClauseHolds state) axioms
 

@@ -15,7 +15,7 @@ use Rattle.px_terms.specs.declared.term.Term.TheVariants.{Obj, Var, Any}
 use Rattle.px_terms.specs.Language.{IsObject, substitute}
 use Rattle.px_terms.specs.States.{State, IsState, HoldsUnder, AreValues, LiteralHoldsUnder, AxiomsHold, element_of}
 use Rattle.px_proof.specs.Literals.{substitute_literal, complement_of}
-use Rattle.px_proof.specs.Proves.{IsName}
+use Rattle.px_proof.specs.Proves.{IsObjectOrParameter}
 use Rattle.px_proof.specs.Truth.{ClausesHold}
 
 -- the axioms of a problem hold where its clauses do
@@ -134,7 +134,7 @@ object-within state is values (Var v) h = absurd h
 object-within state is values Any h = absurd h
 
 pub name-within : (state : State) → IsState state → (objects params : ℕ) (values : List ℕ) → AreValues state params values → (t : Term)
-    → IsName objects params t → element_of state values t < state.size
+    → IsObjectOrParameter objects params t → element_of state values t < state.size
 name-within state is objects params values are (Obj n) h = element_within state.size is.not_empty state.elements n is.elements
 name-within state is objects params values are (Var v) h = element_within state.size is.not_empty values v are.1
 name-within state is objects params values are Any h = absurd h

@@ -14,14 +14,14 @@ pub enum Basis<'a> {
     Names { objects: u32, params: u32 },
 }
 
-/// Is the atom among the facts?
+/// Returns whether the atom is among the facts.
 fn is_fact(facts: &[Atom], atom: &Atom) -> bool
     ensures { IsTrue result ↔ Contains facts.now atom.now }
 {
     facts.contains(atom)
 }
 
-/// May a step choose the term?
+/// Returns whether a step may choose the term.
 fn is_choice(basis: &Basis, term: Term) -> bool
     ensures { IsTrue result ↔ (rules_of basis.now).IsChoice term }
 {
@@ -33,14 +33,14 @@ fn is_choice(basis: &Basis, term: Term) -> bool
     }
 }
 
-/// May a step choose each of the terms?
+/// Returns whether a step may choose each of the terms.
 pub fn are_choices(basis: &Basis, terms: &[Term]) -> bool
     ensures { IsTrue result ↔ All (rules_of basis.now).IsChoice terms.now }
 {
     terms.iter().all(|term| is_choice(basis, *term))
 }
 
-/// May the leaf close a place?
+/// Returns whether the leaf may close a place.
 pub fn is_leaf(basis: &Basis, leaf: &Leaf) -> bool
     ensures { IsTrue result ↔ (rules_of basis.now).IsFact leaf.now }
 {

@@ -5,9 +5,9 @@ ghost use Rattle.px_terms.specs.Language.{IsObject};
 ghost use Rattle.px_terms.specs.declared.clause.Clause.{Clause};
 ghost use Rattle.px_proof.specs.Basis.{rules_of};
 ghost use Rattle.px_proof.specs.Derivation.{derivations, step, leaves_of, leaf_atoms, terms_of};
-ghost use Rattle.px_proof.specs.Path.{literals_of};
+ghost use Rattle.px_proof.specs.Path.{path_literals};
 ghost use Rattle.px_proof.specs.ProofTerm.{derivation_of};
-ghost use Rattle.px_proof.specs.Proves.{Proves, ProvesEach, UsesClause, IsName, IsTree, from_facts, instance_of, parts_of};
+ghost use Rattle.px_proof.specs.Proves.{Proves, ProvesEach, UsesClause, IsObjectOrParameter, IsTree, from_facts, instance_of, parts_of};
 ghost use Rattle.px_proof.specs.Truth.{Follows, FollowsUnder};
 
 use crate::basis::{Basis, are_choices, is_leaf};
@@ -16,10 +16,10 @@ use crate::path::{Path, literal_at};
 use crate::proof::Proof;
 use px_terms::{Atom, ClauseArena, Lit, Term, equal};
 
-/// Does the proof term prove the literal under the path?
+/// Returns whether the proof term proves the literal under the path.
 #[cycle(proves)]
 fn proves(proof: &Proof, arena: &ClauseArena, basis: &Basis, path: &Path, lit: &Lit) -> bool
-    ensures { IsTrue result ↔ Proves (rules_of basis.now) arena.now (literals_of path.now) lit.now (derivation_of proof.now) }
+    ensures { IsTrue result ↔ Proves (rules_of basis.now) arena.now (path_literals path.now) lit.now (derivation_of proof.now) }
 {
     match proof {
         Proof::Fact(leaf) => lit.positive && equal(&lit.atom, &leaf.atom) && is_leaf(basis, leaf),
@@ -46,7 +46,7 @@ fn proves(proof: &Proof, arena: &ClauseArena, basis: &Basis, path: &Path, lit: &
     }
 }
 
-/// Is the step with the clause at that place a proof of the literal under the path?
+/// Returns whether the step with the clause at that place is a proof of the literal under the path.
 #[cycle(proves)]
 fn step_proves(
     subs: &[Proof],
@@ -58,7 +58,7 @@ fn step_proves(
     theta: &[Term],
     place: u32,
 ) -> bool
-    ensures { IsTrue result ↔ Proves (rules_of basis.now) arena.now (literals_of path.now) lit.now
+    ensures { IsTrue result ↔ Proves (rules_of basis.now) arena.now (path_literals path.now) lit.now
         (step clause theta.now place (derivations (map derivation_of subs.now))) }
 {
     if !uses_clause(arena, basis, lit, clause, theta, place) {
@@ -68,7 +68,7 @@ fn step_proves(
     each_proves(subs, arena, basis, &below, arena.lits(clause), theta, place)
 }
 
-/// Do the proof terms prove, in order, the complements of the other literals of the clause?
+/// Returns whether the proof terms prove, in order, the complements of the other literals of the clause.
 #[cycle(proves)]
 fn each_proves(
     subs: &[Proof],
@@ -81,7 +81,7 @@ fn each_proves(
 ) -> bool
     requires place { place < length lits.now }
     requires plain { ArePlainBelow (length theta.now) lits.now }
-    ensures { IsTrue result ↔ ProvesEach (rules_of basis.now) arena.now (literals_of path.now) (parts_of lits.now theta.now place)
+    ensures { IsTrue result ↔ ProvesEach (rules_of basis.now) arena.now (path_literals path.now) (parts_of lits.now theta.now place)
         (derivations (map derivation_of subs.now)) }
 {
     if subs.len() != lits.len() - 1 {
@@ -112,7 +112,7 @@ pub fn part_at(lits: &[Lit], theta: &[Term], place: u32, part: usize) -> Lit
     complement(&apply_literal(theta, &lits[other]))
 }
 
-/// Does the clause of that number, under `theta`, have the literal at that place?
+/// Returns whether the clause of that number, under `theta`, has the literal at that place.
 fn uses_clause(
     arena: &ClauseArena,
     basis: &Basis,
@@ -130,7 +130,7 @@ fn uses_clause(
     are_choices(basis, theta) && is_literal_at(arena.lits(number), theta, place, lit)
 }
 
-/// Is `lit` the literal at that place under `theta`?
+/// Returns whether `lit` is the literal at that place under `theta`.
 fn is_literal_at(lits: &[Lit], theta: &[Term], place: u32, lit: &Lit) -> bool
     requires { ArePlainBelow (length theta.now) lits.now }
     ensures { IsTrue result ↔ (slice_get (instance_of lits.now theta.now) place ≡ Some lit.now) }
@@ -141,8 +141,8 @@ fn is_literal_at(lits: &[Lit], theta: &[Term], place: u32, lit: &Lit) -> bool
     same_literal(&apply_literal(theta, &lits[place as usize]), lit)
 }
 
-/// Is `proof` a proof of `lit` from the facts, without variables and gaps? A fact with a variable counts for nothing.
-/// It answers false to a number of a clause, a place or an ancestor that isn't there, and to lists of wrong lengths.
+/// Returns whether `proof` is a proof of `lit` from the facts, without variables and gaps. A fact with a variable counts for nothing. The
+/// answer is false where the number of a clause, a place or an ancestor isn't there, and where lists have wrong lengths.
 ///
 /// The proofs are those of linear resolution with ancestors. Does not allocate; it calls itself once for each level.
 pub fn check(arena: &ClauseArena, facts: &[Atom], lit: &Lit, proof: &Proof) -> bool
@@ -153,14 +153,14 @@ pub fn check(arena: &ClauseArena, facts: &[Atom], lit: &Lit, proof: &Proof) -> b
     proves(proof, arena, &Basis::Facts(facts), &Path::Root, lit)
 }
 
-/// Is `proof` a proof of `lit` without gaps from the atoms of its own leaves, over the first `objects` objects and `params` parameters?
-/// `Var(v)` with `v` below `params` is a parameter, and counts as one more object. It answers false to each number
-/// and length that `check` does, and where another term stands in `lit` or `proof`.
+/// Returns whether `proof` is a proof of `lit` without gaps from the atoms of its own leaves, over the first `objects` objects and
+/// `params` parameters. `Var(v)` with `v` below `params` is a parameter, and counts as one more object. The answer is false for each
+/// number and length for which that of `check` is, and where another term stands in `lit` or `proof`.
 ///
 /// Does not allocate; it calls itself once for each level.
 pub fn is_tree(arena: &ClauseArena, objects: u32, params: u32, lit: &Lit, proof: &Proof) -> bool
     ensures exact { IsTrue result ↔ IsTree arena.now objects params lit.now (derivation_of proof.now) }
-    ensures terms { IsTrue result → All (IsName objects params) (terms_of (derivation_of proof.now)) }
+    ensures terms { IsTrue result → All (IsObjectOrParameter objects params) (terms_of (derivation_of proof.now)) }
     ensures sound { IsTrue result → FollowsUnder arena.now params (leaf_atoms (leaves_of (derivation_of proof.now))) lit.now }
 {
     let names = Basis::Names { objects, params };

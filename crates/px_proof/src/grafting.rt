@@ -9,7 +9,7 @@ use crate::proof::{Leaf, Proof};
 use px_base::{NoMemory, Sequence, push};
 use std::alloc::Global;
 
-/// The proof with each leaf in column 0 replaced by its part, one each from left to right, and with the columns of the
+/// Returns the proof with each leaf in column 0 replaced by its part, one each from left to right, and with the columns of the
 /// other leaves raised by `shift`. Where [`is_tree`](crate::is_tree) accepts the proof of a literal, and each part as a
 /// proof of its leaf's atom, it accepts the new proof of that literal; the same goes for [`check`](crate::check), where
 /// the atoms of the other leaves are among the facts. Terms and parts are copied in memory of their own allocators.
@@ -29,7 +29,7 @@ pub fn graft(alloc: Global, proof: &Proof, parts: &[Proof], shift: u32) -> Resul
     graft_all(alloc, proof, parts, &mut used, shift)
 }
 
-/// The same, from the first part that isn't used yet.
+/// Returns that proof, where the parts are those from the first that isn't used yet.
 // Alike: `Proof::try_copy`, which says why.
 #[cycle(grafts)]
 fn graft_all(
@@ -67,7 +67,7 @@ fn graft_all(
     }
 }
 
-/// The same for each of the proofs.
+/// Returns each of the proofs grafted in this way, with the parts from the first that isn't used yet.
 #[cycle(grafts)]
 fn graft_each(
     alloc: Global,
@@ -91,7 +91,7 @@ fn graft_each(
     Ok(made)
 }
 
-/// What comes in the place of a leaf.
+/// Returns what comes in the place of a leaf.
 fn graft_leaf(leaf: &Leaf, parts: &[Proof], used: &mut usize, shift: u32) -> Result<Proof, NoMemory>
     requires parts { used.old + length (first_leaves (leaf.now ∷ [])) ≤ length parts.now }
     requires columns { All (λ leaf. leaf.column + shift ≤ 4294967295) (later_leaves (leaf.now ∷ [])) }

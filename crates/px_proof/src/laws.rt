@@ -9,7 +9,7 @@ pub fn derivations_tell_proofs()
     ensures { DerivationsTellProofs }
 {}
 
-/// A proof under a path is one under each path that goes on from it upwards, as one under the empty path is under any.
+/// A proof under a path is one under each path that goes on from it upwards; so a proof under the empty path is one under any.
 pub fn paths_may_be_longer()
     ensures { StaysUnderLongerPaths }
 {}

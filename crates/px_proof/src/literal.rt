@@ -5,7 +5,7 @@ ghost use Rattle.px_proof.specs.Literals.{substitute_literal, complement_of};
 
 use px_terms::{Lit, Term, apply, equal};
 
-/// The literal with the other sign.
+/// Returns the literal with the other sign.
 pub fn complement(lit: &Lit) -> Lit
     ensures { result ≡ complement_of lit.now }
 {
@@ -15,7 +15,7 @@ pub fn complement(lit: &Lit) -> Lit
     }
 }
 
-/// The literal with each variable replaced by the map's term of its number.
+/// Returns the literal with each variable replaced by the map's term of its number.
 pub fn apply_literal(map: &[Term], lit: &Lit) -> Lit
     requires { All (IsVariableBelow (length map.now)) lit.now.atom.args }
     ensures { result ≡ substitute_literal map.now lit.now }
@@ -26,7 +26,7 @@ pub fn apply_literal(map: &[Term], lit: &Lit) -> Lit
     }
 }
 
-/// Are the two literals the same?
+/// Returns whether the two literals are the same.
 pub fn same_literal(a: &Lit, b: &Lit) -> bool
     ensures { IsTrue result ↔ (a.now ≡ b.now) }
 {

@@ -1,21 +1,21 @@
 //! The literals above a place of a proof.
 ghost use Rattle.std.specs.Prelude.{◌≡◌, slice_get};
-ghost use Rattle.px_proof.specs.Path.{literals_of};
+ghost use Rattle.px_proof.specs.Path.{path_literals};
 
 use px_terms::Lit;
 
 /// The literals above a place, the nearest first.
 #[derive(Clone, Copy)]
 pub enum Path<'a> {
-    /// There is none.
+    /// No literal.
     Root,
     /// This one, and those above it.
     Under(&'a Lit, &'a Path<'a>),
 }
 
-/// The literal of the path at that place, counted from the nearest.
+/// Returns the literal of the path at that place, counted from the nearest.
 pub fn literal_at(path: &Path, place: u32) -> Option<Lit>
-    ensures { result ≡ slice_get (literals_of path.now) place }
+    ensures { result ≡ slice_get (path_literals path.now) place }
 {
     match path {
         Path::Root => None,

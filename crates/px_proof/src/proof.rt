@@ -34,7 +34,7 @@ pub enum Proof {
 }
 
 impl Proof {
-    /// An equal proof, each list of it in memory of the allocator of the list that it copies.
+    /// Returns an equal proof, each list of it in memory of the allocator of the list that it copies.
     ///
     /// # Errors
     /// `NoMemory` where there is no memory for the copy.
@@ -66,7 +66,7 @@ impl Proof {
     }
 }
 
-/// A copy of each of the proofs.
+/// Returns a copy of each of the proofs.
 #[cycle(copies)]
 fn copy_each(alloc: Global, proofs: &[Proof]) -> Result<Vec<Proof>, NoMemory>
     ensures { IfOk result (λ copies. copies.items ≡ proofs.now) }

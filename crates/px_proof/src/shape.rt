@@ -35,7 +35,7 @@ impl Model for Shape {
 }
 
 impl Shape {
-    /// The shape with these ticks. Does not allocate.
+    /// Returns the shape with these ticks. Does not allocate.
     pub fn from_ticks(ticks: Vec<Tick>) -> Shape
         ensures { result ≡ ticks.items }
     {
@@ -44,14 +44,14 @@ impl Shape {
         }
     }
 
-    /// The ticks in preorder.
+    /// Returns the ticks in preorder.
     pub fn ticks(&self) -> &[Tick]
         ensures { result.now ≡ self.now }
     {
         self.ticks.as_slice()
     }
 
-    /// The ticks in preorder, given back. Does not allocate.
+    /// Returns the ticks in preorder. Does not allocate.
     pub fn into_ticks(self) -> Vec<Tick>
         ensures { result.items ≡ self }
     {
@@ -59,7 +59,7 @@ impl Shape {
         ticks.into_vec()
     }
 
-    /// An equal shape, in memory of the same allocator.
+    /// Returns an equal shape, in memory of the same allocator.
     ///
     /// # Errors
     /// `NoMemory` where there is no memory for the copy.

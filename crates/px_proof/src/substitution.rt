@@ -7,10 +7,10 @@ ghost use Rattle.px_proof.specs.Substitution.{derivation_under, derivations_unde
 
 use crate::proof::{Leaf, Proof};
 use px_base::{NoMemory, Sequence, push};
-use px_terms::{Term, apply};
+use px_terms::{Term, apply, apply_term};
 use std::alloc::Global;
 
-/// The proof with each variable replaced by the map's term of its number. Where [`is_tree`](crate::is_tree) accepts
+/// Returns the proof with each variable replaced by the map's term of its number. Where [`is_tree`](crate::is_tree) accepts
 /// the proof of a literal, and the map gives each parameter an object or a parameter in range, it accepts the new
 /// proof of that literal under the map; where the map gives objects, [`check`](crate::check) accepts it from the
 /// leaves' atoms under the map.
@@ -27,7 +27,7 @@ pub fn substitute(alloc: Global, proof: &Proof, map: &[Term]) -> Result<Proof, N
     substitute_all(alloc, proof, map)
 }
 
-/// The same, part by part.
+/// Returns that proof, part by part.
 // Alike: `Proof::try_copy`, which says why.
 #[cycle(substitute)]
 fn substitute_all(alloc: Global, proof: &Proof, map: &[Term]) -> Result<Proof, NoMemory>
@@ -60,7 +60,7 @@ fn substitute_all(alloc: Global, proof: &Proof, map: &[Term]) -> Result<Proof, N
     }
 }
 
-/// The same for each of the proofs.
+/// Returns each of the proofs with its variables replaced in this way.
 #[cycle(substitute)]
 fn substitute_each(alloc: Global, proofs: &[Proof], map: &[Term]) -> Result<Vec<Proof>, NoMemory>
     requires { All (IsVariableBelow (length map.now)) (all_terms_of (derivations (map_list derivation_of proofs.now))) }
@@ -88,15 +88,4 @@ pub fn substitute_terms(alloc: Global, terms: &[Term], map: &[Term]) -> Result<V
         push(&mut made, apply_term(map, *term))?;
     }
     Ok(made)
-}
-
-/// Returns the term that stands for `term` under `map`. Does not allocate.
-pub fn apply_term(map: &[Term], term: Term) -> Term
-    requires { IsVariableBelow (length map.now) term }
-    ensures { result ≡ substitute_term map.now term }
-{
-    match term {
-        Term::Var(number) => map[number as usize],
-        Term::Obj(_) | Term::Any => term,
-    }
 }

@@ -13,14 +13,14 @@ use std::alloc::Global;
 use std::process::Abort;
 use std::rt::HostRuntime;
 
-/// The atom of a predicate without arguments.
+/// Returns the atom of a predicate without arguments.
 fn plain(rt: &impl Abort, pred: u32) -> Atom
     ensures { result.args ≡ [] }
 {
     Atom::new(pred, &[]).expect(rt, "no argument")
 }
 
-/// The atom of a predicate with one argument.
+/// Returns the atom of a predicate with one argument.
 fn of(rt: &impl Abort, pred: u32, term: Term) -> Atom
     ensures { result.args ≡ term ∷ [] }
 {
@@ -55,7 +55,7 @@ fn leaf(column: u32, index: u32, atom: Atom) -> Leaf
     }
 }
 
-/// A step with a clause without variables.
+/// Returns a step with a clause without variables.
 fn step(alloc: Global, clause: u32, place: u32, sub: Proof) -> Result<Proof, NoMemory> {
     step_at(alloc, clause, &[], place, sub)
 }
@@ -83,7 +83,7 @@ fn step_at(
     }
 }
 
-/// The axioms `P Q` and `~Q P`.
+/// Returns the axioms `P Q` and `~Q P`.
 fn two_axioms(rt: &impl Abort, alloc: Global) -> ClauseArena {
     let p = plain(rt, 0);
     let q = plain(rt, 1);
@@ -162,7 +162,7 @@ fn a_step_under_objects_and_parameters(rt: HostRuntime) -> Result<(), NoMemory> 
     Ok(())
 }
 
-/// A step by the first clause from three facts.
+/// Returns a step by the first clause from three facts.
 fn step_from_three(alloc: Global, a: Leaf, b: Leaf, c: Leaf) -> Result<Proof, NoMemory>
     ensures { IfOk result (λ proof. derivation_of proof ≡ derivation.step 0 [] 0
         (also (derivation.fact a) (also (derivation.fact b) (also (derivation.fact c) none)))) }

@@ -7,7 +7,7 @@ use crate::proof::{Leaf, Proof};
 use px_base::{NoMemory, push};
 use std::alloc::Global;
 
-/// Is the proof higher than the limit?
+/// Returns whether the proof is higher than the limit.
 #[cycle(height)]
 pub fn higher_than(proof: &Proof, limit: u32) -> bool
     ensures { IsTrue result ↔ (limit < height (derivation_of proof.now)) }
@@ -21,7 +21,7 @@ pub fn higher_than(proof: &Proof, limit: u32) -> bool
     }
 }
 
-/// Is one of the proofs higher than the limit?
+/// Returns whether one of the proofs is higher than the limit.
 #[cycle(height)]
 fn is_one_higher_than(proofs: &[Proof], limit: u32) -> bool
     ensures { IsTrue result ↔ (limit < greatest_height (derivations (map derivation_of proofs.now))) }
@@ -34,7 +34,7 @@ fn is_one_higher_than(proofs: &[Proof], limit: u32) -> bool
     false
 }
 
-/// The fact leaves from left to right.
+/// Returns the fact leaves from left to right.
 ///
 /// # Errors
 /// `NoMemory` where there is no memory for the list.
@@ -46,7 +46,7 @@ pub fn leaves(alloc: Global, proof: &Proof) -> Result<Vec<Leaf>, NoMemory>
     Ok(found)
 }
 
-/// Puts the leaves of the proof last.
+/// Appends the leaves of the proof.
 #[cycle(leaves)]
 fn add_leaves(found: &mut Vec<Leaf>, proof: &Proof) -> Result<(), NoMemory>
     ensures { IfOk result (λ _. found.new.items ≡ found.old.items ++ leaves_of (derivation_of proof.now)) }
@@ -58,7 +58,7 @@ fn add_leaves(found: &mut Vec<Leaf>, proof: &Proof) -> Result<(), NoMemory>
     }
 }
 
-/// Puts the leaves of each of the proofs last.
+/// Appends the leaves of each of the proofs.
 #[cycle(leaves)]
 fn add_all_leaves(found: &mut Vec<Leaf>, proofs: &[Proof]) -> Result<(), NoMemory>
     ensures { IfOk result (λ _. found.new.items ≡ found.old.items ++ all_leaves_of (derivations (map derivation_of proofs.now))) }
@@ -69,7 +69,7 @@ fn add_all_leaves(found: &mut Vec<Leaf>, proofs: &[Proof]) -> Result<(), NoMemor
     Ok(())
 }
 
-/// Do the proofs differ at most in terms and atoms?
+/// Returns whether the proofs differ at most in terms and atoms.
 #[cycle(same_shape)]
 pub fn same_shape(a: &Proof, b: &Proof) -> bool
     ensures { IsTrue result ↔ (skeleton (derivation_of a.now) ≡ skeleton (derivation_of b.now)) }
@@ -102,7 +102,7 @@ pub fn same_shape(a: &Proof, b: &Proof) -> bool
     }
 }
 
-/// Are there as many, and does each differ from its fellow at most in terms and atoms?
+/// Returns whether there are equally many proofs in both lists, and each differs from the other at its place at most in terms and atoms.
 #[cycle(same_shape)]
 fn have_same_shapes(a: &[Proof], b: &[Proof]) -> bool
     ensures { IsTrue result ↔ (skeletons (derivations (map derivation_of a.now)) ≡ skeletons (derivations (map derivation_of b.now))) }

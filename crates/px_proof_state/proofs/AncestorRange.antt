@@ -1,7 +1,8 @@
 -- Attempts at the literals above a goal, from the nearest up.
 use Rattle.std.proofs.Common.{◌≡◌, ℕ, zero, suc, ◌+◌, ◌-◌, ◌<◌, ◌≤◌, Bool, true, false, Some, List, [], ◌∷◌, length, drop, slice_get, refl, ap, sym, ◌∙◌, arith}
 use Rattle.std.specs.Prelude.{All}
-use Rattle.px_proof.specs.PlaceLaws.{All-got, slice_get-within, some_same}
+use Rattle.px_base.specs.Answers.{some_same}
+use Rattle.px_proof.specs.PlaceLaws.{All-got, slice_get-within}
 use Rattle.px_terms.specs.declared.clause.Lit.{Lit}
 use Rattle.px_proof_state.specs.declared.open.OpenGoal.{OpenGoal}
 use Rattle.px_proof_state.specs.Arena.{path_at}
@@ -11,7 +12,8 @@ use Rattle.px_proof_state.specs.Ancestors.{TriesAncestor, NeverAncestor, ComesAn
 use Rattle.px_proof_state.proofs.Hanging.{path_at-index, path_at-nothing}
 use Rattle.px_proof_state.proofs.Trying.{never-next, range-found, range-none}
 
-drop-first : {X : Type 0} (xs : List X) (k : ℕ) (x : X) (ys : List X) → drop k xs ≡ x ∷ ys → (slice_get xs k ≡ Some x) × (drop (suc k) xs ≡ ys)
+drop-first : {X : Type 0} (xs : List X) (k : ℕ) (x : X) (ys : List X) → drop k xs ≡ x ∷ ys
+    → (slice_get xs k ≡ Some x) × (drop (suc k) xs ≡ ys)
 drop-first [] zero x ys e = absurd (cc)
 drop-first [] (suc k) x ys e = absurd (cc)
 drop-first (z ∷ xs) zero x ys e = let a : z ≡ x = cc in let b : xs ≡ ys = cc in (ap (λ y. Some y) a, b)
@@ -30,17 +32,30 @@ pub record IsOnTheWayUp (old : ProofStateValue) (goal : OpenGoal) (from : ℕ) (
   pub path : drop number (path_at old.goals goal.above) ≡ path_at old.goals at
   pub never : (j : ℕ) → from ≤ j → j < number → NeverAncestor (path_at old.goals goal.above) old goal j
 
-pub way-start : (old : ProofStateValue) (goal : OpenGoal) (from : ℕ) → goal.above ≤ length old.goals → IsOnTheWayUp old goal from old goal.above 0
-way-start old goal from older = record { same = refl; within = older; short = omega (arith, older); path = refl; never = λ j after before. absurd (omega (arith, before)) }
+pub way-start : (old : ProofStateValue) (goal : OpenGoal) (from : ℕ) → goal.above ≤ length old.goals
+    → IsOnTheWayUp old goal from old goal.above 0
+way-start old goal from older =
+    record {
+      same =
+          refl;
+      within = older;
+      short = omega (arith, older);
+      path = refl;
+      never = λ j after before. absurd (omega (arith, before));
+    }
 
-pub way-end : (old : ProofStateValue) (goal : OpenGoal) (from : ℕ) (now : ProofStateValue) (at number : ℕ) → IsOnTheWayUp old goal from now at number → at ≡ 0 →
-    TriesRange (NeverAncestor (path_at old.goals goal.above) old goal) (ComesAncestor (path_at old.goals goal.above) old goal) from (length (path_at old.goals goal.above)) old now false
+pub way-end : (old : ProofStateValue) (goal : OpenGoal) (from : ℕ) (now : ProofStateValue) (at number : ℕ)
+    → IsOnTheWayUp old goal from now at number → at ≡ 0
+    → TriesRange (NeverAncestor (path_at old.goals goal.above) old goal) (ComesAncestor (path_at old.goals goal.above) old goal) from
+    (length (path_at old.goals goal.above)) old now false
 way-end old goal from now at number way none =
-    range-none (NeverAncestor (path_at old.goals goal.above) old goal) (ComesAncestor (path_at old.goals goal.above) old goal) from (length (path_at old.goals goal.above)) number old now way.same way.never
+    range-none (NeverAncestor (path_at old.goals goal.above) old goal) (ComesAncestor (path_at old.goals goal.above) old goal) from
+    (length (path_at old.goals goal.above)) number old now way.same way.never
     (drop-end (path_at old.goals goal.above) number (way.path ∙ ap (path_at old.goals) none ∙ path_at-nothing old.goals))
 
 -- the literal that is reached is one of the path
-module _ (old : ProofStateValue) (goal : OpenGoal) (from : ℕ) (now : ProofStateValue) (at number : ℕ) (way : IsOnTheWayUp old goal from now at number) (g : OpenGoal) (some : 0 < at)
+module _ (old : ProofStateValue) (goal : OpenGoal) (from : ℕ) (now : ProofStateValue) (at number : ℕ)
+    (way : IsOnTheWayUp old goal from now at number) (g : OpenGoal) (some : 0 < at)
     (is : slice_get now.goals (at - 1) ≡ Some g) (older : g.above ≤ at - 1) where
   abbrev whole : List Lit
   whole = path_at old.goals goal.above
@@ -48,7 +63,8 @@ module _ (old : ProofStateValue) (goal : OpenGoal) (from : ℕ) (now : ProofStat
   here : (slice_get whole number ≡ Some g.lit) × (drop (suc number) whole ≡ path_at old.goals g.above)
   here =
       let place : at ≡ suc (at - 1) = omega (arith, some) in
-      drop-first whole number g.lit (path_at old.goals g.above) (way.path ∙ ap (path_at old.goals) place ∙ path_at-index old.goals (at - 1) g (rw way.same at is) older)
+      drop-first whole number g.lit (path_at old.goals g.above)
+      (way.path ∙ ap (path_at old.goals) place ∙ path_at-index old.goals (at - 1) g (rw way.same at is) older)
 
   pub way-within : number < length whole
   way-within = slice_get-within whole number g.lit here.0
@@ -60,7 +76,8 @@ module _ (old : ProofStateValue) (goal : OpenGoal) (from : ℕ) (now : ProofStat
     pub way-found : found ≡ true → TriesRange (NeverAncestor whole old goal) (ComesAncestor whole old goal) from (length whole) old new true
     way-found is_found =
         let comes = rw way.same at (tried.comes is_found) in
-        range-found (NeverAncestor whole old goal) (ComesAncestor whole old goal) from (length whole) old new number comes.0 way-within (g.lit, here.0, comes.1) way.never
+        range-found (NeverAncestor whole old goal) (ComesAncestor whole old goal) from (length whole) old new number comes.0 way-within
+        (g.lit, here.0, comes.1) way.never
 
     pub way-next : found ≡ false → (next : ℕ) → next ≡ suc number → IsOnTheWayUp old goal from new g.above next
     way-next is_not next next_is =
@@ -75,5 +92,7 @@ module _ (old : ProofStateValue) (goal : OpenGoal) (from : ℕ) (now : ProofStat
       where
         by_case : (j : ℕ) → from ≤ j → j < suc number → NeverAncestor whole old goal j
         by_case j after before above above_is =
-            never-next (λ k. from ≤ k → NeverAncestor whole old goal k) from number (λ k after_k before_k reached. way.never k after_k before_k)
-            (λ reached other other_is. let e : g.lit ≡ other = some_same g.lit other (sym here.0 ∙ other_is) in rw e at ((rw way.same at (tried.never is_not)).1 reached)) j after before after above above_is
+            never-next (λ k. from ≤ k → NeverAncestor whole old goal k) from number
+            (λ k after_k before_k reached. way.never k after_k before_k)
+            (λ reached other other_is. let e : g.lit ≡ other = some_same (sym here.0 ∙ other_is) in
+            rw e at ((rw way.same at (tried.never is_not)).1 reached)) j after before after above above_is

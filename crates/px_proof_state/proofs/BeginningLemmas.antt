@@ -27,23 +27,29 @@ then_up Less p q rest up = refl
 then_up Equal p q rest up = rest up
 then_up Greater p q rest up = up
 
-fronts_up : (n : ℕ) (xs ys : List Term) → is_gt (slice_cmp term_cmp xs ys) ≡ false → is_gt (slice_cmp term_cmp (take n xs) (take n ys)) ≡ false
+fronts_up : (n : ℕ) (xs ys : List Term) → is_gt (slice_cmp term_cmp xs ys) ≡ false
+    → is_gt (slice_cmp term_cmp (take n xs) (take n ys)) ≡ false
 fronts_up zero xs ys up = refl
 fronts_up (suc n) [] [] up = refl
 fronts_up (suc n) [] (y ∷ ys) up = refl
 fronts_up (suc n) (x ∷ xs) [] up = up
-fronts_up (suc n) (x ∷ xs) (y ∷ ys) up = then_up (term_cmp x y) (slice_cmp term_cmp xs ys) (slice_cmp term_cmp (take n xs) (take n ys)) (fronts_up n xs ys) up
+fronts_up (suc n) (x ∷ xs) (y ∷ ys) up =
+    then_up (term_cmp x y) (slice_cmp term_cmp xs ys) (slice_cmp term_cmp (take n xs) (take n ys)) (fronts_up n xs ys) up
 
 -- an atom that isn't greater has no greater beginning
 beginnings_up : (n : ℕ) (a b : Atom) → is_gt (atom_cmp a b) ≡ false → is_gt (atom_cmp (beginning n a) (beginning n b)) ≡ false
-beginnings_up n a b up = then_up (nat_cmp a.pred b.pred) (slice_cmp term_cmp a.args b.args) (slice_cmp term_cmp (take n a.args) (take n b.args)) (fronts_up n a.args b.args) up
+beginnings_up n a b up =
+    then_up (nat_cmp a.pred b.pred) (slice_cmp term_cmp a.args b.args) (slice_cmp term_cmp (take n a.args) (take n b.args))
+    (fronts_up n a.args b.args) up
 
 -- a fact isn't greater than a later one
-facts_up : (facts : List Atom) → IsAtomSet facts → (i j : ℕ) (d : Atom) → i ≤ j → j < length facts → is_gt (atom_cmp (get_or facts i d) (get_or facts j d)) ≡ false
+facts_up : (facts : List Atom) → IsAtomSet facts → (i j : ℕ) (d : Atom) → i ≤ j → j < length facts
+    → is_gt (atom_cmp (get_or facts i d) (get_or facts j d)) ≡ false
 unfolding IsStrictlySortedBy
 facts_up [] up i j d le within = absurd (omega (arith, within))
 facts_up (a ∷ facts) up zero zero d le within = ap is_gt (tied_itself atom_cmp-total a)
-facts_up (a ∷ facts) up zero (suc j) d le within = ap is_gt (All-from_recursion (λ b. atom_cmp a b ≡ Less) facts up.0 j d (omega (arith, within)))
+facts_up (a ∷ facts) up zero (suc j) d le within =
+    ap is_gt (All-from_recursion (λ b. atom_cmp a b ≡ Less) facts up.0 j d (omega (arith, within)))
 facts_up (a ∷ facts) up (suc i) zero d le within = absurd (omega (arith, le))
 facts_up (a ∷ facts) up (suc i) (suc j) d le within = facts_up facts up.1 i j d (omega (arith, le)) (omega (arith, within))
 
@@ -75,15 +81,18 @@ abbrev pub is_not_after : ℕ → Atom → Atom → Bool
 is_not_after n atom fact = is_le (atom_cmp (beginning n fact) (beginning n atom))
 
 module _ (facts : List Atom) (up : IsAtomSet facts) (n : ℕ) (atom : Atom) where
-  step_up : (i j : ℕ) (d : Atom) → i ≤ j → j < length facts → is_gt (atom_cmp (beginning n (get_or facts i d)) (beginning n (get_or facts j d))) ≡ false
+  step_up : (i j : ℕ) (d : Atom) → i ≤ j → j < length facts
+      → is_gt (atom_cmp (beginning n (get_or facts i d)) (beginning n (get_or facts j d))) ≡ false
   step_up i j d le within = beginnings_up n (get_or facts i d) (get_or facts j d) (facts_up facts up i j d le within)
 
   pub parted-before : IsPartitionedBy (is_before n atom) facts
-  parted-before i j d le within less = lt_back (beginning n (get_or facts i d)) (beginning n (get_or facts j d)) (beginning n atom) _ refl (step_up i j d le within) less
+  parted-before i j d le within less =
+      lt_back (beginning n (get_or facts i d)) (beginning n (get_or facts j d)) (beginning n atom) _ refl (step_up i j d le within) less
 
   pub parted-not_after : IsPartitionedBy (is_not_after n atom) facts
   parted-not_after i j d le within not_after =
-      le_of _ (upto atom_cmp-total (beginning n (get_or facts i d)) (beginning n (get_or facts j d)) (beginning n atom) (step_up i j d le within) (of_le _ not_after))
+      le_of _ (upto atom_cmp-total (beginning n (get_or facts i d)) (beginning n (get_or facts j d)) (beginning n atom)
+      (step_up i j d le within) (of_le _ not_after))
 
 -- ---- instances begin alike
 
@@ -109,7 +118,8 @@ ground_stays sigma (t ∷ ts) all =
     λ i. head i ∷ tail i
 
 -- a ground atom that is an instance begins as the atom does with its objects
-alike : (n : ℕ) (atom fact : Atom) → All IsObject (take n atom.args) → IsGround fact → (sigma tau : List Term) → substitute_atom sigma atom ≡ substitute_atom tau fact → beginning n fact ≡ beginning n atom
+alike : (n : ℕ) (atom fact : Atom) → All IsObject (take n atom.args) → IsGround fact → (sigma tau : List Term)
+    → substitute_atom sigma atom ≡ substitute_atom tau fact → beginning n fact ≡ beginning n atom
 alike n atom fact objects is_ground sigma tau same =
     let pred_is : fact.pred ≡ atom.pred = sym (ap (λ (a : Atom). a.pred) same) in
     let args_are : map (substitute sigma) atom.args ≡ fact.args = ap (λ (a : Atom). a.args) same ∙ ground_stays tau fact.args is_ground in
@@ -117,18 +127,26 @@ alike n atom fact objects is_ground sigma tau same =
     λ i. record { pred = pred_is i; args = front_is i }
 
 module _ (facts : List Atom) (n : ℕ) (atom : Atom) (objects : All IsObject (take n atom.args)) where
-  level : (fact : Atom) → IsGround fact → (sigma tau : List Term) → substitute_atom sigma atom ≡ substitute_atom tau fact → atom_cmp (beginning n fact) (beginning n atom) ≡ Equal
-  level fact is_ground sigma tau same = ap (λ a. atom_cmp a (beginning n atom)) (alike n atom fact objects is_ground sigma tau same) ∙ tied_itself atom_cmp-total (beginning n atom)
+  level : (fact : Atom) → IsGround fact → (sigma tau : List Term) → substitute_atom sigma atom ≡ substitute_atom tau fact
+      → atom_cmp (beginning n fact) (beginning n atom) ≡ Equal
+  level fact is_ground sigma tau same =
+      ap (λ a. atom_cmp a (beginning n atom)) (alike n atom fact objects is_ground sigma tau same)
+      ∙ tied_itself atom_cmp-total (beginning n atom)
 
-  pub has-its-facts : (first end : ℕ) → end ≤ length facts →
-      IsPartitionPoint (λ a. is_before n atom a ≡ true) (λ a. is_before n atom a ≡ false) facts first → IsPartitionPoint (λ a. is_not_after n atom a ≡ true) (λ a. is_not_after n atom a ≡ false) facts end → HasItsFacts facts atom first end
+  pub has-its-facts : (first end : ℕ) → end ≤ length facts
+      → IsPartitionPoint (λ a. is_before n atom a ≡ true) (λ a. is_before n atom a ≡ false) facts first
+      → IsPartitionPoint (λ a. is_not_after n atom a ≡ true) (λ a. is_not_after n atom a ≡ false) facts end
+      → HasItsFacts facts atom first end
   has-its-facts first end within below upto_end = record {
     within = within;
     before = λ k fact at less is_ground sigma tau same.
-        let less_here : is_before n atom fact ≡ true = ap (is_before n atom) (sym (get_or_from_slice_get facts k fact fact at)) ∙ below.0 k fact (omega arith) less in
+        let less_here : is_before n atom fact ≡ true =
+        ap (is_before n atom) (sym (get_or_from_slice_get facts k fact fact at)) ∙ below.0 k fact (omega arith) less in
         absurd (never_lt (sym (ap is_lt (level fact is_ground sigma tau same)) ∙ less_here));
     after = λ k fact at past is_ground sigma tau same.
-        let more_here : is_not_after n atom fact ≡ false = ap (is_not_after n atom) (sym (get_or_from_slice_get facts k fact fact at)) ∙ upto_end.1 k fact past (slice_get_within facts k fact at) in
+        let more_here : is_not_after n atom fact ≡ false =
+        ap (is_not_after n atom) (sym (get_or_from_slice_get facts k fact fact at))
+        ∙ upto_end.1 k fact past (slice_get_within facts k fact at) in
         absurd (never_gt (sym (ap is_le (level fact is_ground sigma tau same)) ∙ more_here));
   }
     where

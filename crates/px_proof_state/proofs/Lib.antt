@@ -1,3 +1,4 @@
+-- The files of lemmas.
 pub mod AncestorRange
 pub mod ApartLemmas
 pub mod AxiomRange

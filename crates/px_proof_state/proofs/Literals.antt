@@ -9,13 +9,17 @@ use Rattle.px_unify.specs.Changes.{Binds, HasSolutions, MakesEqual, NarrowedBy, 
 use Rattle.px_proof_state.specs.Matches.{IsMatch}
 
 module _ (old new : List Change) (a b : Lit) (sign : a.positive ≡ b.positive) where
-  lits_equal : (sigma : List Term) → substitute_atom sigma a.atom ≡ substitute_atom sigma b.atom → substitute_literal sigma a ≡ substitute_literal sigma b
+  lits_equal : (sigma : List Term) → substitute_atom sigma a.atom ≡ substitute_atom sigma b.atom
+      → substitute_literal sigma a ≡ substitute_literal sigma b
   lits_equal sigma e = λ i. record { positive = sign i; atom = e i }
 
   pub found : Binds old new → HasSolutions new → NarrowedBy old new (MakesEqual a.atom b.atom) → IsMatch old new a b true
   found grows solvable narrowed = record {
-    agree = λ is_found sigma.
-        (λ fits. let h = (narrowed sigma).0 fits in (h.0, lits_equal sigma h.1), λ h. (narrowed sigma).1 (h.0, ap (λ (l : Lit). l.atom) h.1));
+    agree = λ is_found sigma. (
+      λ fits. let h = (narrowed sigma).0 fits in
+          (h.0, lits_equal sigma h.1),
+      λ h. (narrowed sigma).1 (h.0, ap (λ (l : Lit). l.atom) h.1),
+    );
     grows = λ is_found. grows;
     solvable = λ is_found. solvable;
     never = λ is_not. absurd (cc);

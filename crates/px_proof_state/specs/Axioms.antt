@@ -15,19 +15,19 @@ pub record IsFit (variables : ℕ) (clause : Clause) : Type 0 where
   pub plain : ArePlainBelow clause.vars clause.lits
 
 -- the parts of a step with these literals have a height
-abbrev pub HasRoom : OpenGoal → List Lit → Type 0
-HasRoom goal lits = (length lits ≤ 1) ⊎ (2 ≤ goal.budget)
+abbrev pub HasBudget : OpenGoal → List Lit → Type 0
+HasBudget goal lits = (length lits ≤ 1) ⊎ (2 ≤ goal.budget)
 
--- the place to begin with: the given one at the first axiom, and else 0
+-- the place to begin with: the given one at the first axiom, and 0 at the others
 pub record IsFrom (number from place start : ℕ) : Type 0 where
   pub here : number ≡ from → start ≡ place
   pub later : number ≢ from → start ≡ 0
 
 abbrev pub NeverClause : Clause → ProofStateValue → OpenGoal → ℕ → Type 0
-NeverClause clause old goal place = HasRoom goal clause.lits → NeverStep clause old goal place
+NeverClause clause old goal place = HasBudget goal clause.lits → NeverStep clause old goal place
 
 abbrev pub ComesClause : ℕ → Clause → ProofStateValue → OpenGoal → ℕ → ProofStateValue → Type 0
-ComesClause number clause old goal place new = HasRoom goal clause.lits × ComesStep number clause old goal place new
+ComesClause number clause old goal place new = HasBudget goal clause.lits × ComesStep number clause old goal place new
 
 abbrev pub TriesClause : ℕ → Clause → OpenGoal → ℕ → ProofStateValue → ProofStateValue → Bool → Type 0
 TriesClause number clause goal from old new found = TriesRange (NeverClause clause old goal) (ComesClause number clause old goal) from

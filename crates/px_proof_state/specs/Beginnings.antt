@@ -4,7 +4,7 @@ use Rattle.px_terms.specs.Instances.{IsGround}
 use Rattle.px_terms.specs.declared.atom.Atom.{Atom}
 use Rattle.px_proof_state.specs.Apart.{AreApart}
 
--- the atom with its first arguments alone, at most `count`
+-- the atom with only its first arguments, at most `count`
 abbrev pub beginning : ℕ → Atom → Atom
 beginning count atom = record { pred = atom.pred; args = take count atom.args }
 

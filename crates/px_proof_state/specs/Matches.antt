@@ -13,7 +13,7 @@ use Rattle.px_proof_state.specs.States.{ProofStateValue}
 abbrev pub MakesSame : Lit → Lit → List Term → Type 0
 MakesSame a b sigma = substitute_literal sigma a ≡ substitute_literal sigma b
 
--- the substitutions that fit are those that fitted and make the literals equal; or none does, and nothing changes
+-- the substitutions that fit are those that fitted and make the literals equal; or no substitution does both, and nothing changes
 pub record IsMatch (old new : List Change) (a b : Lit) (found : Bool) : Type 0 where
   pub agree : found ≡ true → NarrowedBy old new (MakesSame a b)
   pub grows : found ≡ true → Binds old new

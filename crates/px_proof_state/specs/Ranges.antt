@@ -5,7 +5,7 @@ use Rattle.px_proof.specs.declared.shape.Tick.TheVariants.{Fact}
 use Rattle.px_terms.specs.declared.atom.Atom.{Atom}
 use Rattle.px_terms.specs.declared.clause.Lit.{Lit}
 use Rattle.px_unify.specs.Changes.{NoneFits}
-use Rattle.px_question.specs.Settings.{IsObjectBelow}
+use Rattle.px_terms.specs.Language.{IsObjectBelow}
 use Rattle.px_proof_state.specs.declared.open.OpenGoal.{OpenGoal}
 use Rattle.px_proof_state.specs.Matches.{ClosesBy, MakesSame}
 use Rattle.px_proof_state.specs.States.{ProofStateValue}

@@ -7,14 +7,14 @@ use Rattle.px_terms.specs.declared.clause.Lit.{Lit}
 use Rattle.px_terms.specs.declared.clause.Clause.{Clause}
 use Rattle.px_unify.specs.declared.change.Change.{Change}
 use Rattle.px_unify.specs.Changes.{HasSolutions, NarrowedBy, NoneFits, variables_of}
-use Rattle.px_proof_walk.specs.Pending.{variables_from}
+use Rattle.px_terms.specs.Substitution.{variables_from}
 use Rattle.px_proof_state.specs.declared.open.OpenGoal.{OpenGoal}
 use Rattle.px_proof_state.specs.Arena.{goals_at, path_at, AreOlder}
 use Rattle.px_proof_state.specs.Matches.{MakesSame, choice_by}
 use Rattle.px_proof_state.specs.Parts.{goals_under}
 use Rattle.px_proof_state.specs.States.{ProofStateValue}
 
--- there are that many more variables, and what fits is what fitted and makes the literals equal; or nothing does, and nothing changes
+-- there are that many more variables, and what fits is what fitted and makes the literals equal; or nothing does both, and nothing changes
 pub record MatchesFresh (old new : List Change) (count : ℕ) (goal lit : Lit) (found : Bool) : Type 0 where
   pub agree : found ≡ true → NarrowedBy old new (MakesSame goal lit)
   pub variables : found ≡ true → variables_of new ≡ variables_of old + count
@@ -40,8 +40,8 @@ pub record ClosesByStep (old new : ProofStateValue) (tick : Tick) (goal : OpenGo
     pub grown : found ≡ true → (more : List OpenGoal) × (new.goals ≡ old.goals ++ more)
     pub older : found ≡ true → new.first ≤ length new.goals
     pub arena : found ≡ true → AreOlder old.goals → AreOlder new.goals
-    pub opened : found ≡ true →
-        goals_at new.goals new.first ≡
+    pub opened : found ≡ true
+        → goals_at new.goals new.first ≡
         goals_under (path_at old.goals old.first) (goal.budget - 1)
         (parts_of clause.lits (variables_from (variables_of old.changes) clause.vars) place) ++ goals_at old.goals goal.next
     pub unchanged : found ≡ false → new ≡ old

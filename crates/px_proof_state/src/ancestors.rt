@@ -10,7 +10,7 @@ use crate::open::{OpenGoal, ProofState};
 use px_proof::{Tick, complement};
 use px_terms::{Lit, NoMemory};
 
-/// Closes the first goal by the complement of a literal above it, if its number is not below `from`.
+/// Closes the first goal by the complement of a literal above it, if its number is not below `from`. Returns whether it does.
 fn try_ancestor(
     state: &mut ProofState,
     number: u32,
@@ -29,7 +29,7 @@ fn try_ancestor(
     state.close_by(Tick::Anc(number), &goal.lit, goal.next, &lit)
 }
 
-/// Closes the first goal by the nearest literal above it, from the number on, whose complement closes it.
+/// Closes the first goal by the nearest literal above it, from the number on, whose complement closes it. Returns whether there is one.
 ///
 /// # Errors
 /// `NoMemory` if memory for the choice runs out. The state is then of no further use.

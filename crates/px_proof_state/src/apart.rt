@@ -1,4 +1,4 @@
-//! What is never equal, told apart before anything is bound.
+//! What is never equal, and is told apart before anything is bound.
 ghost use Rattle.std.specs.Prelude.{◌≡◌, All, IsTrue};
 ghost use Rattle.px_terms.specs.Language.{IsPlainBelow};
 ghost use Rattle.px_unify.specs.Changes.{variables_of};
@@ -7,7 +7,7 @@ ghost use Rattle.px_proof_state.specs.Apart.{AreApart, AreLiteralsApart, AreOneA
 use px_terms::{Atom, Lit, Term};
 use px_unify::Bind;
 
-/// The atom with each argument followed to the end of its bindings.
+/// Returns the atom with each argument followed to the end of its bindings.
 pub(crate) fn followed(bind: &Bind, atom: &Atom) -> Atom
     requires { All (IsPlainBelow (variables_of bind.now)) atom.now.args }
     ensures { AreOneAtomUnder bind.now atom.now result }
@@ -23,7 +23,7 @@ pub(crate) fn followed(bind: &Bind, atom: &Atom) -> Atom
     }
 }
 
-/// Are the terms two objects?
+/// Returns whether the terms are two different objects.
 fn are_terms_apart(s: Term, t: Term) -> bool
     ensures { IsTrue result → AreTermsApart s t }
 {
@@ -33,7 +33,7 @@ fn are_terms_apart(s: Term, t: Term) -> bool
     }
 }
 
-/// Do the predicates, the numbers of arguments, or two objects at one place tell the atoms apart?
+/// Returns whether the atoms differ in their predicates, their numbers of arguments, or two objects at one place.
 pub(crate) fn are_apart(a: &Atom, b: &Atom) -> bool
     ensures { IsTrue result → AreApart a.now b.now }
 {
@@ -49,7 +49,7 @@ pub(crate) fn are_apart(a: &Atom, b: &Atom) -> bool
     false
 }
 
-/// Do the signs or the atoms tell the literals apart?
+/// Returns whether the literals differ in their signs, or their atoms in predicates, numbers of arguments, or two objects at one place.
 pub(crate) fn are_literals_apart(a: &Lit, b: &Lit) -> bool
     ensures { IsTrue result → AreLiteralsApart a.now b.now }
 {

@@ -3,27 +3,28 @@ ghost use Rattle.std.specs.Prelude.{◌≡◌, ◌↔◌, ◌+◌, ◌<◌, ◌�
 ghost use Rattle.px_unify.specs.Changes.{variables_of};
 ghost use Rattle.px_proof_state.specs.Parts.{IsLitBelow};
 ghost use Rattle.px_proof_state.specs.Ranges.{TriesRange};
-ghost use Rattle.px_proof_state.specs.Axioms.{IsFit, HasRoom, IsFrom, TriesClause, NeverAxiom, ComesAxiom};
+ghost use Rattle.px_proof_state.specs.Axioms.{IsFit, HasBudget, IsFrom, TriesClause, NeverAxiom, ComesAxiom};
 
 use crate::open::{OpenGoal, ProofState};
 use px_proof::Tick;
 use px_terms::{ClauseArena, Lit, NoMemory};
 
-/// Does the height of the goal leave room for the parts of the clause?
+/// Returns whether the height of the goal leaves room for the parts of the clause.
 fn has_room(goal: &OpenGoal, lits: &[Lit]) -> bool
-    ensures { IsTrue result ↔ HasRoom goal.now lits.now }
+    ensures { IsTrue result ↔ HasBudget goal.now lits.now }
 {
     lits.len() <= 1 || 2 <= goal.budget
 }
 
-/// The first place to try: the given one at the first axiom, and 0 at the others.
+/// Returns the first place to try: the given one at the first axiom, and 0 at the others.
 fn start_place(number: usize, from: usize, place: usize) -> usize
     ensures { IsFrom number from place result }
 {
     if number == from { place } else { 0 }
 }
 
-/// Closes the first goal by the first literal of the clause, from the given place on, that closes it, if there is room.
+/// Closes the first goal by the first literal of the clause, from the given place on, that closes it, if there is room. Returns whether it
+/// is closed.
 fn try_clause(
     state: &mut ProofState,
     number: u32,
@@ -52,7 +53,7 @@ fn try_clause(
     Ok(false)
 }
 
-/// Closes the first goal by the first literal that closes it, from the given place of the axiom `from` on.
+/// Closes the first goal by the first literal that closes it, from the given place of the axiom `from` on. Returns whether there is one.
 ///
 /// # Errors
 /// `NoMemory` if memory for the choice, the variables or the parts runs out. The state is then of no further use.

@@ -1,4 +1,4 @@
-//! The facts that begin as an atom does, found by halves in their order.
+//! The facts that begin as an atom does, found by binary search in their order.
 ghost use Rattle.std.specs.Prelude.{◌≡◌, ◌≤◌, All, length, take};
 ghost use Rattle.px_terms.specs.AtomSets.{IsAtomSet};
 ghost use Rattle.px_terms.specs.Language.{IsObject};
@@ -8,7 +8,7 @@ ghost use Rattle.px_proof_state.specs.Beginnings.{HasItsFacts, beginning};
 use px_terms::{Atom, Term};
 use std::cmp::Ordering;
 
-/// How many terms stand before the first one that is no object.
+/// Returns how many terms stand before the first one that is no object.
 fn leading_objects(terms: &[Term]) -> usize
     ensures within { result ≤ length terms.now }
     ensures objects { All IsObject (take result terms.now) }
@@ -22,7 +22,7 @@ fn leading_objects(terms: &[Term]) -> usize
     terms.len()
 }
 
-/// The first `count` terms, or all of them if there are fewer.
+/// Returns the first `count` terms, or all of them if there are fewer.
 fn front(terms: &[Term], count: usize) -> &[Term]
     ensures { result.now ≡ take count terms.now }
 {
@@ -39,8 +39,7 @@ fn compare_beginnings(count: usize, a: &Atom, b: &Atom) -> Ordering
     }
 }
 
-/// The first place of a fact with the predicate and the leading objects of the atom, and the first place after all of
-/// them.
+/// Returns the first place of a fact with the predicate and the leading objects of the atom, and the first place after all of them.
 pub(crate) fn places_of(facts: &[Atom], atom: &Atom) -> (usize, usize)
     requires { IsAtomSet facts.now }
     ensures { HasItsFacts facts.now atom.now result.0 result.1 }

@@ -1,9 +1,8 @@
 //! Closing a place by a fact.
-ghost use Rattle.std.specs.Prelude.{◌≡◌, ◌↔◌, ◌<◌, ◌≤◌, ℕ, IsTrue, IfOk, All, length};
+ghost use Rattle.std.specs.Prelude.{◌≡◌, ◌<◌, ◌≤◌, ℕ, IfOk, length};
 ghost use Rattle.px_terms.specs.AtomSets.{IsAtomSet};
 ghost use Rattle.px_terms.specs.Instances.{IsGround};
 ghost use Rattle.px_unify.specs.Changes.{variables_of};
-ghost use Rattle.px_question.specs.Settings.{IsObjectBelow};
 ghost use Rattle.px_proof_state.specs.Parts.{IsLitBelow};
 ghost use Rattle.px_proof_state.specs.Apart.{AreOneAtomUnder};
 ghost use Rattle.px_proof_state.specs.Ranges.{TriesRange, TriesFact, NeverFact, ComesFact};
@@ -12,25 +11,7 @@ use crate::apart::{are_apart, followed};
 use crate::beginnings::places_of;
 use crate::open::{OpenGoal, ProofState};
 use px_proof::Tick;
-use px_terms::{Atom, Lit, NoMemory, Term};
-
-/// Is the term an object of the problem?
-fn is_object_below(objects: u32, term: Term) -> bool
-    ensures { IsTrue result ↔ IsObjectBelow objects term }
-{
-    match term {
-        Term::Obj(number) => number < objects,
-        Term::Var(_) => false,
-        Term::Any => false,
-    }
-}
-
-/// Are all terms objects of the problem?
-fn all_below(objects: u32, terms: &[Term]) -> bool
-    ensures { IsTrue result ↔ All (IsObjectBelow objects) terms.now }
-{
-    terms.iter().all(|term| is_object_below(objects, *term))
-}
+use px_terms::{Atom, Lit, NoMemory, are_objects_below};
 
 /// Closes the first goal by the fact if all arguments of the fact are objects of the problem. `ends` is the goal's atom
 /// with its bindings followed.
@@ -49,7 +30,7 @@ fn try_fact(
     if are_apart(ends, fact) {
         return Ok(false);
     }
-    if !all_below(objects, fact.args()) {
+    if !are_objects_below(objects, fact.args()) {
         return Ok(false);
     }
     let lit = Lit {
@@ -59,7 +40,7 @@ fn try_fact(
     state.close_by(Tick::Fact(number), &goal.lit, goal.next, &lit)
 }
 
-/// Closes the first goal by the first fact, from the number on, that closes it.
+/// Closes the first goal by the first fact, from the number on, that closes it. Returns whether there is one.
 ///
 /// # Errors
 /// `NoMemory` if memory for the choice runs out. The state is then of no further use.

@@ -7,7 +7,7 @@ ghost use Rattle.px_proof_state.specs.Matches.{IsMatch};
 use px_terms::Lit;
 use px_unify::{Bind, Clash, unify};
 
-/// Makes the two literals equal, or leaves the bindings as they are.
+/// Makes the two literals equal, or leaves the bindings as they are. Returns whether they are equal.
 pub(crate) fn matches(bind: &mut Bind, a: &Lit, b: &Lit) -> bool
     requires a_below { All (IsPlainBelow (variables_of bind.old)) a.now.atom.args }
     requires b_below { All (IsPlainBelow (variables_of bind.old)) b.now.atom.args }

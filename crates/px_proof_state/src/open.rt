@@ -59,7 +59,7 @@ impl ProofState {
     ghost use Rattle.px_proof_state.specs.declared.open.Choice.{Choice};
     ghost use Rattle.px_proof_state.specs.States.{CanRetract, retracted, IsOpening};
 
-    /// The state in which nothing is closed, and one place for each atom of the formula is open.
+    /// Returns the state in which nothing is closed, and one place for each atom of the formula is open.
     ///
     /// # Errors
     /// `NoMemory` if memory for the places or the variables runs out.
@@ -88,33 +88,33 @@ impl ProofState {
         })
     }
 
-    /// The variables and their bindings.
+    /// Returns the variables and their bindings.
     pub fn bind(&self) -> &Bind
         ensures { result.now ≡ self.now.changes }
     {
         &self.bind
     }
 
-    /// The allocator of the state.
+    /// Returns the allocator of the state.
     pub fn allocator(&self) -> &Global {
         self.choices.allocator()
     }
 
-    /// How the places were closed, from the first on.
+    /// Returns how the places were closed, from the first on.
     pub fn choices(&self) -> &[Choice]
         ensures { reverse result.now ≡ self.now.choices }
     {
         &self.choices
     }
 
-    /// The place of the first open goal, or 0.
+    /// Returns the place of the first open goal, or 0.
     pub fn first(&self) -> usize
         ensures { result ≡ self.now.first }
     {
         self.first
     }
 
-    /// The goal at a place of the arena.
+    /// Returns the goal at a place of the arena.
     pub fn goal_at(&self, place: usize) -> OpenGoal
         requires some { 0 < place }
         requires within { place ≤ length self.now.goals }
@@ -123,7 +123,7 @@ impl ProofState {
         self.goals[place - 1]
     }
 
-    /// Closes the first goal by a literal that leaves no parts.
+    /// Closes the first goal by a literal that leaves no parts, if it can be made equal to it. Returns whether it can.
     pub(crate) fn close_by(
         &mut self,
         tick: Tick,
@@ -154,7 +154,9 @@ impl ProofState {
         }
     }
 
-    /// Closes the first goal by the literal of a clause at a place, and opens the other literals' complements.
+    /// Closes the first goal by the literal of a clause at a place, if it can be made equal to it, and opens the other literals'
+    /// complements.
+    /// Returns whether it can.
     pub(crate) fn close_by_step(
         &mut self,
         tick: Tick,
@@ -202,7 +204,7 @@ impl ProofState {
         Ok(true)
     }
 
-    /// Opens again the place that was closed last.
+    /// Opens again the place that was closed last, and returns its tick.
     pub fn retract_last(&mut self) -> Option<Tick>
         requires { CanRetract self.old }
         ensures last { IfSome result (λ tick. (choice : Choice) × (rest : List Choice) × (self.old.choices ≡ choice ∷ rest)

@@ -2,7 +2,7 @@
 ghost use Rattle.std.specs.Prelude.{◌≡◌, ◌+◌, ◌-◌, ◌≤◌, ◌++◌, ◌∷◌, [], ℕ, List, Some, IfOk, All, length, suc, take, map};
 ghost use Rattle.px_terms.specs.Language.{IsVariableBelow};
 ghost use Rattle.px_terms.specs.declared.clause.Lit.{Lit as LitValue};
-ghost use Rattle.px_proof_walk.specs.Pending.{variables_from};
+ghost use Rattle.px_terms.specs.Substitution.{variables_from};
 ghost use Rattle.px_proof.specs.Literals.{positive_of};
 ghost use Rattle.px_proof.specs.Proves.{parts_of};
 ghost use Rattle.px_proof_state.specs.declared.open.OpenGoal.{OpenGoal as GoalValue};
@@ -13,10 +13,10 @@ use crate::open::OpenGoal;
 use px_proof::{apply_literal, complement};
 use px_terms::{Atom, Lit, NoMemory, Term};
 
-/// The most variables that an axiom has.
+/// The greatest number of variables of an axiom.
 pub(crate) const MOST: usize = 12;
 
-/// The variables from number `first` on: the first `count` terms of the array.
+/// Returns the variables from number `first` on: the first `count` terms of the array.
 pub(crate) fn variables_after(first: u32, count: u32) -> [Term; MOST]
     requires few { count ≤ 12 }
     requires small { first + count ≤ 1000000 }

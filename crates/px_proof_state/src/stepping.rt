@@ -8,7 +8,7 @@ use crate::matching::matches;
 use px_terms::{Lit, NoMemory};
 use px_unify::{Bind, BindErr};
 
-/// Adds variables and makes the two literals equal, or leaves the bindings as they are.
+/// Adds variables and makes the two literals equal, or leaves the bindings as they are. Returns whether they are equal.
 pub(crate) fn matches_fresh(
     bind: &mut Bind,
     count: u32,

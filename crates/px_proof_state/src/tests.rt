@@ -7,14 +7,14 @@ use px_terms::{Atom, ClauseArena, Lit, NoMemory, Term};
 use std::process::Abort;
 use std::rt::HostRuntime;
 
-/// The atom of predicate 0 with one argument.
+/// Returns the atom of predicate 0 with one argument.
 fn of(rt: &impl Abort, term: Term) -> Atom
     ensures { result ≡ record { pred = 0; args = term ∷ [] } }
 {
     Atom::new(0, &[term]).expect(rt, "one argument")
 }
 
-/// A literal to be proved, with a height of 1 and nothing open after it.
+/// Returns a literal to be proved, with a height of 1 and nothing open after it.
 fn goal_of(positive: bool, atom: Atom, above: usize) -> OpenGoal
     ensures lit { result.lit ≡ record { positive = positive; atom = atom } }
     ensures above { result.above ≡ above }
@@ -29,7 +29,7 @@ fn goal_of(positive: bool, atom: Atom, above: usize) -> OpenGoal
     }
 }
 
-/// Is one place closed, by the tick, and none open?
+/// Returns whether one place is closed, by the tick, and none is open.
 fn is_closed_by(state: &ProofState, tick: Tick) -> bool {
     match state.choices() {
         [choice] => choice.tick == tick && state.first() == 0,

@@ -14,9 +14,10 @@ use Rattle.px_proof.specs.Derivation.{Derivation, Derivations, fact, ancestor, s
 use Rattle.px_proof.specs.Proves.{Rules, Proves, ProvesEach, parts_of, or_open}
 use Rattle.px_proof.specs.ProvesLaws.{each_by}
 use Rattle.px_proof.specs.Shapes.{ticks, ticks_of}
-use Rattle.px_question.specs.Answers.{IsList, object_terms, object_of, choices_of, all_choices_of, literals_of}
+use Rattle.px_question.specs.Answers.{IsList, object_terms, choices_of, all_choices_of, literals_of}
 use Rattle.px_question.specs.Limits.{IsPartialShape}
-use Rattle.px_question.specs.Settings.{Setting, IsObjectBelow}
+use Rattle.px_terms.specs.Language.{IsObjectBelow, object_of}
+use Rattle.px_question.specs.Settings.{Setting}
 use Rattle.px_proof_walk.specs.Pending.{Solves, open_after, goals_of, IsFeasible}
 use Rattle.px_proof_walk.specs.Possible.{IsClosing, IsPossible, IsFinished, open_count, shape_of, left_of, rules_for}
 use Rattle.px_proof_walk.specs.Scope.{IsSetting, IsAtomIn}
@@ -34,13 +35,16 @@ module _ (rules : Rules) (axioms : List Clause) (no_open : ¬ rules.IsOpen) wher
     closings_of : (path : List Lit) (lit : Lit) (p : Derivation) → Proves rules axioms path lit p → AllByRecursion IsClosing (ticks p)
     closings_of path lit (fact leaf) proved = (tt, tt)
     closings_of path lit (ancestor i) proved = (tt, tt)
-    closings_of path lit (step number theta place parts) proved = (tt, closings_of-each (lit ∷ path) (parts_of proved.0.lits theta place) parts proved.2)
+    closings_of path lit (step number theta place parts) proved =
+        (tt, closings_of-each (lit ∷ path) (parts_of proved.0.lits theta place) parts proved.2)
     closings_of path lit (gap a) proved = (tt, tt)
     closings_of path lit open_place proved = absurd (no_open proved)
 
-    pub closings_of-each : (path lits : List Lit) (ps : Derivations) → ProvesEach rules axioms path lits ps → AllByRecursion IsClosing (ticks_of ps)
+    pub closings_of-each : (path lits : List Lit) (ps : Derivations) → ProvesEach rules axioms path lits ps
+        → AllByRecursion IsClosing (ticks_of ps)
     closings_of-each path [] none each = tt
-    closings_of-each path (lit ∷ lits) (also p ps) each = all-both IsClosing (ticks p) (ticks_of ps) (closings_of path lit p each.0) (closings_of-each path lits ps each.1)
+    closings_of-each path (lit ∷ lits) (also p ps) each =
+        all-both IsClosing (ticks p) (ticks_of ps) (closings_of path lit p each.0) (closings_of-each path lits ps each.1)
     closings_of-each path [] (also p ps) each = absurd each
     closings_of-each path (lit ∷ lits) none each = absurd each
 
@@ -57,9 +61,12 @@ module _ (rules : Rules) (axioms : List Clause) (n : ℕ) (choices : (t : Term) 
     choices-below path lit (gap a) proved = All-nil (λ o. o < n)
     choices-below path lit open_place proved = All-nil (λ o. o < n)
 
-    pub choices-below-each : (path lits : List Lit) (ps : Derivations) → ProvesEach rules axioms path lits ps → All (λ o. o < n) (all_choices_of ps)
+    pub choices-below-each : (path lits : List Lit) (ps : Derivations) → ProvesEach rules axioms path lits ps
+        → All (λ o. o < n) (all_choices_of ps)
     choices-below-each path [] none each = All-nil (λ o. o < n)
-    choices-below-each path (lit ∷ lits) (also p ps) each = All-append (λ o. o < n) (choices_of p) (all_choices_of ps) (choices-below path lit p each.0) (choices-below-each path lits ps each.1)
+    choices-below-each path (lit ∷ lits) (also p ps) each =
+        All-append (λ o. o < n) (choices_of p) (all_choices_of ps) (choices-below path lit p each.0)
+        (choices-below-each path lits ps each.1)
     choices-below-each path [] (also p ps) each = absurd each
     choices-below-each path (lit ∷ lits) none each = absurd each
 
@@ -72,10 +79,12 @@ never_open : (loose : Bool) (s : Setting) → ¬ (rules_for loose s).IsOpen
 never_open false s h = h
 never_open true s h = h
 
-module _ (loose : Bool) (s : Setting) (valid : IsSetting s) (formula : List Atom) (vars : ℕ) (scoped : AllByRecursion (IsAtomIn s.objects vars) formula) where
+module _ (loose : Bool) (s : Setting) (valid : IsSetting s) (formula : List Atom) (vars : ℕ)
+    (scoped : AllByRecursion (IsAtomIn s.objects vars) formula) where
   -- a feasible list, with open places for what it leaves open, is a list of derivations
-  pub list-of : (ticks : List Tick) → IsFeasible loose s formula vars ticks →
-      (objects : List ℕ) × (ps : Derivations) × IsList (or_open (rules_for loose s)) s formula vars objects ps × (ticks_of ps ≡ shape_of loose s formula vars ticks)
+  pub list-of : (ticks : List Tick) → IsFeasible loose s formula vars ticks
+      → (objects : List ℕ) × (ps : Derivations) × IsList (or_open (rules_for loose s)) s formula vars objects ps
+      × (ticks_of ps ≡ shape_of loose s formula vars ticks)
   list-of ticks (p, now, (objects, enough, below, solves)) =
       let k = length p.goals in
       let front : List ℕ = take p.variables objects in
@@ -85,16 +94,22 @@ module _ (loose : Bool) (s : Setting) (valid : IsSetting s) (formula : List Atom
       let whole : objects ≡ front ++ drop p.variables objects = sym (take-append-drop p.variables objects) in
       let long : p.variables ≤ length (object_terms front) = omega (arith, front_long, length-objects front) in
       let split_solves : Solves loose s (object_terms front ++ object_terms (drop p.variables objects)) vars (goals_of s formula) ticks =
-      subst (λ (tau : List Term). Solves loose s tau vars (goals_of s formula) ticks) (ap object_terms whole ∙ objects-append front (drop p.variables objects)) solves in
+      subst (λ (tau : List Term). Solves loose s tau vars (goals_of s formula) ticks)
+      (ap object_terms whole ∙ objects-append front (drop p.variables objects)) solves in
       let front_solves : Solves loose s (object_terms front) vars (goals_of s formula) ticks =
-      solves-front loose s valid (object_terms front) (object_terms (drop p.variables objects)) ticks vars (goals_of s formula) p over now long split_solves in
-      let ends : open_after loose s vars (goals_of s formula) (ticks ++ replicate k Open) ≡ Some (record { variables = p.variables; goals = [] }) =
-      open_after-joined loose s ticks (replicate k Open) vars (goals_of s formula) p (record { variables = p.variables; goals = [] }) now (opens-after loose s p.goals p.variables k refl) in
+      solves-front loose s valid (object_terms front) (object_terms (drop p.variables objects)) ticks vars
+      (goals_of s formula) p over now long split_solves in
+      let ends : open_after loose s vars (goals_of s formula) (ticks ++ replicate k Open)
+      ≡ Some (record { variables = p.variables; goals = [] }) =
+      open_after-joined loose s ticks (replicate k Open) vars (goals_of s formula) p (record { variables = p.variables; goals = [] }) now
+      (opens-after loose s p.goals p.variables k refl) in
       let solved : Solves loose s (object_terms front) vars (goals_of s formula) (ticks ++ replicate k Open) =
-      solves-joined loose s (object_terms front) ticks (replicate k Open) vars (goals_of s formula) p now front_solves (opens-solve loose s (object_terms front) p.goals p.variables k refl) in
+      solves-joined loose s (object_terms front) ticks (replicate k Open) vars (goals_of s formula) p now front_solves
+      (opens-solve loose s (object_terms front) p.goals p.variables k refl) in
       let again : front ≡ take vars front ++ drop vars front = sym (take-append-drop vars front) in
       let first_long : length (take vars front) ≡ vars = length-take-le vars front (omega (arith, grown, front_long)) in
-      let sum : length (take vars front) + length (drop vars front) ≡ p.variables = sym (length-append (take vars front) (drop vars front)) ∙ ap length (sym again) ∙ front_long in
+      let sum : length (take vars front) + length (drop vars front) ≡ p.variables =
+      sym (length-append (take vars front) (drop vars front)) ∙ ap length (sym again) ∙ front_long in
       let front_below : All (λ o. o < s.objects) front = All-take (λ o. o < s.objects) p.variables objects below in
       let found = list-solved loose s valid formula vars scoped (ticks ++ replicate k Open) (take vars front) (drop vars front) first_long
       (All-take (λ o. o < s.objects) vars front front_below) (All-drop (λ o. o < s.objects) vars front front_below)
@@ -103,20 +118,29 @@ module _ (loose : Bool) (s : Setting) (valid : IsSetting s) (formula : List Atom
       (take vars front, found.0, found.1, found.2 ∙ ap (λ o. ticks ++ replicate (left_of o) Open) (sym now))
 
   -- the shapes of unfinished lists are those of possible lists of ticks that are not finished
-  pub partial-from : (shape : List Tick) → IsPartialShape (rules_for loose s) s formula vars shape →
-      (ticks : List Tick) × (shape ≡ shape_of loose s formula vars ticks) × IsPossible loose s formula vars ticks × (¬ IsFinished loose s formula vars ticks)
+  pub partial-from : (shape : List Tick) → IsPartialShape (rules_for loose s) s formula vars shape
+      → (ticks : List Tick) × (shape ≡ shape_of loose s formula vars ticks) × IsPossible loose s formula vars ticks
+      × (¬ IsFinished loose s formula vars ticks)
   partial-from shape (unfinished, (objects, ps, is, ticks_are)) =
       let pad = padded shape unfinished in
       let solved = solves-list loose s valid formula vars scoped objects ps is in
       let same : ticks_of ps ≡ pad.front ++ replicate pad.count Open = ticks_are ∙ pad.is in
-      let ends : open_after loose s vars (goals_of s formula) (pad.front ++ replicate pad.count Open) ≡ Some (record { variables = length (objects ++ all_choices_of ps); goals = [] }) =
+      let ends : open_after loose s vars (goals_of s formula) (pad.front ++ replicate pad.count Open)
+      ≡ Some (record { variables = length (objects ++ all_choices_of ps); goals = [] }) =
       ap (λ ts. open_after loose s vars (goals_of s formula) ts) (sym same) ∙ solved.1 in
-      let between = open_after-split loose s pad.front (replicate pad.count Open) vars (goals_of s formula) (record { variables = length (objects ++ all_choices_of ps); goals = [] }) ends in
-      let count : length between.0.goals ≡ pad.count = opens-count loose s between.0.goals between.0.variables pad.count (record { variables = length (objects ++ all_choices_of ps); goals = [] }) between.2 refl in
+      let between =
+      open_after-split loose s pad.front (replicate pad.count Open) vars (goals_of s formula)
+      (record { variables = length (objects ++ all_choices_of ps); goals = [] }) ends in
+      let count : length between.0.goals ≡ pad.count =
+      opens-count loose s between.0.goals between.0.variables pad.count
+      (record { variables = length (objects ++ all_choices_of ps); goals = [] }) between.2 refl in
       let left : open_count loose s formula vars pad.front ≡ pad.count = ap left_of between.1 ∙ count in
-      let few : between.0.variables ≤ length (objects ++ all_choices_of ps) = variables_grow loose s (replicate pad.count Open) between.0.variables between.0.goals (record { variables = length (objects ++ all_choices_of ps); goals = [] }) between.2 in
-      let all_solve : Solves loose s (object_terms (objects ++ all_choices_of ps)) vars (goals_of s formula) (pad.front ++ replicate pad.count Open) =
-      subst (λ (ts : List Tick). Solves loose s (object_terms (objects ++ all_choices_of ps)) vars (goals_of s formula) ts) same solved.0 in (
+      let few : between.0.variables ≤ length (objects ++ all_choices_of ps) =
+      variables_grow loose s (replicate pad.count Open) between.0.variables between.0.goals
+      (record { variables = length (objects ++ all_choices_of ps); goals = [] }) between.2 in
+      let all_solve : Solves loose s (object_terms (objects ++ all_choices_of ps)) vars (goals_of s formula)
+      (pad.front ++ replicate pad.count Open) =
+      subst (Solves loose s (object_terms (objects ++ all_choices_of ps)) vars (goals_of s formula)) same solved.0 in (
         pad.front,
         pad.is ∙ ap (λ k. pad.front ++ replicate k Open) (sym left),
         (
@@ -127,18 +151,24 @@ module _ (loose : Bool) (s : Setting) (valid : IsSetting s) (formula : List Atom
             (
               objects ++ all_choices_of ps,
               few,
-              All-append (λ o. o < s.objects) objects (all_choices_of ps) is.below (choices-below-each (or_open (rules_for loose s)) s.axioms s.objects (choices_in loose s) [] (literals_of formula objects) ps is.proved),
-              solves-prefix loose s (object_terms (objects ++ all_choices_of ps)) pad.front (replicate pad.count Open) vars (goals_of s formula) all_solve,
+              All-append (λ o. o < s.objects) objects (all_choices_of ps) is.below
+                  (choices-below-each (or_open (rules_for loose s)) s.axioms s.objects (choices_in loose s) []
+                  (literals_of formula objects) ps is.proved),
+              solves-prefix loose s (object_terms (objects ++ all_choices_of ps)) pad.front (replicate pad.count Open) vars
+                  (goals_of s formula) all_solve,
             ),
           ),
         ),
-        λ finished. let zero_left : open_count loose s formula vars pad.front ≡ 0 = finished in omega (arith, zero_left, left, pad.some_open),
+        λ finished. let zero_left : open_count loose s formula vars pad.front ≡ 0 =
+            finished in omega (arith, zero_left, left, pad.some_open),
       )
 
-  pub partial-to : (shape ticks : List Tick) → shape ≡ shape_of loose s formula vars ticks → IsPossible loose s formula vars ticks → ¬ IsFinished loose s formula vars ticks → IsPartialShape (rules_for loose s) s formula vars shape
+  pub partial-to : (shape ticks : List Tick) → shape ≡ shape_of loose s formula vars ticks → IsPossible loose s formula vars ticks
+      → ¬ IsFinished loose s formula vars ticks → IsPartialShape (rules_for loose s) s formula vars shape
   partial-to shape ticks shape_is possible unfinished =
       let made = list-of ticks possible.1 in (
-        rw shape_is (padded-unfinished ticks (open_count loose s formula vars ticks) (above (open_count loose s formula vars ticks) unfinished) possible.0),
+        rw shape_is (padded-unfinished ticks (open_count loose s formula vars ticks)
+            (above (open_count loose s formula vars ticks) unfinished) possible.0),
         (made.0, made.1, made.2, made.3 ∙ sym shape_is),
       )
     where
@@ -147,11 +177,13 @@ module _ (loose : Bool) (s : Setting) (valid : IsSetting s) (formula : List Atom
       above (suc k) other = omega arith
 
   pub partial-possible : (shape : List Tick) → IsPartialShape (rules_for loose s) s formula vars shape ↔
-      ((ticks : List Tick) × (shape ≡ shape_of loose s formula vars ticks) × IsPossible loose s formula vars ticks × (¬ IsFinished loose s formula vars ticks))
+      ((ticks : List Tick) × (shape ≡ shape_of loose s formula vars ticks) × IsPossible loose s formula vars ticks
+      × (¬ IsFinished loose s formula vars ticks))
   partial-possible shape = (partial-from shape, λ h. partial-to shape h.0 h.1 h.2 h.3)
 
   -- where no place is open, the proofs are finished ones
-  pub closed-list : (objects : List ℕ) (ds : Derivations) → AllByRecursion IsClosing (ticks_of ds) → IsList (or_open (rules_for loose s)) s formula vars objects ds → IsList (rules_for loose s) s formula vars objects ds
+  pub closed-list : (objects : List ℕ) (ds : Derivations) → AllByRecursion IsClosing (ticks_of ds)
+      → IsList (or_open (rules_for loose s)) s formula vars objects ds → IsList (rules_for loose s) s formula vars objects ds
   closed-list objects ds closing is = record {
     count = is.count;
     below = is.below;
@@ -159,12 +191,14 @@ module _ (loose : Bool) (s : Setting) (valid : IsSetting s) (formula : List Atom
     low = is.low;
   }
 
-  pub choices-of-list : (objects : List ℕ) (ds : Derivations) → IsList (rules_for loose s) s formula vars objects ds → All (λ o. o < s.objects) (all_choices_of ds)
-  choices-of-list objects ds is = choices-below-each (rules_for loose s) s.axioms s.objects (choices_in loose s) [] (literals_of formula objects) ds is.proved
+  pub choices-of-list : (objects : List ℕ) (ds : Derivations) → IsList (rules_for loose s) s formula vars objects ds
+      → All (λ o. o < s.objects) (all_choices_of ds)
+  choices-of-list objects ds is =
+      choices-below-each (rules_for loose s) s.axioms s.objects (choices_in loose s) [] (literals_of formula objects) ds is.proved
 
   -- a possible list that is finished is a list of finished proofs
-  pub possible-finished : (ticks : List Tick) → IsPossible loose s formula vars ticks → IsFinished loose s formula vars ticks →
-      (objects : List ℕ) × (ps : Derivations) × IsList (rules_for loose s) s formula vars objects ps × (ticks_of ps ≡ ticks)
+  pub possible-finished : (ticks : List Tick) → IsPossible loose s formula vars ticks → IsFinished loose s formula vars ticks
+      → (objects : List ℕ) × (ps : Derivations) × IsList (rules_for loose s) s formula vars objects ps × (ticks_of ps ≡ ticks)
   possible-finished ticks possible finished =
       let made = list-of ticks possible.1 in
       let left : open_count loose s formula vars ticks ≡ 0 = finished in
@@ -175,20 +209,27 @@ module _ (loose : Bool) (s : Setting) (valid : IsSetting s) (formula : List Atom
         same,
       )
 
-  pub finished-opened : (objects : List ℕ) (ps : Derivations) → IsList (rules_for loose s) s formula vars objects ps → IsList (or_open (rules_for loose s)) s formula vars objects ps
+  pub finished-opened : (objects : List ℕ) (ps : Derivations) → IsList (rules_for loose s) s formula vars objects ps
+      → IsList (or_open (rules_for loose s)) s formula vars objects ps
   finished-opened objects ps is = record {
     count = is.count;
     below = is.below;
-    proved = each_by s.axioms (rules_for loose s) (or_open (rules_for loose s)) (record { choices = λ t h. h; gaps = λ atom h. h; opens = λ h. tt }) [] (literals_of formula objects) ps (λ leaf has h. h) is.proved;
+    proved =
+        each_by s.axioms (rules_for loose s) (or_open (rules_for loose s))
+        (record { choices = λ t h. h; gaps = λ atom h. h; opens = λ h. tt }) [] (literals_of formula objects) ps
+        (λ leaf has h. h) is.proved;
     low = is.low;
   }
 
-  pub finished-ends : (objects : List ℕ) (ps : Derivations) → IsList (rules_for loose s) s formula vars objects ps → open_after loose s vars (goals_of s formula) (ticks_of ps) ≡ Some (record { variables = length (objects ++ all_choices_of ps); goals = [] })
+  pub finished-ends : (objects : List ℕ) (ps : Derivations) → IsList (rules_for loose s) s formula vars objects ps
+      → open_after loose s vars (goals_of s formula) (ticks_of ps)
+      ≡ Some (record { variables = length (objects ++ all_choices_of ps); goals = [] })
   finished-ends objects ps is = (solves-list loose s valid formula vars scoped objects ps (finished-opened objects ps is)).1
 
   -- a finished list of derivations is a possible list of ticks, and finished
-  pub finished-possible : (objects : List ℕ) (ps : Derivations) → IsList (rules_for loose s) s formula vars objects ps →
-      IsPossible loose s formula vars (ticks_of ps) × IsFinished loose s formula vars (ticks_of ps) × Solves loose s (object_terms (objects ++ all_choices_of ps)) vars (goals_of s formula) (ticks_of ps)
+  pub finished-possible : (objects : List ℕ) (ps : Derivations) → IsList (rules_for loose s) s formula vars objects ps
+      → IsPossible loose s formula vars (ticks_of ps) × IsFinished loose s formula vars (ticks_of ps)
+      × Solves loose s (object_terms (objects ++ all_choices_of ps)) vars (goals_of s formula) (ticks_of ps)
   finished-possible objects ps is =
       let solved = solves-list loose s valid formula vars scoped objects ps (finished-opened objects ps is) in (
         (
@@ -196,7 +237,14 @@ module _ (loose : Bool) (s : Setting) (valid : IsSetting s) (formula : List Atom
           (
             record { variables = length (objects ++ all_choices_of ps); goals = [] },
             solved.1,
-            (objects ++ all_choices_of ps, omega arith, All-append (λ o. o < s.objects) objects (all_choices_of ps) is.below (choices-below-each (rules_for loose s) s.axioms s.objects (choices_in loose s) [] (literals_of formula objects) ps is.proved), solved.0),
+            (
+              objects ++ all_choices_of ps,
+              omega arith,
+              All-append (λ o. o < s.objects) objects (all_choices_of ps) is.below
+                  (choices-below-each (rules_for loose s) s.axioms s.objects (choices_in loose s) []
+                  (literals_of formula objects) ps is.proved),
+              solved.0,
+            ),
           ),
         ),
         rw solved.1 refl,

@@ -10,11 +10,12 @@ use Rattle.px_terms.specs.Language.{substitute}
 use Rattle.px_proof.specs.declared.shape.Tick.{Tick}
 use Rattle.px_proof.specs.declared.shape.Tick.TheVariants.{Fact, Anc, Step, Gap, Open}
 use Rattle.px_proof.specs.Literals.{substitute_literal, complement_of, positive_of}
-use Rattle.px_proof.specs.PlaceLaws.{some_same}
-use Rattle.px_proof.specs.Proves.{IsName, instance_of, parts_of}
+use Rattle.px_base.specs.Answers.{some_same}
+use Rattle.px_proof.specs.Proves.{IsObjectOrParameter, instance_of, parts_of}
 use Rattle.px_question.specs.Settings.{Setting}
-use Rattle.px_proof_walk.specs.Pending.{Goal, Closing, Pending, Solves, open_after, closing_at, fresh_of, vars_of, goals_below, by_fact, by_ancestor, by_literal, by_step, has_room, variables_from}
-use Rattle.px_proof_walk.specs.Scope.{IsClosingOf, IsGoalOf, IsLitIn, IsLitOf, IsSetting}
+use Rattle.px_terms.specs.Substitution.{variables_from}
+use Rattle.px_proof_walk.specs.Pending.{Goal, Closing, Pending, Solves, open_after, closing_at, fresh_of, vars_of, goals_below, by_fact, by_ancestor, by_literal, by_step, has_room}
+use Rattle.px_proof_walk.specs.Scope.{IsClosingOf, HasGoalTerms, IsLitIn, IsLitOf, IsSetting}
 use Rattle.px_proof_walk.proofs.Every.{all-at, all-both, all-mapped, all-removed, all-weaker}
 use Rattle.px_proof_walk.proofs.Lifting.{open_after-step, variables_grow}
 
@@ -22,17 +23,26 @@ use Rattle.px_proof_walk.proofs.Lifting.{open_after-step, variables_grow}
 -- more
 pub record AreTerms (objects : ℕ) (Over : ℕ → Term → Type 0) : Type 0 where
   pub more : (m n : ℕ) → m ≤ n → (t : Term) → Over m t → Over n t
-  pub new : (first count : ℕ) (t : Term) → IsName objects count t → Over (first + count) (substitute (variables_from first count) t)
+  pub new : (first count : ℕ) (t : Term) → IsObjectOrParameter objects count t
+      → Over (first + count) (substitute (variables_from first count) t)
 
 module _ (objects : ℕ) (Over : ℕ → Term → Type 0) (terms : AreTerms objects Over) where
   pub lit-more_of : (m n : ℕ) → m ≤ n → (l : Lit) → IsLitOf (Over m) l → IsLitOf (Over n) l
   lit-more_of m n more l over = all-weaker (Over m) (Over n) l.atom.args (terms.more m n more) over
 
-  pub goal-more_of : (m n : ℕ) → m ≤ n → (g : Goal) → IsGoalOf (Over m) g → IsGoalOf (Over n) g
-  goal-more_of m n more g over = record { lit = lit-more_of m n more g.lit over.lit; path = all-weaker (IsLitOf (Over m)) (IsLitOf (Over n)) g.path (lit-more_of m n more) over.path }
+  pub goal-more_of : (m n : ℕ) → m ≤ n → (g : Goal) → HasGoalTerms (Over m) g → HasGoalTerms (Over n) g
+  goal-more_of m n more g over =
+      record {
+        lit =
+            lit-more_of m n more g.lit over.lit;
+        path = all-weaker (IsLitOf (Over m)) (IsLitOf (Over n)) g.path (lit-more_of m n more) over.path;
+      }
 
-  pub new-lit_of : (first count : ℕ) (l : Lit) → IsLitIn objects count l → IsLitOf (Over (first + count)) (substitute_literal (variables_from first count) l)
-  new-lit_of first count l within = all-mapped (IsName objects count) (Over (first + count)) (substitute (variables_from first count)) l.atom.args (terms.new first count) within
+  pub new-lit_of : (first count : ℕ) (l : Lit) → IsLitIn objects count l
+      → IsLitOf (Over (first + count)) (substitute_literal (variables_from first count) l)
+  new-lit_of first count l within =
+      all-mapped (IsObjectOrParameter objects count) (Over (first + count)) (substitute (variables_from first count)) l.atom.args
+      (terms.new first count) within
 
 -- a fact that the tick uses has such terms without variables
 abbrev pub FactIsOver : Setting → (ℕ → Term → Type 0) → Tick → Type 0
@@ -43,83 +53,127 @@ FactIsOver s Over Gap = Unit {0}
 FactIsOver s Over Open = Unit {0}
 
 module _ (loose : Bool) (s : Setting) (valid : IsSetting s) (Over : ℕ → Term → Type 0) (terms : AreTerms s.objects Over) where
-  module _ (n : ℕ) (goal : Goal) (over : IsGoalOf (Over n) goal) where
-    fact-over : (i : ℕ) (at : Option Atom) (closing : Closing) → slice_get s.facts i ≡ at → FactIsOver s Over (Fact i) → by_fact at ≡ Some closing → IsClosingOf (Over (n + 0)) closing
+  module _ (n : ℕ) (goal : Goal) (over : HasGoalTerms (Over n) goal) where
+    fact-over : (i : ℕ) (at : Option Atom) (closing : Closing) → slice_get s.facts i ≡ at → FactIsOver s Over (Fact i)
+        → by_fact at ≡ Some closing → IsClosingOf (Over (n + 0)) closing
     fact-over i None closing e fact_in is = absurd (cc)
     fact-over i (Some a) closing e fact_in is =
-        let same : record { equal_to = positive_of a; parts = [] } ≡ closing = some_same _ _ is in
-        rw (← same) (record { equal_to = all-weaker (Over 0) (Over (n + 0)) a.args (terms.more 0 (n + 0) (omega arith)) (fact_in a e); parts = tt })
+        let same : record { equal_to = positive_of a; parts = [] } ≡ closing = some_same is in
+        rw (← same) (record {
+          equal_to =
+              all-weaker (Over 0) (Over (n + 0)) a.args (terms.more 0 (n + 0) (omega arith)) (fact_in a e);
+          parts = tt;
+        })
 
     same-lit : IsLitOf (Over (n + 0)) goal.lit
     same-lit = lit-more_of s.objects Over terms n (n + 0) (omega arith) goal.lit over.lit
 
-    ancestor-over : (i : ℕ) (at : Option Lit) (closing : Closing) → slice_get goal.path i ≡ at → by_ancestor at ≡ Some closing → IsClosingOf (Over (n + 0)) closing
+    ancestor-over : (i : ℕ) (at : Option Lit) (closing : Closing) → slice_get goal.path i ≡ at → by_ancestor at ≡ Some closing
+        → IsClosingOf (Over (n + 0)) closing
     ancestor-over i None closing e is = absurd (cc)
     ancestor-over i (Some above) closing e is =
-        let same : record { equal_to = complement_of above; parts = [] } ≡ closing = some_same _ _ is in
-        rw (← same) (record { equal_to = lit-more_of s.objects Over terms n (n + 0) (omega arith) above (all-at (IsLitOf (Over n)) goal.path i above over.path e); parts = tt })
+        let same : record { equal_to = complement_of above; parts = [] } ≡ closing = some_same is in
+        rw (← same) (record {
+          equal_to =
+              lit-more_of s.objects Over terms n (n + 0) (omega arith) above (all-at (IsLitOf (Over n)) goal.path i above over.path e);
+          parts = tt;
+        })
 
-    part-over : (m : ℕ) → n ≤ m → (l : Lit) → IsLitOf (Over m) l → IsGoalOf (Over m) (record { lit = l; path = goal.lit ∷ goal.path; budget = goal.budget - 1 })
-    part-over m more l lit = record { lit = lit; path = (lit-more_of s.objects Over terms n m more goal.lit over.lit, all-weaker (IsLitOf (Over n)) (IsLitOf (Over m)) goal.path (lit-more_of s.objects Over terms n m more) over.path) }
+    part-over : (m : ℕ) → n ≤ m → (l : Lit) → IsLitOf (Over m) l
+        → HasGoalTerms (Over m) (record { lit = l; path = goal.lit ∷ goal.path; budget = goal.budget - 1 })
+    part-over m more l lit =
+        record {
+          lit = lit;
+          path = (
+            lit-more_of s.objects Over terms n m more goal.lit over.lit,
+            all-weaker (IsLitOf (Over n)) (IsLitOf (Over m)) goal.path (lit-more_of s.objects Over terms n m more) over.path,
+          );
+        }
 
-    step-over : (number place : ℕ) (clause : Clause) (at : Option Lit) (closing : Closing) → slice_get s.axioms number ≡ Some clause → slice_get (instance_of clause.lits (variables_from n clause.vars)) place ≡ at →
-        by_literal goal (parts_of clause.lits (variables_from n clause.vars) place) at ≡ Some closing → IsClosingOf (Over (n + clause.vars)) closing
+    step-over : (number place : ℕ) (clause : Clause) (at : Option Lit) (closing : Closing) → slice_get s.axioms number ≡ Some clause
+        → slice_get (instance_of clause.lits (variables_from n clause.vars)) place ≡ at
+        → by_literal goal (parts_of clause.lits (variables_from n clause.vars) place) at ≡ Some closing
+        → IsClosingOf (Over (n + clause.vars)) closing
     step-over number place clause None closing is e made = absurd (cc)
     step-over number place clause (Some lit) closing is e made =
         let all : AllByRecursion (IsLitOf (Over (n + clause.vars))) (instance_of clause.lits (variables_from n clause.vars)) =
-        all-mapped (IsLitIn s.objects clause.vars) (IsLitOf (Over (n + clause.vars))) (substitute_literal (variables_from n clause.vars)) clause.lits (new-lit_of s.objects Over terms n clause.vars) (valid.clauses number clause is) in
-        let same : record { equal_to = lit; parts = goals_below goal (parts_of clause.lits (variables_from n clause.vars) place) } ≡ closing = some_same _ _ made in
+        all-mapped (IsLitIn s.objects clause.vars) (IsLitOf (Over (n + clause.vars)))
+        (substitute_literal (variables_from n clause.vars)) clause.lits (new-lit_of s.objects Over terms n clause.vars)
+        (valid.clauses number clause is) in
+        let same : record { equal_to = lit; parts = goals_below goal (parts_of clause.lits (variables_from n clause.vars) place) }
+        ≡ closing = some_same made in
         rw (← same)
         (record {
           equal_to = all-at (IsLitOf (Over (n + clause.vars))) (instance_of clause.lits (variables_from n clause.vars)) place lit all e;
-          parts = all-mapped (IsLitOf (Over (n + clause.vars))) (IsGoalOf (Over (n + clause.vars))) (λ l. record { lit = l; path = goal.lit ∷ goal.path; budget = goal.budget - 1 })
+          parts =
+              all-mapped (IsLitOf (Over (n + clause.vars))) (HasGoalTerms (Over (n + clause.vars)))
+              (λ l. record { lit = l; path = goal.lit ∷ goal.path; budget = goal.budget - 1 })
               (parts_of clause.lits (variables_from n clause.vars) place) (part-over (n + clause.vars) (omega arith))
-              (all-mapped (IsLitOf (Over (n + clause.vars))) (IsLitOf (Over (n + clause.vars))) complement_of (remove (instance_of clause.lits (variables_from n clause.vars)) place) (λ l h. h)
+              (all-mapped (IsLitOf (Over (n + clause.vars))) (IsLitOf (Over (n + clause.vars))) complement_of
+              (remove (instance_of clause.lits (variables_from n clause.vars)) place) (λ l h. h)
               (all-removed (IsLitOf (Over (n + clause.vars))) (instance_of clause.lits (variables_from n clause.vars)) place all));
         })
 
-    clause-over : (number place : ℕ) (at : Option Clause) (closing : Closing) → slice_get s.axioms number ≡ at →
-        by_step goal (variables_from n (vars_of at)) place at ≡ Some closing → IsClosingOf (Over (n + vars_of at)) closing
+    clause-over : (number place : ℕ) (at : Option Clause) (closing : Closing) → slice_get s.axioms number ≡ at
+        → by_step goal (variables_from n (vars_of at)) place at ≡ Some closing → IsClosingOf (Over (n + vars_of at)) closing
     clause-over number place None closing e made = absurd (cc)
     clause-over number place (Some clause) closing e made = by_room (has_room goal clause) made
       where
-        by_room : (b : Bool) → cond b (by_literal goal (parts_of clause.lits (variables_from n clause.vars) place) (slice_get (instance_of clause.lits (variables_from n clause.vars)) place)) None ≡ Some closing → IsClosingOf (Over (n + clause.vars)) closing
+        by_room : (b : Bool) → cond b (by_literal goal (parts_of clause.lits (variables_from n clause.vars) place)
+            (slice_get (instance_of clause.lits (variables_from n clause.vars)) place)) None ≡ Some closing
+            → IsClosingOf (Over (n + clause.vars)) closing
         by_room false is = absurd (cc)
-        by_room true is = step-over number place clause (slice_get (instance_of clause.lits (variables_from n clause.vars)) place) closing e refl is
+        by_room true is =
+            step-over number place clause (slice_get (instance_of clause.lits (variables_from n clause.vars)) place) closing e refl is
 
-    gap-over : (b : Bool) (closing : Closing) → cond b (Some (record { equal_to = goal.lit; parts = [] })) None ≡ Some closing → IsClosingOf (Over (n + 0)) closing
+    gap-over : (b : Bool) (closing : Closing) → cond b (Some (record { equal_to = goal.lit; parts = [] })) None ≡ Some closing
+        → IsClosingOf (Over (n + 0)) closing
     gap-over false closing is = absurd (cc)
-    gap-over true closing is = let same : record { equal_to = goal.lit; parts = [] } ≡ closing = some_same _ _ is in rw (← same) (record { equal_to = same-lit; parts = tt })
+    gap-over true closing is =
+        let same : record { equal_to = goal.lit; parts = [] } ≡ closing =
+        some_same is in rw (← same) (record { equal_to = same-lit; parts = tt })
 
-    pub closing-of_terms : (tick : Tick) (closing : Closing) → FactIsOver s Over tick → closing_at loose s n goal tick ≡ Some closing → IsClosingOf (Over (n + fresh_of s tick)) closing
+    pub closing-of_terms : (tick : Tick) (closing : Closing) → FactIsOver s Over tick → closing_at loose s n goal tick ≡ Some closing
+        → IsClosingOf (Over (n + fresh_of s tick)) closing
     closing-of_terms (Fact i) closing fact_in is = fact-over i (slice_get s.facts i) closing refl fact_in is
     closing-of_terms (Anc i) closing fact_in is = ancestor-over i (slice_get goal.path i) closing refl is
     closing-of_terms (Step number place) closing fact_in is = clause-over number place (slice_get s.axioms number) closing refl is
-    closing-of_terms Gap closing fact_in is = gap-over (loose && goal.lit.positive && list_any (nat_eq goal.lit.atom.pred) s.added) closing is
+    closing-of_terms Gap closing fact_in is =
+        gap-over (loose && goal.lit.positive && list_any (nat_eq goal.lit.atom.pred) s.added) closing is
     closing-of_terms Open closing fact_in is = gap-over true closing is
 
   module _ (tau other : List Term) (most : ℕ)
-      (moves : (m : ℕ) → m ≤ most → (a b : Lit) → IsLitOf (Over m) a → IsLitOf (Over m) b → substitute_literal tau a ≡ substitute_literal tau b → substitute_literal other a ≡ substitute_literal other b) where
+      (moves : (m : ℕ) → m ≤ most → (a b : Lit) → IsLitOf (Over m) a → IsLitOf (Over m) b
+      → substitute_literal tau a ≡ substitute_literal tau b → substitute_literal other a ≡ substitute_literal other b) where
     -- where literals of such terms that are one under tau are one under the other, it solves what tau solves
-    pub solves-moved : (ticks : List Tick) (n : ℕ) (goals : List Goal) (p : Pending) → AllByRecursion (FactIsOver s Over) ticks → AllByRecursion (IsGoalOf (Over n)) goals → open_after loose s n goals ticks ≡ Some p → p.variables ≤ most →
-        Solves loose s tau n goals ticks → Solves loose s other n goals ticks
+    pub solves-moved : (ticks : List Tick) (n : ℕ) (goals : List Goal) (p : Pending) → AllByRecursion (FactIsOver s Over) ticks
+        → AllByRecursion (HasGoalTerms (Over n)) goals → open_after loose s n goals ticks ≡ Some p → p.variables ≤ most
+        → Solves loose s tau n goals ticks → Solves loose s other n goals ticks
     solves-moved [] n goals p facts_in over ends long solves = tt
     solves-moved (tick ∷ ticks) n [] p facts_in over ends long solves = absurd solves
     solves-moved (tick ∷ ticks) n (goal ∷ goals) p facts_in over ends long solves =
-        go (closing_at loose s n goal tick) refl solves (λ closing later. solves-moved ticks (n + fresh_of s tick) (closing.parts ++ goals) p facts_in.1 later)
+        go (closing_at loose s n goal tick) refl solves
+        (λ closing later. solves-moved ticks (n + fresh_of s tick) (closing.parts ++ goals) p facts_in.1 later)
       where
-        go : (o : Option Closing) → closing_at loose s n goal tick ≡ o →
-            IsSomeAnd o (λ closing. (substitute_literal tau goal.lit ≡ substitute_literal tau closing.equal_to) × Solves loose s tau (n + fresh_of s tick) (closing.parts ++ goals) ticks) →
-            ((closing : Closing) → AllByRecursion (IsGoalOf (Over (n + fresh_of s tick))) (closing.parts ++ goals) → open_after loose s (n + fresh_of s tick) (closing.parts ++ goals) ticks ≡ Some p → p.variables ≤ most →
-            Solves loose s tau (n + fresh_of s tick) (closing.parts ++ goals) ticks → Solves loose s other (n + fresh_of s tick) (closing.parts ++ goals) ticks) →
-            IsSomeAnd o (λ closing. (substitute_literal other goal.lit ≡ substitute_literal other closing.equal_to) × Solves loose s other (n + fresh_of s tick) (closing.parts ++ goals) ticks)
+        go : (o : Option Closing) → closing_at loose s n goal tick ≡ o
+            → IsSomeAnd o (λ closing. (substitute_literal tau goal.lit ≡ substitute_literal tau closing.equal_to)
+            × Solves loose s tau (n + fresh_of s tick) (closing.parts ++ goals) ticks)
+            → ((closing : Closing) → AllByRecursion (HasGoalTerms (Over (n + fresh_of s tick))) (closing.parts ++ goals)
+            → open_after loose s (n + fresh_of s tick) (closing.parts ++ goals) ticks ≡ Some p → p.variables ≤ most
+            → Solves loose s tau (n + fresh_of s tick) (closing.parts ++ goals) ticks
+            → Solves loose s other (n + fresh_of s tick) (closing.parts ++ goals) ticks)
+            → IsSomeAnd o (λ closing. (substitute_literal other goal.lit ≡ substitute_literal other closing.equal_to)
+            × Solves loose s other (n + fresh_of s tick) (closing.parts ++ goals) ticks)
         go None is closes later = closes
         go (Some closing) is closes later =
             let ends_later = sym (open_after-step loose s n goal goals tick ticks closing is) ∙ ends in
             let grown = variables_grow loose s ticks (n + fresh_of s tick) (closing.parts ++ goals) p ends_later in
             let one = closing-of_terms n goal over.0 tick closing facts_in.0 is in (
-              moves (n + fresh_of s tick) (omega (arith, grown, long)) goal.lit closing.equal_to (lit-more_of s.objects Over terms n (n + fresh_of s tick) (omega arith) goal.lit over.0.lit) one.equal_to closes.0,
+              moves (n + fresh_of s tick) (omega (arith, grown, long)) goal.lit closing.equal_to
+                  (lit-more_of s.objects Over terms n (n + fresh_of s tick) (omega arith) goal.lit over.0.lit) one.equal_to closes.0,
               later closing
-                  (all-both (IsGoalOf (Over (n + fresh_of s tick))) closing.parts goals one.parts (all-weaker (IsGoalOf (Over n)) (IsGoalOf (Over (n + fresh_of s tick))) goals (goal-more_of s.objects Over terms n (n + fresh_of s tick) (omega arith)) over.1))
+                  (all-both (HasGoalTerms (Over (n + fresh_of s tick))) closing.parts goals one.parts
+                  (all-weaker (HasGoalTerms (Over n)) (HasGoalTerms (Over (n + fresh_of s tick))) goals
+                  (goal-more_of s.objects Over terms n (n + fresh_of s tick) (omega arith)) over.1))
                   ends_later long closes.1,
             )

@@ -15,7 +15,8 @@ all-both P (x ∷ xs) ys h k = (h.0, all-both P xs ys h.1 k)
 pub all-push : {X : Type 0} (P : X → Type 0) (xs : List X) (x : X) → AllByRecursion P xs → P x → AllByRecursion P (xs ++ x ∷ [])
 all-push P xs x all here = all-both P xs (x ∷ []) all (here, tt)
 
-pub all-mapped : {X Y : Type 0} (P : X → Type 0) (Q : Y → Type 0) (f : X → Y) (xs : List X) → ((x : X) → P x → Q (f x)) → AllByRecursion P xs → AllByRecursion Q (map f xs)
+pub all-mapped : {X Y : Type 0} (P : X → Type 0) (Q : Y → Type 0) (f : X → Y) (xs : List X) → ((x : X) → P x → Q (f x))
+    → AllByRecursion P xs → AllByRecursion Q (map f xs)
 all-mapped P Q f [] keeps all = tt
 all-mapped P Q f (x ∷ xs) keeps all = (keeps x all.0, all-mapped P Q f xs keeps all.1)
 

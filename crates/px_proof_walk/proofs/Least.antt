@@ -5,7 +5,8 @@ use Rattle.std.proofs.lemmas.Bool.{cases_lt}
 use Rattle.px_question.specs.Answers.{AtMost}
 
 -- lists that are at most others at each place come at most with them
-pub at_most-places : (ms ns : List ℕ) → length ms ≡ length ns → ((v : ℕ) → v < length ms → slice_index ms v ≤ slice_index ns v) → AtMost ms ns
+pub at_most-places : (ms ns : List ℕ) → length ms ≡ length ns → ((v : ℕ) → v < length ms → slice_index ms v ≤ slice_index ns v)
+    → AtMost ms ns
 at_most-places [] ns same least = tt
 at_most-places (m ∷ ms) [] same least = absurd (omega (arith, same))
 at_most-places (m ∷ ms) (n ∷ ns) same least = elim (cases_lt m n) [

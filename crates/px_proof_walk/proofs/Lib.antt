@@ -1,3 +1,4 @@
+-- The files of lemmas.
 pub mod Every
 pub mod Lifting
 pub mod Pushing

@@ -14,7 +14,7 @@ use Rattle.px_terms.specs.declared.atom.Atom.{Atom}
 use Rattle.px_terms.specs.declared.clause.Lit.{Lit}
 use Rattle.px_proof.specs.declared.shape.Tick.{Tick}
 use Rattle.px_proof.specs.Derivation.{Derivations, none, also, greatest_height}
-use Rattle.px_proof.specs.Proves.{Rules, ProvesEach, or_open, IsName}
+use Rattle.px_proof.specs.Proves.{Rules, ProvesEach, or_open, IsObjectOrParameter}
 use Rattle.px_proof.specs.Shapes.{ticks_of}
 use Rattle.px_question.specs.Settings.{Setting}
 use Rattle.px_question.specs.Answers.{IsList, literals_of, object_terms, all_choices_of}
@@ -51,82 +51,116 @@ prover_allows : (loose : Bool) (s : Setting) → Allows (rules_of loose s) (or_o
 prover_allows false s = record { choices = λ t h. h; gaps = λ atom h. absurd (let never = h.0 in cc); opens = λ h. h }
 prover_allows true s = record { choices = λ t h. h; gaps = λ atom h. Contains-from_any nats_same atom.pred s.added h.1; opens = λ h. h }
 
-pub walk_each : (loose : Bool) (s : Setting) (lits : List Lit) (ds : Derivations) → ProvesEach (or_open (rules_for loose s)) s.axioms [] lits ds → ProvesEach (rules_of loose s) s.axioms [] lits ds
-walk_each false s lits ds = each_by s.axioms (or_open (rules_for false s)) (rules_of false s) (walk_allows false s) [] lits ds (λ leaf has h. h)
+pub walk_each : (loose : Bool) (s : Setting) (lits : List Lit) (ds : Derivations)
+    → ProvesEach (or_open (rules_for loose s)) s.axioms [] lits ds → ProvesEach (rules_of loose s) s.axioms [] lits ds
+walk_each false s lits ds =
+    each_by s.axioms (or_open (rules_for false s)) (rules_of false s) (walk_allows false s) [] lits ds (λ leaf has h. h)
 walk_each true s lits ds = each_by s.axioms (or_open (rules_for true s)) (rules_of true s) (walk_allows true s) [] lits ds (λ leaf has h. h)
 
-pub prover_each : (loose : Bool) (s : Setting) (lits : List Lit) (ds : Derivations) → ProvesEach (rules_of loose s) s.axioms [] lits ds → ProvesEach (or_open (rules_for loose s)) s.axioms [] lits ds
-prover_each false s lits ds = each_by s.axioms (rules_of false s) (or_open (rules_for false s)) (prover_allows false s) [] lits ds (λ leaf has h. h)
-prover_each true s lits ds = each_by s.axioms (rules_of true s) (or_open (rules_for true s)) (prover_allows true s) [] lits ds (λ leaf has h. h)
+pub prover_each : (loose : Bool) (s : Setting) (lits : List Lit) (ds : Derivations) → ProvesEach (rules_of loose s) s.axioms [] lits ds
+    → ProvesEach (or_open (rules_for loose s)) s.axioms [] lits ds
+prover_each false s lits ds =
+    each_by s.axioms (rules_of false s) (or_open (rules_for false s)) (prover_allows false s) [] lits ds (λ leaf has h. h)
+prover_each true s lits ds =
+    each_by s.axioms (rules_of true s) (or_open (rules_for true s)) (prover_allows true s) [] lits ds (λ leaf has h. h)
 
 module _ (s : Setting) where
   -- the goals of the formula under its objects
   abbrev pub ground_goals : List Lit → List Goal
   ground_goals lits = map (λ l. record { lit = l; path = []; budget = s.height }) lits
 
-  pub goals_ground : (formula : List Atom) (vars : ℕ) (objects chosen : List ℕ) → length objects ≡ vars → AllByRecursion (IsAtomIn s.objects vars) formula →
-      map (goal_under (object_terms (objects ++ chosen))) (goals_of s formula) ≡ ground_goals (literals_of formula objects)
+  pub goals_ground : (formula : List Atom) (vars : ℕ) (objects chosen : List ℕ) → length objects ≡ vars
+      → AllByRecursion (IsAtomIn s.objects vars) formula
+      → map (goal_under (object_terms (objects ++ chosen))) (goals_of s formula) ≡ ground_goals (literals_of formula objects)
   goals_ground [] vars objects chosen count scoped = refl
   goals_ground (a ∷ formula) vars objects chosen count scoped =
-      let within : AllByRecursion (IsName s.objects (length (object_terms objects))) a.args = rw (length-objects objects, count) scoped.0 in
-      let same : map (substitute (object_terms (objects ++ chosen))) a.args ≡ map (substitute (object_terms objects)) a.args = rw (objects-append objects chosen) (args-front (object_terms objects) (object_terms chosen) (length (object_terms objects)) (omega arith) a.args
-      (all-weaker (IsName s.objects (length (object_terms objects))) (IsPlainBelow (length (object_terms objects))) a.args (scoped-below s.objects (length (object_terms objects))) within)) in
+      let within : AllByRecursion (IsObjectOrParameter s.objects (length (object_terms objects))) a.args =
+      rw (length-objects objects, count) scoped.0 in
+      let same : map (substitute (object_terms (objects ++ chosen))) a.args ≡ map (substitute (object_terms objects)) a.args =
+      rw (objects-append objects chosen) (args-front (object_terms objects) (object_terms chosen) (length (object_terms objects))
+      (omega arith) a.args
+      (all-weaker (IsObjectOrParameter s.objects (length (object_terms objects))) (IsPlainBelow (length (object_terms objects))) a.args
+      (scoped-below s.objects (length (object_terms objects))) within)) in
       rw (same, goals_ground formula vars objects chosen count scoped.1) refl
 
-  pub each-are : (rules : Rules) (lits : List Lit) (ps : Derivations) → ProvesEach rules s.axioms [] lits ps → greatest_height ps ≤ s.height → AreProved rules s.axioms (ground_goals lits) ps
+  pub each-are : (rules : Rules) (lits : List Lit) (ps : Derivations) → ProvesEach rules s.axioms [] lits ps → greatest_height ps ≤ s.height
+      → AreProved rules s.axioms (ground_goals lits) ps
   each-are rules [] none each low = tt
   each-are rules (l ∷ lits) (also p ps) each low = (each.0, omega (arith, low), each-are rules lits ps each.1 (omega (arith, low)))
   each-are rules [] (also p ps) each low = absurd each
   each-are rules (l ∷ lits) none each low = absurd each
 
-  are-each : (rules : Rules) (lits : List Lit) (ps : Derivations) → AreProved rules s.axioms (ground_goals lits) ps → ProvesEach rules s.axioms [] lits ps × (greatest_height ps ≤ s.height)
+  are-each : (rules : Rules) (lits : List Lit) (ps : Derivations) → AreProved rules s.axioms (ground_goals lits) ps
+      → ProvesEach rules s.axioms [] lits ps × (greatest_height ps ≤ s.height)
   are-each rules [] none are = (tt, omega arith)
   are-each rules (l ∷ lits) (also p ps) are = let later = are-each rules lits ps are.2 in ((are.0, later.0), omega (arith, are.1, later.1))
   are-each rules [] (also p ps) are = absurd are
   are-each rules (l ∷ lits) none are = absurd are
 
   -- a run on the ground leaves nothing open, and gives each variable an object
-  ends_from_runs : IsSetting s → (loose : Bool) (ticks : List Tick) (old chosen : List ℕ) (goals : List Goal) → Runs loose s (map (goal_under (object_terms (old ++ chosen))) goals) ticks chosen →
-      open_after loose s (length old) goals ticks ≡ Some (record { variables = length (old ++ chosen); goals = [] })
-  ends_from_runs valid loose [] old chosen [] runs = rw (runs, length-append old []) (ap (λ n. Some (record { variables = n; goals = [] })) (omega arith))
+  ends_from_runs : IsSetting s → (loose : Bool) (ticks : List Tick) (old chosen : List ℕ) (goals : List Goal)
+      → Runs loose s (map (goal_under (object_terms (old ++ chosen))) goals) ticks chosen
+      → open_after loose s (length old) goals ticks ≡ Some (record { variables = length (old ++ chosen); goals = [] })
+  ends_from_runs valid loose [] old chosen [] runs =
+      rw (runs, length-append old []) (ap (λ n. Some (record { variables = n; goals = [] })) (omega arith))
   ends_from_runs valid loose [] old chosen (goal ∷ goals) runs = absurd runs
   ends_from_runs valid loose (tick ∷ ticks) old chosen [] runs = absurd runs
   ends_from_runs valid loose (tick ∷ ticks) old chosen (goal ∷ goals) (theta, rest, splits, long, below, closes) =
       go (closing_at loose s (length old) goal tick) refl
       (rw (same_closing loose s valid old theta rest chosen tick goal splits long) at closes)
-      (λ parts. rw (regrouped loose s valid old theta rest chosen tick goal splits long, longer loose s valid old theta rest chosen tick goal splits long) at (ends_from_runs valid loose ticks (old ++ theta) rest (parts ++ goals)))
+      (λ parts. rw (
+        regrouped loose s valid old theta rest chosen tick goal splits long,
+        longer loose s valid old theta rest chosen tick goal splits long,
+      ) at
+      (ends_from_runs valid loose ticks (old ++ theta) rest (parts ++ goals)))
     where
       tau : List Term
       tau = object_terms (old ++ chosen)
 
-      go : (o : Option Closing) → closing_at loose s (length old) goal tick ≡ o →
-          IsSomeAnd (closing_under (object_terms (old ++ chosen)) o) (λ closing. (substitute_literal (object_terms (old ++ chosen)) goal.lit ≡ closing.equal_to) × Runs loose s (closing.parts ++ map (goal_under (object_terms (old ++ chosen))) goals) ticks rest) →
-          ((parts : List Goal) → Runs loose s (map (goal_under (object_terms (old ++ chosen))) (parts ++ goals)) ticks rest → open_after loose s (length old + fresh_of s tick) (parts ++ goals) ticks ≡ Some (record { variables = length (old ++ chosen); goals = [] })) →
-          open_after loose s (length old) (goal ∷ goals) (tick ∷ ticks) ≡ Some (record { variables = length (old ++ chosen); goals = [] })
+      go : (o : Option Closing) → closing_at loose s (length old) goal tick ≡ o
+          → IsSomeAnd (closing_under (object_terms (old ++ chosen)) o)
+          (λ closing. (substitute_literal (object_terms (old ++ chosen)) goal.lit ≡ closing.equal_to)
+          × Runs loose s (closing.parts ++ map (goal_under (object_terms (old ++ chosen))) goals) ticks rest)
+          → ((parts : List Goal) → Runs loose s (map (goal_under (object_terms (old ++ chosen))) (parts ++ goals)) ticks rest
+          → open_after loose s (length old + fresh_of s tick) (parts ++ goals) ticks
+          ≡ Some (record { variables = length (old ++ chosen); goals = [] }))
+          → open_after loose s (length old) (goal ∷ goals) (tick ∷ ticks) ≡ Some (record { variables = length (old ++ chosen); goals = [] })
       go None is closed later = absurd closed
       go (Some closing) is closed later =
-          open_after-step loose s (length old) goal goals tick ticks closing is ∙ later closing.parts (rw (map-append (goal_under (object_terms (old ++ chosen))) closing.parts goals) closed.1)
+          open_after-step loose s (length old) goal goals tick ticks closing is
+          ∙ later closing.parts (rw (map-append (goal_under (object_terms (old ++ chosen))) closing.parts goals) closed.1)
 
-module _ (loose : Bool) (s : Setting) (valid : IsSetting s) (formula : List Atom) (vars : ℕ) (scoped : AllByRecursion (IsAtomIn s.objects vars) formula) where
-  pub solves-list : (objects : List ℕ) (ps : Derivations) → IsList (or_open (rules_for loose s)) s formula vars objects ps →
-      Solves loose s (object_terms (objects ++ all_choices_of ps)) vars (goals_of s formula) (ticks_of ps)
-      × (open_after loose s vars (goals_of s formula) (ticks_of ps) ≡ Some (record { variables = length (objects ++ all_choices_of ps); goals = [] }))
+module _ (loose : Bool) (s : Setting) (valid : IsSetting s) (formula : List Atom) (vars : ℕ)
+    (scoped : AllByRecursion (IsAtomIn s.objects vars) formula) where
+  pub solves-list : (objects : List ℕ) (ps : Derivations) → IsList (or_open (rules_for loose s)) s formula vars objects ps
+      → Solves loose s (object_terms (objects ++ all_choices_of ps)) vars (goals_of s formula) (ticks_of ps)
+      × (open_after loose s vars (goals_of s formula) (ticks_of ps)
+      ≡ Some (record { variables = length (objects ++ all_choices_of ps); goals = [] }))
   solves-list objects ps is =
       let each = walk_each loose s (literals_of formula objects) ps is.proved in
-      let runs : Runs loose s (map (goal_under (object_terms (objects ++ all_choices_of ps))) (goals_of s formula)) (ticks_of ps) (all_choices_of ps) =
+      let runs : Runs loose s (map (goal_under (object_terms (objects ++ all_choices_of ps))) (goals_of s formula)) (ticks_of ps)
+      (all_choices_of ps) =
       rw (goals_ground s formula vars objects (all_choices_of ps) is.count scoped)
-      (runs_from_trees loose s (length (ticks_of ps)) (ground_goals s (literals_of formula objects)) ps (omega arith) (each-are s (rules_of loose s) (literals_of formula objects) ps each is.low)) in (
+      (runs_from_trees loose s (length (ticks_of ps)) (ground_goals s (literals_of formula objects)) ps (omega arith)
+      (each-are s (rules_of loose s) (literals_of formula objects) ps each is.low)) in (
         rw is.count at (solves_from_runs loose s valid (ticks_of ps) objects (all_choices_of ps) (goals_of s formula) runs),
         rw is.count at (ends_from_runs s valid loose (ticks_of ps) objects (all_choices_of ps) (goals_of s formula) runs),
       )
 
-  pub list-solved : (ticks : List Tick) (objects chosen : List ℕ) → length objects ≡ vars → All (λ o. o < s.objects) objects → All (λ o. o < s.objects) chosen →
-      open_after loose s vars (goals_of s formula) ticks ≡ Some (record { variables = length objects + length chosen; goals = [] }) → Solves loose s (object_terms (objects ++ chosen)) vars (goals_of s formula) ticks →
-      (ps : Derivations) × IsList (or_open (rules_for loose s)) s formula vars objects ps × (ticks_of ps ≡ ticks) × (all_choices_of ps ≡ chosen)
+  pub list-solved : (ticks : List Tick) (objects chosen : List ℕ) → length objects ≡ vars → All (λ o. o < s.objects) objects
+      → All (λ o. o < s.objects) chosen
+      → open_after loose s vars (goals_of s formula) ticks ≡ Some (record { variables = length objects + length chosen; goals = [] })
+      → Solves loose s (object_terms (objects ++ chosen)) vars (goals_of s formula) ticks
+      → (ps : Derivations) × IsList (or_open (rules_for loose s)) s formula vars objects ps × (ticks_of ps ≡ ticks)
+      × (all_choices_of ps ≡ chosen)
   list-solved ticks objects chosen count objects_below chosen_below ends solves =
       let runs : Runs loose s (ground_goals s (literals_of formula objects)) ticks chosen =
-      rw (goals_ground s formula vars objects chosen count scoped) at (runs_from_solves loose s valid ticks objects chosen (goals_of s formula) chosen_below (rw count (rw count at ends)) (rw count solves)) in
-      let trees = trees_from_runs loose s ticks (ground_goals s (literals_of formula objects)) chosen (all_high (literals_of formula objects)) runs in
+      rw (goals_ground s formula vars objects chosen count scoped) at
+      (runs_from_solves loose s valid ticks objects chosen (goals_of s formula) chosen_below (rw count (rw count at ends))
+      (rw count solves)) in
+      let trees =
+      trees_from_runs loose s ticks (ground_goals s (literals_of formula objects)) chosen
+      (all_high (literals_of formula objects)) runs in
       let each = are-each s (rules_of loose s) (literals_of formula objects) trees.0 trees.1 in (
         trees.0,
         record {

@@ -11,54 +11,59 @@ use Rattle.px_terms.specs.declared.term.Term.TheVariants.{Obj, Var, Any}
 use Rattle.px_terms.specs.Language.{substitute}
 use Rattle.px_proof.specs.declared.shape.Tick.{Tick}
 use Rattle.px_proof.specs.Literals.{substitute_literal}
-use Rattle.px_proof.specs.Proves.{IsName}
+use Rattle.px_proof.specs.Proves.{IsObjectOrParameter}
 use Rattle.px_unify.specs.declared.change.Change.{Change}
 use Rattle.px_unify.specs.Changes.{HasSolutions, variables_of}
 use Rattle.px_question.specs.Answers.{object_terms}
 use Rattle.px_question.specs.Settings.{Setting}
-use Rattle.px_proof_walk.specs.Pending.{Goal, Closing, Pending, Solves, IsFeasible, open_after, closing_at, fresh_of, goals_of, variables_from}
+use Rattle.px_terms.specs.Substitution.{variables_from}
+use Rattle.px_proof_walk.specs.Pending.{Goal, Closing, Pending, Solves, IsFeasible, open_after, closing_at, fresh_of, goals_of}
 use Rattle.px_proof_walk.specs.Scope.{IsAtomIn, IsClosingOf, IsGoalIn, IsLitIn, IsSetting}
 use Rattle.px_proof_walk.proofs.Attempts.{AreMatched}
 use Rattle.px_proof_walk.proofs.Closings.{AreTerms, FactIsOver, closing-of_terms, goal-more_of, lit-more_of, new-lit_of, solves-moved}
 
-pub term-more : (objects m n : ℕ) → m ≤ n → (t : Term) → IsName objects m t → IsName objects n t
+pub term-more : (objects m n : ℕ) → m ≤ n → (t : Term) → IsObjectOrParameter objects m t → IsObjectOrParameter objects n t
 term-more objects m n more (Obj o) within = within
 term-more objects m n more (Var v) within = omega (arith, more, within)
 term-more objects m n more Any within = within
 
-pub new-term : (objects first count : ℕ) (t : Term) → IsName objects count t → IsName objects (first + count) (substitute (variables_from first count) t)
+pub new-term : (objects first count : ℕ) (t : Term) → IsObjectOrParameter objects count t
+    → IsObjectOrParameter objects (first + count) (substitute (variables_from first count) t)
 new-term objects first count (Obj o) within = within
 new-term objects first count Any within = within
 new-term objects first count (Var v) within = go first count v within
   where
-    go : (first count v : ℕ) → v < count → IsName objects (first + count) (slice_index_or (variables_from first count) v Any)
+    go : (first count v : ℕ) → v < count → IsObjectOrParameter objects (first + count) (slice_index_or (variables_from first count) v Any)
     go first zero v within = absurd (omega (arith, within))
     go first (suc count) zero within = omega arith
-    go first (suc count) (suc v) within = let e : first + suc count ≡ suc first + count = omega arith in rw e (go (suc first) count v (omega (arith, within)))
+    go first (suc count) (suc v) within =
+        let e : first + suc count ≡ suc first + count = omega arith in rw e (go (suc first) count v (omega (arith, within)))
 
 -- objects of the problem, and variables below the number
-pub names : (objects : ℕ) → AreTerms objects (IsName objects)
+pub names : (objects : ℕ) → AreTerms objects (IsObjectOrParameter objects)
 names objects = record { more = term-more objects; new = new-term objects }
 
 pub lit-more : (objects m n : ℕ) → m ≤ n → (l : Lit) → IsLitIn objects m l → IsLitIn objects n l
-lit-more objects = lit-more_of objects (IsName objects) (names objects)
+lit-more objects = lit-more_of objects (IsObjectOrParameter objects) (names objects)
 
 pub goal-more : (objects m n : ℕ) → m ≤ n → (g : Goal) → IsGoalIn objects m g → IsGoalIn objects n g
-goal-more objects = goal-more_of objects (IsName objects) (names objects)
+goal-more objects = goal-more_of objects (IsObjectOrParameter objects) (names objects)
 
-pub new-lit : (objects first count : ℕ) (l : Lit) → IsLitIn objects count l → IsLitIn objects (first + count) (substitute_literal (variables_from first count) l)
-new-lit objects = new-lit_of objects (IsName objects) (names objects)
+pub new-lit : (objects first count : ℕ) (l : Lit) → IsLitIn objects count l
+    → IsLitIn objects (first + count) (substitute_literal (variables_from first count) l)
+new-lit objects = new-lit_of objects (IsObjectOrParameter objects) (names objects)
 
 -- a fact that a tick uses has objects of the problem alone
 abbrev pub FactIsIn : Setting → Tick → Type 0
-FactIsIn s = FactIsOver s (IsName s.objects)
+FactIsIn s = FactIsOver s (IsObjectOrParameter s.objects)
 
 abbrev pub IsClosingIn : ℕ → ℕ → Closing → Type 0
-IsClosingIn objects n = IsClosingOf (IsName objects n)
+IsClosingIn objects n = IsClosingOf (IsObjectOrParameter objects n)
 
-pub closing-in : (loose : Bool) (s : Setting) → IsSetting s → (n : ℕ) (goal : Goal) → IsGoalIn s.objects n goal → (tick : Tick) (closing : Closing) → FactIsIn s tick → closing_at loose s n goal tick ≡ Some closing →
-    IsClosingIn s.objects (n + fresh_of s tick) closing
-closing-in loose s valid = closing-of_terms loose s valid (IsName s.objects) (names s.objects)
+pub closing-in : (loose : Bool) (s : Setting) → IsSetting s → (n : ℕ) (goal : Goal) → IsGoalIn s.objects n goal
+    → (tick : Tick) (closing : Closing) → FactIsIn s tick → closing_at loose s n goal tick ≡ Some closing
+    → IsClosingIn s.objects (n + fresh_of s tick) closing
+closing-in loose s valid = closing-of_terms loose s valid (IsObjectOrParameter s.objects) (names s.objects)
 
 -- an object of the problem for each term
 abbrev pub object_at : ℕ → Term → ℕ
@@ -69,25 +74,31 @@ object_at objects Any = 0
 object-kept : (objects o : ℕ) → o < objects → cond (nat_lt o objects) o 0 ≡ o
 object-kept objects o within = let e : nat_lt o objects ≡ true = grind (arith, within) in rw e refl
 
-pub term-projected : (objects : ℕ) (tau : List Term) (n : ℕ) → n ≤ length tau → (t : Term) → IsName objects n t → substitute (object_terms (map (object_at objects) tau)) t ≡ Obj (object_at objects (substitute tau t))
+pub term-projected : (objects : ℕ) (tau : List Term) (n : ℕ) → n ≤ length tau → (t : Term) → IsObjectOrParameter objects n t
+    → substitute (object_terms (map (object_at objects) tau)) t ≡ Obj (object_at objects (substitute tau t))
 term-projected objects tau n long (Obj o) within = ap (λ (k : ℕ). Obj k) (sym (object-kept objects o within))
 term-projected objects tau n long Any within = absurd within
 term-projected objects tau n long (Var v) within = go tau v (omega (arith, long, within))
   where
-    go : (tau : List Term) (v : ℕ) → v < length tau → slice_index_or (object_terms (map (object_at objects) tau)) v Any ≡ Obj (object_at objects (slice_index_or tau v Any))
+    go : (tau : List Term) (v : ℕ) → v < length tau
+        → slice_index_or (object_terms (map (object_at objects) tau)) v Any ≡ Obj (object_at objects (slice_index_or tau v Any))
     go [] v inside = absurd (omega (arith, inside))
     go (t ∷ tau) zero inside = refl
     go (t ∷ tau) (suc v) inside = go tau v (omega (arith, inside))
 
-args-projected : (objects : ℕ) (tau : List Term) (n : ℕ) → n ≤ length tau → (ts : List Term) → AllByRecursion (IsName objects n) ts →
-    map (substitute (object_terms (map (object_at objects) tau))) ts ≡ map (λ t. Obj (object_at objects t)) (map (substitute tau) ts)
+args-projected : (objects : ℕ) (tau : List Term) (n : ℕ) → n ≤ length tau → (ts : List Term)
+    → AllByRecursion (IsObjectOrParameter objects n) ts
+    → map (substitute (object_terms (map (object_at objects) tau))) ts ≡ map (λ t. Obj (object_at objects t)) (map (substitute tau) ts)
 args-projected objects tau n long [] within = refl
-args-projected objects tau n long (t ∷ ts) within = rw (term-projected objects tau n long t within.0, args-projected objects tau n long ts within.1) refl
+args-projected objects tau n long (t ∷ ts) within =
+    rw (term-projected objects tau n long t within.0, args-projected objects tau n long ts within.1) refl
 
 lit_as : ℕ → Lit → Lit
-lit_as objects l = record { positive = l.positive; atom = record { pred = l.atom.pred; args = map (λ t. Obj (object_at objects t)) l.atom.args } }
+lit_as objects l =
+    record { positive = l.positive; atom = record { pred = l.atom.pred; args = map (λ t. Obj (object_at objects t)) l.atom.args } }
 
-lit-projected : (objects : ℕ) (tau : List Term) (n : ℕ) → n ≤ length tau → (l : Lit) → IsLitIn objects n l → substitute_literal (object_terms (map (object_at objects) tau)) l ≡ lit_as objects (substitute_literal tau l)
+lit-projected : (objects : ℕ) (tau : List Term) (n : ℕ) → n ≤ length tau → (l : Lit) → IsLitIn objects n l
+    → substitute_literal (object_terms (map (object_at objects) tau)) l ≡ lit_as objects (substitute_literal tau l)
 unfolding lit_as
 lit-projected objects tau n long l within = rw (args-projected objects tau n long l.atom.args within) refl
 
@@ -106,13 +117,17 @@ projected-below objects some (t ∷ tau) = (here t, projected-below objects some
 
 module _ (loose : Bool) (s : Setting) (valid : IsSetting s) (tau : List Term) where
   -- whatever terms solve, objects of the problem solve
-  pub solves-objects : (ticks : List Tick) (n : ℕ) (goals : List Goal) (p : Pending) → AllByRecursion (FactIsIn s) ticks → AllByRecursion (IsGoalIn s.objects n) goals → open_after loose s n goals ticks ≡ Some p → p.variables ≤ length tau →
-      Solves loose s tau n goals ticks → Solves loose s (object_terms (map (object_at s.objects) tau)) n goals ticks
+  pub solves-objects : (ticks : List Tick) (n : ℕ) (goals : List Goal) (p : Pending) → AllByRecursion (FactIsIn s) ticks
+      → AllByRecursion (IsGoalIn s.objects n) goals → open_after loose s n goals ticks ≡ Some p → p.variables ≤ length tau
+      → Solves loose s tau n goals ticks → Solves loose s (object_terms (map (object_at s.objects) tau)) n goals ticks
   solves-objects =
-      solves-moved loose s valid (IsName s.objects) (names s.objects) tau (object_terms (map (object_at s.objects) tau)) (length tau)
-      (λ m long a b a_over b_over same. lit-projected s.objects tau m long a a_over ∙ ap (lit_as s.objects) same ∙ sym (lit-projected s.objects tau m long b b_over))
+      solves-moved loose s valid (IsObjectOrParameter s.objects) (names s.objects) tau (object_terms (map (object_at s.objects) tau))
+      (length tau)
+      (λ m long a b a_over b_over same. lit-projected s.objects tau m long a a_over ∙ ap (lit_as s.objects) same
+      ∙ sym (lit-projected s.objects tau m long b b_over))
 
-pub all-below : (objects : ℕ) (tau : List Term) → (0 < length tau → 0 < objects) → AllByRecursion (λ o. o < objects) (map (object_at objects) tau)
+pub all-below : (objects : ℕ) (tau : List Term) → (0 < length tau → 0 < objects)
+    → AllByRecursion (λ o. o < objects) (map (object_at objects) tau)
 all-below objects [] some = tt
 all-below objects (t ∷ tau) some = projected-below objects (some (omega arith)) (t ∷ tau)
 
@@ -121,14 +136,17 @@ length-projected objects [] = refl
 length-projected objects (t ∷ tau) = ap suc (length-projected objects tau)
 
 -- the goals of a formula have objects of the problem and its variables
-pub goals-in : (s : Setting) (vars : ℕ) (formula : List Atom) → AllByRecursion (IsAtomIn s.objects vars) formula → AllByRecursion (IsGoalIn s.objects vars) (goals_of s formula)
+pub goals-in : (s : Setting) (vars : ℕ) (formula : List Atom) → AllByRecursion (IsAtomIn s.objects vars) formula
+    → AllByRecursion (IsGoalIn s.objects vars) (goals_of s formula)
 goals-in s vars [] within = tt
 goals-in s vars (a ∷ formula) within = (record { lit = within.0; path = tt }, goals-in s vars formula within.1)
 
 -- bindings that fit some substitution fit objects of the problem: the ticks are feasible
-pub feasible-from_bindings : (loose : Bool) (s : Setting) (formula : List Atom) (vars : ℕ) (ticks : List Tick) (p : Pending) (changes : List Change) → IsSetting s → AllByRecursion (IsAtomIn s.objects vars) formula →
-    AllByRecursion (FactIsIn s) ticks → open_after loose s vars (goals_of s formula) ticks ≡ Some p → p.variables ≡ variables_of changes → AreMatched loose s formula vars ticks changes → HasSolutions changes → (0 < p.variables → 0 < s.objects) →
-    IsFeasible loose s formula vars ticks
+pub feasible-from_bindings : (loose : Bool) (s : Setting) (formula : List Atom) (vars : ℕ) (ticks : List Tick) (p : Pending)
+    (changes : List Change) → IsSetting s → AllByRecursion (IsAtomIn s.objects vars) formula
+    → AllByRecursion (FactIsIn s) ticks → open_after loose s vars (goals_of s formula) ticks ≡ Some p → p.variables ≡ variables_of changes
+    → AreMatched loose s formula vars ticks changes → HasSolutions changes → (0 < p.variables → 0 < s.objects)
+    → IsFeasible loose s formula vars ticks
 feasible-from_bindings loose s formula vars ticks p changes valid scoped facts_in now count matched solvable some =
     let found = solvable (replicate (variables_of changes) (Obj 0)) (length-replicate (variables_of changes) (Obj 0)) in
     let long : p.variables ≤ length found.0 = omega (arith, count, found.1) in

@@ -3,7 +3,7 @@ use Rattle.std.proofs.Common.{◌≡◌, ◌⊎◌, Bool, true, false, Option, S
 use Rattle.px_proof.specs.declared.shape.Tick.{Tick}
 use Rattle.px_proof.specs.Shapes.{TickBefore, ShapeBefore}
 pub use Rattle.px_question.specs.ShapeOrder.{TickBefore-irrefl, TickBefore-trans, tick_trichotomy, shape_trichotomy, ShapeBefore-irrefl, ShapeBefore-trans}
-use Rattle.px_proof_walk.specs.Order.{IsAfter, Remains, IsNext, NoneAfter, IsPrefixClosed, IsAt, IsOnTheWay, TriesAfter}
+use Rattle.px_proof_walk.specs.Order.{IsAfter, Remains, IsNext, NoneAfter, IsPrefixClosed, IsAtTick, IsOnTheWay, TriesAfter}
 
 -- before any tick at the end, all later lists remain
 pub remains-start : (ticks other : List Tick) → ShapeBefore ticks other → Remains ticks None other
@@ -14,8 +14,9 @@ remains-start (t ∷ ticks) (tick ∷ more) (inl h) = inl h
 remains-start (t ∷ ticks) (tick ∷ more) (inr h) = inr (h.0, remains-start ticks more h.1)
 
 -- where none is left at the end, what remains differs by a later tick before it
-pub remains-retract : (ticks : List Tick) (tick : Tick) (last : Option Tick) (other : List Tick) →
-    ((u : Tick) (more : List Tick) → other ≡ (ticks ++ tick ∷ []) ++ u ∷ more → ¬ IsAfter last u) → Remains (ticks ++ tick ∷ []) last other → Remains ticks (Some tick) other
+pub remains-retract : (ticks : List Tick) (tick : Tick) (last : Option Tick) (other : List Tick)
+    → ((u : Tick) (more : List Tick) → other ≡ (ticks ++ tick ∷ []) ++ u ∷ more → ¬ IsAfter last u)
+    → Remains (ticks ++ tick ∷ []) last other → Remains ticks (Some tick) other
 remains-retract [] tick last [] none remains = remains
 remains-retract [] tick last (u ∷ other) none (inl h) = h
 remains-retract [] tick last (u ∷ []) none (inr h) = absurd h.1
@@ -26,16 +27,20 @@ remains-retract (t ∷ ticks) tick last (u ∷ other) none (inr h) =
     inr (h.0, remains-retract ticks tick last other (λ v more e. none v more (rw (h.0, e) refl)) h.1)
 
 -- nothing remains at the empty list where no tick is left
-pub remains-none : (last : Option Tick) (other : List Tick) → ((u : Tick) (more : List Tick) → other ≡ u ∷ more → ¬ IsAfter last u) → ¬ Remains [] last other
+pub remains-none : (last : Option Tick) (other : List Tick) → ((u : Tick) (more : List Tick) → other ≡ u ∷ more → ¬ IsAfter last u)
+    → ¬ Remains [] last other
 remains-none last [] none remains = remains
 remains-none last (u ∷ more) none remains = none u more refl remains
 
 -- the least of what remains is longer by the least tick
-pub remains-least : (ticks : List Tick) (tick : Tick) (last : Option Tick) (other : List Tick) →
-    ((u : Tick) (more : List Tick) → other ≡ ticks ++ u ∷ more → IsAfter last u → (tick ≡ u) ⊎ TickBefore tick u) → Remains ticks last other → ((ticks ++ tick ∷ []) ≡ other) ⊎ ShapeBefore (ticks ++ tick ∷ []) other
+pub remains-least : (ticks : List Tick) (tick : Tick) (last : Option Tick) (other : List Tick)
+    → ((u : Tick) (more : List Tick) → other ≡ ticks ++ u ∷ more → IsAfter last u → (tick ≡ u) ⊎ TickBefore tick u)
+    → Remains ticks last other → ((ticks ++ tick ∷ []) ≡ other) ⊎ ShapeBefore (ticks ++ tick ∷ []) other
 remains-least [] tick last [] least remains = absurd remains
-remains-least [] tick last (u ∷ []) least remains = elim (least u [] refl remains) [ inl e ↦ inl (ap (λ w. w ∷ []) e) | inr h ↦ inr (inl h) ]
-remains-least [] tick last (u ∷ v ∷ more) least remains = elim (least u (v ∷ more) refl remains) [ inl e ↦ inr (inr (e, tt)) | inr h ↦ inr (inl h) ]
+remains-least [] tick last (u ∷ []) least remains =
+    elim (least u [] refl remains) [ inl e ↦ inl (ap (λ w. w ∷ []) e) | inr h ↦ inr (inl h) ]
+remains-least [] tick last (u ∷ v ∷ more) least remains =
+    elim (least u (v ∷ more) refl remains) [ inl e ↦ inr (inr (e, tt)) | inr h ↦ inr (inl h) ]
 remains-least (t ∷ ticks) tick last [] least remains = absurd remains
 remains-least (t ∷ ticks) tick last (u ∷ other) least (inl h) = inr (inl h)
 remains-least (t ∷ ticks) tick last (u ∷ other) least (inr h) =
@@ -47,7 +52,8 @@ pub before-longer : (ticks : List Tick) (tick : Tick) (more : List Tick) → Sha
 before-longer [] tick more = tt
 before-longer (t ∷ ticks) tick more = inr (refl, before-longer ticks tick more)
 
-place-later : (start ticks : List Tick) (last : Option Tick) (u : Tick) → IsAt start ticks last → IsAfter last u → ShapeBefore start (ticks ++ u ∷ [])
+place-later : (start ticks : List Tick) (last : Option Tick) (u : Tick) → IsAtTick start ticks last → IsAfter last u
+    → ShapeBefore start (ticks ++ u ∷ [])
 place-later start ticks None u place after = rw place (before-longer ticks u [])
 place-later start ticks (Some last) u place after = rw place.1 (differs ticks place.0)
   where
@@ -55,7 +61,8 @@ place-later start ticks (Some last) u place after = rw place.1 (differs ticks pl
     differs [] tail = inl after
     differs (t ∷ ticks) tail = inr (refl, differs ticks tail)
 
-place-shorter : (start ticks : List Tick) (tick : Tick) (last : Option Tick) → IsAt start (ticks ++ tick ∷ []) last → IsAt start ticks (Some tick)
+place-shorter : (start ticks : List Tick) (tick : Tick) (last : Option Tick) → IsAtTick start (ticks ++ tick ∷ []) last
+    → IsAtTick start ticks (Some tick)
 place-shorter start ticks tick None place = ([], place)
 place-shorter start ticks tick (Some last) place = (last ∷ place.0, place.1 ∙ append_assoc ticks (tick ∷ []) (last ∷ place.0))
 
@@ -65,22 +72,27 @@ module _ (P : List Tick → Type 0) (shorter : IsPrefixClosed P) (start : List T
 
   module _ (ticks : List Tick) (last : Option Tick) (way : IsOnTheWay P start ticks last) where
     -- no list goes on from here by a tick that is left, if no single tick does
-    none_longer : ((u : Tick) → IsAfter last u → ¬ P (ticks ++ u ∷ [])) → (other : List Tick) → P other → (u : Tick) (more : List Tick) → other ≡ ticks ++ u ∷ more → ¬ IsAfter last u
+    none_longer : ((u : Tick) → IsAfter last u → ¬ P (ticks ++ u ∷ [])) → (other : List Tick) → P other → (u : Tick) (more : List Tick)
+        → other ≡ ticks ++ u ∷ more → ¬ IsAfter last u
     none_longer none other holds u more is after = none u after (shorter ticks u more (rw is at holds))
 
-    pub onward-next : (tick : Tick) → P (ticks ++ tick ∷ []) → IsAfter last tick → ((u : Tick) → IsAfter last u → P (ticks ++ u ∷ []) → (tick ≡ u) ⊎ TickBefore tick u) → IsNext P start (ticks ++ tick ∷ [])
+    pub onward-next : (tick : Tick) → P (ticks ++ tick ∷ []) → IsAfter last tick
+        → ((u : Tick) → IsAfter last u → P (ticks ++ u ∷ []) → (tick ≡ u) ⊎ TickBefore tick u) → IsNext P start (ticks ++ tick ∷ [])
     onward-next tick holds after least = record {
       holds = holds;
       later = place-later start ticks last tick way.place after;
-      least = λ other holds_other before. remains-least ticks tick last other (λ u more is after_u. least u after_u (shorter ticks u more (rw is at holds_other))) (way.rest other holds_other before);
+      least =
+          λ other holds_other before. remains-least ticks tick last other
+          (λ u more is after_u. least u after_u (shorter ticks u more (rw is at holds_other))) (way.rest other holds_other before);
     }
 
     pub onward-none : ticks ≡ [] → ((u : Tick) → IsAfter last u → ¬ P (ticks ++ u ∷ [])) → NoneAfter P start
     onward-none empty none other holds before =
         remains-none last other (λ u more is. none_longer none other holds u more (rw empty is)) (rw empty at (way.rest other holds before))
 
-  pub onward-retract : (ticks longer : List Tick) (tick : Tick) (last : Option Tick) → longer ≡ ticks ++ tick ∷ [] → IsOnTheWay P start longer last →
-      ((u : Tick) → IsAfter last u → ¬ P (longer ++ u ∷ [])) → IsOnTheWay P start ticks (Some tick)
+  pub onward-retract : (ticks longer : List Tick) (tick : Tick) (last : Option Tick) → longer ≡ ticks ++ tick ∷ []
+      → IsOnTheWay P start longer last
+      → ((u : Tick) → IsAfter last u → ¬ P (longer ++ u ∷ [])) → IsOnTheWay P start ticks (Some tick)
   onward-retract ticks longer tick last is way none = record {
     place = place-shorter start ticks tick last (rw is at way.place);
     rest = λ other holds before. remains-retract ticks tick last other
@@ -95,7 +107,8 @@ module _ (P : List Tick → Type 0) (shorter : IsPrefixClosed P) (start ticks ne
   turn-none not_found empty = let none = tried.no_more not_found in onward-none P shorter start ticks last way (sym none.0 ∙ empty) none.1
 
   pub turn-retract : found ≡ false → (front : List Tick) (tick : Tick) → new ≡ front ++ tick ∷ [] → IsOnTheWay P start front (Some tick)
-  turn-retract not_found front tick is = let none = tried.no_more not_found in onward-retract P shorter start front ticks tick last (sym none.0 ∙ is) way none.1
+  turn-retract not_found front tick is =
+      let none = tried.no_more not_found in onward-retract P shorter start front ticks tick last (sym none.0 ∙ is) way none.1
 
   pub turn-next : found ≡ true → IsNext P start new
   turn-next is_found =

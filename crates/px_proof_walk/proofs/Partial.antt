@@ -1,5 +1,5 @@
 -- Lists of ticks that go on with open places to the end.
-use Rattle.px_proof.specs.PlaceLaws.{some_same}
+use Rattle.px_base.specs.Answers.{some_same}
 use Rattle.px_proof_walk.proofs.Every.{all-front, all-rest}
 use Rattle.std.proofs.Common.{◌≡◌, ℕ, zero, suc, ◌+◌, ◌<◌, Bool, Option, Some, None, List, [], ◌∷◌, ◌++◌, length, replicate, refl, ap, sym, ◌∙◌, arith}
 use Rattle.std.specs.Prelude.{IsSomeAnd}
@@ -35,11 +35,28 @@ only-open (Step number place ∷ shape) only = absurd only
 only-open (Gap ∷ shape) only = absurd only
 
 padded-more : (t : Tick) (shape : List Tick) → IsClosing t → IsPadded shape → IsPadded (t ∷ shape)
-padded-more t shape closing rest = record { front = t ∷ rest.front; count = rest.count; some_open = rest.some_open; is = ap (λ ts. t ∷ ts) rest.is; closing = (closing, rest.closing) }
+padded-more t shape closing rest =
+    record {
+      front =
+          t ∷ rest.front;
+      count = rest.count;
+      some_open = rest.some_open;
+      is = ap (λ ts. t ∷ ts) rest.is;
+      closing = (closing, rest.closing);
+    }
 
 pub padded : (shape : List Tick) → IsUnfinished shape → IsPadded shape
 padded [] unfinished = absurd unfinished
-padded (Open ∷ shape) unfinished = let rest = only-open shape unfinished in record { front = []; count = suc rest.0; some_open = omega arith; is = ap (λ ts. Open ∷ ts) rest.1; closing = tt }
+padded (Open ∷ shape) unfinished =
+    let rest =
+    only-open shape unfinished in record {
+      front =
+          [];
+      count = suc rest.0;
+      some_open = omega arith;
+      is = ap (λ ts. Open ∷ ts) rest.1;
+      closing = tt;
+    }
 padded (Fact i ∷ shape) unfinished = padded-more (Fact i) shape tt (padded shape unfinished)
 padded (Anc i ∷ shape) unfinished = padded-more (Anc i) shape tt (padded shape unfinished)
 padded (Step number place ∷ shape) unfinished = padded-more (Step number place) shape tt (padded shape unfinished)
@@ -60,16 +77,19 @@ padded-unfinished (Gap ∷ front) k some closing = padded-unfinished front k som
 
 module _ (loose : Bool) (s : Setting) where
   -- open places take one goal each
-  pub opens-after : (goals : List Goal) (n k : ℕ) → length goals ≡ k → open_after loose s n goals (replicate k Open) ≡ Some (record { variables = n; goals = [] })
+  pub opens-after : (goals : List Goal) (n k : ℕ) → length goals ≡ k
+      → open_after loose s n goals (replicate k Open) ≡ Some (record { variables = n; goals = [] })
   opens-after [] n zero long = refl
   opens-after [] n (suc k) long = absurd (omega (arith, long))
   opens-after (g ∷ goals) n zero long = absurd (omega (arith, long))
   opens-after (g ∷ goals) n (suc k) long = let e : n + 0 ≡ n = omega arith in rw e (opens-after goals n k (omega (arith, long)))
 
-  pub opens-count : (goals : List Goal) (n k : ℕ) (p : Pending) → open_after loose s n goals (replicate k Open) ≡ Some p → p.goals ≡ [] → length goals ≡ k
+  pub opens-count : (goals : List Goal) (n k : ℕ) (p : Pending) → open_after loose s n goals (replicate k Open) ≡ Some p → p.goals ≡ []
+      → length goals ≡ k
   opens-count [] n zero p now empty = refl
   opens-count [] n (suc k) p now empty = absurd (cc)
-  opens-count (g ∷ goals) n zero p now empty = absurd (let same : (g ∷ goals) ≡ p.goals = ap (λ (q : Pending). q.goals) (some_same _ _ now) in cc)
+  opens-count (g ∷ goals) n zero p now empty =
+      absurd (let same : (g ∷ goals) ≡ p.goals = ap (λ (q : Pending). q.goals) (some_same now) in cc)
   opens-count (g ∷ goals) n (suc k) p now empty = ap suc (opens-count goals (n + 0) k p now empty)
 
   pub opens-solve : (tau : List Term) (goals : List Goal) (n k : ℕ) → length goals ≡ k → Solves loose s tau n goals (replicate k Open)
@@ -79,54 +99,69 @@ module _ (loose : Bool) (s : Setting) where
   opens-solve tau (g ∷ goals) n (suc k) long = (refl, opens-solve tau goals (n + 0) k (omega (arith, long)))
 
   -- where two lists one after the other lead, the first leads somewhere, and the second from there on
-  pub open_after-split : (a b : List Tick) (n : ℕ) (start : List Goal) (p : Pending) → open_after loose s n start (a ++ b) ≡ Some p →
-      (q : Pending) × (open_after loose s n start a ≡ Some q) × (open_after loose s q.variables q.goals b ≡ Some p)
+  pub open_after-split : (a b : List Tick) (n : ℕ) (start : List Goal) (p : Pending) → open_after loose s n start (a ++ b) ≡ Some p
+      → (q : Pending) × (open_after loose s n start a ≡ Some q) × (open_after loose s q.variables q.goals b ≡ Some p)
   open_after-split [] b n start p now = (record { variables = n; goals = start }, refl, now)
   open_after-split (t ∷ a) b n [] p now = absurd (cc)
-  open_after-split (t ∷ a) b n (g ∷ start) p now = go (closing_at loose s n g t) refl (λ closing later. open_after-split a b (n + fresh_of s t) (closing.parts ++ start) p later)
+  open_after-split (t ∷ a) b n (g ∷ start) p now =
+      go (closing_at loose s n g t) refl (λ closing later. open_after-split a b (n + fresh_of s t) (closing.parts ++ start) p later)
     where
-      go : (o : Option Closing) → closing_at loose s n g t ≡ o →
-          ((closing : Closing) → open_after loose s (n + fresh_of s t) (closing.parts ++ start) (a ++ b) ≡ Some p →
-          (q : Pending) × (open_after loose s (n + fresh_of s t) (closing.parts ++ start) a ≡ Some q) × (open_after loose s q.variables q.goals b ≡ Some p)) →
-          (q : Pending) × (open_after loose s n (g ∷ start) (t ∷ a) ≡ Some q) × (open_after loose s q.variables q.goals b ≡ Some p)
+      go : (o : Option Closing) → closing_at loose s n g t ≡ o
+          → ((closing : Closing) → open_after loose s (n + fresh_of s t) (closing.parts ++ start) (a ++ b) ≡ Some p
+          → (q : Pending) × (open_after loose s (n + fresh_of s t) (closing.parts ++ start) a ≡ Some q)
+          × (open_after loose s q.variables q.goals b ≡ Some p))
+          → (q : Pending) × (open_after loose s n (g ∷ start) (t ∷ a) ≡ Some q) × (open_after loose s q.variables q.goals b ≡ Some p)
       go None is later = absurd (let none_left = rw is at now in cc)
       go (Some closing) is later =
           let found = later closing (sym (open_after-step loose s n g start t (a ++ b) closing is) ∙ now) in
           (found.0, open_after-step loose s n g start t a closing is ∙ found.1, found.2)
 
-  pub open_after-joined : (a b : List Tick) (n : ℕ) (start : List Goal) (q p : Pending) → open_after loose s n start a ≡ Some q → open_after loose s q.variables q.goals b ≡ Some p → open_after loose s n start (a ++ b) ≡ Some p
+  pub open_after-joined : (a b : List Tick) (n : ℕ) (start : List Goal) (q p : Pending) → open_after loose s n start a ≡ Some q
+      → open_after loose s q.variables q.goals b ≡ Some p → open_after loose s n start (a ++ b) ≡ Some p
   open_after-joined [] b n start q p first later =
-      let n_is : n ≡ q.variables = ap (λ (r : Pending). r.variables) (some_same _ _ first) in
-      let start_is : start ≡ q.goals = ap (λ (r : Pending). r.goals) (some_same _ _ first) in
+      let n_is : n ≡ q.variables = ap (λ (r : Pending). r.variables) (some_same first) in
+      let start_is : start ≡ q.goals = ap (λ (r : Pending). r.goals) (some_same first) in
       rw (n_is, start_is) later
   open_after-joined (t ∷ a) b n [] q p first later = absurd (cc)
-  open_after-joined (t ∷ a) b n (g ∷ start) q p first later = go (closing_at loose s n g t) refl (λ closing now. open_after-joined a b (n + fresh_of s t) (closing.parts ++ start) q p now later)
+  open_after-joined (t ∷ a) b n (g ∷ start) q p first later =
+      go (closing_at loose s n g t) refl (λ closing now. open_after-joined a b (n + fresh_of s t) (closing.parts ++ start) q p now later)
     where
-      go : (o : Option Closing) → closing_at loose s n g t ≡ o →
-          ((closing : Closing) → open_after loose s (n + fresh_of s t) (closing.parts ++ start) a ≡ Some q → open_after loose s (n + fresh_of s t) (closing.parts ++ start) (a ++ b) ≡ Some p) →
-          open_after loose s n (g ∷ start) (t ∷ (a ++ b)) ≡ Some p
+      go : (o : Option Closing) → closing_at loose s n g t ≡ o
+          → ((closing : Closing) → open_after loose s (n + fresh_of s t) (closing.parts ++ start) a ≡ Some q
+          → open_after loose s (n + fresh_of s t) (closing.parts ++ start) (a ++ b) ≡ Some p)
+          → open_after loose s n (g ∷ start) (t ∷ (a ++ b)) ≡ Some p
       go None is goes = absurd (let none_left = rw is at first in cc)
-      go (Some closing) is goes = open_after-step loose s n g start t (a ++ b) closing is ∙ goes closing (sym (open_after-step loose s n g start t a closing is) ∙ first)
+      go (Some closing) is goes =
+          open_after-step loose s n g start t (a ++ b) closing is
+          ∙ goes closing (sym (open_after-step loose s n g start t a closing is) ∙ first)
 
-  pub solves-joined : (tau : List Term) (a b : List Tick) (n : ℕ) (start : List Goal) (q : Pending) → open_after loose s n start a ≡ Some q → Solves loose s tau n start a → Solves loose s tau q.variables q.goals b → Solves loose s tau n start (a ++ b)
+  pub solves-joined : (tau : List Term) (a b : List Tick) (n : ℕ) (start : List Goal) (q : Pending) → open_after loose s n start a ≡ Some q
+      → Solves loose s tau n start a → Solves loose s tau q.variables q.goals b → Solves loose s tau n start (a ++ b)
   solves-joined tau [] b n start q first solves later =
-      let n_is : n ≡ q.variables = ap (λ (r : Pending). r.variables) (some_same _ _ first) in
-      let start_is : start ≡ q.goals = ap (λ (r : Pending). r.goals) (some_same _ _ first) in
+      let n_is : n ≡ q.variables = ap (λ (r : Pending). r.variables) (some_same first) in
+      let start_is : start ≡ q.goals = ap (λ (r : Pending). r.goals) (some_same first) in
       rw (n_is, start_is) later
   solves-joined tau (t ∷ a) b n [] q first solves later = absurd solves
-  solves-joined tau (t ∷ a) b n (g ∷ start) q first solves later = go (closing_at loose s n g t) refl solves (λ closing now holds. solves-joined tau a b (n + fresh_of s t) (closing.parts ++ start) q now holds later)
+  solves-joined tau (t ∷ a) b n (g ∷ start) q first solves later =
+      go (closing_at loose s n g t) refl solves (λ closing now holds. solves-joined tau a b (n + fresh_of s t)
+      (closing.parts ++ start) q now holds later)
     where
-      go : (o : Option Closing) → closing_at loose s n g t ≡ o →
-          IsSomeAnd o (λ closing. (substitute_literal tau g.lit ≡ substitute_literal tau closing.equal_to) × Solves loose s tau (n + fresh_of s t) (closing.parts ++ start) a) →
-          ((closing : Closing) → open_after loose s (n + fresh_of s t) (closing.parts ++ start) a ≡ Some q → Solves loose s tau (n + fresh_of s t) (closing.parts ++ start) a → Solves loose s tau (n + fresh_of s t) (closing.parts ++ start) (a ++ b)) →
-          IsSomeAnd o (λ closing. (substitute_literal tau g.lit ≡ substitute_literal tau closing.equal_to) × Solves loose s tau (n + fresh_of s t) (closing.parts ++ start) (a ++ b))
+      go : (o : Option Closing) → closing_at loose s n g t ≡ o
+          → IsSomeAnd o (λ closing. (substitute_literal tau g.lit ≡ substitute_literal tau closing.equal_to)
+          × Solves loose s tau (n + fresh_of s t) (closing.parts ++ start) a)
+          → ((closing : Closing) → open_after loose s (n + fresh_of s t) (closing.parts ++ start) a ≡ Some q
+          → Solves loose s tau (n + fresh_of s t) (closing.parts ++ start) a
+          → Solves loose s tau (n + fresh_of s t) (closing.parts ++ start) (a ++ b))
+          → IsSomeAnd o (λ closing. (substitute_literal tau g.lit ≡ substitute_literal tau closing.equal_to)
+          × Solves loose s tau (n + fresh_of s t) (closing.parts ++ start) (a ++ b))
       go None is closes goes = closes
       go (Some closing) is closes goes = (closes.0, goes closing (sym (open_after-step loose s n g start t a closing is) ∙ first) closes.1)
 
 -- where no place is open in the ticks, none is in the derivations
 module _ (rules : Rules) (axioms : List Clause) where
   mutual
-    closed-proves : (path : List Lit) (lit : Lit) (p : Derivation) → AllByRecursion IsClosing (ticks p) → Proves (or_open rules) axioms path lit p → Proves rules axioms path lit p
+    closed-proves : (path : List Lit) (lit : Lit) (p : Derivation) → AllByRecursion IsClosing (ticks p)
+        → Proves (or_open rules) axioms path lit p → Proves rules axioms path lit p
     closed-proves path lit (fact leaf) closing proved = proved
     closed-proves path lit (ancestor i) closing proved = proved
     closed-proves path lit (step number theta place parts) closing proved = (
@@ -137,9 +172,12 @@ module _ (rules : Rules) (axioms : List Clause) where
     closed-proves path lit (gap a) closing proved = proved
     closed-proves path lit open_place closing proved = absurd closing.0
 
-    pub closed-proves-each : (path lits : List Lit) (ps : Derivations) → AllByRecursion IsClosing (ticks_of ps) → ProvesEach (or_open rules) axioms path lits ps → ProvesEach rules axioms path lits ps
+    pub closed-proves-each : (path lits : List Lit) (ps : Derivations) → AllByRecursion IsClosing (ticks_of ps)
+        → ProvesEach (or_open rules) axioms path lits ps → ProvesEach rules axioms path lits ps
     closed-proves-each path [] none closing each = tt
-    closed-proves-each path (lit ∷ lits) (also p ps) closing each =
-        (closed-proves path lit p (all-front IsClosing (ticks p) (ticks_of ps) closing) each.0, closed-proves-each path lits ps (all-rest IsClosing (ticks p) (ticks_of ps) closing) each.1)
+    closed-proves-each path (lit ∷ lits) (also p ps) closing each = (
+      closed-proves path lit p (all-front IsClosing (ticks p) (ticks_of ps) closing) each.0,
+      closed-proves-each path lits ps (all-rest IsClosing (ticks p) (ticks_of ps) closing) each.1,
+    )
     closed-proves-each path [] (also p ps) closing each = absurd each
     closed-proves-each path (lit ∷ lits) none closing each = absurd each

@@ -4,7 +4,7 @@ use Rattle.std.specs.Prelude.{All}
 use Rattle.std.specs.List.{AllByRecursion}
 use Rattle.px_ops.specs.Models.{IsModel}
 use Rattle.px_proof.specs.PlaceLaws.{All-got}
-use Rattle.px_proof.specs.Proves.{IsName}
+use Rattle.px_proof.specs.Proves.{IsObjectOrParameter}
 use Rattle.px_question.specs.Settings.{setting_of}
 use Rattle.px_terms.specs.declared.atom.Atom.{Atom}
 use Rattle.px_terms.specs.declared.clause.Clause.{Clause}
@@ -18,17 +18,22 @@ use Rattle.px_terms.specs.Validity.{IsValid, IsAxiomOf, IsAtomOf, IsTermOf}
 use Rattle.px_proof_walk.specs.Scope.{IsAtomIn, IsLitIn, IsSetting}
 use Rattle.px_proof_walk.proofs.Every.{all-recursion, all-weaker}
 
-term-in : (problem : Problem) (vars : ℕ) (t : Term) → IsTermOf problem vars t → IsName problem.objects vars t
+term-in : (problem : Problem) (vars : ℕ) (t : Term) → IsTermOf problem vars t → IsObjectOrParameter problem.objects vars t
 term-in problem vars (Obj n) h = h
 term-in problem vars (Var v) h = h
 term-in problem vars Any h = h
 
 pub atom-in : (problem : Problem) (vars : ℕ) (atom : Atom) → IsAtomOf problem vars atom → IsAtomIn problem.objects vars atom
-atom-in problem vars atom h = all-weaker (IsTermOf problem vars) (IsName problem.objects vars) atom.args (term-in problem vars) (all-recursion (IsTermOf problem vars) atom.args h.1)
+atom-in problem vars atom h =
+    all-weaker (IsTermOf problem vars) (IsObjectOrParameter problem.objects vars) atom.args (term-in problem vars)
+    (all-recursion (IsTermOf problem vars) atom.args h.1)
 
 -- the atoms of a formula of the problem are in scope
-pub formula-in : (problem : Problem) (vars : ℕ) (formula : List Atom) → All (IsAtomOf problem vars) formula → AllByRecursion (IsAtomIn problem.objects vars) formula
-formula-in problem vars formula all = all-weaker (IsAtomOf problem vars) (IsAtomIn problem.objects vars) formula (atom-in problem vars) (all-recursion (IsAtomOf problem vars) formula all)
+pub formula-in : (problem : Problem) (vars : ℕ) (formula : List Atom) → All (IsAtomOf problem vars) formula
+    → AllByRecursion (IsAtomIn problem.objects vars) formula
+formula-in problem vars formula all =
+    all-weaker (IsAtomOf problem vars) (IsAtomIn problem.objects vars) formula (atom-in problem vars)
+    (all-recursion (IsAtomOf problem vars) formula all)
 
 some_below : (objects vars : ℕ) → (objects ≡ 0 → vars ≡ 0) → 0 < vars → 0 < objects
 some_below zero vars never some = omega (arith, never refl, some)
@@ -39,8 +44,12 @@ pub setting_of-is : (problem : Problem) (atoms : List Atom) → IsValid problem 
 setting_of-is problem atoms valid model = record {
   clauses = λ number clause at.
       let one : IsAxiomOf problem clause = All-got (IsAxiomOf problem) problem.axioms number clause valid.axioms at in
-      all-weaker (λ (lit : Lit). IsAtomOf problem clause.vars lit.atom) (IsLitIn problem.objects clause.vars) clause.lits (λ lit. atom-in problem clause.vars lit.atom) (all-recursion (λ (lit : Lit). IsAtomOf problem clause.vars lit.atom) clause.lits one.lits);
+      all-weaker (λ (lit : Lit). IsAtomOf problem clause.vars lit.atom) (IsLitIn problem.objects clause.vars) clause.lits
+      (λ lit. atom-in problem clause.vars lit.atom)
+      (all-recursion (λ (lit : Lit). IsAtomOf problem clause.vars lit.atom) clause.lits one.lits);
   facts = λ i atom at. all-recursion IsObject atom.args (All-got IsGround atoms i atom model.all_ground at);
   some_height = valid.height.0;
-  some_object = λ number clause at. some_below problem.objects clause.vars (λ none_there. All-got (λ (c : Clause). c.vars ≡ 0) problem.axioms number clause (valid.no_objects none_there).1 at);
+  some_object =
+      λ number clause at. some_below problem.objects clause.vars
+      (λ none_there. All-got (λ (c : Clause). c.vars ≡ 0) problem.axioms number clause (valid.no_objects none_there).1 at);
 }

@@ -9,10 +9,11 @@ use Rattle.px_terms.specs.Language.{substitute, IsObject, IsPlainBelow}
 use Rattle.px_proof.specs.declared.shape.Tick.{Tick}
 use Rattle.px_proof.specs.declared.shape.Tick.TheVariants.{Fact, Anc, Step, Gap, Open}
 use Rattle.px_proof.specs.Literals.{substitute_literal}
-use Rattle.px_proof.specs.Proves.{IsName}
+use Rattle.px_proof.specs.Proves.{IsObjectOrParameter}
 use Rattle.px_question.specs.Settings.{Setting}
-use Rattle.px_proof_walk.specs.Pending.{Goal, Closing, Pending, Solves, open_after, closing_at, fresh_of, goals_of, variables_from}
-use Rattle.px_proof_walk.specs.Scope.{IsAtomIn, IsClosingOf, IsGoalOf, IsLitOf, IsSetting}
+use Rattle.px_terms.specs.Substitution.{variables_from}
+use Rattle.px_proof_walk.specs.Pending.{Goal, Closing, Pending, Solves, open_after, closing_at, fresh_of, goals_of}
+use Rattle.px_proof_walk.specs.Scope.{IsAtomIn, IsClosingOf, HasGoalTerms, IsLitOf, IsSetting}
 use Rattle.px_proof_walk.proofs.Closings.{AreTerms, FactIsOver, closing-of_terms, solves-moved}
 use Rattle.px_proof_walk.proofs.Every.{all-weaker}
 
@@ -20,7 +21,7 @@ abbrev pub IsLitOver : ℕ → Lit → Type 0
 IsLitOver n = IsLitOf (IsPlainBelow n)
 
 abbrev pub IsGoalOver : ℕ → Goal → Type 0
-IsGoalOver n = IsGoalOf (IsPlainBelow n)
+IsGoalOver n = HasGoalTerms (IsPlainBelow n)
 
 term-more : (m n : ℕ) → m ≤ n → (t : Term) → IsPlainBelow m t → IsPlainBelow n t
 term-more m n more (Obj o) below = tt
@@ -32,12 +33,13 @@ ground-below n (Obj o) is_object = tt
 ground-below n (Var v) is_object = absurd is_object
 ground-below n Any is_object = is_object
 
-pub scoped-below : (objects n : ℕ) (t : Term) → IsName objects n t → IsPlainBelow n t
+pub scoped-below : (objects n : ℕ) (t : Term) → IsObjectOrParameter objects n t → IsPlainBelow n t
 scoped-below objects n (Obj o) within = tt
 scoped-below objects n (Var v) within = within
 scoped-below objects n Any within = within
 
-new-term : (objects first count : ℕ) (t : Term) → IsName objects count t → IsPlainBelow (first + count) (substitute (variables_from first count) t)
+new-term : (objects first count : ℕ) (t : Term) → IsObjectOrParameter objects count t
+    → IsPlainBelow (first + count) (substitute (variables_from first count) t)
 new-term objects first count (Obj o) within = tt
 new-term objects first count Any within = within
 new-term objects first count (Var v) within = go first count v within
@@ -45,7 +47,8 @@ new-term objects first count (Var v) within = go first count v within
     go : (first count v : ℕ) → v < count → IsPlainBelow (first + count) (slice_index_or (variables_from first count) v Any)
     go first zero v within = absurd (omega (arith, within))
     go first (suc count) zero within = omega arith
-    go first (suc count) (suc v) within = let e : first + suc count ≡ suc first + count = omega arith in rw e (go (suc first) count v (omega (arith, within)))
+    go first (suc count) (suc v) within =
+        let e : first + suc count ≡ suc first + count = omega arith in rw e (go (suc first) count v (omega (arith, within)))
 
 -- objects, and variables below the number
 pub plain-terms : (objects : ℕ) → AreTerms objects IsPlainBelow
@@ -63,8 +66,10 @@ module _ (s : Setting) (valid : IsSetting s) where
   all-plain [] = tt
   all-plain (tick ∷ ticks) = (facts-plain tick, all-plain ticks)
 
-  pub closing-over : (loose : Bool) (n : ℕ) (goal : Goal) → IsGoalOver n goal → (tick : Tick) (closing : Closing) → closing_at loose s n goal tick ≡ Some closing → IsClosingOf (IsPlainBelow (n + fresh_of s tick)) closing
-  closing-over loose n goal over tick closing is = closing-of_terms loose s valid IsPlainBelow (plain-terms s.objects) n goal over tick closing (facts-plain tick) is
+  pub closing-over : (loose : Bool) (n : ℕ) (goal : Goal) → IsGoalOver n goal → (tick : Tick) (closing : Closing)
+      → closing_at loose s n goal tick ≡ Some closing → IsClosingOf (IsPlainBelow (n + fresh_of s tick)) closing
+  closing-over loose n goal over tick closing is =
+      closing-of_terms loose s valid IsPlainBelow (plain-terms s.objects) n goal over tick closing (facts-plain tick) is
 
 -- a term over the first variables doesn't read the later ones
 pub term-front : (xs ys : List Term) (n : ℕ) → n ≤ length xs → (t : Term) → IsPlainBelow n t → substitute (xs ++ ys) t ≡ substitute xs t
@@ -77,23 +82,34 @@ term-front xs ys n long (Var v) below = go xs v (omega (arith, long, below))
     go (x ∷ xs) zero within = refl
     go (x ∷ xs) (suc v) within = go xs v (omega (arith, within))
 
-pub args-front : (xs ys : List Term) (n : ℕ) → n ≤ length xs → (ts : List Term) → AllByRecursion (IsPlainBelow n) ts → map (substitute (xs ++ ys)) ts ≡ map (substitute xs) ts
+pub args-front : (xs ys : List Term) (n : ℕ) → n ≤ length xs → (ts : List Term) → AllByRecursion (IsPlainBelow n) ts
+    → map (substitute (xs ++ ys)) ts ≡ map (substitute xs) ts
 args-front xs ys n long [] over = refl
 args-front xs ys n long (t ∷ ts) over = rw (term-front xs ys n long t over.0, args-front xs ys n long ts over.1) refl
 
-pub lit-front : (xs ys : List Term) (n : ℕ) → n ≤ length xs → (l : Lit) → IsLitOver n l → substitute_literal (xs ++ ys) l ≡ substitute_literal xs l
+pub lit-front : (xs ys : List Term) (n : ℕ) → n ≤ length xs → (l : Lit) → IsLitOver n l
+    → substitute_literal (xs ++ ys) l ≡ substitute_literal xs l
 lit-front xs ys n long l over = rw (args-front xs ys n long l.atom.args over) refl
 
 module _ (loose : Bool) (s : Setting) (valid : IsSetting s) (xs ys : List Term) where
   -- a solution's front solves, as far as there are variables
-  pub solves-front : (ticks : List Tick) (n : ℕ) (goals : List Goal) (p : Pending) → AllByRecursion (IsGoalOver n) goals → open_after loose s n goals ticks ≡ Some p → p.variables ≤ length xs →
-      Solves loose s (xs ++ ys) n goals ticks → Solves loose s xs n goals ticks
+  pub solves-front : (ticks : List Tick) (n : ℕ) (goals : List Goal) (p : Pending) → AllByRecursion (IsGoalOver n) goals
+      → open_after loose s n goals ticks ≡ Some p → p.variables ≤ length xs
+      → Solves loose s (xs ++ ys) n goals ticks → Solves loose s xs n goals ticks
   solves-front ticks n goals p over =
       solves-moved loose s valid IsPlainBelow (plain-terms s.objects) (xs ++ ys) xs (length xs)
       (λ m long a b a_over b_over same. sym (lit-front xs ys m long a a_over) ∙ same ∙ lit-front xs ys m long b b_over)
       ticks n goals p (all-plain s valid ticks) over
 
 -- the goals of a formula are over its variables
-pub goals-over : (s : Setting) (vars : ℕ) (formula : List Atom) → AllByRecursion (IsAtomIn s.objects vars) formula → AllByRecursion (IsGoalOver vars) (goals_of s formula)
+pub goals-over : (s : Setting) (vars : ℕ) (formula : List Atom) → AllByRecursion (IsAtomIn s.objects vars) formula
+    → AllByRecursion (IsGoalOver vars) (goals_of s formula)
 goals-over s vars [] scoped = tt
-goals-over s vars (a ∷ formula) scoped = (record { lit = all-weaker (IsName s.objects vars) (IsPlainBelow vars) a.args (scoped-below s.objects vars) scoped.0; path = tt }, goals-over s vars formula scoped.1)
+goals-over s vars (a ∷ formula) scoped = (
+  record {
+    lit =
+        all-weaker (IsObjectOrParameter s.objects vars) (IsPlainBelow vars) a.args (scoped-below s.objects vars) scoped.0;
+    path = tt;
+  },
+  goals-over s vars formula scoped.1,
+)

@@ -28,7 +28,13 @@ module _ (loose : Bool) (s : Setting) (formula : List Atom) (vars : ℕ) where
     (
       record { variables = vars; goals = goals_of s formula },
       refl,
-      (replicate vars 0, let count : length {A = ℕ} (replicate vars 0) ≡ vars = length-replicate {A = ℕ} vars 0 in omega (arith, count), All-from_recursion (λ o. o < s.objects) (replicate vars 0) (zeros-below s.objects vars some), tt),
+      (
+        replicate vars 0,
+        let count : length {A = ℕ} (replicate vars 0) ≡ vars = length-replicate {A = ℕ} vars 0 in
+            omega (arith, count),
+        All-from_recursion (λ o. o < s.objects) (replicate vars 0) (zeros-below s.objects vars some),
+        tt,
+      ),
     ),
   )
 
@@ -42,11 +48,13 @@ module _ (loose : Bool) (s : Setting) (formula : List Atom) (vars : ℕ) where
   going-shorter ticks tick [] going = going
   going-shorter ticks tick (next ∷ more) going = (
     possible-shorter ticks tick (next ∷ more) going.0,
-    goes_on loose s formula vars (ticks ++ tick ∷ []) next more (subst (IsPossible loose s formula vars) (regroup ticks tick (next ∷ more)) going.0),
+    goes_on loose s formula vars (ticks ++ tick ∷ []) next more
+        (subst (IsPossible loose s formula vars) (regroup ticks tick (next ∷ more)) going.0),
   )
 
   -- all fronts of a possible list are possible
-  pub possible-front : (front : List Tick) (tick : Tick) (more : List Tick) → (0 < vars → 0 < s.objects) → IsPossible loose s formula vars (front ++ tick ∷ more) → IsPossible loose s formula vars front
+  pub possible-front : (front : List Tick) (tick : Tick) (more : List Tick) → (0 < vars → 0 < s.objects)
+      → IsPossible loose s formula vars (front ++ tick ∷ more) → IsPossible loose s formula vars front
   possible-front front tick more some possible = go front possible
     where
       last : (t : Tick) (front : List Tick) → (shorter : List Tick) × (u : Tick) × (t ∷ front ≡ shorter ++ u ∷ [])
@@ -57,5 +65,7 @@ module _ (loose : Bool) (s : Setting) (formula : List Atom) (vars : ℕ) where
       go [] possible = start-possible some
       go (t ∷ front) possible =
           let end = last t front in
-          let whole : (t ∷ front) ++ tick ∷ more ≡ end.0 ++ end.1 ∷ (tick ∷ more) = ap (λ ts. ts ++ tick ∷ more) end.2 ∙ append_assoc end.0 (end.1 ∷ []) (tick ∷ more) in
-          subst (IsPossible loose s formula vars) (sym end.2) (possible-shorter end.0 end.1 (tick ∷ more) (subst (IsPossible loose s formula vars) whole possible))
+          let whole : (t ∷ front) ++ tick ∷ more ≡ end.0 ++ end.1 ∷ (tick ∷ more) =
+          ap (λ ts. ts ++ tick ∷ more) end.2 ∙ append_assoc end.0 (end.1 ∷ []) (tick ∷ more) in
+          subst (IsPossible loose s formula vars) (sym end.2)
+          (possible-shorter end.0 end.1 (tick ∷ more) (subst (IsPossible loose s formula vars) whole possible))

@@ -11,7 +11,8 @@ use Rattle.px_question.specs.Limits.{IsAscending}
 use Rattle.px_proof_walk.specs.Search.{AreAll, AreSeen, NoneComes, LimitComes}
 use Rattle.px_proof_walk.proofs.Ordering.{shape_trichotomy, ShapeBefore-irrefl, ShapeBefore-trans}
 
-ascending-push : (seen : List (List Tick)) (here : List Tick) → IsAscending seen → AllByRecursion (λ ticks. ShapeBefore ticks here) seen → IsAscending (seen ++ here ∷ [])
+ascending-push : (seen : List (List Tick)) (here : List Tick) → IsAscending seen → AllByRecursion (λ ticks. ShapeBefore ticks here) seen
+    → IsAscending (seen ++ here ∷ [])
 ascending-push [] here up before = (tt, tt)
 ascending-push (t ∷ seen) here up before = (all-push (ShapeBefore t) seen here up.0 before.0, ascending-push seen here up.1 before.1)
 
@@ -21,7 +22,8 @@ map-push f (y ∷ xs) x = ap (λ ys. f y ∷ ys) (map-push f xs x)
 
 module _ (P F : List Tick → Type 0) where
   pub seen-start : AreSeen P F [] []
-  seen-start = record { ascending = tt; possible = tt; unfinished = tt; before = tt; covers = λ other holds before. absurd (none other before) }
+  seen-start =
+      record { ascending = tt; possible = tt; unfinished = tt; before = tt; covers = λ other holds before. absurd (none other before) }
     where
       none : (other : List Tick) → ¬ ShapeBefore other []
       none [] h = h
@@ -51,7 +53,10 @@ module _ (P F : List Tick → Type 0) where
       ascending = up;
       possible = all_possible;
       unfinished = all_open;
-      before = all-push (λ ticks. ShapeBefore ticks next) seen here (all-weaker (λ ticks. ShapeBefore ticks here) (λ ticks. ShapeBefore ticks next) seen (λ ticks h. ShapeBefore-trans ticks here next h is.later) are.before) is.later;
+      before =
+          all-push (λ ticks. ShapeBefore ticks next) seen here
+          (all-weaker (λ ticks. ShapeBefore ticks here) (λ ticks. ShapeBefore ticks next) seen
+          (λ ticks h. ShapeBefore-trans ticks here next h is.later) are.before) is.later;
       covers = λ other holds before. go other before (seen_or_after other holds) (is.least other holds);
     }
       where
@@ -59,16 +64,24 @@ module _ (P F : List Tick → Type 0) where
         not_least other before (inl e) = ShapeBefore-irrefl other (rw e at before)
         not_least other before (inr h) = ShapeBefore-irrefl other (ShapeBefore-trans other next other before h)
 
-        go : (other : List Tick) → ShapeBefore other next → Contains (seen ++ here ∷ []) other ⊎ ShapeBefore here other → (ShapeBefore here other → (next ≡ other) ⊎ ShapeBefore next other) → Contains (seen ++ here ∷ []) other
+        go : (other : List Tick) → ShapeBefore other next → Contains (seen ++ here ∷ []) other ⊎ ShapeBefore here other
+            → (ShapeBefore here other → (next ≡ other) ⊎ ShapeBefore next other) → Contains (seen ++ here ∷ []) other
         go other before (inl h) least = h
         go other before (inr h) least = absurd (not_least other before (least h))
 
     pub none-comes : (limit : ℕ) → length seen + 1 < limit → NoneAfter P here → NoneComes P F limit
     none-comes limit few none = record {
-      few = (seen ++ here ∷ [], omega (arith, few, length-append seen (here ∷ [])), up, all_open, λ other holds. go other holds (seen_or_after other holds));
+      few = (
+        seen ++ here ∷ [],
+        omega (arith, few, length-append seen (here ∷ [])),
+        up,
+        all_open,
+        λ other holds. go other holds (seen_or_after other holds),
+      );
     }
       where
-        go : (other : List Tick) → P other → Contains (seen ++ here ∷ []) other ⊎ ShapeBefore here other → Contains (seen ++ here ∷ []) other
+        go : (other : List Tick) → P other → Contains (seen ++ here ∷ []) other ⊎ ShapeBefore here other
+            → Contains (seen ++ here ∷ []) other
         go other holds (inl h) = h
         go other holds (inr h) = absurd (none other holds h)
 
@@ -80,7 +93,8 @@ module _ (P F : List Tick → Type 0) where
       covers = λ other holds. go other holds (seen_or_after other holds);
     }
       where
-        go : (other : List Tick) → P other → Contains (seen ++ here ∷ []) other ⊎ ShapeBefore here other → Contains (seen ++ here ∷ []) other
+        go : (other : List Tick) → P other → Contains (seen ++ here ∷ []) other ⊎ ShapeBefore here other
+            → Contains (seen ++ here ∷ []) other
         go other holds (inl h) = h
         go other holds (inr h) = absurd (none other holds h)
 
@@ -93,13 +107,18 @@ module _ (P F : List Tick → Type 0) where
       first = λ other holds. go other (seen_or_after other holds);
     }
       where
-        go : (other : List Tick) → Contains (seen ++ here ∷ []) other ⊎ ShapeBefore here other → Contains (seen ++ here ∷ []) other ⊎ AllByRecursion (λ ticks. ShapeBefore ticks other) (seen ++ here ∷ [])
+        go : (other : List Tick) → Contains (seen ++ here ∷ []) other ⊎ ShapeBefore here other
+            → Contains (seen ++ here ∷ []) other ⊎ AllByRecursion (λ ticks. ShapeBefore ticks other) (seen ++ here ∷ [])
         go other (inl h) = inl h
-        go other (inr h) = inr (all-push (λ ticks. ShapeBefore ticks other) seen here (all-weaker (λ ticks. ShapeBefore ticks here) (λ ticks. ShapeBefore ticks other) seen (λ ticks k. ShapeBefore-trans ticks here other k h) are.before) h)
+        go other (inr h) =
+            inr (all-push (λ ticks. ShapeBefore ticks other) seen here
+            (all-weaker (λ ticks. ShapeBefore ticks here) (λ ticks. ShapeBefore ticks other) seen
+            (λ ticks k. ShapeBefore-trans ticks here other k h) are.before) h)
 
     pub length-seen : length (seen ++ here ∷ []) ≡ length seen + 1
     length-seen = length-append seen (here ∷ [])
 
 -- the shapes that are kept are those of the lists that were seen
-pub shapes-push : (shape_of : List Tick → List Tick) (shapes seen : List (List Tick)) (here : List Tick) → shapes ≡ map shape_of seen → shapes ++ shape_of here ∷ [] ≡ map shape_of (seen ++ here ∷ [])
+pub shapes-push : (shape_of : List Tick → List Tick) (shapes seen : List (List Tick)) (here : List Tick) → shapes ≡ map shape_of seen
+    → shapes ++ shape_of here ∷ [] ≡ map shape_of (seen ++ here ∷ [])
 shapes-push shape_of shapes seen here are = ap (λ xs. xs ++ shape_of here ∷ []) are ∙ sym (map-push shape_of seen here)

@@ -1,3 +1,4 @@
+-- The files of definitions and laws.
 pub mod Pending
 pub mod Scope
 pub mod Possible

@@ -28,17 +28,17 @@ NoneAfter P ticks = (other : List Tick) → P other → ¬ ShapeBefore ticks oth
 abbrev pub IsPrefixClosed : (List Tick → Type 0) → Type 0
 IsPrefixClosed P = (ticks : List Tick) (tick : Tick) (more : List Tick) → P (ticks ++ tick ∷ more) → P (ticks ++ tick ∷ [])
 
--- the first open place is closed by the least tick after the last one that was tried; or there is none, and nothing changes
+-- the first open place is closed by the least possible tick after the last one that was tried; or no tick is possible, and nothing changes
 pub record TriesAfter (P : List Tick → Type 0) (old new : List Tick) (last : Option Tick) (found : Bool) : Type 0 where
   pub least : found ≡ true → (tick : Tick) × (new ≡ old ++ tick ∷ []) × IsAfter last tick × P new
       × ((u : Tick) → IsAfter last u → P (old ++ u ∷ []) → (tick ≡ u) ⊎ TickBefore tick u)
   pub no_more : found ≡ false → (new ≡ old) × ((u : Tick) → IsAfter last u → ¬ P (old ++ u ∷ []))
 
 -- the walk has left the part behind a place, which began with the last tick that was tried there
-abbrev pub IsAt : List Tick → List Tick → Option Tick → Type 0
-IsAt start ticks None = start ≡ ticks
-IsAt start ticks (Some last) = (tail : List Tick) × (start ≡ ticks ++ last ∷ tail)
+abbrev pub IsAtTick : List Tick → List Tick → Option Tick → Type 0
+IsAtTick start ticks None = start ≡ ticks
+IsAtTick start ticks (Some last) = (tail : List Tick) × (start ≡ ticks ++ last ∷ tail)
 
 pub record IsOnTheWay (P : List Tick → Type 0) (start ticks : List Tick) (last : Option Tick) : Type 0 where
-  pub place : IsAt start ticks last
+  pub place : IsAtTick start ticks last
   pub rest : (other : List Tick) → P other → ShapeBefore start other → Remains ticks last other

@@ -1,11 +1,11 @@
 -- The open places of an unfinished list, and what each tick makes of the first of them.
-use Rattle.std.specs.Prelude.{◌≡◌, ℕ, zero, suc, ◌+◌, ◌-◌, ◌<◌, ◌≤◌, Bool, ◌&&◌, ◌||◌, nat_le, nat_eq, cond, Option, Some, None, IsSomeAnd, List, [], ◌∷◌, ◌++◌, map, length, slice_get, All}
+use Rattle.std.specs.Prelude.{◌≡◌, ℕ, ◌+◌, ◌-◌, ◌<◌, ◌≤◌, Bool, ◌&&◌, ◌||◌, nat_le, nat_eq, cond, Option, Some, None, IsSomeAnd, List, [], ◌∷◌, ◌++◌, map, length, slice_get, All}
 use Rattle.std.specs.List.{list_any}
 use Rattle.px_terms.specs.declared.term.Term.{Term}
-use Rattle.px_terms.specs.declared.term.Term.TheVariants.{Var}
 use Rattle.px_terms.specs.declared.atom.Atom.{Atom}
 use Rattle.px_terms.specs.declared.clause.Lit.{Lit}
 use Rattle.px_terms.specs.declared.clause.Clause.{Clause}
+use Rattle.px_terms.specs.Substitution.{variables_from}
 use Rattle.px_proof.specs.declared.shape.Tick.{Tick}
 use Rattle.px_proof.specs.declared.shape.Tick.TheVariants.{Fact, Anc, Step, Gap, Open}
 use Rattle.px_proof.specs.Literals.{substitute_literal, complement_of, positive_of}
@@ -72,12 +72,7 @@ closing_of loose s theta goal Gap =
     None
 closing_of loose s theta goal Open = Some (record { equal_to = goal.lit; parts = [] })
 
--- `count` variables, from the given one on
-abbrev pub variables_from : ℕ → ℕ → List Term
-variables_from first zero = []
-variables_from first (suc count) = Var first ∷ variables_from (suc first) count
-
--- the same, with new variables for those of the clause
+-- how the tick closes the goal, with new variables for those of the clause
 abbrev pub closing_at : Bool → Setting → ℕ → Goal → Tick → Option Closing
 closing_at loose s variables goal tick = closing_of loose s (variables_from variables (fresh_of s tick)) goal tick
 
@@ -116,7 +111,7 @@ IsFeasible loose s formula vars ticks =
     ((objects : List ℕ) × (p.variables ≤ length objects) × All (λ n. n < s.objects) objects
     × Solves loose s (object_terms objects) vars (goals_of s formula) ticks)
 
--- the same without variables: the objects of each step are chosen at the step
+-- under these objects the ticks close the goals rightly, without variables: the objects of each step are chosen at the step
 abbrev pub Runs : Bool → Setting → List Goal → List Tick → List ℕ → Type 0
 Runs loose s [] [] chosen = chosen ≡ []
 Runs loose s (goal ∷ goals) [] chosen = ⊥

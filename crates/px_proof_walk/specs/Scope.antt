@@ -6,7 +6,7 @@ use Rattle.px_terms.specs.declared.clause.Clause.{Clause}
 use Rattle.px_terms.specs.declared.clause.Lit.{Lit}
 use Rattle.px_terms.specs.declared.term.Term.{Term}
 use Rattle.px_terms.specs.Language.{IsObject}
-use Rattle.px_proof.specs.Proves.{IsName}
+use Rattle.px_proof.specs.Proves.{IsObjectOrParameter}
 use Rattle.px_question.specs.Settings.{Setting}
 use Rattle.px_proof_walk.specs.Pending.{Closing, Goal}
 
@@ -14,25 +14,25 @@ use Rattle.px_proof_walk.specs.Pending.{Closing, Goal}
 abbrev pub IsLitOf : (Term → Type 0) → Lit → Type 0
 IsLitOf IsTerm lit = AllByRecursion IsTerm lit.atom.args
 
--- the same of the literal of a goal and of those above it
-pub record IsGoalOf (IsTerm : Term → Type 0) (goal : Goal) : Type 0 where
+-- the arguments of the literal of a goal and of those above it are such terms
+pub record HasGoalTerms (IsTerm : Term → Type 0) (goal : Goal) : Type 0 where
   pub lit : IsLitOf IsTerm goal.lit
   pub path : AllByRecursion (IsLitOf IsTerm) goal.path
 
--- the same of what closes a goal
+-- the arguments of the literals of what closes a goal are such terms
 pub record IsClosingOf (IsTerm : Term → Type 0) (closing : Closing) : Type 0 where
   pub equal_to : IsLitOf IsTerm closing.equal_to
-  pub parts : AllByRecursion (IsGoalOf IsTerm) closing.parts
+  pub parts : AllByRecursion (HasGoalTerms IsTerm) closing.parts
 
 -- the arguments are objects below the first number, or variables below the second
 abbrev pub IsAtomIn : ℕ → ℕ → Atom → Type 0
-IsAtomIn objects vars atom = AllByRecursion (IsName objects vars) atom.args
+IsAtomIn objects vars atom = AllByRecursion (IsObjectOrParameter objects vars) atom.args
 
 abbrev pub IsLitIn : ℕ → ℕ → Lit → Type 0
-IsLitIn objects vars = IsLitOf (IsName objects vars)
+IsLitIn objects vars = IsLitOf (IsObjectOrParameter objects vars)
 
 abbrev pub IsGoalIn : ℕ → ℕ → Goal → Type 0
-IsGoalIn objects vars = IsGoalOf (IsName objects vars)
+IsGoalIn objects vars = HasGoalTerms (IsObjectOrParameter objects vars)
 
 -- axioms have the problem's objects and their own variables, facts any objects and no variable; a proof may have some height, and
 -- there is an object where an axiom has a variable

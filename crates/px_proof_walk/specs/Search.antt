@@ -19,7 +19,7 @@ pub record ComesFirst (P F : List Tick → Type 0) (limit : ℕ) (ticks : List T
   pub finished : F ticks
   pub few : (seen : List (List Tick)) × (length seen < limit) × AreSeen P F seen ticks
 
--- there is none, and fewer unfinished lists than the limit
+-- no list is finished, and there are fewer unfinished lists than the limit
 pub record NoneComes (P F : List Tick → Type 0) (limit : ℕ) : Type 0 where
   pub few : (seen : List (List Tick)) × (length seen < limit) × IsAscending seen × AllByRecursion (λ ticks. ¬ F ticks) seen
       × ((other : List Tick) → P other → Contains seen other)

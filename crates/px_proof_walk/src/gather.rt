@@ -9,15 +9,15 @@ use px_base::{NoMemory, push};
 use px_proof::Shape;
 use std::alloc::Global;
 
-/// What gathers something at each list of a walk.
+/// Something that gathers at each list of a walk.
 pub trait Gather<Q, W: Walk<Q>> {
     ghost use Rattle.std.specs.Prelude.{List};
     ghost use Rattle.px_proof.specs.declared.shape.Tick.{Tick};
 
-    // what is gathered is that of these lists, and nothing else
+    // what is gathered comes from these lists alone
     ghost gathered: { Q → Self → List (List Tick) → Type 0 };
 
-    /// Gathers what the list at which the walk stands gives, and leaves the walk there.
+    /// Gathers what comes from the list at which the walk stands, and leaves the walk there.
     ///
     /// # Errors
     /// `NoMemory` if memory runs out.

@@ -1,9 +1,9 @@
 //! The walk of the prover over unfinished proofs, stated once for proofs and gap proofs, apart from the state that it
 //! keeps.
 //!
-//! An unfinished list of proofs is told by the ticks that close its places in preorder: each closes the first place that is
+//! An unfinished list of proofs is given by the ticks that close its places in preorder: each closes the first place that is
 //! open. The lists are visited in the order of the ticks, a list before those that it grows into, so the first finished
-//! one that is met is the first one that there is.
+//! one that is met is the first of all.
 //!
 //! # Calling it
 //!
@@ -13,7 +13,7 @@
 //!   there may be, so that a state can bound its variables.
 //! - [`advance`] goes on to the next possible list: the least after the one where the walk stands, and no other is between.
 //!   `false` means that no list comes after it.
-//! - [`walk_to_finished`] starts at the empty list and stops at the first finished one, or where there is none, or where
+//! - [`walk_to_finished`] starts at the empty list and stops at the first finished one, or at the end if no list is finished, or where
 //!   as many unfinished ones as the limit have been met; then [`End::Limit`] has their shapes, in order.
 //! - [`walk_to_end`] visits all lists and lets a [`Gather`] gather at each, or stops at the limit. It is for walks over
 //!   lists that all have an open place; what is finished is gathered from the list before it.
@@ -22,9 +22,10 @@
 //!
 //! What the visits say of a question is proved here too, over lists and bindings alone. `specs/Pending` says which closings
 //! a tick makes and what is then open, `specs/Possible` which lists of ticks are possible and finished, `specs/Order`
-//! and `specs/Search` what is visited. Of `proofs/`: `Attempts` and `Objects` say what unification tells of one more
+//! and `specs/Search` what is visited. Of `proofs/`: `Attempts` and `Objects` have what unification says of one more
 //! tick, `Outcomes` and `GapOutcomes` what the ends of a walk say of the definitions in `px_question`, `Values` and
 //! `Answering` which objects the bindings then give, and `Gathering` which gap lists.
+//! No public clause cites `specs/GapAtoms`, `specs/Possible`, `specs/Scope` and `specs/Values`.
 #![tactic(auto)]
 
 mod end;

@@ -9,7 +9,7 @@ use px_proof::{Shape, Tick};
 use std::alloc::Global;
 use std::rt::HostRuntime;
 
-/// A walk that stands at the empty list, and goes nowhere else. The question tells whether a place is open there.
+/// A walk that stands at the empty list, and goes nowhere else. The question says whether a place is open there.
 #[derive(Drop)]
 struct OneList {
     alloc: Global,
@@ -67,7 +67,7 @@ impl Gather<bool, OneList> for Count {
     }
 }
 
-/// The one list is the first finished proof, or there is none, or it is one too many.
+/// The one list is the first finished proof, or there is no finished proof, or it is one too many.
 #[test]
 fn a_walk_ends_in_three_ways(rt: HostRuntime) -> Result<(), NoMemory> {
     let alloc = rt.alloc();

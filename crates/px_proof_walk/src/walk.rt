@@ -7,8 +7,8 @@ use px_proof::{Shape, Tick};
 
 /// A walk over unfinished proofs, by the ticks that close their places in order.
 ///
-/// What the walk stands at is a list of ticks. The lists are visited in the order of [`Tick`]s, a list before those
-/// that it grows into. What the lists are lists of is the question's, which no call changes.
+/// What the walk stands at is a list of ticks. The lists are visited in the order of [`Tick`]s, a list before those that it grows into.
+/// What they are lists of is decided by the question, which no call changes.
 pub trait Walk<Q> {
     ghost use Rattle.std.specs.Prelude.{ℕ, List, Option};
     ghost use Rattle.px_proof.specs.declared.shape.Tick.{Tick};
@@ -58,7 +58,7 @@ pub trait Walk<Q> {
         requires stands { stands question.now self.now }
         ensures { IsTrue result ↔ finished question.now (ticks self.now) };
 
-    /// The shape, with a tick for each open place too.
+    /// Returns the shape, with a tick for each open place too.
     ///
     /// # Errors
     /// `NoMemory` if memory runs out.

@@ -10,7 +10,8 @@ use Rattle.px_proof.specs.declared.shape.Tick.TheVariants.{Step}
 use Rattle.px_proof.specs.Proves.{instance_of, parts_of}
 use Rattle.px_unify.specs.Changes.{variables_of}
 use Rattle.px_question.specs.Settings.{Setting}
-use Rattle.px_proof_walk.specs.Pending.{Goal, goals_below, has_room, variables_from, IsFeasible}
+use Rattle.px_terms.specs.Substitution.{variables_from}
+use Rattle.px_proof_walk.specs.Pending.{Goal, goals_below, has_room, IsFeasible}
 use Rattle.px_proof_state.specs.declared.open.OpenGoal.{OpenGoal}
 use Rattle.px_proof_state.specs.Arena.{goals_at, path_at}
 use Rattle.px_proof_state.specs.States.{ProofStateValue, Stands}
@@ -35,7 +36,8 @@ room-true goal clause (inr h) = or_right (nat_le (length clause.lits) 1) (nat_le
 true-room : (goal : Goal) (clause : Clause) → has_room goal clause ≡ true → (length clause.lits ≤ 1) ⊎ (2 ≤ goal.budget)
 true-room goal clause e = go (nat_le (length clause.lits) 1) (nat_le 2 goal.budget) refl refl e
   where
-    go : (a b : Bool) → nat_le (length clause.lits) 1 ≡ a → nat_le 2 goal.budget ≡ b → (a || b) ≡ true → (length clause.lits ≤ 1) ⊎ (2 ≤ goal.budget)
+    go : (a b : Bool) → nat_le (length clause.lits) 1 ≡ a → nat_le 2 goal.budget ≡ b → (a || b) ≡ true
+        → (length clause.lits ≤ 1) ⊎ (2 ≤ goal.budget)
     go true b is_a is_b both = inl (le_is (length clause.lits) 1 is_a)
     go false b is_a is_b both = inr (le_is 2 goal.budget (is_b ∙ both))
 
@@ -50,26 +52,38 @@ less_or_not m zero = inr (omega arith)
 less_or_not zero (suc n) = inl (omega arith)
 less_or_not (suc m) (suc n) = elim (less_or_not m n) [ inl h ↦ inl (omega (arith, h)) | inr h ↦ inr (omega (arith, h)) ]
 
-module _ (loose : Bool) (s : Setting) (formula : List Atom) (vars : ℕ) (ticks : List Tick) (old new : ProofStateValue) (stands : Stands loose s formula vars ticks old)
-    (g : OpenGoal) (goal : Goal) (goals : List Goal) (open_is : goals_at old.goals old.first ≡ goal ∷ goals) (rest_is : goals_at old.goals g.next ≡ goals)
-    (lit_is : g.lit ≡ goal.lit) (path_is : path_at old.goals old.first ≡ goal.lit ∷ goal.path) (budget_is : g.budget ≡ goal.budget) (from place : ℕ) where
+module _ (loose : Bool) (s : Setting) (formula : List Atom) (vars : ℕ) (ticks : List Tick) (old new : ProofStateValue)
+    (stands : Stands loose s formula vars ticks old)
+    (g : OpenGoal) (goal : Goal) (goals : List Goal) (open_is : goals_at old.goals old.first ≡ goal ∷ goals)
+    (rest_is : goals_at old.goals g.next ≡ goals)
+    (lit_is : g.lit ≡ goal.lit) (path_is : path_at old.goals old.first ≡ goal.lit ∷ goal.path) (budget_is : g.budget ≡ goal.budget)
+    (from place : ℕ) where
   -- a place that never does leads nowhere
-  pub axiom-nowhere : (k : ℕ) → NeverAxiom s.axioms old g from place k → (start : ℕ) → IsFrom k from place start → (p : ℕ) → start ≤ p → ¬ IsFeasible loose s formula vars (ticks ++ Step k p ∷ [])
+  pub axiom-nowhere : (k : ℕ) → NeverAxiom s.axioms old g from place k → (start : ℕ) → IsFrom k from place start → (p : ℕ) → start ≤ p
+      → ¬ IsFeasible loose s formula vars (ticks ++ Step k p ∷ [])
   axiom-nowhere k never start begins p after = by_axiom (slice_get s.axioms k) refl
     where
-      by_place : (clause : Clause) → slice_get s.axioms k ≡ Some clause → has_room goal clause ≡ true → (p < length clause.lits) ⊎ (length clause.lits ≤ p) → ¬ IsFeasible loose s formula vars (ticks ++ Step k p ∷ [])
+      by_place : (clause : Clause) → slice_get s.axioms k ≡ Some clause → has_room goal clause ≡ true
+          → (p < length clause.lits) ⊎ (length clause.lits ≤ p) → ¬ IsFeasible loose s formula vars (ticks ++ Step k p ∷ [])
       by_place clause at room (inl within) =
           none-agree loose s formula vars ticks old old stands (Step k p) goal goals open_is
-          (record { equal_to = new_literal (variables_of old.changes) clause p; parts = goals_below goal (parts_of clause.lits (variables_from (variables_of old.changes) clause.vars) p) })
+          (record {
+            equal_to = new_literal (variables_of old.changes) clause p;
+            parts =
+                goals_below goal (parts_of clause.lits (variables_from (variables_of old.changes) clause.vars) p);
+          })
           (step-closing loose s (variables_of old.changes) goal k p clause at room within)
           (rw lit_is at (never clause at start begins p after within (rw budget_is (true-room goal clause room))))
       by_place clause at room (inr past) =
           none-at loose s formula vars ticks old old stands (Step k p) goal goals open_is
           (let none = none-past clause.lits (variables_from (variables_of old.changes) clause.vars) p past in rw (at, room, none) refl)
 
-      by_room : (clause : Clause) → slice_get s.axioms k ≡ Some clause → (b : Bool) → has_room goal clause ≡ b → ¬ IsFeasible loose s formula vars (ticks ++ Step k p ∷ [])
+      by_room : (clause : Clause) → slice_get s.axioms k ≡ Some clause → (b : Bool) → has_room goal clause ≡ b
+          → ¬ IsFeasible loose s formula vars (ticks ++ Step k p ∷ [])
       by_room clause at true room = by_place clause at room (less_or_not p (length clause.lits))
-      by_room clause at false room = none-at loose s formula vars ticks old old stands (Step k p) goal goals open_is (step-none loose s (variables_of old.changes) goal k p clause at room)
+      by_room clause at false room =
+          none-at loose s formula vars ticks old old stands (Step k p) goal goals open_is
+          (step-none loose s (variables_of old.changes) goal k p clause at room)
 
       by_axiom : (o : Option Clause) → slice_get s.axioms k ≡ o → ¬ IsFeasible loose s formula vars (ticks ++ Step k p ∷ [])
       by_axiom None at = none-at loose s formula vars ticks old old stands (Step k p) goal goals open_is (rw at refl)
@@ -99,9 +113,15 @@ module _ (loose : Bool) (s : Setting) (formula : List Atom) (vars : ℕ) (ticks 
         p = found.0;
         after = found.1;
         closes = found.3.1;
-        stays = stands-stepped loose s formula vars ticks old new stands g goal goals open_is rest_is lit_is path_is budget_is k found.0 clause at room found.2 found.3.1;
+        stays =
+            stands-stepped loose s formula vars ticks old new stands g goal goals open_is rest_is lit_is path_is budget_is k found.0 clause
+            at room found.2 found.3.1;
         before = λ q after before. none-agree loose s formula vars ticks old old stands (Step k q) goal goals open_is
-            (record { equal_to = new_literal (variables_of old.changes) clause q; parts = goals_below goal (parts_of clause.lits (variables_from (variables_of old.changes) clause.vars) q) })
+            (record {
+              equal_to = new_literal (variables_of old.changes) clause q;
+              parts =
+                  goals_below goal (parts_of clause.lits (variables_from (variables_of old.changes) clause.vars) q);
+            })
             (step-closing loose s (variables_of old.changes) goal k q clause at room (omega (arith, before, found.2)))
             (rw lit_is at (found.4 q after before found.3.0));
       }

@@ -12,8 +12,9 @@ use Rattle.px_proof.specs.PlaceLaws.{slice_get-within}
 use Rattle.px_proof.specs.Proves.{Proves, ProvesEach, instance_of, parts_of}
 use Rattle.px_proof.specs.Shapes.{ticks, ticks_of}
 use Rattle.px_proof.specs.declared.proof.Leaf.{Leaf}
-use Rattle.px_question.specs.Answers.{object_of, object_terms, choices_of, all_choices_of}
-use Rattle.px_question.specs.Settings.{Setting, IsObjectBelow, proofs_in}
+use Rattle.px_question.specs.Answers.{object_terms, choices_of, all_choices_of}
+use Rattle.px_terms.specs.Language.{IsObjectBelow, object_of}
+use Rattle.px_question.specs.Settings.{Setting, proofs_in}
 use Rattle.px_terms.specs.declared.atom.Atom.{Atom}
 use Rattle.px_terms.specs.declared.clause.Clause.{Clause}
 use Rattle.px_terms.specs.declared.clause.Lit.{Lit}
@@ -43,7 +44,8 @@ ticks-joined (also d ds) es = ap (λ ts. ticks d ++ ts) (ticks-joined ds es) ∙
 
 choices-joined : (ds es : Derivations) → all_choices_of (joined ds es) ≡ all_choices_of ds ++ all_choices_of es
 choices-joined none es = refl
-choices-joined (also d ds) es = ap (λ ns. choices_of d ++ ns) (choices-joined ds es) ∙ sym (append_assoc (choices_of d) (all_choices_of ds) (all_choices_of es))
+choices-joined (also d ds) es =
+    ap (λ ns. choices_of d ++ ns) (choices-joined ds es) ∙ sym (append_assoc (choices_of d) (all_choices_of ds) (all_choices_of es))
 
 -- what a derivation keeps of proving: its leaves are the facts, its steps choose objects and have their parts
 abbrev mutual
@@ -51,7 +53,8 @@ abbrev mutual
   IsMade s (fact leaf) = (leaf.column ≡ 0) × (slice_get s.facts leaf.index ≡ Some leaf.atom)
   IsMade s (ancestor i) = Unit {0}
   IsMade s (step number theta place parts) =
-      (clause : Clause) × (slice_get s.axioms number ≡ Some clause) × (length theta ≡ clause.vars) × All (IsObjectBelow s.objects) theta × (length (listed parts) ≡ length clause.lits - 1) × AreMade s parts
+      (clause : Clause) × (slice_get s.axioms number ≡ Some clause) × (length theta ≡ clause.vars) × All (IsObjectBelow s.objects) theta
+      × (length (listed parts) ≡ length clause.lits - 1) × AreMade s parts
   IsMade s (gap atom) = ⊥
   IsMade s open_place = ⊥
 
@@ -77,9 +80,19 @@ module _ (s : Setting) where
     made-of path lit (step number theta place parts) proved =
         let clause = proved.0 in
         let uses = proved.1 in
-        let within : place < length clause.lits = rw (← length-map clause.lits (substitute_literal theta)) (slice_get-within (instance_of clause.lits theta) place lit uses.literal_at) in
-        let count : suc (length (parts_of clause.lits theta place)) ≡ length clause.lits = length-parts_of clause.lits theta place within in
-        (clause, uses.axiom_at, uses.terms, uses.choices, count-each (lit ∷ path) (parts_of clause.lits theta place) parts proved.2 ∙ omega (arith, count), made-each (lit ∷ path) (parts_of clause.lits theta place) parts proved.2)
+        let within : place < length clause.lits =
+        rw (← length-map clause.lits (substitute_literal theta))
+        (slice_get-within (instance_of clause.lits theta) place lit uses.literal_at) in
+        let count : suc (length (parts_of clause.lits theta place)) ≡ length clause.lits =
+        length-parts_of clause.lits theta place within in (
+          clause,
+          uses.axiom_at,
+          uses.terms,
+          uses.choices,
+          count-each (lit ∷ path) (parts_of clause.lits theta place) parts proved.2
+              ∙ omega (arith, count),
+          made-each (lit ∷ path) (parts_of clause.lits theta place) parts proved.2,
+        )
     made-of path lit (gap a) proved = absurd proved.1
     made-of path lit open_place proved = absurd proved
 
@@ -91,7 +104,8 @@ module _ (s : Setting) where
 
 terms-of : (n : ℕ) (theta : List Term) → All (IsObjectBelow n) theta → object_terms (map object_of theta) ≡ theta
 terms-of n [] are = refl
-terms-of n (t ∷ theta) are = λ i. one t (All-head (IsObjectBelow n) t theta are) i ∷ terms-of n theta (All-tail (IsObjectBelow n) t theta are) i
+terms-of n (t ∷ theta) are =
+    λ i. one t (All-head (IsObjectBelow n) t theta are) i ∷ terms-of n theta (All-tail (IsObjectBelow n) t theta are) i
   where
     one : (t : Term) → IsObjectBelow n t → Obj (object_of t) ≡ t
     one (Obj o) is = refl
@@ -111,7 +125,8 @@ ticks-pos s (step number theta place parts) = omega arith
 ticks-pos s (gap a) = omega arith
 ticks-pos s open_place = omega arith
 
-leaf-same : (facts : List Atom) (leaf : Leaf) → leaf.column ≡ 0 → slice_get facts leaf.index ≡ Some leaf.atom → record { column = 0; index = leaf.index; atom = get_or facts leaf.index no_atom } ≡ leaf
+leaf-same : (facts : List Atom) (leaf : Leaf) → leaf.column ≡ 0 → slice_get facts leaf.index ≡ Some leaf.atom
+    → record { column = 0; index = leaf.index; atom = get_or facts leaf.index no_atom } ≡ leaf
 leaf-same facts leaf column at = λ i. record { column = sym column i; index = leaf.index; atom = read facts leaf.index leaf.atom at i }
   where
     read : (xs : List Atom) (k : ℕ) (x : Atom) → slice_get xs k ≡ Some x → get_or xs k no_atom ≡ x
@@ -120,7 +135,8 @@ leaf-same facts leaf column at = λ i. record { column = sym column i; index = l
     read (y ∷ xs) (suc k) x at = read xs k x at
 
 module _ (s : Setting) where
-  built-made : (fuel : ℕ) (ds : Derivations) → length (ticks_of ds) ≤ fuel → AreMade s ds → built s (ticks_of ds) (all_choices_of ds) ≡ listed ds
+  built-made : (fuel : ℕ) (ds : Derivations) → length (ticks_of ds) ≤ fuel → AreMade s ds
+      → built s (ticks_of ds) (all_choices_of ds) ≡ listed ds
   built-made fuel none enough made = refl
   built-made zero (also d ds) enough made = absurd (omega (arith, enough, ticks-pos s d, length-append (ticks d) (ticks_of ds)))
   built-made (suc fuel) (also (fact leaf) ds) enough made =
@@ -131,16 +147,27 @@ module _ (s : Setting) where
       let clause = made.0.0 in
       let long : length (map object_of theta) ≡ clause.vars = length-map theta object_of ∙ made.0.2 in
       let later : built s (ticks_of parts ++ ticks_of ds) (all_choices_of parts ++ all_choices_of ds) ≡ listed parts ++ listed ds =
-      rw (← ticks-joined parts ds, ← choices-joined parts ds, ← listed-joined parts ds) (built-made fuel (joined parts ds) (omega (arith, enough, ap length (ticks-joined parts ds))) (made-joined s parts ds made.0.5 made.1)) in
-      let chosen : (map object_of theta ++ all_choices_of parts) ++ all_choices_of ds ≡ map object_of theta ++ (all_choices_of parts ++ all_choices_of ds) = append_assoc (map object_of theta) (all_choices_of parts) (all_choices_of ds) in
-      let first : take clause.vars (map object_of theta ++ (all_choices_of parts ++ all_choices_of ds)) ≡ map object_of theta = take-front clause.vars (map object_of theta) (all_choices_of parts ++ all_choices_of ds) long in
-      let rest : drop clause.vars (map object_of theta ++ (all_choices_of parts ++ all_choices_of ds)) ≡ all_choices_of parts ++ all_choices_of ds = drop-front clause.vars (map object_of theta) (all_choices_of parts ++ all_choices_of ds) long in
-      let taken : take (length clause.lits - 1) (listed parts ++ listed ds) ≡ listed parts = take-front (length clause.lits - 1) (listed parts) (listed ds) made.0.4 in
-      let dropped : drop (length clause.lits - 1) (listed parts ++ listed ds) ≡ listed ds = drop-front (length clause.lits - 1) (listed parts) (listed ds) made.0.4 in
+      rw (← ticks-joined parts ds, ← choices-joined parts ds, ← listed-joined parts ds)
+      (built-made fuel (joined parts ds) (omega (arith, enough, ap length (ticks-joined parts ds)))
+      (made-joined s parts ds made.0.5 made.1)) in
+      let chosen : (map object_of theta ++ all_choices_of parts) ++ all_choices_of ds
+      ≡ map object_of theta ++ (all_choices_of parts ++ all_choices_of ds) =
+      append_assoc (map object_of theta) (all_choices_of parts) (all_choices_of ds) in
+      let first : take clause.vars (map object_of theta ++ (all_choices_of parts ++ all_choices_of ds)) ≡ map object_of theta =
+      take-front clause.vars (map object_of theta) (all_choices_of parts ++ all_choices_of ds) long in
+      let rest : drop clause.vars (map object_of theta ++ (all_choices_of parts ++ all_choices_of ds))
+      ≡ all_choices_of parts ++ all_choices_of ds =
+      drop-front clause.vars (map object_of theta) (all_choices_of parts ++ all_choices_of ds) long in
+      let taken : take (length clause.lits - 1) (listed parts ++ listed ds) ≡ listed parts =
+      take-front (length clause.lits - 1) (listed parts) (listed ds) made.0.4 in
+      let dropped : drop (length clause.lits - 1) (listed parts ++ listed ds) ≡ listed ds =
+      drop-front (length clause.lits - 1) (listed parts) (listed ds) made.0.4 in
       rw (made.0.1, chosen, first, rest, later, taken, dropped, terms-of s.objects theta made.0.3, derivations-listed parts) refl
   built-made (suc fuel) (also (gap a) ds) enough made = absurd made.0
   built-made (suc fuel) (also open_place ds) enough made = absurd made.0
 
   -- the built derivations are the derivations
-  pub built-is : (lits : List Lit) (ds : Derivations) → ProvesEach (proofs_in s) s.axioms [] lits ds → derivations (built s (ticks_of ds) (all_choices_of ds)) ≡ ds
-  built-is lits ds each = ap derivations (built-made (length (ticks_of ds)) ds (omega arith) (made-each s [] lits ds each)) ∙ derivations-listed ds
+  pub built-is : (lits : List Lit) (ds : Derivations) → ProvesEach (proofs_in s) s.axioms [] lits ds
+      → derivations (built s (ticks_of ds) (all_choices_of ds)) ≡ ds
+  built-is lits ds each =
+      ap derivations (built-made (length (ticks_of ds)) ds (omega arith) (made-each s [] lits ds each)) ∙ derivations-listed ds

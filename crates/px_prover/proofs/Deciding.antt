@@ -1,6 +1,6 @@
 -- What the end of a walk says of the formula.
 use Rattle.std.proofs.Common.{◌≡◌, ◌⊎◌, ℕ, false, List, ◌++◌, map, subst, ◌∙◌, inl, inr}
-use Rattle.px_prover.specs.Standing.{IsAsked}
+use Rattle.px_prover.specs.Standing.{IsProperQuestion}
 use Rattle.px_proof.specs.Derivation.{Derivations}
 use Rattle.px_proof.specs.Shapes.{ticks_of, ShapeBefore}
 use Rattle.px_proof.specs.declared.shape.Tick.{Tick}
@@ -14,13 +14,15 @@ use Rattle.px_proof_walk.specs.Search.{ComesFirst, NoneComes, LimitComes}
 use Rattle.px_proof_walk.proofs.Bridge.{possible-finished, finished-possible}
 use Rattle.px_proof_walk.proofs.Outcomes.{first-few, limit-is, none-few, none-unprovable, not_seen}
 
-module _ (s : Setting) (formula : List Atom) (vars : ℕ) (asked : IsAsked s formula vars) where
-  module _ (ticks : List Tick) (first : ComesFirst (IsPossible false s formula vars) (IsFinished false s formula vars) s.limit ticks) (objects : List ℕ) (ds : Derivations) (answer : IsFirst s formula vars objects ds) where
+module _ (s : Setting) (formula : List Atom) (vars : ℕ) (asked : IsProperQuestion s formula vars) where
+  module _ (ticks : List Tick) (first : ComesFirst (IsPossible false s formula vars) (IsFinished false s formula vars) s.limit ticks)
+      (objects : List ℕ) (ds : Derivations) (answer : IsFirst s formula vars objects ds) where
     -- the first answer has the ticks of the first finished list
     same-ticks : ticks_of ds ≡ ticks
     same-ticks =
         let made = possible-finished false s asked.setting formula vars asked.scope ticks first.possible first.finished in
-        go (ticks_of made.1) made.3 (cases (ticks_of ds) (ticks_of made.1) (AtMost (objects ++ all_choices_of ds) (made.0 ++ all_choices_of made.1)) (answer.least made.0 made.1 made.2))
+        go (ticks_of made.1) made.3 (cases (ticks_of ds) (ticks_of made.1)
+        (AtMost (objects ++ all_choices_of ds) (made.0 ++ all_choices_of made.1)) (answer.least made.0 made.1 made.2))
       where
         cases : (a b : List Tick) (P : Type 0) → ShapeBefore a b ⊎ ((a ≡ b) × P) → ShapeBefore a b ⊎ (a ≡ b)
         cases a b P (inl h) = inl h
@@ -30,7 +32,9 @@ module _ (s : Setting) (formula : List Atom) (vars : ℕ) (asked : IsAsked s for
         go found is (inr e) = e ∙ is
         go found is (inl h) =
             let possible = finished-possible false s asked.setting formula vars asked.scope objects ds answer.finished in
-            absurd (not_seen (IsFinished false s formula vars) (ticks_of ds) first.few.0 (first.few.2.covers (ticks_of ds) possible.0 (subst (λ (ts : List Tick). ShapeBefore (ticks_of ds) ts) is h)) first.few.2.unfinished possible.1)
+            absurd (not_seen (IsFinished false s formula vars) (ticks_of ds) first.few.0
+            (first.few.2.covers (ticks_of ds) possible.0 (subst (λ (ts : List Tick). ShapeBefore (ticks_of ds) ts) is h))
+            first.few.2.unfinished possible.1)
 
     pub decided-few : AreFewBefore s formula vars ds
     decided-few = first-few s asked.setting formula vars asked.scope ticks ds first same-ticks
@@ -48,5 +52,6 @@ module _ (s : Setting) (formula : List Atom) (vars : ℕ) (asked : IsAsked s for
     pub decided-none_unlimited : (shapes : List (List Tick)) → ¬ IsLimited s formula vars shapes
     decided-none_unlimited shapes limited = few_or_limited.proofs s formula vars shapes decided-none_few limited
 
-  pub decided-limit : (shapes seen : List (List Tick)) → shapes ≡ map (shape_of false s formula vars) seen → LimitComes (IsPossible false s formula vars) (IsFinished false s formula vars) s.limit seen → IsLimited s formula vars shapes
+  pub decided-limit : (shapes seen : List (List Tick)) → shapes ≡ map (shape_of false s formula vars) seen
+      → LimitComes (IsPossible false s formula vars) (IsFinished false s formula vars) s.limit seen → IsLimited s formula vars shapes
   decided-limit shapes seen are limit = rw are (limit-is s asked.setting formula vars asked.scope seen limit)

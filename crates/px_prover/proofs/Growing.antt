@@ -2,14 +2,15 @@
 use Rattle.std.proofs.Common.{◌≡◌, ℕ, ◌+◌, ◌≤◌, Bool, true, Some, List, [], ◌∷◌, ◌++◌, length, take, slice_get, refl, ap, sym, ◌∙◌, arith, length-append}
 use Rattle.std.specs.Prelude.{All}
 use Rattle.std.proofs.Math.Seq.{take-append_seam, take-length}
-use Rattle.px_prover.specs.Tries.{IsReady, IsLonger}
+use Rattle.px_prover.specs.Tries.{IsReadyToTry, IsLonger}
 use Rattle.px_prover.proofs.Ready.{ready-next}
-use Rattle.px_proof.specs.Proves.{IsName}
-use Rattle.px_proof.specs.PlaceLaws.{some_same}
+use Rattle.px_proof.specs.Proves.{IsObjectOrParameter}
+use Rattle.px_base.specs.Answers.{some_same}
 use Rattle.px_proof.specs.declared.shape.Tick.{Tick}
 use Rattle.px_proof.specs.declared.shape.Tick.TheVariants.{Fact}
 use Rattle.px_question.proofs.RowLaws.{IsName-from_object}
-use Rattle.px_question.specs.Settings.{Setting, IsObjectBelow}
+use Rattle.px_terms.specs.Language.{IsObjectBelow}
+use Rattle.px_question.specs.Settings.{Setting}
 use Rattle.px_proof_state.specs.Matches.{ClosesBy}
 use Rattle.px_proof_state.specs.Steps.{ClosesByStep}
 use Rattle.px_proof_state.specs.States.{ProofStateValue, Stands}
@@ -22,12 +23,15 @@ use Rattle.px_proof_walk.proofs.Every.{all-push, all-recursion, all-weaker}
 use Rattle.px_proof_walk.proofs.Objects.{FactIsIn}
 
 -- a fact over the objects
-pub fact-in : (s : Setting) (k : ℕ) (fact : Atom) → slice_get s.facts k ≡ Some fact → All (IsObjectBelow s.objects) fact.args → FactIsIn s (Fact k)
+pub fact-in : (s : Setting) (k : ℕ) (fact : Atom) → slice_get s.facts k ≡ Some fact → All (IsObjectBelow s.objects) fact.args
+    → FactIsIn s (Fact k)
 fact-in s k fact at below a is =
-    let same : fact ≡ a = some_same _ _ (sym at ∙ is) in
-    rw (← same) (all-weaker (IsObjectBelow s.objects) (IsName s.objects 0) fact.args (IsName-from_object s.objects) (all-recursion (IsObjectBelow s.objects) fact.args below))
+    let same : fact ≡ a = some_same (sym at ∙ is) in
+    rw (← same) (all-weaker (IsObjectBelow s.objects) (IsObjectOrParameter s.objects 0) fact.args (IsName-from_object s.objects)
+    (all-recursion (IsObjectBelow s.objects) fact.args below))
 
-module _ (loose : Bool) (s : Setting) (formula : List Atom) (vars : ℕ) (ticks : List Tick) (old new : ProofStateValue) (goal : OpenGoal) (ready : IsReady loose s formula vars ticks old goal) (tick : Tick)
+module _ (loose : Bool) (s : Setting) (formula : List Atom) (vars : ℕ) (ticks : List Tick) (old new : ProofStateValue) (goal : OpenGoal)
+    (ready : IsReadyToTry loose s formula vars ticks old goal) (tick : Tick)
     (closes_place : IsClosing tick) (fact_is_in : FactIsIn s tick) (stands : Stands loose s formula vars (ticks ++ tick ∷ []) new) where
   more : length (ticks ++ tick ∷ []) ≡ length ticks + 1
   more = length-append ticks (tick ∷ [])
@@ -57,7 +61,8 @@ module _ (loose : Bool) (s : Setting) (formula : List Atom) (vars : ℕ) (ticks 
       }
 
   -- a closing by a clause
-  pub longer-stepped : (clause : Clause) (place : ℕ) → clause.vars ≤ 12 → ClosesByStep old new tick goal clause place true → IsLonger loose s formula vars ticks old tick new
+  pub longer-stepped : (clause : Clause) (place : ℕ) → clause.vars ≤ 12 → ClosesByStep old new tick goal clause place true
+      → IsLonger loose s formula vars ticks old tick new
   longer-stepped clause place few closes =
       let grown = closes.grown refl in
       record {

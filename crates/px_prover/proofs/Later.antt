@@ -114,13 +114,24 @@ none-after Gap closing (inr (inl h)) = omega (arith, h.1)
 none-after Gap closing (inr (inr h)) = omega (arith, h.2)
 
 module _ (loose : Bool) (s : Setting) (formula : List Atom) (vars : ℕ) (ticks : List Tick) (old new : ProofStateValue) (found : Bool) where
-  pub later-begins : (last : Option Tick) (start : Tick) → Begins last start → TriesAmong (IsSince start) loose s formula vars ticks old new found → TriesAmong (IsAfter last) loose s formula vars ticks old new found
+  pub later-begins : (last : Option Tick) (start : Tick) → Begins last start
+      → TriesAmong (IsSince start) loose s formula vars ticks old new found
+      → TriesAmong (IsAfter last) loose s formula vars ticks old new found
   later-begins last start begins tried = record {
-    least = λ is_found. let h = tried.least is_found in (h.0, begins.back h.0 h.1, h.2, λ u after leads. h.3 u (begins.to u (last-closing ticks u leads.0) after) leads);
-    no_more = λ is_not. let h = tried.no_more is_not in (h.0, λ u after leads. h.1 u (begins.to u (last-closing ticks u leads.0) after) leads);
+    least =
+        λ is_found. let h =
+        tried.least is_found in (
+          h.0,
+          begins.back h.0 h.1,
+          h.2,
+          λ u after leads. h.3 u (begins.to u (last-closing ticks u leads.0) after) leads,
+        );
+    no_more =
+        λ is_not. let h = tried.no_more is_not in (h.0, λ u after leads. h.1 u (begins.to u (last-closing ticks u leads.0) after) leads);
   }
 
-pub later-none : (loose : Bool) (s : Setting) (formula : List Atom) (vars : ℕ) (ticks : List Tick) (old : ProofStateValue) → TriesAmong (IsAfter (Some Gap)) loose s formula vars ticks old old false
+pub later-none : (loose : Bool) (s : Setting) (formula : List Atom) (vars : ℕ) (ticks : List Tick) (old : ProofStateValue)
+    → TriesAmong (IsAfter (Some Gap)) loose s formula vars ticks old old false
 later-none loose s formula vars ticks old = record {
   least = λ is_found. absurd (cc);
   no_more = λ is_not. (refl, λ u after leads. none-after u (last-closing ticks u leads.0) after);

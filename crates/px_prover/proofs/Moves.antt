@@ -3,11 +3,11 @@ use Rattle.std.proofs.Common.{◌≡◌, ◌↔◌, ℕ, zero, suc, ◌+◌, ◌
 use Rattle.std.specs.Prelude.{reverse}
 use Rattle.std.proofs.lemmas.List.{append-nil, reverse-append, take_all}
 use Rattle.std.proofs.lemmas.List.Elements.{All-replicate}
-use Rattle.px_prover.specs.Standing.{ticks_in, IsAsked, IsSound, WasSound, IsStanding}
-use Rattle.px_prover.specs.Tries.{IsReady, IsLonger, TriesAmong}
+use Rattle.px_prover.specs.Standing.{ticks_in, IsProperQuestion, IsSound, WasSound, IsStanding}
+use Rattle.px_prover.specs.Tries.{IsReadyToTry, IsLonger, TriesAmong}
 use Rattle.px_prover.proofs.Scopes.{object-there}
 use Rattle.px_proof.specs.Literals.{positive_of}
-use Rattle.px_proof.specs.PlaceLaws.{some_same}
+use Rattle.px_base.specs.Answers.{some_same}
 use Rattle.px_proof.specs.declared.shape.Tick.{Tick}
 use Rattle.px_proof.specs.declared.shape.Tick.TheVariants.{Open}
 use Rattle.px_question.specs.Settings.{Setting}
@@ -24,53 +24,74 @@ use Rattle.px_unify.specs.declared.change.Change.{Change}
 use Rattle.px_unify.specs.declared.change.Change.TheVariants.{Fresh}
 use Rattle.px_unify.specs.Changes.{Meets, variables_of}
 use Rattle.px_proof_walk.specs.Order.{IsAfter, TriesAfter}
-use Rattle.px_proof_walk.specs.Pending.{Goal, Pending, Solves, open_after, goals_of, IsFeasible, Closing, closing_at, fresh_of}
+use Rattle.px_proof_walk.specs.Pending.{Goal, Pending, open_after, goals_of, Closing, closing_at, fresh_of}
 use Rattle.px_proof_walk.proofs.Lifting.{open_after-step}
 use Rattle.px_proof_walk.specs.Possible.{IsPossible, IsFinished, open_count, left_of, shape_of}
 use Rattle.px_proof_walk.proofs.Objects.{feasible-from_bindings}
 
 module _ (loose : Bool) (s : Setting) (formula : List Atom) (vars : ℕ) where
-  pub sound-now : (choices : List Choice) (changes : List Change) (goals : List OpenGoal) (first : ℕ) → WasSound loose s formula vars choices changes goals first →
-      IsSound loose s formula vars (ticks_in choices) (record { changes = changes; goals = goals; first = first; choices = choices })
+  pub sound-now : (choices : List Choice) (changes : List Change) (goals : List OpenGoal) (first : ℕ)
+      → WasSound loose s formula vars choices changes goals first
+      → IsSound loose s formula vars (ticks_in choices) (record { changes = changes; goals = goals; first = first; choices = choices })
   sound-now [] changes goals first was = was
   sound-now (c ∷ rest) changes goals first was = was.0
 
   pub standing-sound : (v : ProofStateValue) → IsStanding loose s formula vars v → IsSound loose s formula vars (ticks_in v.choices) v
   standing-sound v standing = sound-now v.choices v.changes v.goals v.first standing.was
 
-  pub standing-ready : (v : ProofStateValue) (goal : OpenGoal) → IsStanding loose s formula vars v → 0 < v.first → slice_get v.goals (v.first - 1) ≡ Some goal → length (ticks_in v.choices) < s.limit → IsReady loose s formula vars (ticks_in v.choices) v goal
-  standing-ready v goal standing some at room = record { asked = standing.asked; sound = standing-sound v standing; some = some; at = at; room = omega (arith, room, standing.asked.few_ticks) }
+  pub standing-ready : (v : ProofStateValue) (goal : OpenGoal) → IsStanding loose s formula vars v → 0 < v.first
+      → slice_get v.goals (v.first - 1) ≡ Some goal → length (ticks_in v.choices) < s.limit
+      → IsReadyToTry loose s formula vars (ticks_in v.choices) v goal
+  standing-ready v goal standing some at room =
+      record {
+        asked =
+            standing.asked;
+        sound = standing-sound v standing;
+        some = some;
+        at = at;
+        room = omega (arith, room, standing.asked.few_ticks);
+      }
 
   -- a sound state shows its ticks possible
-  pub sound-possible : (ticks : List Tick) (v : ProofStateValue) → IsAsked s formula vars → IsSound loose s formula vars ticks v → IsPossible loose s formula vars ticks
+  pub sound-possible : (ticks : List Tick) (v : ProofStateValue) → IsProperQuestion s formula vars → IsSound loose s formula vars ticks v
+      → IsPossible loose s formula vars ticks
   sound-possible ticks v asked sound =
       let p : Pending = record { variables = variables_of v.changes; goals = goals_at v.goals v.first } in (
         sound.closing,
-        feasible-from_bindings loose s formula vars ticks p v.changes asked.setting asked.scope sound.facts_in sound.stands.pending refl sound.stands.matched sound.solvable
+        feasible-from_bindings loose s formula vars ticks p v.changes asked.setting asked.scope sound.facts_in sound.stands.pending refl
+            sound.stands.matched sound.solvable
             (object-there loose s asked.setting ticks vars (goals_of s formula) p sound.stands.pending asked.some_object),
       )
 
-  ticks-longer : (ticks : List Tick) (old new : ProofStateValue) (tick : Tick) → IsLonger loose s formula vars ticks old tick new → ticks_in new.choices ≡ ticks_in old.choices ++ tick ∷ []
+  ticks-longer : (ticks : List Tick) (old new : ProofStateValue) (tick : Tick) → IsLonger loose s formula vars ticks old tick new
+      → ticks_in new.choices ≡ ticks_in old.choices ++ tick ∷ []
   ticks-longer ticks old new tick longer = ap ticks_in longer.chosen
 
-  was-longer : (choices : List Choice) (old new : ProofStateValue) (c : Choice) → choices ≡ c ∷ old.choices → c.mark ≤ length new.changes → c.goals ≤ length new.goals →
-      take c.mark new.changes ≡ old.changes → take c.goals new.goals ≡ old.goals → c.first ≡ old.first →
-      IsSound loose s formula vars (ticks_in choices) (record { changes = new.changes; goals = new.goals; first = new.first; choices = choices }) →
-      WasSound loose s formula vars old.choices old.changes old.goals old.first → WasSound loose s formula vars choices new.changes new.goals new.first
+  was-longer : (choices : List Choice) (old new : ProofStateValue) (c : Choice) → choices ≡ c ∷ old.choices → c.mark ≤ length new.changes
+      → c.goals ≤ length new.goals
+      → take c.mark new.changes ≡ old.changes → take c.goals new.goals ≡ old.goals → c.first ≡ old.first
+      → IsSound loose s formula vars (ticks_in choices)
+      (record { changes = new.changes; goals = new.goals; first = new.first; choices = choices })
+      → WasSound loose s formula vars old.choices old.changes old.goals old.first
+      → WasSound loose s formula vars choices new.changes new.goals new.first
   was-longer choices old new c is mark goals changes_are goals_are first_is sound was =
       rw is (rw is at sound, mark, goals, rw (changes_are, goals_are, first_is) was)
 
   -- after one more tick it is still one of the question
-  pub standing-longer : (old new : ProofStateValue) (tick : Tick) → IsStanding loose s formula vars old → IsLonger loose s formula vars (ticks_in old.choices) old tick new → IsStanding loose s formula vars new
+  pub standing-longer : (old new : ProofStateValue) (tick : Tick) → IsStanding loose s formula vars old
+      → IsLonger loose s formula vars (ticks_in old.choices) old tick new → IsStanding loose s formula vars new
   standing-longer old new tick standing longer = record {
     asked = standing.asked;
-    was = was-longer new.choices old new (choice_by tick old) longer.chosen longer.more_changes longer.more_goals longer.changes longer.goals refl
-        (subst (λ (ts : List Tick). IsSound loose s formula vars ts new) (sym (ticks-longer (ticks_in old.choices) old new tick longer)) longer.sound) standing.was;
+    was = was-longer new.choices old new (choice_by tick old) longer.chosen longer.more_changes longer.more_goals longer.changes
+        longer.goals refl
+        (subst (λ (ts : List Tick). IsSound loose s formula vars ts new)
+        (sym (ticks-longer (ticks_in old.choices) old new tick longer)) longer.sound) standing.was;
   }
 
   -- what an attempt says of the lists
-  pub later-tried : (last : Option Tick) (old new : ProofStateValue) (found : Bool) → IsStanding loose s formula vars old → TriesAmong (IsAfter last) loose s formula vars (ticks_in old.choices) old new found →
-      TriesAfter (IsPossible loose s formula vars) (ticks_in old.choices) (ticks_in new.choices) last found
+  pub later-tried : (last : Option Tick) (old new : ProofStateValue) (found : Bool) → IsStanding loose s formula vars old
+      → TriesAmong (IsAfter last) loose s formula vars (ticks_in old.choices) old new found
+      → TriesAfter (IsPossible loose s formula vars) (ticks_in old.choices) (ticks_in new.choices) last found
   later-tried last old new found standing tried = record {
     least = λ is_found.
         let h = tried.least is_found in
@@ -79,35 +100,46 @@ module _ (loose : Bool) (s : Setting) (formula : List Atom) (vars : ℕ) where
     no_more = λ is_not. let h = tried.no_more is_not in (ap (λ (v : ProofStateValue). ticks_in v.choices) h.0, h.1);
   }
 
-  pub later-standing : (last : Option Tick) (old new : ProofStateValue) (found : Bool) → IsStanding loose s formula vars old → TriesAmong (IsAfter last) loose s formula vars (ticks_in old.choices) old new found → IsStanding loose s formula vars new
+  pub later-standing : (last : Option Tick) (old new : ProofStateValue) (found : Bool) → IsStanding loose s formula vars old
+      → TriesAmong (IsAfter last) loose s formula vars (ticks_in old.choices) old new found → IsStanding loose s formula vars new
   later-standing last old new true standing tried = let h = tried.least refl in standing-longer old new h.0 standing h.2
-  later-standing last old new false standing tried = subst (λ (v : ProofStateValue). IsStanding loose s formula vars v) (sym (tried.no_more refl).0) standing
+  later-standing last old new false standing tried =
+      subst (λ (v : ProofStateValue). IsStanding loose s formula vars v) (sym (tried.no_more refl).0) standing
 
   -- ---- what is open
 
-  pub count-open : (v : ProofStateValue) → IsStanding loose s formula vars v → open_count loose s formula vars (ticks_in v.choices) ≡ length (goals_at v.goals v.first)
+  pub count-open : (v : ProofStateValue) → IsStanding loose s formula vars v
+      → open_count loose s formula vars (ticks_in v.choices) ≡ length (goals_at v.goals v.first)
   count-open v standing = ap left_of (standing-sound v standing).stands.pending
 
-  pub none-long : (ticks : List Tick) (u : Tick) (n : ℕ) (goals : List Goal) (p q : Pending) → open_after loose s n goals ticks ≡ Some p → p.goals ≡ [] → ¬ (open_after loose s n goals (ticks ++ u ∷ []) ≡ Some q)
+  pub none-long : (ticks : List Tick) (u : Tick) (n : ℕ) (goals : List Goal) (p q : Pending) → open_after loose s n goals ticks ≡ Some p
+      → p.goals ≡ [] → ¬ (open_after loose s n goals (ticks ++ u ∷ []) ≡ Some q)
   none-long [] u n [] p q now empty later = cc
-  none-long [] u n (g ∷ goals) p q now empty later = let same : (g ∷ goals) ≡ p.goals = ap (λ (r : Pending). r.goals) (some_same _ _ now) in cc
+  none-long [] u n (g ∷ goals) p q now empty later =
+      let same : (g ∷ goals) ≡ p.goals = ap (λ (r : Pending). r.goals) (some_same now) in cc
   none-long (t ∷ ticks) u n [] p q now empty later = cc
-  none-long (t ∷ ticks) u n (g ∷ goals) p q now empty later = go (closing_at loose s n g t) refl (λ closing. none-long ticks u (n + fresh_of s t) (closing.parts ++ goals) p q)
+  none-long (t ∷ ticks) u n (g ∷ goals) p q now empty later =
+      go (closing_at loose s n g t) refl (λ closing. none-long ticks u (n + fresh_of s t) (closing.parts ++ goals) p q)
     where
-      go : (o : Option Closing) → closing_at loose s n g t ≡ o →
-          ¬ ((closing : Closing) → open_after loose s (n + fresh_of s t) (closing.parts ++ goals) ticks ≡ Some p → p.goals ≡ [] → ¬ (open_after loose s (n + fresh_of s t) (closing.parts ++ goals) (ticks ++ u ∷ []) ≡ Some q))
+      go : (o : Option Closing) → closing_at loose s n g t ≡ o
+          → ¬ ((closing : Closing) → open_after loose s (n + fresh_of s t) (closing.parts ++ goals) ticks ≡ Some p → p.goals ≡ []
+          → ¬ (open_after loose s (n + fresh_of s t) (closing.parts ++ goals) (ticks ++ u ∷ []) ≡ Some q))
       go None is next = let none = rw is at now in cc
       go (Some closing) is next =
-          next closing (sym (open_after-step loose s n g goals t ticks closing is) ∙ now) empty (sym (open_after-step loose s n g goals t (ticks ++ u ∷ []) closing is) ∙ later)
+          next closing (sym (open_after-step loose s n g goals t ticks closing is) ∙ now) empty
+          (sym (open_after-step loose s n g goals t (ticks ++ u ∷ []) closing is) ∙ later)
 
   -- where nothing is open nothing comes
-  pub finished-tried : (v : ProofStateValue) (last : Option Tick) → IsStanding loose s formula vars v → v.first ≡ 0 → TriesAfter (IsPossible loose s formula vars) (ticks_in v.choices) (ticks_in v.choices) last false
+  pub finished-tried : (v : ProofStateValue) (last : Option Tick) → IsStanding loose s formula vars v → v.first ≡ 0
+      → TriesAfter (IsPossible loose s formula vars) (ticks_in v.choices) (ticks_in v.choices) last false
   finished-tried v last standing none = record {
     least = λ is_found. absurd (cc);
     no_more = λ is_not. (
       refl,
       λ u after leads.
-          none-long (ticks_in v.choices) u vars (goals_of s formula) (record { variables = variables_of v.changes; goals = goals_at v.goals v.first }) leads.1.0 (standing-sound v standing).stands.pending
+          none-long (ticks_in v.choices) u vars (goals_of s formula)
+          (record { variables = variables_of v.changes; goals = goals_at v.goals v.first }) leads.1.0
+          (standing-sound v standing).stands.pending
           (ap (goals_at v.goals) none ∙ goals_at-nothing v.goals) leads.1.1,
     );
   }
@@ -126,7 +158,8 @@ module _ (loose : Bool) (s : Setting) (formula : List Atom) (vars : ℕ) where
           let both = older (v.first - 1) g at in
           rw (ap (goals_at v.goals) place ∙ goals_at-index v.goals (v.first - 1) g at both.1 both.0) (omega arith)
 
-  pub finished-is : (v : ProofStateValue) → IsStanding loose s formula vars v → (v.first ≡ 0) ↔ IsFinished loose s formula vars (ticks_in v.choices)
+  pub finished-is : (v : ProofStateValue) → IsStanding loose s formula vars v → (v.first ≡ 0)
+      ↔ IsFinished loose s formula vars (ticks_in v.choices)
   finished-is v standing = (
     λ none. count-open v standing ∙ ap length (ap (goals_at v.goals) none ∙ goals_at-nothing v.goals),
     λ finished. by_first v.first refl finished,
@@ -141,14 +174,16 @@ module _ (loose : Bool) (s : Setting) (formula : List Atom) (vars : ℕ) where
 
   -- ---- going back
 
-  can : (choices : List Choice) (v : ProofStateValue) → v.choices ≡ choices → WasSound loose s formula vars choices v.changes v.goals v.first → CanRetract v
+  can : (choices : List Choice) (v : ProofStateValue) → v.choices ≡ choices
+      → WasSound loose s formula vars choices v.changes v.goals v.first → CanRetract v
   can [] v is was = rw is tt
   can (c ∷ rest) v is was = rw is (was.1, was.2)
 
   pub standing-can : (v : ProofStateValue) → IsStanding loose s formula vars v → CanRetract v
   standing-can v standing = can v.choices v refl standing.was
 
-  pub standing-retracted : (old new : ProofStateValue) (c : Choice) (rest : List Choice) → IsStanding loose s formula vars old → old.choices ≡ c ∷ rest → new ≡ retracted old c rest → IsStanding loose s formula vars new
+  pub standing-retracted : (old new : ProofStateValue) (c : Choice) (rest : List Choice) → IsStanding loose s formula vars old
+      → old.choices ≡ c ∷ rest → new ≡ retracted old c rest → IsStanding loose s formula vars new
   standing-retracted old new c rest standing is new_is = rw new_is (record { asked = standing.asked; was = (rw is at standing.was).3 })
 
   -- ---- the start
@@ -173,7 +208,8 @@ module _ (loose : Bool) (s : Setting) (formula : List Atom) (vars : ℕ) where
         few = omega (arith, variables);
       }
 
-  pub opening-standing : (v : ProofStateValue) → IsAsked s formula vars → IsOpening formula vars s.height v → IsStanding loose s formula vars v
+  pub opening-standing : (v : ProofStateValue) → IsProperQuestion s formula vars → IsOpening formula vars s.height v
+      → IsStanding loose s formula vars v
   opening-standing v asked opening = record { asked = asked; was = go v.choices opening.choices }
     where
       sound : IsSound loose s formula vars [] v
@@ -204,21 +240,30 @@ ticks-map (c ∷ choices) =
     ap ticks_in (reverse-append (c ∷ []) choices) ∙ ticks-push (reverse choices) c ∙ ap (λ ts. c.tick ∷ ts) (ticks-map choices)
 
 -- one place after another
-pub open-next : (arena : List OpenGoal) (at : ℕ) (g : OpenGoal) → AreOlder arena → 0 < at → slice_get arena (at - 1) ≡ Some g → (length (goals_at arena at) ≡ suc (length (goals_at arena g.next))) × (g.next ≤ at - 1)
+pub open-next : (arena : List OpenGoal) (at : ℕ) (g : OpenGoal) → AreOlder arena → 0 < at → slice_get arena (at - 1) ≡ Some g
+    → (length (goals_at arena at) ≡ suc (length (goals_at arena g.next))) × (g.next ≤ at - 1)
 open-next arena at g older some is =
     let place : at ≡ suc (at - 1) = omega (arith, some) in
     let both = older (at - 1) g is in
     (ap length (ap (goals_at arena) place ∙ goals_at-index arena (at - 1) g is both.1 both.0), both.1)
 
-pub open-moved : (items total new : List Tick) (m n : ℕ) → new ≡ items ++ Open ∷ [] → m ≡ suc n → items ++ replicate m Open ≡ total → new ++ replicate n Open ≡ total
-open-moved items total new m n is more all = rw is (append_assoc items (Open ∷ []) (replicate n Open) ∙ sym (ap (λ k. items ++ replicate k Open) more) ∙ all)
+pub open-moved : (items total new : List Tick) (m n : ℕ) → new ≡ items ++ Open ∷ [] → m ≡ suc n → items ++ replicate m Open ≡ total
+    → new ++ replicate n Open ≡ total
+open-moved items total new m n is more all =
+    rw is (append_assoc items (Open ∷ []) (replicate n Open) ∙ sym (ap (λ k. items ++ replicate k Open) more) ∙ all)
 
-pub open-ended : (arena : List OpenGoal) (at : ℕ) (items total : List Tick) → at ≡ 0 → items ++ replicate (length (goals_at arena at)) Open ≡ total → items ≡ total
-open-ended arena at items total none all = sym (append-nil items) ∙ ap (λ gs. items ++ replicate (length gs) Open) (sym (ap (goals_at arena) none ∙ goals_at-nothing arena)) ∙ all
+pub open-ended : (arena : List OpenGoal) (at : ℕ) (items total : List Tick) → at ≡ 0
+    → items ++ replicate (length (goals_at arena at)) Open ≡ total → items ≡ total
+open-ended arena at items total none all =
+    sym (append-nil items) ∙ ap (λ gs. items ++ replicate (length gs) Open) (sym (ap (goals_at arena) none ∙ goals_at-nothing arena)) ∙ all
 
 -- the shape has the ticks of the choices, then a tick for each open place
-pub shape-made : (loose : Bool) (s : Setting) (formula : List Atom) (vars : ℕ) (v : ProofStateValue) → IsStanding loose s formula vars v → (choices : List Choice) → reverse choices ≡ v.choices → (front whole : List Tick) (n : ℕ) →
-    length choices ≤ n → front ≡ map (λ (c : Choice). c.tick) (take n choices) → whole ≡ front ++ replicate (length (goals_at v.goals v.first)) Open → whole ≡ shape_of loose s formula vars (ticks_in v.choices)
+pub shape-made : (loose : Bool) (s : Setting) (formula : List Atom) (vars : ℕ) (v : ProofStateValue) → IsStanding loose s formula vars v
+    → (choices : List Choice) → reverse choices ≡ v.choices → (front whole : List Tick) (n : ℕ)
+    → length choices ≤ n → front ≡ map (λ (c : Choice). c.tick) (take n choices)
+    → whole ≡ front ++ replicate (length (goals_at v.goals v.first)) Open → whole ≡ shape_of loose s formula vars (ticks_in v.choices)
 shape-made loose s formula vars v standing choices are front whole n past front_is whole_is =
-    let ticks_are : front ≡ ticks_in v.choices = front_is ∙ ap (map (λ (c : Choice). c.tick)) (take_all n choices past) ∙ sym (ticks-map choices) ∙ ap ticks_in are in
-    whole_is ∙ ap (λ ts. ts ++ replicate (length (goals_at v.goals v.first)) Open) ticks_are ∙ ap (λ k. ticks_in v.choices ++ replicate k Open) (sym (count-open loose s formula vars v standing))
+    let ticks_are : front ≡ ticks_in v.choices =
+    front_is ∙ ap (map (λ (c : Choice). c.tick)) (take_all n choices past) ∙ sym (ticks-map choices) ∙ ap ticks_in are in
+    whole_is ∙ ap (λ ts. ts ++ replicate (length (goals_at v.goals v.first)) Open) ticks_are
+    ∙ ap (λ k. ticks_in v.choices ++ replicate k Open) (sym (count-open loose s formula vars v standing))

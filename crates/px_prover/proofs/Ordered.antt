@@ -18,14 +18,19 @@ use Rattle.px_terms.specs.declared.atom.Atom.{Atom}
 
 module _ {X : Type 0} (E : X → X → Bool) (decides : (x y : X) → Decides (E x y) (x ≡ y)) where
   -- an item is there after sorting and losing repeats exactly where it was there before
-  pub ordered-members : (old sorted new : List X) → IsPermutation old sorted → new ≡ dedup E sorted → (x : X) → Contains new x ↔ Contains old x
+  pub ordered-members : (old sorted new : List X) → IsPermutation old sorted → new ≡ dedup E sorted → (x : X) → Contains new x
+      ↔ Contains old x
   ordered-members old sorted new permuted is x = rw is (
     λ h. Contains-permutation sorted old x (IsPermutation-sym old sorted permuted) (Contains-from_dedup E sorted x h),
     λ h. Contains-dedup (decides_equiv E decides) (λ a b. (decides a b).0) sorted x (Contains-permutation old sorted x permuted h),
   )
 
-pub gap_lists-ascend : (sorted new : List GapList) → IsSorted computed_cmp sorted → new ≡ dedup computed_eq sorted → IsStrictlySortedBy gap_list_cmp new
-gap_lists-ascend sorted new ascends is = subst (IsStrictlySortedBy gap_list_cmp) (sym is) (IsStrictlySortedBy-dedup gap_list_cmp-total gap_list_order.matches_eq-law sorted ascends)
+pub gap_lists-ascend : (sorted new : List GapList) → IsSorted computed_cmp sorted → new ≡ dedup computed_eq sorted
+    → IsStrictlySortedBy gap_list_cmp new
+gap_lists-ascend sorted new ascends is =
+    subst (IsStrictlySortedBy gap_list_cmp) (sym is)
+    (IsStrictlySortedBy-dedup gap_list_cmp-total gap_list_order.matches_eq-law sorted ascends)
 
 pub atoms-ascend : (sorted new : List Atom) → IsSorted atom_cmp sorted → new ≡ dedup atom_eq sorted → IsAtomSet new
-atoms-ascend sorted new ascends is = subst (IsStrictlySortedBy atom_cmp) (sym is) (IsStrictlySortedBy-dedup atom_cmp-total atom_cmp-matches_eq sorted ascends)
+atoms-ascend sorted new ascends is =
+    subst (IsStrictlySortedBy atom_cmp) (sym is) (IsStrictlySortedBy-dedup atom_cmp-total atom_cmp-matches_eq sorted ascends)

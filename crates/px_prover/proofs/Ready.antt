@@ -2,7 +2,7 @@
 use Rattle.std.proofs.Common.{◌≡◌, ℕ, zero, suc, ◌+◌, ◌-◌, ◌<◌, ◌≤◌, Bool, Some, List, [], ◌∷◌, length, get_or, slice_get, refl, ap, ◌∙◌, arith}
 use Rattle.std.specs.Prelude.{All}
 use Rattle.std.specs.List.{AllByRecursion}
-use Rattle.px_prover.specs.Tries.{IsReady}
+use Rattle.px_prover.specs.Tries.{IsReadyToTry}
 use Rattle.px_prover.proofs.Scopes.{open-in, open-near, goals-near, lit-plain, lits-plain, IsNear}
 use Rattle.px_proof.specs.PlaceLaws.{All-got, slice_get-read}
 use Rattle.px_proof.specs.declared.shape.Tick.{Tick}
@@ -24,7 +24,8 @@ use Rattle.px_proof_walk.proofs.Objects.{goals-in}
 abbrev pub goal_in : ProofStateValue → OpenGoal → Goal
 goal_in old g = record { lit = g.lit; path = path_at old.goals g.above; budget = g.budget }
 
-module _ (loose : Bool) (s : Setting) (formula : List Atom) (vars : ℕ) (ticks : List Tick) (old : ProofStateValue) (goal : OpenGoal) (ready : IsReady loose s formula vars ticks old goal) where
+module _ (loose : Bool) (s : Setting) (formula : List Atom) (vars : ℕ) (ticks : List Tick) (old : ProofStateValue) (goal : OpenGoal)
+    (ready : IsReadyToTry loose s formula vars ticks old goal) where
   older : (goal.above ≤ old.first - 1) × (goal.next ≤ old.first - 1)
   older = ready.sound.arena (old.first - 1) goal ready.at
 
@@ -46,10 +47,12 @@ module _ (loose : Bool) (s : Setting) (formula : List Atom) (vars : ℕ) (ticks 
 
   all_in : AllByRecursion (IsGoalIn s.objects (variables_of old.changes)) (goals_at old.goals old.first)
   all_in =
-      open-in loose s ready.asked.setting ticks vars (goals_of s formula) (record { variables = variables_of old.changes; goals = goals_at old.goals old.first }) ready.sound.facts_in
+      open-in loose s ready.asked.setting ticks vars (goals_of s formula)
+      (record { variables = variables_of old.changes; goals = goals_at old.goals old.first }) ready.sound.facts_in
       (goals-in s vars formula ready.asked.scope) ready.sound.stands.pending
 
-  head-in : (gs : List Goal) (g : Goal) (rest : List Goal) → gs ≡ g ∷ rest → AllByRecursion (IsGoalIn s.objects (variables_of old.changes)) gs → IsGoalIn s.objects (variables_of old.changes) g
+  head-in : (gs : List Goal) (g : Goal) (rest : List Goal) → gs ≡ g ∷ rest
+      → AllByRecursion (IsGoalIn s.objects (variables_of old.changes)) gs → IsGoalIn s.objects (variables_of old.changes) g
   head-in gs g rest is all = (rw is at all).0
 
   pub ready-in : IsGoalIn s.objects (variables_of old.changes) (goal_in old goal)
@@ -67,7 +70,9 @@ module _ (loose : Bool) (s : Setting) (formula : List Atom) (vars : ℕ) (ticks 
   pub ready-near : length (path_at old.goals goal.above) < 4294967296
   ready-near =
       let near = head-near (0 + length ticks) (goals_at old.goals old.first) (goal_in old goal) (goals_at old.goals goal.next) ready-open
-      (open-near loose s ticks vars 0 (goals_of s formula) (record { variables = variables_of old.changes; goals = goals_at old.goals old.first }) (goals-near loose s formula) ready.sound.stands.pending) in
+      (open-near loose s ticks vars 0 (goals_of s formula)
+      (record { variables = variables_of old.changes; goals = goals_at old.goals old.first })
+      (goals-near loose s formula) ready.sound.stands.pending) in
       omega (arith, near, ready.room)
 
   fit-at : (number : ℕ) (clause : Clause) → slice_get s.axioms number ≡ Some clause → IsFit (variables_of old.changes) clause

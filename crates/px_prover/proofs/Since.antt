@@ -3,7 +3,7 @@ use Rattle.std.proofs.Common.{◌≡◌, ◌⊎◌, ℕ, zero, suc, ◌<◌, ◌
 use Rattle.std.specs.Prelude.{nat_eq}
 use Rattle.std.specs.List.{list_any}
 use Rattle.std.proofs.lemmas.Bool.{cases_lt}
-use Rattle.px_prover.specs.Tries.{IsLonger, IsReady, IsSince, TriesAmong}
+use Rattle.px_prover.specs.Tries.{IsLonger, IsReadyToTry, IsSince, TriesAmong}
 use Rattle.px_prover.proofs.Attempted.{fact-stands, fact-nowhere, ancestor-stands, ancestor-nowhere}
 use Rattle.px_prover.proofs.AttemptedSteps.{axiom-first, axiom-nowhere}
 use Rattle.px_prover.proofs.Growing.{fact-in, longer-closed, longer-stepped}
@@ -67,7 +67,8 @@ since-ancestor from Gap since = inr (inr (inl (omega arith)))
 abbrev pub StandsAt : ℕ → ℕ → ℕ → ℕ → Type 0
 StandsAt from place c p = ((c ≡ from) × (place ≤ p)) ⊎ (from < c)
 
-since-step : (from place : ℕ) (u : Tick) → IsSince (Step from place) u → ((c : ℕ) × (p : ℕ) × (u ≡ Step c p) × StandsAt from place c p) ⊎ IsSince Gap u
+since-step : (from place : ℕ) (u : Tick) → IsSince (Step from place) u
+    → ((c : ℕ) × (p : ℕ) × (u ≡ Step c p) × StandsAt from place c p) ⊎ IsSince Gap u
 since-step from place Open (inl e) = absurd (cc)
 since-step from place Open (inr (inl h)) = absurd (omega (arith, h))
 since-step from place Open (inr (inr (inl h))) = absurd (omega (arith, h.0))
@@ -80,7 +81,8 @@ since-step from place (Anc j) (inl e) = absurd (cc)
 since-step from place (Anc j) (inr (inl h)) = absurd (omega (arith, h))
 since-step from place (Anc j) (inr (inr (inl h))) = absurd (omega (arith, h.0))
 since-step from place (Anc j) (inr (inr (inr h))) = absurd (omega (arith, h.0))
-since-step from place (Step c p) (inl e) = let same : from ≡ c = cc in let at : place ≡ p = cc in inl (c, p, refl, inl (sym same, omega (arith, at)))
+since-step from place (Step c p) (inl e) =
+    let same : from ≡ c = cc in let at : place ≡ p = cc in inl (c, p, refl, inl (sym same, omega (arith, at)))
 since-step from place (Step c p) (inr (inl h)) = absurd (omega (arith, h))
 since-step from place (Step c p) (inr (inr (inl h))) = inl (c, p, refl, inr h.1)
 since-step from place (Step c p) (inr (inr (inr h))) = inl (c, p, refl, inl (sym h.1, omega (arith, h.2)))
@@ -165,7 +167,8 @@ step-since from place k start p after begins past = elim (less_same_more from k)
 past-none : {X : Type 0} (xs : List X) (k : ℕ) (x : X) → length xs ≤ k → ¬ (slice_get xs k ≡ Some x)
 past-none xs k x past at = omega (arith, past, slice_get-within xs k x at)
 
-module _ (loose : Bool) (s : Setting) (formula : List Atom) (vars : ℕ) (ticks : List Tick) (old : ProofStateValue) (goal : OpenGoal) (ready : IsReady loose s formula vars ticks old goal) where
+module _ (loose : Bool) (s : Setting) (formula : List Atom) (vars : ℕ) (ticks : List Tick) (old : ProofStateValue) (goal : OpenGoal)
+    (ready : IsReadyToTry loose s formula vars ticks old goal) where
   open_is : goals_at old.goals old.first ≡ goal_in old goal ∷ goals_at old.goals goal.next
   open_is = ready-open loose s formula vars ticks old goal ready
 
@@ -179,20 +182,24 @@ module _ (loose : Bool) (s : Setting) (formula : List Atom) (vars : ℕ) (ticks 
   Tried start new found = TriesAmong (IsSince start) loose s formula vars ticks old new found
 
   -- the first number of a kind that leads to a list comes before the later numbers and the later kinds
-  found-number : (kind : ℕ → Tick) (from k : ℕ) (after : Tick) (new : ProofStateValue) → from ≤ k → ((u : Tick) → IsSince (kind from) u → ((j : ℕ) × (u ≡ kind j) × (from ≤ j)) ⊎ IsSince after u) →
-      ((i j : ℕ) → i ≤ j → IsSince (kind i) (kind j)) → IsLonger loose s formula vars ticks old (kind k) new → ((j : ℕ) → from ≤ j → j < k → ¬ Leads (kind j)) → tick_kind (kind k) < tick_kind after → Tried (kind from) new true
+  found-number : (kind : ℕ → Tick) (from k : ℕ) (after : Tick) (new : ProofStateValue) → from ≤ k
+      → ((u : Tick) → IsSince (kind from) u → ((j : ℕ) × (u ≡ kind j) × (from ≤ j)) ⊎ IsSince after u)
+      → ((i j : ℕ) → i ≤ j → IsSince (kind i) (kind j)) → IsLonger loose s formula vars ticks old (kind k) new
+      → ((j : ℕ) → from ≤ j → j < k → ¬ Leads (kind j)) → tick_kind (kind k) < tick_kind after → Tried (kind from) new true
   found-number kind from k after new reached split since longer never earlier = record {
     least = λ is_found. (kind k, since from k reached, longer, λ u start leads. go u (split u start) leads);
     no_more = λ is_not. absurd (cc);
   }
     where
       go : (u : Tick) → ((j : ℕ) × (u ≡ kind j) × (from ≤ j)) ⊎ IsSince after u → Leads u → IsSince (kind k) u
-      go u (inl (j, e, past)) leads = elim (cases_lt j k) [ inl before ↦ absurd (never j past before (rw e at leads)) | inr later ↦ rw e (since k j later) ]
+      go u (inl (j, e, past)) leads =
+          elim (cases_lt j k) [ inl before ↦ absurd (never j past before (rw e at leads)) | inr later ↦ rw e (since k j later) ]
       go u (inr later) leads = since-earlier (kind k) after u earlier later
 
   -- where no tick before a later start leads to a list, trying from the later start on is trying from the earlier one on
-  joined : (start after : Tick) (Here : Tick → Type 0) → ((u : Tick) → IsSince start u → Here u ⊎ IsSince after u) → ((u : Tick) → Here u → ¬ Leads u) → tick_kind start < tick_kind after →
-      (new : ProofStateValue) (found : Bool) → Tried after new found → Tried start new found
+  joined : (start after : Tick) (Here : Tick → Type 0) → ((u : Tick) → IsSince start u → Here u ⊎ IsSince after u)
+      → ((u : Tick) → Here u → ¬ Leads u) → tick_kind start < tick_kind after
+      → (new : ProofStateValue) (found : Bool) → Tried after new found → Tried start new found
   joined start after Here split none earlier new found later = record {
     least = λ is_found.
         let h = later.least is_found in
@@ -208,75 +215,109 @@ module _ (loose : Bool) (s : Setting) (formula : List Atom) (vars : ℕ) (ticks 
 
   fact-off : (from j : ℕ) → ((i : ℕ) → from ≤ i → i < length s.facts → NeverFact s.objects s.facts old goal i) → from ≤ j → ¬ Leads (Fact j)
   fact-off from j never after leads =
-      fact-nowhere loose s ready.asked.setting formula vars ticks old old ready.sound.stands goal (goal_in old goal) (goals_at old.goals goal.next) open_is refl refl
+      fact-nowhere loose s ready.asked.setting formula vars ticks old old ready.sound.stands goal (goal_in old goal)
+      (goals_at old.goals goal.next) open_is refl refl
       (ready-in loose s formula vars ticks old goal ready).lit j
       (elim (cases_lt j (length s.facts)) [ inl h ↦ never j after h | inr past ↦ λ fact at. absurd (past-none s.facts j fact past at) ])
       leads.1
 
-  pub fact-found : (from : ℕ) (new : ProofStateValue) → TriesRange (NeverFact s.objects s.facts old goal) (ComesFact s.objects s.facts old goal) from (length s.facts) old new true → Tried (Fact from) new true
+  pub fact-found : (from : ℕ) (new : ProofStateValue)
+      → TriesRange (NeverFact s.objects s.facts old goal) (ComesFact s.objects s.facts old goal) from (length s.facts) old new true
+      → Tried (Fact from) new true
   fact-found from new range =
       let h = range.least refl in
-      let stands = fact-stands loose s ready.asked.setting formula vars ticks old new ready.sound.stands goal (goal_in old goal) (goals_at old.goals goal.next) open_is refl refl h.0 h.3 in
-      found-number (λ j. Fact j) from h.0 (Anc 0) new h.1 (since-fact from) fact-since (longer-closed loose s formula vars ticks old new goal ready (Fact h.0) tt (fact-in s h.0 h.3.0 h.3.1 h.3.2) stands (positive_of h.3.0) h.3.3)
-      (λ j after before leads. fact-nowhere loose s ready.asked.setting formula vars ticks old old ready.sound.stands goal (goal_in old goal) (goals_at old.goals goal.next) open_is refl refl (ready-in loose s formula vars ticks old goal ready).lit j (h.4 j after before) leads.1) (omega arith)
+      let stands =
+      fact-stands loose s ready.asked.setting formula vars ticks old new ready.sound.stands goal (goal_in old goal)
+      (goals_at old.goals goal.next) open_is refl refl h.0 h.3 in
+      found-number (λ j. Fact j) from h.0 (Anc 0) new h.1 (since-fact from) fact-since
+      (longer-closed loose s formula vars ticks old new goal ready (Fact h.0) tt (fact-in s h.0 h.3.0 h.3.1 h.3.2) stands
+      (positive_of h.3.0) h.3.3)
+      (λ j after before leads. fact-nowhere loose s ready.asked.setting formula vars ticks old old ready.sound.stands goal
+      (goal_in old goal) (goals_at old.goals goal.next) open_is refl refl (ready-in loose s formula vars ticks old goal ready).lit j
+      (h.4 j after before) leads.1) (omega arith)
 
-  pub fact-join : (from : ℕ) (mid : ProofStateValue) → TriesRange (NeverFact s.objects s.facts old goal) (ComesFact s.objects s.facts old goal) from (length s.facts) old mid false →
-      (new : ProofStateValue) (found : Bool) → Tried (Anc 0) new found → Tried (Fact from) new found
+  pub fact-join : (from : ℕ) (mid : ProofStateValue)
+      → TriesRange (NeverFact s.objects s.facts old goal) (ComesFact s.objects s.facts old goal) from (length s.facts) old mid false
+      → (new : ProofStateValue) (found : Bool) → Tried (Anc 0) new found → Tried (Fact from) new found
   fact-join from mid range new found later =
-      joined (Fact from) (Anc 0) (λ u. (j : ℕ) × (u ≡ Fact j) × (from ≤ j)) (since-fact from) (λ u h leads. fact-off from h.0 (range.no_more refl).1 h.2 (rw h.1 at leads)) (omega arith) new found later
+      joined (Fact from) (Anc 0) (λ u. (j : ℕ) × (u ≡ Fact j) × (from ≤ j)) (since-fact from)
+      (λ u h leads. fact-off from h.0 (range.no_more refl).1 h.2 (rw h.1 at leads)) (omega arith) new found later
 
   -- ---- ancestors
 
-  ancestor-off : (from j : ℕ) → ((i : ℕ) → from ≤ i → i < length (path_at old.goals goal.above) → NeverAncestor (path_at old.goals goal.above) old goal i) → from ≤ j → ¬ Leads (Anc j)
+  ancestor-off : (from j : ℕ) → ((i : ℕ) → from ≤ i → i < length (path_at old.goals goal.above)
+      → NeverAncestor (path_at old.goals goal.above) old goal i) → from ≤ j → ¬ Leads (Anc j)
   ancestor-off from j never after leads =
-      ancestor-nowhere loose s ready.asked.setting formula vars ticks old old ready.sound.stands goal (goal_in old goal) (goals_at old.goals goal.next) open_is refl refl j
-      (elim (cases_lt j (length (path_at old.goals goal.above))) [ inl h ↦ never j after h | inr past ↦ λ above at. absurd (past-none (path_at old.goals goal.above) j above past at) ])
+      ancestor-nowhere loose s ready.asked.setting formula vars ticks old old ready.sound.stands goal (goal_in old goal)
+      (goals_at old.goals goal.next) open_is refl refl j
+      (elim (cases_lt j (length (path_at old.goals goal.above))) [
+        | inl h ↦ never j after h
+        | inr past ↦ λ above at. absurd
+            (past-none (path_at old.goals goal.above) j above past at)
+      ])
       leads.1
 
-  pub ancestor-found : (from : ℕ) (new : ProofStateValue) →
-      TriesRange (NeverAncestor (path_at old.goals goal.above) old goal) (ComesAncestor (path_at old.goals goal.above) old goal) from (length (path_at old.goals goal.above)) old new true → Tried (Anc from) new true
+  pub ancestor-found : (from : ℕ) (new : ProofStateValue)
+      → TriesRange (NeverAncestor (path_at old.goals goal.above) old goal) (ComesAncestor (path_at old.goals goal.above) old goal) from
+      (length (path_at old.goals goal.above)) old new true → Tried (Anc from) new true
   ancestor-found from new range =
       let h = range.least refl in
-      let stands = ancestor-stands loose s ready.asked.setting formula vars ticks old new ready.sound.stands goal (goal_in old goal) (goals_at old.goals goal.next) open_is refl refl h.0 h.3 in
-      found-number (λ j. Anc j) from h.0 (Step 0 0) new h.1 (since-ancestor from) anc-since (longer-closed loose s formula vars ticks old new goal ready (Anc h.0) tt tt stands (complement_of h.3.0) h.3.2)
-      (λ j after before leads. ancestor-nowhere loose s ready.asked.setting formula vars ticks old old ready.sound.stands goal (goal_in old goal) (goals_at old.goals goal.next) open_is refl refl j (h.4 j after before) leads.1) (omega arith)
+      let stands =
+      ancestor-stands loose s ready.asked.setting formula vars ticks old new ready.sound.stands goal (goal_in old goal)
+      (goals_at old.goals goal.next) open_is refl refl h.0 h.3 in
+      found-number (λ j. Anc j) from h.0 (Step 0 0) new h.1 (since-ancestor from) anc-since
+      (longer-closed loose s formula vars ticks old new goal ready (Anc h.0) tt tt stands (complement_of h.3.0) h.3.2)
+      (λ j after before leads. ancestor-nowhere loose s ready.asked.setting formula vars ticks old old ready.sound.stands goal
+      (goal_in old goal) (goals_at old.goals goal.next) open_is refl refl j (h.4 j after before) leads.1) (omega arith)
 
-  pub ancestor-join : (from : ℕ) (mid : ProofStateValue) →
-      TriesRange (NeverAncestor (path_at old.goals goal.above) old goal) (ComesAncestor (path_at old.goals goal.above) old goal) from (length (path_at old.goals goal.above)) old mid false →
-      (new : ProofStateValue) (found : Bool) → Tried (Step 0 0) new found → Tried (Anc from) new found
+  pub ancestor-join : (from : ℕ) (mid : ProofStateValue)
+      → TriesRange (NeverAncestor (path_at old.goals goal.above) old goal) (ComesAncestor (path_at old.goals goal.above) old goal) from
+      (length (path_at old.goals goal.above)) old mid false
+      → (new : ProofStateValue) (found : Bool) → Tried (Step 0 0) new found → Tried (Anc from) new found
   ancestor-join from mid range new found later =
-      joined (Anc from) (Step 0 0) (λ u. (j : ℕ) × (u ≡ Anc j) × (from ≤ j)) (since-ancestor from) (λ u h leads. ancestor-off from h.0 (range.no_more refl).1 h.2 (rw h.1 at leads)) (omega arith) new found later
+      joined (Anc from) (Step 0 0) (λ u. (j : ℕ) × (u ≡ Anc j) × (from ≤ j)) (since-ancestor from)
+      (λ u h leads. ancestor-off from h.0 (range.no_more refl).1 h.2 (rw h.1 at leads)) (omega arith) new found later
 
   -- ---- axioms
 
   axiom-off : (from place c p : ℕ) → NeverAxiom s.axioms old goal from place c → StandsAt from place c p → ¬ Leads (Step c p)
   axiom-off from place c p never at leads =
       let begin = begin-at from place c p at in
-      axiom-nowhere loose s formula vars ticks old old ready.sound.stands goal (goal_in old goal) (goals_at old.goals goal.next) open_is refl refl path_is refl from place c never begin.0 begin.1 p begin.2 leads.1
+      axiom-nowhere loose s formula vars ticks old old ready.sound.stands goal (goal_in old goal)
+      (goals_at old.goals goal.next) open_is refl refl path_is refl from place c never begin.0 begin.1 p begin.2 leads.1
 
-  pub axiom-found : (from place : ℕ) (new : ProofStateValue) → TriesRange (NeverAxiom s.axioms old goal from place) (ComesAxiom s.axioms old goal from place) from (length s.axioms) old new true → Tried (Step from place) new true
+  pub axiom-found : (from place : ℕ) (new : ProofStateValue)
+      → TriesRange (NeverAxiom s.axioms old goal from place) (ComesAxiom s.axioms old goal from place) from (length s.axioms) old new true
+      → Tried (Step from place) new true
   axiom-found from place new range = record {
     least = λ is_found.
         let h = range.least refl in
-        let first = axiom-first loose s formula vars ticks old new ready.sound.stands goal (goal_in old goal) (goals_at old.goals goal.next) open_is refl refl path_is refl from place h.0 h.3 in
-        let few : first.clause.vars ≤ 12 = All-got (λ (c : Clause). c.vars ≤ 12) s.axioms h.0 first.clause ready.asked.clauses first.is_at in (
+        let first =
+        axiom-first loose s formula vars ticks old new ready.sound.stands goal (goal_in old goal)
+        (goals_at old.goals goal.next) open_is refl refl path_is refl from place h.0 h.3 in
+        let few : first.clause.vars ≤ 12 =
+        All-got (λ (c : Clause). c.vars ≤ 12) s.axioms h.0 first.clause ready.asked.clauses first.is_at in (
           Step h.0 first.p,
           step-since from place h.0 first.start first.p h.1 first.begins first.after,
-          longer-stepped loose s formula vars ticks old new goal ready (Step h.0 first.p) tt tt first.stays first.clause first.p few first.closes,
-          λ u since leads. go h.0 first.start first.p first.begins (λ c p at before. axiom-off from place c p (h.4 c (at-least from place c p at) before) at) first.before u (since-step from place u since) leads,
+          longer-stepped loose s formula vars ticks old new goal ready
+              (Step h.0 first.p) tt tt first.stays first.clause first.p few first.closes,
+          λ u since leads. go h.0 first.start first.p first.begins
+              (λ c p at before. axiom-off from place c p (h.4 c (at-least from place c p at) before) at) first.before u
+              (since-step from place u since) leads,
         );
     no_more = λ is_not. absurd (cc);
   }
     where
-      go : (k start p : ℕ) → IsFrom k from place start → ((c q : ℕ) → StandsAt from place c q → c < k → ¬ Leads (Step c q)) →
-          ((q : ℕ) → start ≤ q → q < p → ¬ IsFeasible loose s formula vars (ticks ++ Step k q ∷ [])) →
-          (u : Tick) → ((c : ℕ) × (q : ℕ) × (u ≡ Step c q) × StandsAt from place c q) ⊎ IsSince Gap u → Leads u → IsSince (Step k p) u
+      go : (k start p : ℕ) → IsFrom k from place start → ((c q : ℕ) → StandsAt from place c q → c < k → ¬ Leads (Step c q))
+          → ((q : ℕ) → start ≤ q → q < p → ¬ IsFeasible loose s formula vars (ticks ++ Step k q ∷ []))
+          → (u : Tick) → ((c : ℕ) × (q : ℕ) × (u ≡ Step c q) × StandsAt from place c q) ⊎ IsSince Gap u → Leads u → IsSince (Step k p) u
       go k start p begins earlier before u (inl (c, q, e, at)) leads = rw e (elim (less_same_more k c) [
         | inl h ↦ inr (inr (inl (refl, h)))
         | inr (inl same) ↦ elim (less_same_more p q) [
           | inl h ↦ inr (inr (inr (refl, same, h)))
           | inr (inl is) ↦ inl (λ i. Step (same i) (is i))
-          | inr (inr h) ↦ absurd (before q (start-before from place k c start q begins same at) h (subst-leads k c q same (rw e at leads)).1)
+          | inr (inr h) ↦ absurd (before q (start-before from place k c start q begins same at) h
+              (subst-leads k c q same (rw e at leads)).1)
         ]
         | inr (inr h) ↦ absurd (earlier c q at h (rw e at leads))
       ])
@@ -285,14 +326,21 @@ module _ (loose : Bool) (s : Setting) (formula : List Atom) (vars : ℕ) (ticks 
           subst-leads k c q same h = rw same h
       go k start p begins earlier before u (inr later) leads = inr (by-kind (Step k p) u (omega (arith, kind-since Gap u later)))
 
-  pub axiom-join : (from place : ℕ) (mid : ProofStateValue) → TriesRange (NeverAxiom s.axioms old goal from place) (ComesAxiom s.axioms old goal from place) from (length s.axioms) old mid false →
-      (new : ProofStateValue) (found : Bool) → Tried Gap new found → Tried (Step from place) new found
+  pub axiom-join : (from place : ℕ) (mid : ProofStateValue)
+      → TriesRange (NeverAxiom s.axioms old goal from place) (ComesAxiom s.axioms old goal from place) from (length s.axioms) old mid false
+      → (new : ProofStateValue) (found : Bool) → Tried Gap new found → Tried (Step from place) new found
   axiom-join from place mid range new found later =
       joined (Step from place) Gap (λ u. (c : ℕ) × (q : ℕ) × (u ≡ Step c q) × StandsAt from place c q) (since-step from place)
-      (λ u h leads. axiom-off from place h.0 h.1 (never h.0 (at-least from place h.0 h.1 h.3)) h.3 (rw h.2 at leads)) (omega arith) new found later
+      (λ u h leads. axiom-off from place h.0 h.1 (never h.0 (at-least from place h.0 h.1 h.3)) h.3 (rw h.2 at leads))
+      (omega arith) new found later
     where
       never : (c : ℕ) → from ≤ c → NeverAxiom s.axioms old goal from place c
-      never c after = elim (cases_lt c (length s.axioms)) [ inl h ↦ (range.no_more refl).1 c after h | inr past ↦ λ clause at. absurd (past-none s.axioms c clause past at) ]
+      never c after =
+          elim (cases_lt c (length s.axioms)) [
+            | inl h ↦ (range.no_more refl).1 c after h
+            | inr past ↦ λ clause at. absurd
+                (past-none s.axioms c clause past at)
+          ]
 
   -- ---- a gap
 
@@ -303,13 +351,19 @@ module _ (loose : Bool) (s : Setting) (formula : List Atom) (vars : ℕ) (ticks 
   }
     where
       off : (u : Tick) → u ≡ Gap → ¬ Leads u
-      off u e leads = none-at loose s formula vars ticks old old ready.sound.stands Gap (goal_in old goal) (goals_at old.goals goal.next) open_is (rw is refl) (rw e at leads).1
+      off u e leads =
+          none-at loose s formula vars ticks old old ready.sound.stands Gap (goal_in old goal) (goals_at old.goals goal.next) open_is
+          (rw is refl) (rw e at leads).1
 
-  pub gap-closed : (loose && goal.lit.positive && list_any (nat_eq goal.lit.atom.pred) s.added) ≡ true → (new : ProofStateValue) (found : Bool) → ClosesBy old new Gap goal.lit goal.lit goal.next found → Tried Gap new found
+  pub gap-closed : (loose && goal.lit.positive && list_any (nat_eq goal.lit.atom.pred) s.added) ≡ true
+      → (new : ProofStateValue) (found : Bool) → ClosesBy old new Gap goal.lit goal.lit goal.next found → Tried Gap new found
   gap-closed is new true closes = record {
     least = λ is_found.
-        let closing : closing_at loose s (variables_of old.changes) (goal_in old goal) Gap ≡ Some (record { equal_to = goal.lit; parts = [] }) = rw is refl in
-        let stands = stands-closed loose s formula vars ticks old new ready.sound.stands Gap (goal_in old goal) (goals_at old.goals goal.next) goal.lit goal.next open_is refl closing refl closes in (
+        let closing : closing_at loose s (variables_of old.changes) (goal_in old goal) Gap
+        ≡ Some (record { equal_to = goal.lit; parts = [] }) = rw is refl in
+        let stands =
+        stands-closed loose s formula vars ticks old new ready.sound.stands Gap (goal_in old goal)
+        (goals_at old.goals goal.next) goal.lit goal.next open_is refl closing refl closes in (
           Gap,
           inl refl,
           longer-closed loose s formula vars ticks old new goal ready Gap tt tt stands goal.lit closes,
@@ -324,5 +378,7 @@ module _ (loose : Bool) (s : Setting) (formula : List Atom) (vars : ℕ) (ticks 
     where
       off : (u : Tick) → u ≡ Gap → ¬ Leads u
       off u e leads =
-          let closing : closing_at loose s (variables_of old.changes) (goal_in old goal) Gap ≡ Some (record { equal_to = goal.lit; parts = [] }) = rw is refl in
-          none-closed loose s formula vars ticks old new ready.sound.stands Gap (goal_in old goal) (goals_at old.goals goal.next) goal.lit goal.next open_is refl closing refl closes (rw e at leads).1
+          let closing : closing_at loose s (variables_of old.changes) (goal_in old goal) Gap
+          ≡ Some (record { equal_to = goal.lit; parts = [] }) = rw is refl in
+          none-closed loose s formula vars ticks old new ready.sound.stands Gap (goal_in old goal)
+          (goals_at old.goals goal.next) goal.lit goal.next open_is refl closing refl closes (rw e at leads).1

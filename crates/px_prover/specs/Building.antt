@@ -3,7 +3,8 @@ use Rattle.std.specs.Prelude.{◌≡◌, ℕ, ◌+◌, ◌-◌, ◌<◌, Option,
 use Rattle.px_proof.specs.Derivation.{Derivation, derivations, fact, ancestor, step, no_atom}
 use Rattle.px_proof.specs.declared.shape.Tick.{Tick}
 use Rattle.px_proof.specs.declared.shape.Tick.TheVariants.{Fact, Anc, Step, Gap, Open}
-use Rattle.px_question.specs.Answers.{object_of, object_terms}
+use Rattle.px_terms.specs.Language.{object_of}
+use Rattle.px_question.specs.Answers.{object_terms}
 use Rattle.px_question.specs.Settings.{Setting}
 use Rattle.px_terms.specs.declared.clause.Clause.{Clause}
 use Rattle.px_terms.specs.declared.term.Term.{Term}

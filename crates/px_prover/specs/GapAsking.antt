@@ -5,6 +5,7 @@ use Rattle.px_proof.specs.declared.shape.Tick.{Tick}
 use Rattle.px_question.specs.Settings.{Setting, setting_of}
 use Rattle.px_proof_walk.specs.Possible.{IsGoingOn}
 
+-- Alike: `setting_in` of Asking, of the other kind of questions, which has a field more.
 abbrev pub gap_setting : GapQuestion → Setting
 gap_setting q = setting_of q.problem.now q.facts.now
 

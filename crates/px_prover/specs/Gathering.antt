@@ -12,14 +12,14 @@ use Rattle.px_proof_walk.specs.GapAtoms.{gap_atoms}
 use Rattle.px_proof_walk.specs.Pending.{goals_of}
 
 -- the bindings of the variable end in the term
-pub record IsEnd (changes : List Change) (v : ℕ) (root : Term) : Type 0 where
+pub record IsRootOf (changes : List Change) (v : ℕ) (root : Term) : Type 0 where
   pub same : AreOneUnder changes (Var v) root
   pub is_root : IsRoot changes root
 
 -- the end of each variable's bindings
 pub record AreEnds (changes : List Change) (roots : List Term) : Type 0 where
   pub count : length roots ≡ variables_of changes
-  pub each : (v : ℕ) (root : Term) → slice_get roots v ≡ Some root → IsEnd changes v root
+  pub each : (v : ℕ) (root : Term) → slice_get roots v ≡ Some root → IsRootOf changes v root
 
 -- the atoms are those that the ticks close by gaps, over the first variables, of the given number
 pub record AreMissing (s : Setting) (formula : List Atom) (vars : ℕ) (ticks : List Tick) (variables : ℕ) (missing : List Atom) : Type 0

@@ -22,7 +22,7 @@ ticks_in [] = []
 ticks_in (c ∷ rest) = ticks_in rest ++ c.tick ∷ []
 
 -- what a walk relies on: the formula's objects and variables are in range, and so are the numbers of the problem and the model
-pub record IsAsked (s : Setting) (formula : List Atom) (vars : ℕ) : Type 0 where
+pub record IsProperQuestion (s : Setting) (formula : List Atom) (vars : ℕ) : Type 0 where
   pub setting : IsSetting s
   pub scope : AllByRecursion (IsAtomIn s.objects vars) formula
   pub some_object : 0 < vars → 0 < s.objects
@@ -53,5 +53,5 @@ WasSound loose s formula vars (c ∷ rest) changes goals first =
 
 -- the state is one of the question
 pub record IsStanding (loose : Bool) (s : Setting) (formula : List Atom) (vars : ℕ) (v : ProofStateValue) : Type 0 where
-  pub asked : IsAsked s formula vars
+  pub asked : IsProperQuestion s formula vars
   pub was : WasSound loose s formula vars v.choices v.changes v.goals v.first

@@ -1,7 +1,7 @@
 -- What an attempt to go on to a longer list leaves.
 use Rattle.std.specs.Prelude.{◌≡◌, ◌⊎◌, ℕ, ◌-◌, ◌<◌, ◌≤◌, Bool, true, false, Option, Some, List, [], ◌∷◌, ◌++◌, length, take, slice_get}
 use Rattle.px_prover.specs.Asking.{setting_in}
-use Rattle.px_prover.specs.Standing.{ticks_in, IsAsked, IsSound}
+use Rattle.px_prover.specs.Standing.{ticks_in, IsProperQuestion, IsSound}
 use Rattle.px_prover.specs.declared.question.Question.{Question}
 use Rattle.px_proof.specs.Shapes.{TickBefore}
 use Rattle.px_proof.specs.declared.shape.Tick.{Tick}
@@ -14,9 +14,9 @@ use Rattle.px_proof_walk.specs.Order.{IsAfter}
 use Rattle.px_proof_walk.specs.Possible.{IsPossible}
 
 -- the goal is the first open one of a sound state with room for one more tick
-pub record IsReady (loose : Bool) (s : Setting) (formula : List Atom) (vars : ℕ) (ticks : List Tick) (old : ProofStateValue)
+pub record IsReadyToTry (loose : Bool) (s : Setting) (formula : List Atom) (vars : ℕ) (ticks : List Tick) (old : ProofStateValue)
     (goal : OpenGoal) : Type 0 where
-  pub asked : IsAsked s formula vars
+  pub asked : IsProperQuestion s formula vars
   pub sound : IsSound loose s formula vars ticks old
   pub some : 0 < old.first
   pub at : slice_get old.goals (old.first - 1) ≡ Some goal
@@ -36,17 +36,17 @@ pub record IsLonger (loose : Bool) (s : Setting) (formula : List Atom) (vars : �
   pub goals : take (length old.goals) new.goals ≡ old.goals
   pub more_goals : length old.goals ≤ length new.goals
 
--- among the ticks that count, the least by which the list is possible is the new one; or there is none, and nothing changes
+-- the new tick is the least of those that count by which the list is possible; or by none of these is it possible, and nothing changes
 pub record TriesAmong (Counts : Tick → Type 0) (loose : Bool) (s : Setting) (formula : List Atom) (vars : ℕ) (ticks : List Tick)
     (old new : ProofStateValue) (found : Bool) : Type 0 where
-  pub least : found ≡ true →
-      (tick : Tick) × Counts tick × IsLonger loose s formula vars ticks old tick new
+  pub least : found ≡ true
+      → (tick : Tick) × Counts tick × IsLonger loose s formula vars ticks old tick new
       × ((u : Tick) → Counts u → IsPossible loose s formula vars (ticks ++ u ∷ []) → IsSince tick u)
   pub no_more : found ≡ false → (new ≡ old) × ((u : Tick) → Counts u → ¬ IsPossible loose s formula vars (ticks ++ u ∷ []))
 
--- the same for a question
+-- the goal is the first open one of a sound state of the question, with room for one more tick
 abbrev pub IsReadyIn : Question → ProofStateValue → OpenGoal → Type 0
-IsReadyIn q old goal = IsReady q.loose (setting_in q) q.formula.now q.vars (ticks_in old.choices) old goal
+IsReadyIn q old goal = IsReadyToTry q.loose (setting_in q) q.formula.now q.vars (ticks_in old.choices) old goal
 
 abbrev pub TriesSince : Question → Tick → ProofStateValue → ProofStateValue → Bool → Type 0
 TriesSince q start old new found = TriesAmong (IsSince start) q.loose (setting_in q) q.formula.now q.vars (ticks_in old.choices) old new

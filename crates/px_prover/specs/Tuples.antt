@@ -6,7 +6,7 @@ unfoldable pub longer_by : List ℕ → ℕ → List (List ℕ)
 longer_by tuple zero = []
 longer_by tuple (suc n) = longer_by tuple n ++ (tuple ++ n ∷ []) ∷ []
 
--- the same for each of the lists
+-- each of the lists, followed by each of the first objects
 abbrev pub all_longer_by : ℕ → List (List ℕ) → List (List ℕ)
 all_longer_by objects [] = []
 all_longer_by objects (tuple ∷ tuples) = longer_by tuple objects ++ all_longer_by objects tuples

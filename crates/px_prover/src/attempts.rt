@@ -1,32 +1,12 @@
 //! Closing the first open place by the least tick after a given one: by facts, ancestors, axioms and gaps in turn.
-ghost use Rattle.std.specs.Prelude.{◌≡◌, IfOk, nat_eq};
-ghost use Rattle.std.specs.List.{list_any};
-ghost use Rattle.px_question.specs.Settings.{added_by};
-ghost use Rattle.px_terms.specs.declared.atom.Atom.{Atom as AtomValue};
-ghost use Rattle.px_terms.specs.declared.problem.Schema.{Schema as SchemaValue};
+ghost use Rattle.std.specs.Prelude.{IfOk};
 ghost use Rattle.px_prover.specs.Tries.{IsReadyIn, TriesSince, TriesLater};
 
 use crate::question::Question;
 use px_base::NoMemory;
+use px_ops::is_added;
 use px_proof::Tick;
 use px_proof_state::{OpenGoal, ProofState, close_by_gap, try_ancestors, try_axioms, try_facts};
-use px_terms::{Atom, Schema};
-
-/// Does one of the added atoms have the predicate?
-fn adds(atoms: &[Atom], pred: u32) -> bool
-    ensures { result ≡ list_any (λ (atom : AtomValue). nat_eq pred atom.pred) atoms.now }
-{
-    atoms.iter().any(|atom| pred == atom.pred())
-}
-
-/// Does some operator add the predicate?
-fn is_added(schemas: &[Schema], pred: u32) -> bool
-    ensures { result ≡ list_any (λ (schema : SchemaValue). list_any (λ (atom : AtomValue). nat_eq pred atom.pred) schema.add) schemas.now }
-{
-    schemas
-        .iter()
-        .any(|schema| adds(schema.add.as_slice(), pred))
-}
 
 /// Closes the first goal by a gap, if that is allowed.
 fn try_gap(state: &mut ProofState, question: &Question, goal: &OpenGoal) -> Result<bool, NoMemory>
@@ -39,7 +19,7 @@ fn try_gap(state: &mut ProofState, question: &Question, goal: &OpenGoal) -> Resu
     if !goal.lit.positive {
         return Ok(false);
     }
-    if !is_added(question.problem.schemas.as_slice(), goal.lit.atom.pred()) {
+    if !is_added(question.problem, goal.lit.atom.pred()) {
         return Ok(false);
     }
     close_by_gap(state, goal)

@@ -4,7 +4,7 @@ ghost use Rattle.std.specs.List.{AllByRecursion};
 ghost use Rattle.px_proof.specs.Derivation.{derivations, step as step_of};
 ghost use Rattle.px_proof.specs.ProofTerm.{derivation_of};
 ghost use Rattle.px_proof.specs.declared.shape.Tick.{Tick as TickValue};
-ghost use Rattle.px_question.specs.Answers.{object_of as object_value, object_terms};
+ghost use Rattle.px_question.specs.Answers.{object_terms};
 ghost use Rattle.px_question.specs.Settings.{setting_of};
 ghost use Rattle.px_proof_state.specs.declared.open.Choice.{Choice as ChoiceValue};
 ghost use Rattle.px_proof_walk.specs.Pending.{fresh_of};
@@ -13,22 +13,11 @@ ghost use Rattle.px_prover.specs.Building.{AreLeast, IsThere, built, extended, f
 use px_base::{NoMemory, Sequence, push};
 use px_proof::{Leaf, Proof, Tick};
 use px_proof_state::Choice;
-use px_terms::{Atom, Problem, Term};
+use px_terms::{Atom, Problem, Term, object_of};
 use px_unify::Bind;
 use std::alloc::Global;
 
-/// The object that the term is; 0 for a variable, which may be any.
-fn object_of(term: Term) -> u32
-    ensures { result ≡ object_value term }
-{
-    match term {
-        Term::Obj(number) => number,
-        Term::Var(_) => 0,
-        Term::Any => 0,
-    }
-}
-
-/// The least objects for all variables.
+/// Returns the least objects for all variables: 0 for one that may be any.
 pub(crate) fn least_objects(alloc: Global, bind: &Bind) -> Result<Vec<u32>, NoMemory>
     ensures { IfOk result (λ objects. AreLeast bind.now objects.items) }
 {
@@ -40,7 +29,7 @@ pub(crate) fn least_objects(alloc: Global, bind: &Bind) -> Result<Vec<u32>, NoMe
     Ok(objects)
 }
 
-/// The objects as terms.
+/// Returns the objects as terms.
 pub(crate) fn terms_of(alloc: Global, objects: &[u32]) -> Result<Vec<Term>, NoMemory>
     ensures { IfOk result (λ terms. terms.items ≡ object_terms objects.now) }
 {
@@ -94,7 +83,7 @@ fn push_step(
     Ok(())
 }
 
-/// Puts the proof that the tick closes before those after it, and returns where the objects of its step begin.
+/// Puts the proof of the place that the tick closes before those after it, and returns where the objects of its step begin.
 fn push_proof(
     alloc: Global,
     problem: &Problem,
@@ -139,7 +128,7 @@ fn push_proof(
     }
 }
 
-/// The proofs of the choices, the first one last.
+/// Returns the proofs of the choices, the first one last.
 pub(crate) fn build(
     alloc: Global,
     problem: &Problem,

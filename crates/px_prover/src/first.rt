@@ -23,7 +23,7 @@ use px_proof_walk::{End, walk_to_finished};
 use px_terms::{Atom, Problem};
 use std::alloc::Global;
 
-/// The answer of a state in which no place is open.
+/// Returns the answer of a state in which no place is open.
 fn answer(alloc: Global, question: &Question, state: &ProofState) -> Result<Answer, NoMemory>
     requires strict { question.now.loose ≡ false }
     requires stands { IsStanding question.now.loose (setting_in question.now) question.now.formula.now question.now.vars state.now }
@@ -48,12 +48,11 @@ fn answer(alloc: Global, question: &Question, state: &ProofState) -> Result<Answ
     })
 }
 
-/// The first finished proof of the formula from the facts of the model (after the prover of Fikes and Nilsson 1971). Only
-/// objects of the problem stand in it, and its leaves are atoms of the problem. An object is needed where there is a
-/// variable.
+/// Returns the first finished proof of the formula from the facts of the model (after the prover of Fikes and Nilsson 1971). Only objects
+/// of the problem stand in it, and its leaves are atoms of the problem. Where there is a variable, there has to be an object.
 ///
 /// # Errors
-/// `Unprovable` if there is none, `ShapeLimit` if as many shapes of unfinished lists as the shape limit come first, and
+/// `Unprovable` if there is no proof, `ShapeLimit` if as many shapes of unfinished lists as the shape limit come first, and
 /// `NoMemory`. The clauses say that the first two come only then, and exclude each other.
 pub fn prove(
     alloc: Global,

@@ -19,7 +19,7 @@ pub(crate) struct GapQuestion<'a> {
 }
 
 impl<'a> GapQuestion<'a> {
-    /// The question whose walk visits finished lists, too.
+    /// Returns the question whose walk visits finished lists, too.
     pub(crate) fn loose(&self) -> Question<'a>
         ensures { result ≡ record {
           problem = self.now.problem;
@@ -40,7 +40,7 @@ impl<'a> GapQuestion<'a> {
     }
 }
 
-/// The tick, with the fact that its numbers have 32 bits.
+/// Returns the tick, with the fact that its numbers have 32 bits.
 pub(crate) fn sized(tick: Tick) -> Tick
     ensures same { result ≡ tick }
     ensures small { IsSmall result }

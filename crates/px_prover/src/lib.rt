@@ -9,15 +9,15 @@
 //! [`prove`] is for at most twelve variables. It returns one of these.
 //!
 //! - [`Answer`]: the first finished list of proofs, one for each atom, with the objects for the variables. Lists are
-//!   ordered by their shapes: at the first place that is closed otherwise, a fact comes before an ancestor and an ancestor
+//!   ordered by their shapes: at the first place where they differ, a fact comes before an ancestor and an ancestor
 //!   before an axiom; facts come in the model's order, ancestors from the nearest, axioms by number and place. Among lists
 //!   of one shape the least objects come first, so a variable that the proofs leave free gets object 0. A leaf has column
 //!   0 and the fact's place in the model as its index. Only objects of the problem stand in the proofs, and their leaves are
 //!   atoms of the problem, whatever else the model holds. `answers_make_rows` of `px_question` leads from them to a row of a
 //!   support.
-//! - `Unprovable`: there is no finished list, and fewer unfinished ones than the shape limit.
+//! - `Unprovable`: no list is finished, and there are fewer unfinished ones than the shape limit.
 //! - `ShapeLimit`: as many shapes of unfinished lists as the shape limit stand before the first finished one, or exist at
-//!   all where there is none. The answer has the first of them, as many as the limit.
+//!   all where no list is finished. The answer has the first of them, as many as the limit.
 //! - `NoMemory`, of which nothing more is said.
 //!
 //! [`gap_lists`] is for at most 4,096 variables. Here an atom may also be left as a gap, if some operator of the problem
@@ -38,7 +38,7 @@
 //! [`gap_patterns`] has the conditions and the errors of `gap_lists`, and returns the same gap lists as patterns, which
 //! keep variables. A [`GapPattern`] has an object or a variable for each variable of the formula, and atoms. Under each
 //! choice of objects for the pattern's variables its terms and atoms are the objects and atoms of a gap list, and each gap
-//! list comes about so. No clause says how many patterns there are, or in which order. [`patterns_are_lists`] is a law for
+//! list comes about like this. No clause says how many patterns there are, or in which order. [`patterns_are_lists`] is a law for
 //! callers: the instances of the patterns, ascending, each once, are the gap lists (`AreGapLists` of `px_question`).
 //!
 //! Facts with objects outside the problem are passed over. What these words mean is said in `px_question`: trees without
@@ -49,6 +49,8 @@
 //! of the shapes (`px_proof_walk`). [`prove`] stops at the first finished list. `gap_patterns` visits the unfinished ones, and at
 //! each gathers a pattern for each list that one more closing finishes; equal patterns are kept once. `gap_lists` puts all
 //! objects in the place of their variables.
+//!
+//! Of the files of `specs/`, public clauses cite `Outcomes`, `PatternLists` and `Patterns`; only private functions cite the others.
 #![tactic(auto)]
 
 mod attempts;

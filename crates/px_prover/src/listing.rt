@@ -26,7 +26,7 @@ use px_question::GapList;
 use px_terms::{Atom, Problem, Term};
 use std::alloc::Global;
 
-/// The object that the term is, or that its variable has.
+/// Returns the object that the term is, or that its variable has.
 fn value_of(values: &[u32], term: Term) -> u32
     requires { IsVariableBelow (length values.now) term }
     ensures { result ≡ value_by values.now term }
@@ -38,7 +38,7 @@ fn value_of(values: &[u32], term: Term) -> u32
     }
 }
 
-/// The objects of the terms under the values.
+/// Returns the objects of the terms under the values.
 fn values_of(alloc: Global, terms: &[Term], values: &[u32]) -> Result<Vec<u32>, NoMemory>
     requires { All (IsVariableBelow (length values.now)) terms.now }
     ensures { IfOk result (λ objects. objects.items ≡ map_list (value_by values.now) terms.now) }
@@ -51,7 +51,7 @@ fn values_of(alloc: Global, terms: &[Term], values: &[u32]) -> Result<Vec<u32>, 
     Ok(objects)
 }
 
-/// The atoms ascending, each once.
+/// Returns the atoms ascending, each once.
 fn as_set(mut atoms: Vec<Atom>) -> Vec<Atom>
     ensures order { IsAtomSet result.items }
     ensures members { (atom : AtomValue) → Contains result.items atom ↔ Contains atoms.items atom }
@@ -61,7 +61,7 @@ fn as_set(mut atoms: Vec<Atom>) -> Vec<Atom>
     atoms
 }
 
-/// The gap list of the pattern under the values.
+/// Returns the gap list of the pattern under the values.
 fn list_under(alloc: Global, pattern: &GapPattern, values: &[u32]) -> Result<GapList, NoMemory>
     requires closed { IsOverItsVariables pattern.now }
     requires count { length values.now ≡ pattern.now.vars }
@@ -96,7 +96,7 @@ fn push_under(
     Ok(())
 }
 
-/// The gap lists of the patterns under all values.
+/// Returns the gap lists of the patterns under all values.
 fn all_under(alloc: Global, objects: u32, patterns: &[GapPattern]) -> Result<Vec<GapList>, NoMemory>
     requires { All IsOverItsVariables patterns.now }
     ensures { IfOk result (λ lists. lists.items ≡ all_lists_under objects patterns.now) }
@@ -110,7 +110,7 @@ fn all_under(alloc: Global, objects: u32, patterns: &[GapPattern]) -> Result<Vec
     Ok(lists)
 }
 
-/// The lists in order, each once.
+/// Returns the lists in order, each once.
 fn ordered(mut lists: Vec<GapList>) -> Vec<GapList>
     ensures order { IsStrictlySortedBy gap_list_cmp result.items }
     ensures members { (list : GapListValue) → Contains result.items list ↔ Contains lists.items list }
@@ -121,7 +121,7 @@ fn ordered(mut lists: Vec<GapList>) -> Vec<GapList>
 }
 
 // Alike: the contract is that of `gap_patterns` in `patterns`, with lists for patterns, so that callers meet both in the same way.
-/// The gap lists of the formula: each list of objects for its variables with the atoms, ascending, that a list of loose
+/// Returns the gap lists of the formula: each list of objects for its variables with the atoms, ascending, that a list of loose
 /// gap proofs then closes by gaps, where a gap may close each atom whose predicate some operator adds. The lists ascend.
 ///
 /// # Errors

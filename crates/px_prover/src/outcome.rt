@@ -19,7 +19,7 @@ pub enum ProveErr {
     /// No objects make each atom provable, and fewer shapes of unfinished lists exist than the shape limit.
     #[error("no objects make each atom provable")]
     Unprovable,
-    /// As many shapes of unfinished lists as the shape limit come first. These are they, in order.
+    /// As many shapes of unfinished lists as the shape limit come first. These are the shapes, in order.
     #[error("as many unfinished lists as the shape limit come first")]
     ShapeLimit(Vec<Shape>),
     /// Memory ran out.

@@ -1,4 +1,4 @@
-//! What stands for many gap lists.
+//! A pattern, which stands for many gap lists.
 use px_base::Sequence;
 use px_terms::{Atom, Term};
 

@@ -6,10 +6,10 @@ ghost use Rattle.px_terms.specs.Language.{IsVariableBelow};
 ghost use Rattle.px_terms.specs.Validity.{IsValid, IsAtomOf};
 ghost use Rattle.px_terms.specs.declared.atom.Atom.{Atom as AtomValue};
 ghost use Rattle.px_prover.specs.GapAsking.{gap_setting};
-ghost use Rattle.px_prover.specs.Outcomes.{IfPatternLimit};
+ghost use Rattle.px_prover.specs.Outcomes.{IfGapLimit};
 ghost use Rattle.px_prover.specs.declared.pattern.GapPattern.{GapPattern as PatternValue};
 ghost use Rattle.px_prover.specs.Patterns.{AreGapPatterns, GathersPatternsOf, IsPatternBy, ends_of, place_of, renamed};
-ghost use Rattle.px_proof_walk.specs.Pending.{variables_from};
+ghost use Rattle.px_terms.specs.Substitution.{variables_from};
 ghost use Rattle.px_prover.specs.Standing.{ticks_in, IsStanding};
 
 use crate::gap_question::{GapQuestion, sized};
@@ -23,7 +23,7 @@ use px_proof_walk::{Gather, Walk, walk_to_end};
 use px_terms::{Atom, Problem, Term};
 use std::alloc::Global;
 
-/// The place of the variable in the list of `count` variables, or `count` if it is not there.
+/// Returns the place of the variable in the list of `count` variables, or `count` if it is not there.
 fn place(free: &[u32], count: u32, variable: u32) -> u32
     requires { count ≡ length free.now }
     ensures { result ≡ place_of free.now variable }
@@ -36,7 +36,7 @@ fn place(free: &[u32], count: u32, variable: u32) -> u32
     count
 }
 
-/// The term, with the variable's place in the list as its number if it is a variable.
+/// Returns the term, with the variable's place in the list as its number if it is a variable.
 fn renamed_term(free: &[u32], count: u32, root: Term) -> Term
     requires { count ≡ length free.now }
     ensures { result ≡ renamed free.now root }
@@ -48,7 +48,7 @@ fn renamed_term(free: &[u32], count: u32, root: Term) -> Term
     }
 }
 
-/// The ends of all bindings, over the variables of the list.
+/// Returns the ends of all bindings, over the variables of the list.
 fn renamed_ends(
     alloc: Global,
     roots: &[Term],
@@ -66,7 +66,7 @@ fn renamed_ends(
     Ok(ends)
 }
 
-/// The pattern of a finished list whose bindings have these ends.
+/// Returns the pattern of a finished list whose bindings have these ends.
 fn pattern_by(
     alloc: Global,
     vars: u32,
@@ -77,7 +77,7 @@ fn pattern_by(
     requires missing { All (λ (atom : AtomValue). All (IsVariableBelow (length roots.now)) atom.args) missing.now }
     ensures { IfOk result (λ pattern. IsPatternBy vars missing.now roots.now free.now pattern) }
 {
-    // no list has more variables than a `u32` counts
+    // no list has more variables than a `u32` can count
     let count = match u32::try_from(free.len()) {
         Ok(count) => count,
         Err(_) => return Err(NoMemory),
@@ -159,7 +159,7 @@ impl<'a> Gather<GapQuestion<'a>, ProofState> for Patterns {
     }
 }
 
-/// The pattern of the formula without atoms: its variables, and no gap.
+/// Returns the pattern of the formula without atoms: its variables, and no gap.
 fn without_atoms(alloc: Global, vars: u32) -> Result<GapPattern, NoMemory>
     ensures vars_are { IfOk result (λ pattern. pattern.vars ≡ vars) }
     ensures terms_are { IfOk result (λ pattern. pattern.terms ≡ variables_from 0 vars) }
@@ -176,7 +176,7 @@ fn without_atoms(alloc: Global, vars: u32) -> Result<GapPattern, NoMemory>
     })
 }
 
-/// The patterns, each once.
+/// Returns the patterns, each once.
 fn distinct(mut patterns: Vec<GapPattern>) -> Vec<GapPattern>
     ensures { (pattern : PatternValue) → Contains result.items pattern ↔ Contains patterns.items pattern }
 {
@@ -185,7 +185,7 @@ fn distinct(mut patterns: Vec<GapPattern>) -> Vec<GapPattern>
     patterns
 }
 
-/// The gap lists of the formula by patterns: whatever objects of the problem are chosen for a pattern's variables, its
+/// Returns the gap lists of the formula as patterns: whatever objects of the problem are chosen for a pattern's variables, its
 /// terms and its atoms are a gap list of [`gap_lists`](crate::gap_lists), with the atoms in any order, and each gap list
 /// is that of a pattern with some objects.
 ///
@@ -204,7 +204,7 @@ pub fn gap_patterns(
     requires some_object { 0 < vars → 0 < problem.now.objects }
     ensures patterns { IfOk result (λ patterns. AreGapPatterns (setting_of problem.now model.now.atoms) formula.now vars patterns.items) }
     ensures few { IfOk result (λ patterns. AreFewGapShapes (setting_of problem.now model.now.atoms) formula.now vars) }
-    ensures limited { IfPatternLimit result (IsGapLimited (setting_of problem.now model.now.atoms) formula.now vars) }
+    ensures limited { IfGapLimit result (IsGapLimited (setting_of problem.now model.now.atoms) formula.now vars) }
 {
     let facts = model.atoms();
     let mut patterns = Patterns {

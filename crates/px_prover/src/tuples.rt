@@ -5,7 +5,7 @@ ghost use Rattle.px_prover.specs.Tuples.{longer_by, all_longer_by, tuples_of};
 use px_base::{NoMemory, Sequence, push};
 use std::alloc::Global;
 
-/// The list with one more object at its end.
+/// Returns the list with one more object at its end.
 fn longer(tuple: &Sequence<u32>, object: u32) -> Result<Sequence<u32>, NoMemory>
     ensures { IfOk result (λ more. more ≡ tuple.now ++ object ∷ []) }
 {
@@ -29,7 +29,7 @@ fn push_longer(
     Ok(())
 }
 
-/// Each of the lists with each object at its end.
+/// Returns each of the lists with each object at its end.
 fn all_longer(
     alloc: Global,
     tuples: &[Sequence<u32>],
@@ -44,7 +44,7 @@ fn all_longer(
     Ok(made)
 }
 
-/// All lists of `count` objects.
+/// Returns all lists of `count` objects.
 pub(crate) fn tuples(
     alloc: Global,
     objects: u32,

@@ -13,13 +13,13 @@ use std::alloc::Global;
 use std::process::Abort;
 use std::rt::HostRuntime;
 
-/// Asks the prover, once it is seen that the problem and the formula are valid.
+/// Asks the prover, after checking that the problem and the formula are valid.
 fn ask(rt: &impl Abort, problem: &Problem, asked: Asked) -> Result<Answer, ProveErr> {
     assert_asked(rt, problem, asked.formula, asked.vars, 12);
     prove(asked.alloc, problem, asked.formula, asked.vars, asked.model)
 }
 
-/// The marks of a proof and the objects that it chooses, in preorder.
+/// Adds the marks of a proof and the objects that it chooses, in preorder.
 fn collect(proof: &Proof, ticks: &mut Vec<Mark>, chosen: &mut Vec<u32>) -> Result<(), NoMemory> {
     match proof {
         Proof::Fact(leaf) => ticks.push((1, leaf.index, 0))?,
@@ -46,7 +46,7 @@ fn collect(proof: &Proof, ticks: &mut Vec<Mark>, chosen: &mut Vec<u32>) -> Resul
     Ok(())
 }
 
-/// Is the answer the first finished list of the reference?
+/// Returns whether the answer is the first finished list of the reference.
 fn is_answer(
     alloc: Global,
     answer: &Answer,
@@ -62,7 +62,7 @@ fn is_answer(
     Ok(marks.as_slice() == ticks && objects.as_slice() == chosen)
 }
 
-/// Is that what `prove` answers, by these shapes of unfinished lists and this first finished one?
+/// Returns whether that is what `prove` answers, by these shapes of unfinished lists and this first finished one.
 fn is_right(
     alloc: Global,
     found: &Result<Answer, ProveErr>,
@@ -89,7 +89,7 @@ fn is_right(
     }
 }
 
-/// Does `prove` answer what the definition says, by the reference, at each limit up to one more than there are shapes?
+/// Returns whether `prove` answers what the definition says, by the reference, at each limit up to one more than there are shapes.
 fn agrees(rt: &impl Abort, problem: &mut Problem, asked: Asked) -> bool {
     let alloc = asked.alloc;
     let all = lists(problem, asked, &[]).expect(rt, "memory");
@@ -106,7 +106,7 @@ fn agrees(rt: &impl Abort, problem: &mut Problem, asked: Asked) -> bool {
     true
 }
 
-/// Eleven atoms in a chain, over twelve variables.
+/// Returns eleven atoms in a chain, over twelve variables.
 fn chain_of_eleven(alloc: Global, rt: &impl Abort) -> Vec<Atom> {
     let mut formula = Vec::new(alloc);
     for i in 0..11 {

@@ -10,13 +10,13 @@ use px_terms::{Atom, ClauseArena, Problem};
 use std::process::Abort;
 use std::rt::HostRuntime;
 
-/// The gap lists, once it is seen that the problem and the formula are valid.
+/// Returns the gap lists, after checking that the problem and the formula are valid.
 fn ask(rt: &impl Abort, problem: &Problem, asked: Asked) -> Result<Vec<GapList>, GapErr> {
     assert_asked(rt, problem, asked.formula, asked.vars, 4096);
     gap_lists(asked.alloc, problem, asked.formula, asked.vars, asked.model)
 }
 
-/// Is it the one list with the box for the variable, that lacks `INROOM(B1,R1)`?
+/// Returns whether it is the one list with the box for the variable, that lacks `INROOM(B1,R1)`.
 fn lacks_the_box(lists: &[GapList]) -> bool {
     match lists {
         [list] => {
@@ -27,7 +27,7 @@ fn lacks_the_box(lists: &[GapList]) -> bool {
     }
 }
 
-/// Is it the one pattern without variables that says the same?
+/// Returns whether it is the one pattern without variables that says the same.
 fn is_the_box(patterns: &[GapPattern]) -> bool {
     match patterns {
         [pattern] => {
@@ -65,7 +65,7 @@ fn one_box_lacks_one_atom(rt: HostRuntime) {
     }
 }
 
-/// Are they the pairs?
+/// Returns whether they are the pairs.
 fn are_pairs(lists: &[GapList], wanted: &[(Vec<u32>, Vec<Atom>)]) -> bool {
     lists.len() == wanted.len()
         && lists.iter().zip(wanted).all(|(list, pair)| {
@@ -74,7 +74,7 @@ fn are_pairs(lists: &[GapList], wanted: &[(Vec<u32>, Vec<Atom>)]) -> bool {
         })
 }
 
-/// Does `gap_lists` answer what the definition says, by the reference, at each limit up to one more than there are shapes?
+/// Returns whether `gap_lists` answers what the definition says, by the reference, at each limit up to one more than there are shapes.
 fn agrees(rt: &impl Abort, problem: &mut Problem, asked: Asked) -> bool {
     let alloc = asked.alloc;
     let added = added_preds(alloc, problem).expect(rt, "memory");

@@ -1,4 +1,4 @@
-//! Tests of `px_prover`: they stand apart from the crate that they try, since a crate with tests is proved twice.
+//! Tests of `px_prover`: they stand apart from the crate that they test, since a crate with tests is proved twice.
 #![tactic(auto)]
 
 #[cfg(test)]

@@ -43,7 +43,7 @@ struct Step {
     parts: Vec<Lit>,
 }
 
-/// All lists of `count` objects.
+/// Returns all lists of `count` objects.
 pub fn all_objects(alloc: Global, objects: u32, count: u32) -> Result<Vec<Vec<u32>>, NoMemory> {
     let mut lists = Vec::new(alloc);
     lists.push(Vec::new(alloc))?;
@@ -61,7 +61,7 @@ pub fn all_objects(alloc: Global, objects: u32, count: u32) -> Result<Vec<Vec<u3
     Ok(lists)
 }
 
-/// The object for a term.
+/// Returns the object for a term.
 fn under(objects: &[u32], term: Term) -> Term {
     match term {
         Term::Var(number) => match objects.get(number as usize) {
@@ -72,7 +72,7 @@ fn under(objects: &[u32], term: Term) -> Term {
     }
 }
 
-/// The atom under the objects.
+/// Returns the atom under the objects.
 pub fn ground_atom(alloc: Global, objects: &[u32], atom: &Atom) -> Result<Atom, NoMemory> {
     let mut terms = Vec::new(alloc);
     for term in atom.args() {
@@ -91,7 +91,7 @@ fn leaf(alloc: Global, mark: Mark) -> Result<Tree, NoMemory> {
     })
 }
 
-/// The trees without parts.
+/// Returns the trees without parts.
 fn leaves(alloc: Global, given: Given, path: &[Lit], lit: &Lit) -> Result<Vec<Tree>, NoMemory> {
     let mut found = Vec::new(alloc);
     found.push(leaf(alloc, (0, 0, 0))?)?;
@@ -117,7 +117,7 @@ fn leaves(alloc: Global, given: Given, path: &[Lit], lit: &Lit) -> Result<Vec<Tr
     Ok(found)
 }
 
-/// The complements of the literals of a clause other than the one at the place.
+/// Returns the complements of the literals of a clause other than the one at the place.
 fn parts_of(alloc: Global, lits: &[Lit], place: u32) -> Result<Vec<Lit>, NoMemory> {
     let mut parts = Vec::new(alloc);
     let mut k = 0u32;
@@ -130,7 +130,7 @@ fn parts_of(alloc: Global, lits: &[Lit], place: u32) -> Result<Vec<Lit>, NoMemor
     Ok(parts)
 }
 
-/// The literals under the objects.
+/// Returns the literals under the objects.
 fn ground_lits(alloc: Global, lits: &[Lit], theta: &[u32]) -> Result<Vec<Lit>, NoMemory> {
     let mut made = Vec::new(alloc);
     for literal in lits {
@@ -142,7 +142,7 @@ fn ground_lits(alloc: Global, lits: &[Lit], theta: &[u32]) -> Result<Vec<Lit>, N
     Ok(made)
 }
 
-/// The uses of an axiom for the literal.
+/// Returns the uses of an axiom for the literal.
 fn steps_of(
     alloc: Global,
     problem: &Problem,
@@ -170,7 +170,7 @@ fn steps_of(
     Ok(steps)
 }
 
-/// Each of the lists followed by each of the trees.
+/// Returns each of the lists followed by each of the trees.
 pub fn product(alloc: Global, lists: &[Tree], trees: &[Tree]) -> Result<Vec<Tree>, NoMemory> {
     let mut longer = Vec::new(alloc);
     for list in lists {
@@ -191,7 +191,7 @@ pub fn product(alloc: Global, lists: &[Tree], trees: &[Tree]) -> Result<Vec<Tree
     Ok(longer)
 }
 
-/// All trees of the literal of at most that height, finished or with open places anywhere.
+/// Returns all trees of the literal of at most that height, finished or with open places anywhere.
 pub fn trees(
     alloc: Global,
     problem: &Problem,
@@ -226,7 +226,7 @@ pub fn trees(
     Ok(found)
 }
 
-/// All lists of trees of the formula, with the objects of its variables before those of the steps.
+/// Returns all lists of trees of the formula, with the objects of its variables before those of the steps.
 pub fn lists(problem: &Problem, asked: Asked, added: &[u32]) -> Result<Vec<Tree>, NoMemory> {
     let alloc = asked.alloc;
     let given = Given {
@@ -256,12 +256,12 @@ pub fn lists(problem: &Problem, asked: Asked, added: &[u32]) -> Result<Vec<Tree>
     Ok(found)
 }
 
-/// Has the list no open place?
+/// Returns whether the list has no open place.
 pub fn is_finished(list: &Tree) -> bool {
     list.ticks.iter().all(|mark| mark.0 != 0)
 }
 
-/// Has it an open place, and after the first one only open places?
+/// Returns whether it has an open place, and after the first one only open places.
 pub fn is_unfinished(list: &Tree) -> bool {
     let mut open = false;
     for mark in &list.ticks {
@@ -274,12 +274,12 @@ pub fn is_unfinished(list: &Tree) -> bool {
     open
 }
 
-/// The least finished list, if there is one.
+/// Returns the least finished list, if there is one.
 pub fn first_finished(lists: &[Tree]) -> Option<&Tree> {
     lists.iter().filter(|list| is_finished(list)).min()
 }
 
-/// The shapes of the unfinished lists, ascending, each once.
+/// Returns the shapes of the unfinished lists, ascending, each once.
 pub fn partial_shapes(alloc: Global, lists: &[Tree]) -> Result<Vec<Vec<Mark>>, NoMemory> {
     let mut all = Vec::new(alloc);
     for list in lists {
@@ -297,7 +297,7 @@ pub fn partial_shapes(alloc: Global, lists: &[Tree]) -> Result<Vec<Vec<Mark>>, N
     Ok(shapes)
 }
 
-/// Are the shapes those of the reference?
+/// Returns whether the shapes are those of the reference.
 pub fn are_shapes(alloc: Global, shapes: &[Shape], wanted: &[Vec<Mark>]) -> Result<bool, NoMemory> {
     if shapes.len() != wanted.len() {
         return Ok(false);
@@ -314,7 +314,7 @@ pub fn are_shapes(alloc: Global, shapes: &[Shape], wanted: &[Vec<Mark>]) -> Resu
     Ok(true)
 }
 
-/// The predicates of the add lists.
+/// Returns the predicates of the add lists.
 pub fn added_preds(alloc: Global, problem: &Problem) -> Result<Vec<u32>, NoMemory> {
     let mut added = Vec::new(alloc);
     for schema in problem.schemas.as_slice() {
@@ -325,7 +325,7 @@ pub fn added_preds(alloc: Global, problem: &Problem) -> Result<Vec<u32>, NoMemor
     Ok(added)
 }
 
-/// The objects for the first `vars` variables and the atoms closed by gaps, of the finished lists, ascending, each pair once.
+/// Returns the objects for the first `vars` variables and the atoms closed by gaps, of the finished lists, ascending, each pair once.
 pub fn pairs(
     alloc: Global,
     lists: &[Tree],

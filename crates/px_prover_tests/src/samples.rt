@@ -18,7 +18,7 @@ pub struct Asked<'a> {
     pub model: &'a Model,
 }
 
-/// The formula over `vars` variables, asked from the facts of the model.
+/// Returns the formula over `vars` variables, asked from the facts of the model.
 pub fn about<'a>(alloc: Global, formula: &'a [Atom], vars: u32, model: &'a Model) -> Asked<'a> {
     Asked {
         alloc,
@@ -40,12 +40,12 @@ pub fn assert_asked(rt: &impl Abort, problem: &Problem, formula: &[Atom], vars: 
     assert!(rt; vars == 0 || problem.objects > 0);
 }
 
-/// An operator over two parameters, without conditions, that adds the atom.
+/// Returns an operator over two parameters, without conditions, that adds the atom.
 pub fn adding(alloc: Global, rt: &impl Abort, atom: Atom) -> Schema {
     schema(alloc, (0, 2), &[], &[], &[atom]).expect(rt, "memory")
 }
 
-/// What stands on what: an axiom says that it is transitive, and one operator adds any atom of it.
+/// Returns the problem of what stands on what: an axiom says that it is transitive, and one operator adds any atom of it.
 pub fn transitive(alloc: Global, rt: &impl Abort, objects: u32, height: u32) -> Problem {
     let mut axioms = ClauseArena::new(alloc);
     let whole = atom(0, &[v(0), v(2)]);
@@ -58,7 +58,7 @@ pub fn transitive(alloc: Global, rt: &impl Abort, objects: u32, height: u32) -> 
     problem
 }
 
-/// Are these the two shapes of unfinished lists of the goal of 1972: both places open, and the box found in fact 4?
+/// Returns whether these are the two shapes of unfinished lists of the goal of 1972: both places open, and the box found in fact 4.
 pub fn are_open_boxes(shapes: &[Shape]) -> bool {
     match shapes {
         [first, second] => {

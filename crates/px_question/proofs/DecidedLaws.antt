@@ -65,7 +65,8 @@ module _ (rules : Rules) (s : Setting) (formula : List Atom) (vars : ℕ) (finit
       (λ c h. subst (IsOne rules s formula vars) h.2.2 (record { count = h.1.0; below = h.1.1; proved = h.2.1.0; low = h.2.1.1 }))
       (λ c is. (c.objects, (is.count, is.below), (c.proofs, (is.proved, is.low), refl)))
       (listed-each (AreBelow s.objects vars) Under (listed-tuples s.objects vars)
-      (λ objects. listed-map (AreTheProofs objects) (λ ds. record { objects = objects; proofs = ds }) (listed-proofs rules s.axioms s.objects finite s.height [] (literals_of formula objects))))
+      (λ objects. listed-map (AreTheProofs objects) (λ ds. record { objects = objects; proofs = ds })
+      (listed-proofs rules s.axioms s.objects finite s.height [] (literals_of formula objects))))
 
 module _ (rules : Rules) (s : Setting) (formula : List Atom) (vars : ℕ) (finite : IsFinite rules s.objects) where
   abbrev HasShape : List Tick → Type 0
@@ -77,7 +78,8 @@ module _ (rules : Rules) (s : Setting) (formula : List Atom) (vars : ℕ) (finit
       (λ shape h. (h.1, (h.0.0.objects, h.0.0.proofs, h.0.1, h.0.2)))
       (λ shape is. ((record { objects = is.1.0; proofs = is.1.1 }, is.1.2, is.1.3), is.0))
       (listed-where HasShape IsUnfinished
-      (listed-map (IsOne (or_open rules) s formula vars) (λ c. ticks_of c.proofs) (listed-lists (or_open rules) s formula vars (finite-open rules s.objects finite)))
+      (listed-map (IsOne (or_open rules) s formula vars) (λ c. ticks_of c.proofs)
+      (listed-lists (or_open rules) s formula vars (finite-open rules s.objects finite)))
       unfinished-decided)
 
 -- ---- the first answer
@@ -120,7 +122,8 @@ numbers_of c = c.objects ++ all_choices_of c.proofs
 
 -- no later than the other, by shapes and then by objects
 abbrev NoLater : Candidate → Candidate → Type 0
-NoLater c e = ShapeBefore (ticks_of c.proofs) (ticks_of e.proofs) ⊎ ((ticks_of c.proofs ≡ ticks_of e.proofs) × AtMost (numbers_of c) (numbers_of e))
+NoLater c e =
+    ShapeBefore (ticks_of c.proofs) (ticks_of e.proofs) ⊎ ((ticks_of c.proofs ≡ ticks_of e.proofs) × AtMost (numbers_of c) (numbers_of e))
 
 no_later-itself : (c : Candidate) → NoLater c c
 no_later-itself c = inr (refl, at_most-itself (numbers_of c))
@@ -176,7 +179,8 @@ first_or_none s formula vars = go (listed-lists (proofs_in s) s formula vars (fi
   where
     go : Listed (IsOne (proofs_in s) s formula vars) → HasFirst s formula vars ⊎ (¬ IsAnswer s formula vars)
     go listed = elim listed.items as (λ cs. cs ≡ listed.items → HasFirst s formula vars ⊎ (¬ IsAnswer s formula vars)) [
-      | [] ↦ λ are. inr (λ answer. let c : Candidate = record { objects = answer.0; proofs = answer.1 } in Contains-none c (subst (λ (cs : List Candidate). Contains cs c) (sym are) (listed.all c answer.2)))
+      | [] ↦ λ are. inr (λ answer. let c : Candidate = record { objects = answer.0; proofs = answer.1 } in
+          Contains-none c (subst (λ (cs : List Candidate). Contains cs c) (sym are) (listed.all c answer.2)))
       | c ∷ cs ↦ λ are.
           let least = earliest c cs in
           inl (
@@ -184,7 +188,10 @@ first_or_none s formula vars = go (listed-lists (proofs_in s) s formula vars (fi
             least.0.proofs,
             record {
               finished = listed.each least.0 (subst (λ (es : List Candidate). Contains es least.0) are least.1);
-              least = λ others es is. let e : Candidate = record { objects = others; proofs = es } in least.2 e (subst (λ (those : List Candidate). Contains those e) (sym are) (listed.all e is));
+              least =
+                  λ others es is. let e : Candidate =
+                  record { objects = others; proofs = es } in
+                  least.2 e (subst (λ (those : List Candidate). Contains those e) (sym are) (listed.all e is));
             },
           )
     ] refl
@@ -192,8 +199,10 @@ first_or_none s formula vars = go (listed-lists (proofs_in s) s formula vars (fi
 -- ---- the outcomes
 
 -- where there are as many shapes before the first answer as the limit, it is met
-limited-before : (s : Setting) (formula : List Atom) (vars : ℕ) (objects : List ℕ) (ds : Derivations) → IsFirst s formula vars objects ds → (shapes : List (List Tick)) → length shapes ≡ s.limit
-    → AreFirstShapes (λ shape. IsPartialShape (proofs_in s) s formula vars shape × ShapeBefore shape (ticks_of ds)) shapes → IsLimited s formula vars shapes
+limited-before : (s : Setting) (formula : List Atom) (vars : ℕ) (objects : List ℕ) (ds : Derivations) → IsFirst s formula vars objects ds
+    → (shapes : List (List Tick)) → length shapes ≡ s.limit
+    → AreFirstShapes (λ shape. IsPartialShape (proofs_in s) s formula vars shape × ShapeBefore shape (ticks_of ds)) shapes
+    → IsLimited s formula vars shapes
 limited-before s formula vars objects ds answer shapes count firsts = record {
   count = count;
   kept = record {
@@ -213,18 +222,22 @@ limited-before s formula vars objects ds answer shapes count firsts = record {
   ];
 }
 
-limited-none : (s : Setting) (formula : List Atom) (vars : ℕ) → ¬ IsAnswer s formula vars → (shapes : List (List Tick)) → length shapes ≡ s.limit → AreFirstShapes (IsPartialShape (proofs_in s) s formula vars) shapes → IsLimited s formula vars shapes
-limited-none s formula vars no_answer shapes count firsts = record { count = count; kept = firsts; before = λ objects ds is. absurd (no_answer (objects, ds, is)) }
+limited-none : (s : Setting) (formula : List Atom) (vars : ℕ) → ¬ IsAnswer s formula vars → (shapes : List (List Tick))
+    → length shapes ≡ s.limit → AreFirstShapes (IsPartialShape (proofs_in s) s formula vars) shapes → IsLimited s formula vars shapes
+limited-none s formula vars no_answer shapes count firsts =
+    record { count = count; kept = firsts; before = λ objects ds is. absurd (no_answer (objects, ds, is)) }
 
-proofs_decided : (s : Setting) (formula : List Atom) (vars : ℕ) →
-    ((shapes : List (List Tick)) × IsLimited s formula vars shapes)
+proofs_decided : (s : Setting) (formula : List Atom) (vars : ℕ)
+    → ((shapes : List (List Tick)) × IsLimited s formula vars shapes)
     ⊎ ((objects : List ℕ) × (ds : Derivations) × IsFirst s formula vars objects ds × AreFewBefore s formula vars ds)
     ⊎ ((¬ IsAnswer s formula vars) × AreFewShapes s formula vars)
 proofs_decided s formula vars =
     let shapes = listed-shapes (proofs_in s) s formula vars (finite-proofs s) in
     elim (first_or_none s formula vars) [
-      | inl first ↦ elim (few_or_firsts (λ shape. IsPartialShape (proofs_in s) s formula vars shape × ShapeBefore shape (ticks_of first.1)) s.limit
-          (listed-where (IsPartialShape (proofs_in s) s formula vars) (λ shape. ShapeBefore shape (ticks_of first.1)) shapes (λ shape. before-decided shape (ticks_of first.1)))) [
+      | inl first ↦ elim (few_or_firsts (λ shape. IsPartialShape (proofs_in s) s formula vars shape × ShapeBefore shape (ticks_of first.1))
+          s.limit
+          (listed-where (IsPartialShape (proofs_in s) s formula vars) (λ shape. ShapeBefore shape (ticks_of first.1)) shapes
+          (λ shape. before-decided shape (ticks_of first.1)))) [
             | inl few ↦ inr (inl (first.0, first.1, first.2, few))
             | inr met ↦ inl (met.0, limited-before s formula vars first.0 first.1 first.2 met.0 met.1 met.2)
           ]
@@ -234,23 +247,29 @@ proofs_decided s formula vars =
       ]
     ]
 
-gap_shapes_decided : (s : Setting) (formula : List Atom) (vars : ℕ) → ((shapes : List (List Tick)) × IsGapLimited s formula vars shapes) ⊎ AreFewGapShapes s formula vars
-gap_shapes_decided s formula vars = elim (few_or_firsts (IsPartialShape (loose_gaps_in s) s formula vars) s.limit (listed-shapes (loose_gaps_in s) s formula vars (finite-gaps s))) [
-  | inl few ↦ inr few
-  | inr met ↦ inl (met.0, record { count = met.1; kept = met.2 })
-]
+gap_shapes_decided : (s : Setting) (formula : List Atom) (vars : ℕ)
+    → ((shapes : List (List Tick)) × IsGapLimited s formula vars shapes) ⊎ AreFewGapShapes s formula vars
+gap_shapes_decided s formula vars =
+    elim (few_or_firsts (IsPartialShape (loose_gaps_in s) s formula vars) s.limit
+    (listed-shapes (loose_gaps_in s) s formula vars (finite-gaps s))) [
+      | inl few ↦ inr few
+      | inr met ↦ inl (met.0, record { count = met.1; kept = met.2 })
+    ]
 
-stays_below : (s : Setting) (formula : List Atom) (vars : ℕ) → ((shapes : List (List Tick)) → ¬ IsLimited s formula vars shapes) → StaysBelowLimit s formula vars
+stays_below : (s : Setting) (formula : List Atom) (vars : ℕ) → ((shapes : List (List Tick)) → ¬ IsLimited s formula vars shapes)
+    → StaysBelowLimit s formula vars
 stays_below s formula vars never_met = elim (proofs_decided s formula vars) [
   | inl met ↦ absurd (never_met met.0 met.1)
   | inr below ↦ elim below [ inl first ↦ inl first | inr few ↦ inr few.1 ]
 ]
 
-gaps_stay_below : (s : Setting) (formula : List Atom) (vars : ℕ) → ((kept : List Atom) (shapes : List (List Tick)) → ¬ MeetsGapLimit s formula vars kept shapes) → StaysBelowGapLimit s formula vars
+gaps_stay_below : (s : Setting) (formula : List Atom) (vars : ℕ)
+    → ((kept : List Atom) (shapes : List (List Tick)) → ¬ MeetsGapLimit s formula vars kept shapes) → StaysBelowGapLimit s formula vars
 gaps_stay_below s formula vars never_met = record {
   shapes = elim (gap_shapes_decided s formula vars) [ inl met ↦ absurd (never_met formula met.0 (inl (refl, met.1))) | inr few ↦ few ];
   atoms = λ atom loose. stays_below s (atom ∷ []) 0 (λ shapes limited. never_met (atom ∷ []) shapes (inr (atom, refl, loose, limited)));
 }
 
 pub questions-are_decided : QuestionsAreDecided
-questions-are_decided = record { proofs = proofs_decided; gap_shapes = gap_shapes_decided; below = stays_below; gaps_below = gaps_stay_below }
+questions-are_decided =
+    record { proofs = proofs_decided; gap_shapes = gap_shapes_decided; below = stays_below; gaps_below = gaps_stay_below }

@@ -27,11 +27,13 @@ first_least P x y ys holds are before = elim (are.first x holds) [
     | inl is ↦ ShapeBefore-irrefl x (subst (ShapeBefore x) is before)
     | inr later ↦ ShapeBefore-irrefl x (ShapeBefore-trans x y x before (AllByRecursion-at (ShapeBefore y) ys x are.ascending.0 later))
   ]
-  | inr after ↦ ShapeBefore-irrefl x (ShapeBefore-trans x y x before (All-at (λ kept. ShapeBefore kept x) (y ∷ ys) y after (Contains-first y ys)))
+  | inr after ↦ ShapeBefore-irrefl x (ShapeBefore-trans x y x before
+      (All-at (λ kept. ShapeBefore kept x) (y ∷ ys) y after (Contains-first y ys)))
 ]
 
 -- without the first one, the others are the first ones after it
-rest_first : (P : List Tick → Type 0) (x : List Tick) (xs : List (List Tick)) → AreFirstShapes P (x ∷ xs) → AreFirstShapes (λ shape. P shape × ShapeBefore x shape) xs
+rest_first : (P : List Tick → Type 0) (x : List Tick) (xs : List (List Tick)) → AreFirstShapes P (x ∷ xs)
+    → AreFirstShapes (λ shape. P shape × ShapeBefore x shape) xs
 rest_first P x xs are = record {
   ascending = are.ascending.1;
   each = λ k d below. (are.each (suc k) d (omega (arith, below)), All-from_recursion (ShapeBefore x) xs are.ascending.0 k d below);
@@ -44,14 +46,19 @@ rest_first P x xs are = record {
   ];
 }
 
-same_firsts : (P : List Tick → Type 0) (xs ys : List (List Tick)) → length xs ≡ length ys → AreFirstShapes P xs → AreFirstShapes P ys → xs ≡ ys
+same_firsts : (P : List Tick → Type 0) (xs ys : List (List Tick)) → length xs ≡ length ys → AreFirstShapes P xs → AreFirstShapes P ys
+    → xs ≡ ys
 same_firsts P [] [] long are also_are = refl
 same_firsts P [] (y ∷ ys) long are also_are = absurd (omega (arith, long))
 same_firsts P (x ∷ xs) [] long are also_are = absurd (omega (arith, long))
 same_firsts P (x ∷ xs) (y ∷ ys) long are also_are =
     let here : x ≡ y = elim (shape_trichotomy x y) [
       | inl before ↦ absurd (first_least P x y ys (All-at P (x ∷ xs) x are.each (Contains-first x xs)) also_are before)
-      | inr rest ↦ elim rest [ inl is ↦ is | inr after ↦ absurd (first_least P y x xs (All-at P (y ∷ ys) y also_are.each (Contains-first y ys)) are after) ]
+      | inr rest ↦ elim rest [
+        | inl is ↦ is
+        | inr after ↦ absurd
+            (first_least P y x xs (All-at P (y ∷ ys) y also_are.each (Contains-first y ys)) are after)
+      ]
     ] in
     let later = same_firsts (λ shape. P shape × ShapeBefore x shape) xs ys (omega (arith, long)) (rest_first P x xs are)
     (subst (λ (z : List Tick). AreFirstShapes (λ shape. P shape × ShapeBefore z shape) ys) (sym here) (rest_first P y ys also_are)) in
@@ -59,14 +66,19 @@ same_firsts P (x ∷ xs) (y ∷ ys) long are also_are =
 
 pub limits-are_one : LimitsAreOne
 limits-are_one = record {
-  proofs = λ s formula vars shapes others limited also_limited. same_firsts _ shapes others (limited.count ∙ sym also_limited.count) limited.kept also_limited.kept;
-  gap_proofs = λ s formula vars shapes others limited also_limited. same_firsts _ shapes others (limited.count ∙ sym also_limited.count) limited.kept also_limited.kept;
+  proofs =
+      λ s formula vars shapes others limited also_limited. same_firsts _ shapes others
+      (limited.count ∙ sym also_limited.count) limited.kept also_limited.kept;
+  gap_proofs =
+      λ s formula vars shapes others limited also_limited. same_firsts _ shapes others
+      (limited.count ∙ sym also_limited.count) limited.kept also_limited.kept;
 }
 
 -- ---- few shapes
 
 -- an unfinished list of proofs is one of loose gap proofs
-partial-loose : (s : Setting) (formula : List Atom) (vars : ℕ) (shape : List Tick) → IsPartialShape (proofs_in s) s formula vars shape → IsPartialShape (loose_gaps_in s) s formula vars shape
+partial-loose : (s : Setting) (formula : List Atom) (vars : ℕ) (shape : List Tick) → IsPartialShape (proofs_in s) s formula vars shape
+    → IsPartialShape (loose_gaps_in s) s formula vars shape
 partial-loose s formula vars shape (unfinished, (objects, ds, is, same)) = (
   unfinished,
   (
@@ -75,41 +87,55 @@ partial-loose s formula vars shape (unfinished, (objects, ds, is, same)) = (
     record {
       count = is.count;
       below = is.below;
-      proved = each_by s.axioms (or_open (proofs_in s)) (or_open (loose_gaps_in s)) (record { choices = λ t h. h; gaps = λ atom h. absurd h; opens = λ h. h }) [] (literals_of formula objects) ds (λ leaf has h. h) is.proved;
+      proved =
+          each_by s.axioms (or_open (proofs_in s)) (or_open (loose_gaps_in s))
+          (record { choices = λ t h. h; gaps = λ atom h. absurd h; opens = λ h. h }) [] (literals_of formula objects) ds
+          (λ leaf has h. h) is.proved;
       low = is.low;
     },
     same,
   ),
 )
 
-few-proofs : (s : Setting) (formula : List Atom) (vars : ℕ) (shapes : List (List Tick)) → AreFewShapes s formula vars → ¬ IsLimited s formula vars shapes
+few-proofs : (s : Setting) (formula : List Atom) (vars : ℕ) (shapes : List (List Tick)) → AreFewShapes s formula vars
+    → ¬ IsLimited s formula vars shapes
 few-proofs s formula vars shapes few limited =
     let P = IsPartialShape (proofs_in s) s formula vars in
     few_firsts P P s.limit shapes few (λ shape h. h) limited.count limited.kept
 
-few-before : (s : Setting) (formula : List Atom) (vars : ℕ) (shapes : List (List Tick)) (objects : List ℕ) (ds : Derivations) →
-    IsList (proofs_in s) s formula vars objects ds → AreFewBefore s formula vars ds → ¬ IsLimited s formula vars shapes
+few-before : (s : Setting) (formula : List Atom) (vars : ℕ) (shapes : List (List Tick)) (objects : List ℕ) (ds : Derivations)
+    → IsList (proofs_in s) s formula vars objects ds → AreFewBefore s formula vars ds → ¬ IsLimited s formula vars shapes
 few-before s formula vars shapes objects ds is few limited =
-    too_few (λ shape. IsPartialShape (proofs_in s) s formula vars shape × ShapeBefore shape (ticks_of ds)) s.limit shapes few limited.count limited.kept.ascending
-    (λ shape has. (All-at (IsPartialShape (proofs_in s) s formula vars) shapes shape limited.kept.each has, All-at (λ kept. ShapeBefore kept (ticks_of ds)) shapes shape (limited.before objects ds is) has))
+    too_few (λ shape. IsPartialShape (proofs_in s) s formula vars shape × ShapeBefore shape (ticks_of ds)) s.limit shapes few limited.count
+    limited.kept.ascending
+    (λ shape has. (
+      All-at (IsPartialShape (proofs_in s) s formula vars) shapes shape limited.kept.each has,
+      All-at (λ kept. ShapeBefore kept (ticks_of ds)) shapes shape (limited.before objects ds is) has,
+    ))
 
-few-gap_proofs : (s : Setting) (formula : List Atom) (vars : ℕ) (shapes : List (List Tick)) → AreFewGapShapes s formula vars → ¬ IsGapLimited s formula vars shapes
+few-gap_proofs : (s : Setting) (formula : List Atom) (vars : ℕ) (shapes : List (List Tick)) → AreFewGapShapes s formula vars
+    → ¬ IsGapLimited s formula vars shapes
 few-gap_proofs s formula vars shapes few limited =
     let P = IsPartialShape (loose_gaps_in s) s formula vars in
     few_firsts P P s.limit shapes few (λ shape h. h) limited.count limited.kept
 
 few-gap_shapes : (s : Setting) (formula : List Atom) (vars : ℕ) → AreFewGapShapes s formula vars → AreFewShapes s formula vars
 few-gap_shapes s formula vars few =
-    fewer-among (IsPartialShape (loose_gaps_in s) s formula vars) (IsPartialShape (proofs_in s) s formula vars) s.limit few (partial-loose s formula vars)
+    fewer-among (IsPartialShape (loose_gaps_in s) s formula vars) (IsPartialShape (proofs_in s) s formula vars) s.limit few
+    (partial-loose s formula vars)
 
-below-limit : (s : Setting) (formula : List Atom) (vars : ℕ) (shapes : List (List Tick)) → StaysBelowLimit s formula vars → ¬ IsLimited s formula vars shapes
-below-limit s formula vars shapes (inl (objects, ds, first, few)) limited = few-before s formula vars shapes objects ds first.finished few limited
+below-limit : (s : Setting) (formula : List Atom) (vars : ℕ) (shapes : List (List Tick)) → StaysBelowLimit s formula vars
+    → ¬ IsLimited s formula vars shapes
+below-limit s formula vars shapes (inl (objects, ds, first, few)) limited =
+    few-before s formula vars shapes objects ds first.finished few limited
 below-limit s formula vars shapes (inr few) limited = few-proofs s formula vars shapes few limited
 
-below-gap_limit : (s : Setting) (formula : List Atom) (vars : ℕ) (kept : List Atom) (shapes : List (List Tick)) → StaysBelowGapLimit s formula vars → ¬ MeetsGapLimit s formula vars kept shapes
+below-gap_limit : (s : Setting) (formula : List Atom) (vars : ℕ) (kept : List Atom) (shapes : List (List Tick))
+    → StaysBelowGapLimit s formula vars → ¬ MeetsGapLimit s formula vars kept shapes
 below-gap_limit s formula vars kept shapes below (inl limited) = few-gap_proofs s formula vars shapes below.shapes limited.1
 below-gap_limit s formula vars kept shapes below (inr (atom, alone, loose, limited)) =
-    below-limit s (atom ∷ []) 0 shapes (below.atoms atom loose) (subst (λ (formula : List Atom). IsLimited s formula 0 shapes) alone limited)
+    below-limit s (atom ∷ []) 0 shapes (below.atoms atom loose)
+    (subst (λ (formula : List Atom). IsLimited s formula 0 shapes) alone limited)
 
 pub few_or_limited : FewOrLimited
 few_or_limited = record {

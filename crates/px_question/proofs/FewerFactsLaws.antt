@@ -18,12 +18,13 @@ use Rattle.px_proof.specs.declared.proof.Leaf.{Leaf}
 use Rattle.px_proof.specs.declared.shape.Tick.{Tick}
 use Rattle.px_proof.specs.declared.shape.Tick.TheVariants.{Fact, Anc, Step, Gap, Open}
 use Rattle.px_proof.specs.Derivation.{Derivation, Derivations, fact, ancestor, step, gap, open_place, none, also, height, greatest_height}
-use Rattle.px_proof.specs.PlaceLaws.{Contains-mapped, some_same}
+use Rattle.px_base.specs.Answers.{some_same}
+use Rattle.px_proof.specs.PlaceLaws.{Contains-mapped}
 use Rattle.px_proof.specs.Proves.{Rules, Proves, ProvesEach, or_open, parts_of}
 use Rattle.px_proof.specs.ProvesLaws.{Allows}
 use Rattle.px_proof.specs.Shapes.{IsUnfinished, OnlyOpen, ticks, ticks_of}
 use Rattle.px_question.specs.Answers.{IsList, literals_of}
-use Rattle.px_question.specs.FewerFacts.{FewerFactsHaveNoMore, all_placed_in, leaf_in, place_in, placed_in, with_facts}
+use Rattle.px_question.specs.FewerFacts.{FewerFactsHaveNoMore, all_placed_in, leaf_in, place_among_facts, placed_in, with_facts}
 use Rattle.px_question.specs.FewerShapes.{Contains-at}
 use Rattle.px_question.specs.Limits.{AreFewerThan, IsPartialShape}
 use Rattle.px_question.specs.Settings.{Setting, loose_gaps_in, proofs_in}
@@ -37,27 +38,30 @@ less_itself : {G : Type 0} → ◌≡◌ {A = Ordering} Less Equal → G
 less_itself e = cc
 
 -- at its place stands the atom
-place_in-at : (atoms : List Atom) (atom : Atom) → Contains atoms atom → slice_get atoms (place_in atoms atom) ≡ Some atom
-place_in-at [] atom has = absurd (Contains-none atom has)
-place_in-at (x ∷ xs) atom has =
-    elim (atom_eq x atom) as (λ b. atom_eq x atom ≡ b → slice_get (x ∷ xs) (cond b 0 (suc (place_in xs atom))) ≡ Some atom) [
+place_among_facts-at : (atoms : List Atom) (atom : Atom) → Contains atoms atom → slice_get atoms (place_among_facts atoms atom) ≡ Some atom
+place_among_facts-at [] atom has = absurd (Contains-none atom has)
+place_among_facts-at (x ∷ xs) atom has =
+    elim (atom_eq x atom) as (λ b. atom_eq x atom ≡ b → slice_get (x ∷ xs) (cond b 0 (suc (place_among_facts xs atom))) ≡ Some atom) [
       | true ↦ λ same. ap (λ a. Some a) ((atom_eq-decides x atom).0 same)
       | false ↦ λ differ. elim (Contains-cases x xs atom has) [
         | inl is ↦ never (atom_eq x atom) differ ((atom_eq-decides x atom).1 is)
-        | inr later ↦ place_in-at xs atom later
+        | inr later ↦ place_among_facts-at xs atom later
       ]
     ] refl
 
 -- and in a set it stands nowhere else
-pub place_in-one : (atoms : List Atom) → IsAtomSet atoms → (i : ℕ) (atom : Atom) → slice_get atoms i ≡ Some atom → place_in atoms atom ≡ i
+pub place_among_facts-one : (atoms : List Atom) → IsAtomSet atoms → (i : ℕ) (atom : Atom) → slice_get atoms i ≡ Some atom
+    → place_among_facts atoms atom ≡ i
 unfolding IsStrictlySortedBy
-place_in-one [] set i atom at = absurd (cc)
-place_in-one (x ∷ xs) set zero atom at = ap (λ b. cond b 0 (suc (place_in xs atom))) ((atom_eq-decides x atom).1 (some_same x atom at))
-place_in-one (x ∷ xs) set (suc i) atom at =
-    elim (atom_eq x atom) as (λ b. atom_eq x atom ≡ b → cond b 0 (suc (place_in xs atom)) ≡ suc i) [
+place_among_facts-one [] set i atom at = absurd (cc)
+place_among_facts-one (x ∷ xs) set zero atom at =
+    ap (λ b. cond b 0 (suc (place_among_facts xs atom))) ((atom_eq-decides x atom).1 (some_same at))
+place_among_facts-one (x ∷ xs) set (suc i) atom at =
+    elim (atom_eq x atom) as (λ b. atom_eq x atom ≡ b → cond b 0 (suc (place_among_facts xs atom)) ≡ suc i) [
       | true ↦ λ same.
-          less_itself (sym (AllByRecursion-at (λ y. atom_cmp x y ≡ Less) xs atom set.0 (Contains-at xs i atom at)) ∙ ap (atom_cmp x) (sym ((atom_eq-decides x atom).0 same)) ∙ tied_itself atom_cmp-total x)
-      | false ↦ λ differ. ap suc (place_in-one xs set.1 i atom at)
+          less_itself (sym (AllByRecursion-at (λ y. atom_cmp x y ≡ Less) xs atom set.0 (Contains-at xs i atom at))
+          ∙ ap (atom_cmp x) (sym ((atom_eq-decides x atom).0 same)) ∙ tied_itself atom_cmp-total x)
+      | false ↦ λ differ. ap suc (place_among_facts-one xs set.1 i atom at)
     ] refl
 
 -- ---- placed derivations
@@ -74,20 +78,29 @@ mutual
   all_placed-height atoms none = refl
   all_placed-height atoms (also d ds) = λ i. max (placed-height atoms d i) (all_placed-height atoms ds i)
 
-module _ (axioms : List Clause) (old new : Rules) (allows : Allows old new) (atoms : List Atom) (facts : (leaf : Leaf) → old.IsFact leaf → new.IsFact (leaf_in atoms leaf)) where
+module _ (axioms : List Clause) (old new : Rules) (allows : Allows old new) (atoms : List Atom)
+    (facts : (leaf : Leaf) → old.IsFact leaf → new.IsFact (leaf_in atoms leaf)) where
   mutual
-    placed-proves : (path : List Lit) (lit : Lit) (d : Derivation) → Proves old axioms path lit d → Proves new axioms path lit (placed_in atoms d)
+    placed-proves : (path : List Lit) (lit : Lit) (d : Derivation) → Proves old axioms path lit d
+        → Proves new axioms path lit (placed_in atoms d)
     placed-proves path lit (fact leaf) proved = (proved.0, facts leaf proved.1)
     placed-proves path lit (ancestor i) proved = proved
     placed-proves path lit (step number theta place parts) proved = (
       proved.0,
-      record { axiom_at = proved.1.axiom_at; terms = proved.1.terms; choices = λ k d below. allows.choices _ (proved.1.choices k d below); literal_at = proved.1.literal_at },
+      record {
+        axiom_at = proved.1.axiom_at;
+        terms =
+            proved.1.terms;
+        choices = λ k d below. allows.choices _ (proved.1.choices k d below);
+        literal_at = proved.1.literal_at;
+      },
       all_placed-prove (lit ∷ path) (parts_of proved.0.lits theta place) parts proved.2,
     )
     placed-proves path lit (gap atom) proved = (proved.0, allows.gaps atom proved.1)
     placed-proves path lit open_place proved = allows.opens proved
 
-    all_placed-prove : (path lits : List Lit) (ds : Derivations) → ProvesEach old axioms path lits ds → ProvesEach new axioms path lits (all_placed_in atoms ds)
+    all_placed-prove : (path lits : List Lit) (ds : Derivations) → ProvesEach old axioms path lits ds
+        → ProvesEach new axioms path lits (all_placed_in atoms ds)
     all_placed-prove path [] none each = tt
     all_placed-prove path (lit ∷ lits) (also d ds) each = (placed-proves path lit d each.0, all_placed-prove path lits ds each.1)
     all_placed-prove path [] (also d ds) each = absurd each
@@ -97,7 +110,7 @@ module _ (axioms : List Clause) (old new : Rules) (allows : Allows old new) (ato
 
 abbrev place_of : List Atom → Option Atom → ℕ
 place_of atoms None = 0
-place_of atoms (Some atom) = place_in atoms atom
+place_of atoms (Some atom) = place_among_facts atoms atom
 
 -- the tick of the same atom among the fewer facts
 abbrev back : (fewer many : List Atom) → Tick → Tick
@@ -126,17 +139,21 @@ unfinished-back fewer many (Gap ∷ shape) unfinished = unfinished-back fewer ma
 module _ (axioms : List Clause) (rules : Rules) (fewer many : List Atom) (among : All (Contains many) fewer) (set : IsAtomSet fewer)
     (at_places : (leaf : Leaf) → rules.IsFact leaf → slice_get fewer leaf.index ≡ Some leaf.atom) where
   mutual
-    placed-ticks : (path : List Lit) (lit : Lit) (d : Derivation) → Proves rules axioms path lit d → map (back fewer many) (ticks (placed_in many d)) ≡ ticks d
+    placed-ticks : (path : List Lit) (lit : Lit) (d : Derivation) → Proves rules axioms path lit d
+        → map (back fewer many) (ticks (placed_in many d)) ≡ ticks d
     placed-ticks path lit (fact leaf) proved =
         let here = at_places leaf proved.1 in
-        ap (λ (i : ℕ). Fact i ∷ []) (ap (place_of fewer) (place_in-at many leaf.atom (All-at (Contains many) fewer leaf.atom among (Contains-at fewer leaf.index leaf.atom here))) ∙ place_in-one fewer set leaf.index leaf.atom here)
+        ap (λ (i : ℕ). Fact i ∷ []) (ap (place_of fewer)
+        (place_among_facts-at many leaf.atom (All-at (Contains many) fewer leaf.atom among (Contains-at fewer leaf.index leaf.atom here)))
+        ∙ place_among_facts-one fewer set leaf.index leaf.atom here)
     placed-ticks path lit (ancestor i) proved = refl
     placed-ticks path lit (step number theta place parts) proved =
         ap (λ (l : List Tick). Step number place ∷ l) (all_placed-ticks (lit ∷ path) (parts_of proved.0.lits theta place) parts proved.2)
     placed-ticks path lit (gap atom) proved = refl
     placed-ticks path lit open_place proved = refl
 
-    all_placed-ticks : (path lits : List Lit) (ds : Derivations) → ProvesEach rules axioms path lits ds → map (back fewer many) (ticks_of (all_placed_in many ds)) ≡ ticks_of ds
+    all_placed-ticks : (path lits : List Lit) (ds : Derivations) → ProvesEach rules axioms path lits ds
+        → map (back fewer many) (ticks_of (all_placed_in many ds)) ≡ ticks_of ds
     all_placed-ticks path [] none each = refl
     all_placed-ticks path (lit ∷ lits) (also d ds) each =
         map-append (back fewer many) (ticks (placed_in many d)) (ticks_of (all_placed_in many ds))
@@ -146,15 +163,21 @@ module _ (axioms : List Clause) (rules : Rules) (fewer many : List Atom) (among 
 
 -- ---- lists and their shapes
 
-module _ (s : Setting) (fewer formula : List Atom) (vars : ℕ) (among : All (Contains s.facts) fewer) (old new : Rules) (allows : Allows old new)
+module _ (s : Setting) (fewer formula : List Atom) (vars : ℕ) (among : All (Contains s.facts) fewer) (old new : Rules)
+    (allows : Allows old new)
     (at_places : (leaf : Leaf) → old.IsFact leaf → (leaf.column ≡ 0) × (slice_get fewer leaf.index ≡ Some leaf.atom))
     (facts : (leaf : Leaf) → (leaf.column ≡ 0) × (slice_get s.facts leaf.index ≡ Some leaf.atom) → new.IsFact leaf) where
   leaf-placed : (leaf : Leaf) → old.IsFact leaf → new.IsFact (leaf_in s.facts leaf)
   leaf-placed leaf is =
       let at = at_places leaf is in
-      facts (leaf_in s.facts leaf) (at.0, place_in-at s.facts leaf.atom (All-at (Contains s.facts) fewer leaf.atom among (Contains-at fewer leaf.index leaf.atom at.1)))
+      facts (leaf_in s.facts leaf) (
+        at.0,
+        place_among_facts-at s.facts leaf.atom (All-at (Contains s.facts) fewer leaf.atom among
+            (Contains-at fewer leaf.index leaf.atom at.1)),
+      )
 
-  list-placed : (objects : List ℕ) (ds : Derivations) → IsList old (with_facts s fewer) formula vars objects ds → IsList new s formula vars objects (all_placed_in s.facts ds)
+  list-placed : (objects : List ℕ) (ds : Derivations) → IsList old (with_facts s fewer) formula vars objects ds
+      → IsList new s formula vars objects (all_placed_in s.facts ds)
   list-placed objects ds is = record {
     count = is.count;
     below = is.below;
@@ -162,32 +185,39 @@ module _ (s : Setting) (fewer formula : List Atom) (vars : ℕ) (among : All (Co
     low = subst (λ (n : ℕ). n ≤ s.height) (sym (all_placed-height s.facts ds)) is.low;
   }
 
-module _ (s : Setting) (fewer formula : List Atom) (vars : ℕ) (among : All (Contains s.facts) fewer) (set : IsAtomSet fewer) (old new : Rules) (allows : Allows old new)
+module _ (s : Setting) (fewer formula : List Atom) (vars : ℕ) (among : All (Contains s.facts) fewer) (set : IsAtomSet fewer)
+    (old new : Rules) (allows : Allows old new)
     (at_places : (leaf : Leaf) → old.IsFact leaf → (leaf.column ≡ 0) × (slice_get fewer leaf.index ≡ Some leaf.atom))
     (facts : (leaf : Leaf) → (leaf.column ≡ 0) × (slice_get s.facts leaf.index ≡ Some leaf.atom) → new.IsFact leaf) where
-  shape-placed : (shape : List Tick) → IsPartialShape old (with_facts s fewer) formula vars shape → (more : List Tick) × IsPartialShape new s formula vars more × (map (back fewer s.facts) more ≡ shape)
+  shape-placed : (shape : List Tick) → IsPartialShape old (with_facts s fewer) formula vars shape
+      → (more : List Tick) × IsPartialShape new s formula vars more × (map (back fewer s.facts) more ≡ shape)
   shape-placed shape (unfinished, (objects, ds, is, same)) =
-      let goes = all_placed-ticks s.axioms (or_open old) fewer s.facts among set (λ leaf h. (at_places leaf h).1) [] (literals_of formula objects) ds is.proved ∙ same in (
+      let goes =
+      all_placed-ticks s.axioms (or_open old) fewer s.facts among set (λ leaf h. (at_places leaf h).1) []
+      (literals_of formula objects) ds is.proved ∙ same in (
         ticks_of (all_placed_in s.facts ds),
         (
           unfinished-back fewer s.facts (ticks_of (all_placed_in s.facts ds)) (subst IsUnfinished (sym goes) unfinished),
           (
             objects,
             all_placed_in s.facts ds,
-            list-placed s fewer formula vars among (or_open old) (or_open new) (record { choices = allows.choices; gaps = allows.gaps; opens = λ h. h }) at_places facts objects ds is,
+            list-placed s fewer formula vars among (or_open old) (or_open new)
+                (record { choices = allows.choices; gaps = allows.gaps; opens = λ h. h }) at_places facts objects ds is,
             refl,
           ),
         ),
         goes,
       )
 
-  few-placed : (count : ℕ) → AreFewerThan (IsPartialShape new s formula vars) count → AreFewerThan (IsPartialShape old (with_facts s fewer) formula vars) count
+  few-placed : (count : ℕ) → AreFewerThan (IsPartialShape new s formula vars) count
+      → AreFewerThan (IsPartialShape old (with_facts s fewer) formula vars) count
   few-placed count few = record {
     seen = map (map (back fewer s.facts)) few.seen;
     fewer = subst (λ (n : ℕ). suc n ≤ count) (sym (length-map few.seen (map (back fewer s.facts)))) few.fewer;
     all = λ shape partial.
         let more = shape-placed shape partial in
-        subst (Contains (map (map (back fewer s.facts)) few.seen)) more.2 (Contains-mapped (map (back fewer s.facts)) few.seen more.0 (few.all more.0 more.1));
+        subst (Contains (map (map (back fewer s.facts)) few.seen)) more.2
+        (Contains-mapped (map (back fewer s.facts)) few.seen more.0 (few.all more.0 more.1));
   }
 
 proofs_allow : (s : Setting) (fewer : List Atom) → Allows (proofs_in (with_facts s fewer)) (proofs_in s)
@@ -199,11 +229,15 @@ gaps_allow s fewer = record { choices = λ t h. h; gaps = λ atom h. h; opens = 
 pub fewer_facts-have_no_more : FewerFactsHaveNoMore
 fewer_facts-have_no_more = record {
   proofs = λ s fewer formula vars objects ds among.
-      list-placed s fewer formula vars among (proofs_in (with_facts s fewer)) (proofs_in s) (proofs_allow s fewer) (λ leaf h. h) (λ leaf h. h) objects ds;
+      list-placed s fewer formula vars among (proofs_in (with_facts s fewer)) (proofs_in s) (proofs_allow s fewer) (λ leaf h. h)
+      (λ leaf h. h) objects ds;
   gap_proofs = λ s fewer formula vars objects ds among.
-      list-placed s fewer formula vars among (loose_gaps_in (with_facts s fewer)) (loose_gaps_in s) (gaps_allow s fewer) (λ leaf h. h) (λ leaf h. h) objects ds;
+      list-placed s fewer formula vars among (loose_gaps_in (with_facts s fewer)) (loose_gaps_in s) (gaps_allow s fewer) (λ leaf h. h)
+      (λ leaf h. h) objects ds;
   shapes = λ s fewer formula vars among set.
-      few-placed s fewer formula vars among set (proofs_in (with_facts s fewer)) (proofs_in s) (proofs_allow s fewer) (λ leaf h. h) (λ leaf h. h) s.limit;
+      few-placed s fewer formula vars among set (proofs_in (with_facts s fewer)) (proofs_in s) (proofs_allow s fewer) (λ leaf h. h)
+      (λ leaf h. h) s.limit;
   gap_shapes = λ s fewer formula vars among set.
-      few-placed s fewer formula vars among set (loose_gaps_in (with_facts s fewer)) (loose_gaps_in s) (gaps_allow s fewer) (λ leaf h. h) (λ leaf h. h) s.limit;
+      few-placed s fewer formula vars among set (loose_gaps_in (with_facts s fewer)) (loose_gaps_in s) (gaps_allow s fewer) (λ leaf h. h)
+      (λ leaf h. h) s.limit;
 }

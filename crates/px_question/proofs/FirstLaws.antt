@@ -11,12 +11,13 @@ use Rattle.px_terms.specs.declared.term.Term.TheVariants.{Obj, Var, Any}
 use Rattle.px_proof.specs.declared.shape.Tick.{Tick}
 use Rattle.px_proof.specs.declared.shape.Tick.TheVariants.{Fact, Anc, Step}
 use Rattle.px_proof.specs.Derivation.{Derivation, Derivations, fact, ancestor, step, gap, open_place, none, also}
-use Rattle.px_proof.specs.PlaceLaws.{some_same}
+use Rattle.px_base.specs.Answers.{some_same}
 use Rattle.px_proof.specs.Proves.{Proves, ProvesEach, parts_of}
 use Rattle.px_proof.specs.Shapes.{ShapeBefore, ticks, ticks_of}
-use Rattle.px_question.specs.Answers.{AtMost, IsFirst, all_choices_of, choices_of, literals_of, object_of}
+use Rattle.px_question.specs.Answers.{AtMost, IsFirst, all_choices_of, choices_of, literals_of}
 use Rattle.px_question.specs.Determined.{FirstIsOne}
-use Rattle.px_question.specs.Settings.{IsObjectBelow, Setting, proofs_in}
+use Rattle.px_terms.specs.Language.{IsObjectBelow, object_of}
+use Rattle.px_question.specs.Settings.{Setting, proofs_in}
 use Rattle.px_question.specs.ShapeOrder.{ShapeBefore-irrefl, ShapeBefore-trans}
 
 -- ---- the least objects
@@ -44,18 +45,24 @@ parts_same (x ∷ xs) (u ∷ us) ys vs long e =
     (λ i. here.0 i ∷ rest.0 i, rest.1)
 
 -- two first answers have one shape, one list of objects for the variables, and one list of objects that the steps choose
-same_choices : (s : Setting) (formula : List Atom) (vars : ℕ) (objects others : List ℕ) (ds es : Derivations) → IsFirst s formula vars objects ds → IsFirst s formula vars others es
+same_choices : (s : Setting) (formula : List Atom) (vars : ℕ) (objects others : List ℕ) (ds es : Derivations)
+    → IsFirst s formula vars objects ds → IsFirst s formula vars others es
     → (ticks_of ds ≡ ticks_of es) × (objects ≡ others) × (all_choices_of ds ≡ all_choices_of es)
-same_choices s formula vars objects others ds es first other = both (first.least others es other.finished) (other.least objects ds first.finished)
+same_choices s formula vars objects others ds es first other =
+    both (first.least others es other.finished) (other.least objects ds first.finished)
   where
-    both : ShapeBefore (ticks_of ds) (ticks_of es) ⊎ ((ticks_of ds ≡ ticks_of es) × AtMost (objects ++ all_choices_of ds) (others ++ all_choices_of es)) →
-        ShapeBefore (ticks_of es) (ticks_of ds) ⊎ ((ticks_of es ≡ ticks_of ds) × AtMost (others ++ all_choices_of es) (objects ++ all_choices_of ds)) →
-        (ticks_of ds ≡ ticks_of es) × (objects ≡ others) × (all_choices_of ds ≡ all_choices_of es)
+    both : ShapeBefore (ticks_of ds) (ticks_of es)
+        ⊎ ((ticks_of ds ≡ ticks_of es) × AtMost (objects ++ all_choices_of ds) (others ++ all_choices_of es))
+        → ShapeBefore (ticks_of es) (ticks_of ds)
+        ⊎ ((ticks_of es ≡ ticks_of ds) × AtMost (others ++ all_choices_of es) (objects ++ all_choices_of ds))
+        → (ticks_of ds ≡ ticks_of es) × (objects ≡ others) × (all_choices_of ds ≡ all_choices_of es)
     both (inl h) (inl k) = absurd (ShapeBefore-irrefl (ticks_of ds) (ShapeBefore-trans (ticks_of ds) (ticks_of es) (ticks_of ds) h k))
     both (inl h) (inr k) = absurd (ShapeBefore-irrefl (ticks_of ds) (subst (ShapeBefore (ticks_of ds)) k.0 h))
     both (inr h) (inl k) = absurd (ShapeBefore-irrefl (ticks_of es) (subst (ShapeBefore (ticks_of es)) h.0 k))
     both (inr h) (inr k) =
-        let same = parts_same objects others (all_choices_of ds) (all_choices_of es) (first.finished.count ∙ sym other.finished.count) (least_both (objects ++ all_choices_of ds) (others ++ all_choices_of es) h.1 k.1) in
+        let same =
+        parts_same objects others (all_choices_of ds) (all_choices_of es) (first.finished.count ∙ sym other.finished.count)
+        (least_both (objects ++ all_choices_of ds) (others ++ all_choices_of es) h.1 k.1) in
         (h.0, same.0, same.1)
 
 -- ---- the shape and the objects determine the derivations
@@ -76,7 +83,8 @@ term_same objects (Obj m) Any h k e = absurd k
 term_same objects (Var v) u h k e = absurd h
 term_same objects Any u h k e = absurd h
 
-terms_same : (objects : ℕ) (ts us : List Term) → All (IsObjectBelow objects) ts → All (IsObjectBelow objects) us → map object_of ts ≡ map object_of us → ts ≡ us
+terms_same : (objects : ℕ) (ts us : List Term) → All (IsObjectBelow objects) ts → All (IsObjectBelow objects) us
+    → map object_of ts ≡ map object_of us → ts ≡ us
 terms_same objects [] [] h k e = refl
 terms_same objects [] (u ∷ us) h k e = absurd (cc)
 terms_same objects (t ∷ ts) [] h k e = absurd (cc)
@@ -88,13 +96,14 @@ terms_same objects (t ∷ ts) (u ∷ us) h k e =
 
 module _ (s : Setting) where
   mutual
-    one : (path : List Lit) (lit : Lit) (d e : Derivation) (ts us : List Tick) (ms ns : List ℕ) → Proves (proofs_in s) s.axioms path lit d → Proves (proofs_in s) s.axioms path lit e
+    one : (path : List Lit) (lit : Lit) (d e : Derivation) (ts us : List Tick) (ms ns : List ℕ) → Proves (proofs_in s) s.axioms path lit d
+        → Proves (proofs_in s) s.axioms path lit e
         → ticks d ++ ts ≡ ticks e ++ us → choices_of d ++ ms ≡ choices_of e ++ ns → (d ≡ e) × (ts ≡ us) × (ms ≡ ns)
     one path lit (fact l) (fact m) ts us ms ns p q t c =
         let both = cons_same (Fact l.index) (Fact m.index) ts us t in
         let index = fact_same l.index m.index both.0 in
         let column : l.column ≡ m.column = p.1.0 ∙ sym q.1.0 in
-        let atom = some_same l.atom m.atom (sym p.1.1 ∙ ap (slice_get s.facts) index ∙ q.1.1) in
+        let atom = some_same (sym p.1.1 ∙ ap (slice_get s.facts) index ∙ q.1.1) in
         ((λ i. fact (record { column = column i; index = index i; atom = atom i })), both.1, c)
     one path lit (fact l) (ancestor k) ts us ms ns p q t c = absurd (cc)
     one path lit (fact l) (step number theta place parts) ts us ms ns p q t c = absurd (cc)
@@ -112,13 +121,15 @@ module _ (s : Setting) where
     one path lit (step number theta place parts) (step number' theta' place' parts') ts us ms ns p q t c =
         let both = cons_same (Step number place) (Step number' place') (ticks_of parts ++ ts) (ticks_of parts' ++ us) t in
         let numbers = step_same number number' place place' both.0 in
-        let clause = some_same p.0 q.0 (sym p.1.axiom_at ∙ ap (slice_get s.axioms) numbers.0 ∙ q.1.axiom_at) in
+        let clause = some_same (sym p.1.axiom_at ∙ ap (slice_get s.axioms) numbers.0 ∙ q.1.axiom_at) in
         let long : length (map object_of theta) ≡ length (map object_of theta') =
         length-map theta object_of ∙ p.1.terms ∙ ap (λ (x : Clause). x.vars) clause ∙ sym q.1.terms ∙ sym (length-map theta' object_of) in
         let chosen = parts_same (map object_of theta) (map object_of theta') (all_choices_of parts ++ ms) (all_choices_of parts' ++ ns) long
-        (sym (append_assoc (map object_of theta) (all_choices_of parts) ms) ∙ c ∙ append_assoc (map object_of theta') (all_choices_of parts') ns) in
+        (sym (append_assoc (map object_of theta) (all_choices_of parts) ms) ∙ c
+        ∙ append_assoc (map object_of theta') (all_choices_of parts') ns) in
         let thetas = terms_same s.objects theta theta' p.1.choices q.1.choices chosen.0 in
-        let lits : parts_of p.0.lits theta place ≡ parts_of q.0.lits theta' place' = λ i. parts_of ((clause i).lits) (thetas i) (numbers.1 i) in
+        let lits : parts_of p.0.lits theta place ≡ parts_of q.0.lits theta' place' =
+        λ i. parts_of ((clause i).lits) (thetas i) (numbers.1 i) in
         let rest = each_one (lit ∷ path) (parts_of p.0.lits theta place) parts parts' ts us ms ns p.2
         (subst (λ (ls : List Lit). ProvesEach (proofs_in s) s.axioms (lit ∷ path) ls parts') (sym lits) q.2) both.1 chosen.1 in
         ((λ i. step (numbers.0 i) (thetas i) (numbers.1 i) (rest.0 i)), rest.1, rest.2)
@@ -127,7 +138,8 @@ module _ (s : Setting) where
     one path lit (gap atom) e ts us ms ns p q t c = absurd p.1
     one path lit open_place e ts us ms ns p q t c = absurd p
 
-    each_one : (path lits : List Lit) (ds es : Derivations) (ts us : List Tick) (ms ns : List ℕ) → ProvesEach (proofs_in s) s.axioms path lits ds → ProvesEach (proofs_in s) s.axioms path lits es
+    each_one : (path lits : List Lit) (ds es : Derivations) (ts us : List Tick) (ms ns : List ℕ)
+        → ProvesEach (proofs_in s) s.axioms path lits ds → ProvesEach (proofs_in s) s.axioms path lits es
         → ticks_of ds ++ ts ≡ ticks_of es ++ us → all_choices_of ds ++ ms ≡ all_choices_of es ++ ns → (ds ≡ es) × (ts ≡ us) × (ms ≡ ns)
     each_one path [] none none ts us ms ns p q t c = (refl, t, c)
     each_one path [] none (also e es) ts us ms ns p q t c = absurd q
@@ -144,5 +156,9 @@ module _ (s : Setting) where
 pub first-is_one : FirstIsOne
 first-is_one s formula vars objects others ds es first other =
     let same = same_choices s formula vars objects others ds es first other in
-    let moved : ProvesEach (proofs_in s) s.axioms [] (literals_of formula objects) es = subst (λ (o : List ℕ). ProvesEach (proofs_in s) s.axioms [] (literals_of formula o) es) (sym same.1) other.finished.proved in
-    (same.1, (each_one s [] (literals_of formula objects) ds es [] [] [] [] first.finished.proved moved (ap (λ (l : List Tick). l ++ []) same.0) (ap (λ (l : List ℕ). l ++ []) same.2)).0)
+    let moved : ProvesEach (proofs_in s) s.axioms [] (literals_of formula objects) es =
+    subst (λ (o : List ℕ). ProvesEach (proofs_in s) s.axioms [] (literals_of formula o) es) (sym same.1) other.finished.proved in (
+      same.1,
+      (each_one s [] (literals_of formula objects) ds es [] [] [] [] first.finished.proved moved
+          (ap (λ (l : List Tick). l ++ []) same.0) (ap (λ (l : List ℕ). l ++ []) same.2)).0,
+    )

@@ -27,7 +27,8 @@ with_shape x [] up = record { items = x ∷ []; ascending = (tt, tt); members = 
 with_shape x (y ∷ ys) up = elim (shape_trichotomy x y) [
   | inl before ↦ record {
     items = x ∷ y ∷ ys;
-    ascending = ((before, AllByRecursion-map (ShapeBefore y) (ShapeBefore x) (λ z later. ShapeBefore-trans x y z before later) ys up.0), up);
+    ascending =
+        ((before, AllByRecursion-map (ShapeBefore y) (ShapeBefore x) (λ z later. ShapeBefore-trans x y z before later) ys up.0), up);
     members = λ shape. (λ h. h, λ h. h);
   }
   | inr others ↦ elim others [
@@ -36,7 +37,11 @@ with_shape x (y ∷ ys) up = elim (shape_trichotomy x y) [
       ascending = up;
       members = λ shape. (
         λ has. Contains-later x (y ∷ ys) shape has,
-        λ has. elim (Contains-cases x (y ∷ ys) shape has) [ inl is ↦ subst (Contains (y ∷ ys)) (sym same ∙ is) (Contains-first y ys) | inr later ↦ later ],
+        λ has. elim (Contains-cases x (y ∷ ys) shape has) [
+          | inl is ↦ subst (Contains (y ∷ ys)) (sym same ∙ is)
+              (Contains-first y ys)
+          | inr later ↦ later
+        ],
       );
     }
     | inr after ↦ behind after (with_shape x ys up.1)
@@ -47,7 +52,12 @@ with_shape x (y ∷ ys) up = elim (shape_trichotomy x y) [
     behind after rest = record {
       items = y ∷ rest.items;
       ascending = (
-        all_each (ShapeBefore y) rest.items (λ z has. elim (Contains-cases x ys z ((rest.members z).0 has)) [ inl is ↦ subst (ShapeBefore y) is after | inr later ↦ AllByRecursion-at (ShapeBefore y) ys z up.0 later ]),
+        all_each (ShapeBefore y) rest.items (λ z has. elim
+            (Contains-cases x ys z ((rest.members z).0 has)) [
+              | inl is ↦ subst (ShapeBefore y) is after
+              | inr later ↦ AllByRecursion-at
+                  (ShapeBefore y) ys z up.0 later
+            ]),
         rest.ascending,
       );
       members = λ shape. (
@@ -111,14 +121,16 @@ taken-ascending (suc n) (x ∷ shapes) up = (
   taken-ascending n shapes up.1,
 )
 
-taken-first : (n : ℕ) (shapes : List (List Tick)) → IsAscending shapes → (q : List Tick) → Contains shapes q → Contains (take n shapes) q ⊎ All (λ kept. ShapeBefore kept q) (take n shapes)
+taken-first : (n : ℕ) (shapes : List (List Tick)) → IsAscending shapes → (q : List Tick) → Contains shapes q
+    → Contains (take n shapes) q ⊎ All (λ kept. ShapeBefore kept q) (take n shapes)
 taken-first zero shapes up q has = inr (All-nil (λ kept. ShapeBefore kept q))
 taken-first (suc n) [] up q has = absurd (Contains-none q has)
 taken-first (suc n) (x ∷ shapes) up q has = elim (Contains-cases x shapes q has) [
   | inl is ↦ inl (subst (Contains (x ∷ take n shapes)) is (Contains-first x (take n shapes)))
   | inr later ↦ elim (taken-first n shapes up.1 q later) [
     | inl there ↦ inl (Contains-later x (take n shapes) q there)
-    | inr after ↦ inr (All-cons (λ kept. ShapeBefore kept q) x (take n shapes) (AllByRecursion-at (ShapeBefore x) shapes q up.0 later) after)
+    | inr after ↦ inr (All-cons (λ kept. ShapeBefore kept q) x (take n shapes)
+        (AllByRecursion-at (ShapeBefore x) shapes q up.0 later) after)
   ]
 ]
 
@@ -127,7 +139,8 @@ at_least m zero = inr (omega arith)
 at_least zero (suc n) = inl (omega arith)
 at_least (suc m) (suc n) = elim (at_least m n) [ inl less ↦ inl (omega (arith, less)) | inr more ↦ inr (omega (arith, more)) ]
 
-pub few_or_firsts : (P : List Tick → Type 0) (count : ℕ) → Listed P → AreFewerThan P count ⊎ ((shapes : List (List Tick)) × (length shapes ≡ count) × AreFirstShapes P shapes)
+pub few_or_firsts : (P : List Tick → Type 0) (count : ℕ) → Listed P
+    → AreFewerThan P count ⊎ ((shapes : List (List Tick)) × (length shapes ≡ count) × AreFirstShapes P shapes)
 few_or_firsts P count listed =
     let up = in_order listed.items in
     let member : (shape : List Tick) → P shape → Contains up.items shape = λ shape holds. (up.members shape).1 (listed.all shape holds) in
@@ -138,7 +151,9 @@ few_or_firsts P count listed =
         length-taken count up.items more,
         record {
           ascending = taken-ascending count up.items up.ascending;
-          each = All-each P (take count up.items) (λ shape has. listed.each shape ((up.members shape).0 (Contains-taken count up.items shape has)));
+          each =
+              All-each P (take count up.items) (λ shape has. listed.each shape
+              ((up.members shape).0 (Contains-taken count up.items shape has)));
           first = λ shape holds. taken-first count up.items up.ascending shape (member shape holds);
         },
       )

@@ -15,18 +15,22 @@ use Rattle.px_terms.specs.OrderLaws.{atom_cmp-total, atom_eq-decides}
 
 pub computed_eq-decides : (first second : GapList) → Decides (computed_eq first second) (first ≡ second)
 computed_eq-decides a b =
-    Decides-like _ (λ e i. record { objects = e.0 i; gaps = e.1 i }) (λ e. (ap (λ (l : GapList). l.objects) e, ap (λ (l : GapList). l.gaps) e))
+    Decides-like _ (λ e i. record { objects = e.0 i; gaps = e.1 i })
+    (λ e. (ap (λ (l : GapList). l.objects) e, ap (λ (l : GapList). l.gaps) e))
     (Decides-and _ _ (bytes_eq-Decides a.objects b.objects) (pointwise_decides atom_eq-decides a.gaps b.gaps))
 
 pub gap_list_cmp-is : (first second : GapList) → computed_cmp first second ≡ gap_list_cmp first second
 gap_list_cmp-is a b = refl
 
 pub gap_list_cmp-total : IsTotalOrder gap_list_cmp
-gap_list_cmp-total = then_total (on_total (λ (l : GapList). l.objects) (lists_total nat_cmp_total)) (on_total (λ (l : GapList). l.gaps) (lists_total atom_cmp-total))
+gap_list_cmp-total =
+    then_total (on_total (λ (l : GapList). l.objects) (lists_total nat_cmp_total))
+    (on_total (λ (l : GapList). l.gaps) (lists_total atom_cmp-total))
 
--- two that the order doesn't tell apart are the same
+-- two that compare as equal are the same
 pub gap_list_cmp-same : (a b : GapList) → gap_list_cmp a b ≡ Equal → a ≡ b
-gap_list_cmp-same a b e = (computed_eq-decides a b).0 (gap_list_order.matches_eq-law a b ∙ (Equal-is (computed_cmp a b)).1 (gap_list_cmp-is a b ∙ e))
+gap_list_cmp-same a b e =
+    (computed_eq-decides a b).0 (gap_list_order.matches_eq-law a b ∙ (Equal-is (computed_cmp a b)).1 (gap_list_cmp-is a b ∙ e))
 
 pub gap_lists_are_ordered : GapListsAreOrdered
 gap_lists_are_ordered = record { order = gap_list_cmp-is; equality = computed_eq-decides }

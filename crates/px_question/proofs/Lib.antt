@@ -1,3 +1,4 @@
+-- The files of lemmas.
 pub mod DeterminedLaws
 pub mod FewerFactsLaws
 pub mod FirstLaws

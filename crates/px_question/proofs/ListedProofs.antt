@@ -14,10 +14,12 @@ use Rattle.px_terms.specs.declared.term.Term.TheVariants.{Obj, Var, Any}
 use Rattle.px_proof.specs.declared.proof.Leaf.{Leaf}
 use Rattle.px_proof.specs.Derivation.{Derivation, Derivations, fact, ancestor, step, gap, open_place, none, also, height, greatest_height}
 use Rattle.px_proof.specs.Literals.{complement_of, positive_of}
-use Rattle.px_proof.specs.PlaceLaws.{slice_get-within, some_same}
+use Rattle.px_base.specs.Answers.{some_same}
+use Rattle.px_proof.specs.PlaceLaws.{slice_get-within}
 use Rattle.px_proof.specs.Proves.{Proves, ProvesEach, Rules, instance_of, or_open, parts_of}
-use Rattle.px_question.specs.Answers.{object_of, object_terms}
-use Rattle.px_question.specs.Settings.{IsObjectBelow, Setting, loose_gaps_in, proofs_in}
+use Rattle.px_question.specs.Answers.{object_terms}
+use Rattle.px_terms.specs.Language.{IsObjectBelow, object_of}
+use Rattle.px_question.specs.Settings.{Setting, loose_gaps_in, proofs_in}
 use Rattle.px_question.proofs.Listed.{AreBelow, Decided, Listed, listed-below, listed-by, listed-each, listed-if, listed-map, listed-none, listed-one, listed-or, listed-places, listed-tuples}
 
 -- ---- what is decided
@@ -92,13 +94,23 @@ listed-leaves atoms atom =
     leaf_at i = record { column = 0; index = i; atom = atom }
 
 pub finite-proofs : (s : Setting) → IsFinite (proofs_in s) s.objects
-finite-proofs s = record { choices = λ t h. h; chosen = λ t h. h; facts = listed-leaves s.facts; gaps = λ atom. inr (λ h. h); opens = inr (λ h. h) }
+finite-proofs s =
+    record { choices = λ t h. h; chosen = λ t h. h; facts = listed-leaves s.facts; gaps = λ atom. inr (λ h. h); opens = inr (λ h. h) }
 
 pub finite-gaps : (s : Setting) → IsFinite (loose_gaps_in s) s.objects
-finite-gaps s = record { choices = λ t h. h; chosen = λ t h. h; facts = listed-leaves s.facts; gaps = λ atom. contains_decided s.added atom.pred; opens = inr (λ h. h) }
+finite-gaps s =
+    record {
+      choices =
+          λ t h. h;
+      chosen = λ t h. h;
+      facts = listed-leaves s.facts;
+      gaps = λ atom. contains_decided s.added atom.pred;
+      opens = inr (λ h. h);
+    }
 
 pub finite-open : (rules : Rules) (objects : ℕ) → IsFinite rules objects → IsFinite (or_open rules) objects
-finite-open rules objects finite = record { choices = finite.choices; chosen = finite.chosen; facts = finite.facts; gaps = finite.gaps; opens = inl tt }
+finite-open rules objects finite =
+    record { choices = finite.choices; chosen = finite.chosen; facts = finite.facts; gaps = finite.gaps; opens = inl tt }
 
 -- ---- terms of a step
 
@@ -125,7 +137,11 @@ chosen-terms objects (t ∷ theta) all =
 listed-terms : (objects n : ℕ) → Listed (AreChoices objects n)
 listed-terms objects n =
     listed-by (λ theta. (ns : List ℕ) × AreBelow objects n ns × (object_terms ns ≡ theta)) (AreChoices objects n)
-    (λ theta h. subst (AreChoices objects n) h.2 (length-map h.0 (λ k. Obj k) ∙ h.1.0, All-map (IsObjectBelow objects) (λ k. Obj k) h.0 h.1.1))
+    (λ theta h. subst (AreChoices objects n) h.2 (
+      length-map h.0 (λ k. Obj k)
+          ∙ h.1.0,
+      All-map (IsObjectBelow objects) (λ k. Obj k) h.0 h.1.1,
+    ))
     (λ theta h. (
       map object_of theta,
       (length-map theta object_of ∙ h.0, All-map (λ k. k < objects) object_of theta (λ k d below. chosen-number objects _ (h.1 k d below))),
@@ -149,7 +165,8 @@ module _ (rules : Rules) (axioms : List Clause) (objects : ℕ) (finite : IsFini
   abbrev pub AreProofs : ℕ → List Lit → List Lit → Derivations → Type 0
   AreProofs h path lits ds = ProvesEach rules axioms path lits ds × (greatest_height ds ≤ h)
 
-  listed-proofs_each : (h : ℕ) → ((path : List Lit) (lit : Lit) → Listed (IsProof h path lit)) → (path lits : List Lit) → Listed (AreProofs h path lits)
+  listed-proofs_each : (h : ℕ) → ((path : List Lit) (lit : Lit) → Listed (IsProof h path lit)) → (path lits : List Lit)
+      → Listed (AreProofs h path lits)
   listed-proofs_each h one path [] =
       listed-by (λ ds. none ≡ ds) (AreProofs h path []) (λ ds is. subst (AreProofs h path []) is (tt, omega arith)) only (listed-one none)
     where
@@ -157,14 +174,17 @@ module _ (rules : Rules) (axioms : List Clause) (objects : ℕ) (finite : IsFini
       only none are = refl
       only (also d ds) are = absurd are.0
   listed-proofs_each h one path (lit ∷ lits) =
-      listed-by (λ ds. (d : Derivation) × IsProof h path lit d × ((rest : Derivations) × AreProofs h path lits rest × (also d rest ≡ ds))) (AreProofs h path (lit ∷ lits)) to from
+      listed-by (λ ds. (d : Derivation) × IsProof h path lit d × ((rest : Derivations) × AreProofs h path lits rest × (also d rest ≡ ds)))
+      (AreProofs h path (lit ∷ lits)) to from
       (listed-each (IsProof h path lit) (λ d ds. (rest : Derivations) × AreProofs h path lits rest × (also d rest ≡ ds)) (one path lit)
       (λ d. listed-map (AreProofs h path lits) (λ rest. also d rest) (listed-proofs_each h one path lits)))
     where
-      to : (ds : Derivations) → (d : Derivation) × IsProof h path lit d × ((rest : Derivations) × AreProofs h path lits rest × (also d rest ≡ ds)) → AreProofs h path (lit ∷ lits) ds
+      to : (ds : Derivations) → (d : Derivation) × IsProof h path lit d
+          × ((rest : Derivations) × AreProofs h path lits rest × (also d rest ≡ ds)) → AreProofs h path (lit ∷ lits) ds
       to ds (d, is, (rest, are, same)) = subst (AreProofs h path (lit ∷ lits)) same ((is.0, are.0), omega (arith, is.1, are.1))
 
-      from : (ds : Derivations) → AreProofs h path (lit ∷ lits) ds → (d : Derivation) × IsProof h path lit d × ((rest : Derivations) × AreProofs h path lits rest × (also d rest ≡ ds))
+      from : (ds : Derivations) → AreProofs h path (lit ∷ lits) ds
+          → (d : Derivation) × IsProof h path lit d × ((rest : Derivations) × AreProofs h path lits rest × (also d rest ≡ ds))
       from none are = absurd are.0
       from (also d ds) are = (d, (are.0.0, omega (arith, are.1)), (ds, (are.0.1, omega (arith, are.1)), refl))
 
@@ -174,22 +194,27 @@ module _ (rules : Rules) (axioms : List Clause) (objects : ℕ) (finite : IsFini
 
     by_fact : Listed ByFact
     by_fact = listed-map (λ leaf. (lit ≡ positive_of leaf.atom) × rules.IsFact leaf) (λ leaf. fact leaf)
-        (listed-by (λ leaf. (lit ≡ positive_of lit.atom) × ((leaf.atom ≡ lit.atom) × rules.IsFact leaf)) (λ leaf. (lit ≡ positive_of leaf.atom) × rules.IsFact leaf)
+        (listed-by (λ leaf. (lit ≡ positive_of lit.atom) × ((leaf.atom ≡ lit.atom) × rules.IsFact leaf))
+        (λ leaf. (lit ≡ positive_of leaf.atom) × rules.IsFact leaf)
         (λ leaf is. (is.0 ∙ ap positive_of (sym is.1.0), is.1.1))
         (λ leaf is. let same : lit.atom ≡ leaf.atom = ap (λ (l : Lit). l.atom) is.0 in (is.0 ∙ ap positive_of (sym same), (sym same, is.1)))
-        (listed-if (lit ≡ positive_of lit.atom) (λ leaf. (leaf.atom ≡ lit.atom) × rules.IsFact leaf) (lit_decided lit (positive_of lit.atom)) (finite.facts lit.atom)))
+        (listed-if (lit ≡ positive_of lit.atom) (λ leaf. (leaf.atom ≡ lit.atom) × rules.IsFact leaf)
+        (lit_decided lit (positive_of lit.atom)) (finite.facts lit.atom)))
 
     abbrev ByAncestor : Derivation → Type 0
     ByAncestor d = (i : ℕ) × (slice_get path i ≡ Some (complement_of lit)) × (ancestor i ≡ d)
 
     by_ancestor : Listed ByAncestor
-    by_ancestor = listed-map (λ i. slice_get path i ≡ Some (complement_of lit)) (λ i. ancestor i) (listed-places lit_decided path (complement_of lit))
+    by_ancestor =
+        listed-map (λ i. slice_get path i ≡ Some (complement_of lit)) (λ i. ancestor i) (listed-places lit_decided path (complement_of lit))
 
     abbrev ByPlace : ℕ → Clause → List Term → ℕ → Derivation → Type 0
-    ByPlace number clause theta place d = (parts : Derivations) × AreProofs h (lit ∷ path) (parts_of clause.lits theta place) parts × (step number theta place parts ≡ d)
+    ByPlace number clause theta place d =
+        (parts : Derivations) × AreProofs h (lit ∷ path) (parts_of clause.lits theta place) parts × (step number theta place parts ≡ d)
 
     abbrev ByTerms : ℕ → Clause → List Term → Derivation → Type 0
-    ByTerms number clause theta d = (place : ℕ) × (slice_get (instance_of clause.lits theta) place ≡ Some lit) × ByPlace number clause theta place d
+    ByTerms number clause theta d =
+        (place : ℕ) × (slice_get (instance_of clause.lits theta) place ≡ Some lit) × ByPlace number clause theta place d
 
     abbrev ByClause : ℕ → Clause → Derivation → Type 0
     ByClause number clause d = (theta : List Term) × AreChoices objects clause.vars theta × ByTerms number clause theta d
@@ -197,8 +222,10 @@ module _ (rules : Rules) (axioms : List Clause) (objects : ℕ) (finite : IsFini
     by_clause : (number : ℕ) (clause : Clause) → Listed (ByClause number clause)
     by_clause number clause =
         listed-each (AreChoices objects clause.vars) (ByTerms number clause) (listed-terms objects clause.vars) (λ theta.
-        listed-each (λ place. slice_get (instance_of clause.lits theta) place ≡ Some lit) (ByPlace number clause theta) (listed-places lit_decided (instance_of clause.lits theta) lit) (λ place.
-        listed-map (AreProofs h (lit ∷ path) (parts_of clause.lits theta place)) (λ parts. step number theta place parts) (each (parts_of clause.lits theta place))))
+        listed-each (λ place. slice_get (instance_of clause.lits theta) place ≡ Some lit) (ByPlace number clause theta)
+        (listed-places lit_decided (instance_of clause.lits theta) lit) (λ place.
+        listed-map (AreProofs h (lit ∷ path) (parts_of clause.lits theta place)) (λ parts. step number theta place parts)
+        (each (parts_of clause.lits theta place))))
 
     abbrev ByAxiom : ℕ → Option Clause → Derivation → Type 0
     ByAxiom number o d = (clause : Clause) × (o ≡ Some clause) × ByClause number clause d
@@ -209,19 +236,24 @@ module _ (rules : Rules) (axioms : List Clause) (objects : ℕ) (finite : IsFini
     by_axiom : (number : ℕ) (o : Option Clause) → Listed (ByAxiom number o)
     by_axiom number None = listed-none (ByAxiom number None) (λ d by. no_clause by.0 by.1)
     by_axiom number (Some clause) =
-        listed-by (ByClause number clause) (ByAxiom number (Some clause)) (λ d by. (clause, refl, by)) (λ d by. subst (λ (c : Clause). ByClause number c d) (sym (some_same clause by.0 by.1)) by.2) (by_clause number clause)
+        listed-by (ByClause number clause) (ByAxiom number (Some clause)) (λ d by. (clause, refl, by))
+        (λ d by. subst (λ (c : Clause). ByClause number c d) (sym (some_same by.1)) by.2) (by_clause number clause)
 
     abbrev ByStep : Derivation → Type 0
     ByStep d = (number : ℕ) × (number < length axioms) × ByAxiom number (slice_get axioms number) d
 
     by_step : Listed ByStep
-    by_step = listed-each (λ number. number < length axioms) (λ number. ByAxiom number (slice_get axioms number)) (listed-below (length axioms)) (λ number. by_axiom number (slice_get axioms number))
+    by_step =
+        listed-each (λ number. number < length axioms) (λ number. ByAxiom number (slice_get axioms number)) (listed-below (length axioms))
+        (λ number. by_axiom number (slice_get axioms number))
 
     abbrev ByGap : Derivation → Type 0
     ByGap d = ((lit ≡ positive_of lit.atom) × rules.IsGap lit.atom) × (gap lit.atom ≡ d)
 
     by_gap : Listed ByGap
-    by_gap = listed-if ((lit ≡ positive_of lit.atom) × rules.IsGap lit.atom) (λ d. gap lit.atom ≡ d) (both_decided (lit_decided lit (positive_of lit.atom)) (finite.gaps lit.atom)) (listed-one (gap lit.atom))
+    by_gap =
+        listed-if ((lit ≡ positive_of lit.atom) × rules.IsGap lit.atom) (λ d. gap lit.atom ≡ d)
+        (both_decided (lit_decided lit (positive_of lit.atom)) (finite.gaps lit.atom)) (listed-one (gap lit.atom))
 
     abbrev ByNothing : Derivation → Type 0
     ByNothing d = rules.IsOpen × (open_place ≡ d)
@@ -237,7 +269,11 @@ module _ (rules : Rules) (axioms : List Clause) (objects : ℕ) (finite : IsFini
     made d (inr (inl (i, at, same))) = subst (IsProof (suc h) path lit) same (at, omega arith)
     made d (inr (inr (inl (number, below, (clause, there, (theta, are, (place, at, (parts, proofs, same)))))))) =
         subst (IsProof (suc h) path lit) same (
-          (clause, record { axiom_at = there; terms = are.0; choices = λ k e within. finite.chosen _ (are.1 k e within); literal_at = at }, proofs.0),
+          (
+            clause,
+            record { axiom_at = there; terms = are.0; choices = λ k e within. finite.chosen _ (are.1 k e within); literal_at = at },
+            proofs.0,
+          ),
           omega (arith, proofs.1),
         )
     made d (inr (inr (inr (inl (is, same))))) = subst (IsProof (suc h) path lit) same (is, omega arith)
@@ -248,7 +284,19 @@ module _ (rules : Rules) (axioms : List Clause) (objects : ℕ) (finite : IsFini
     parted (ancestor i) is = inr (inl (i, is.0, refl))
     parted (step number theta place parts) is =
         let uses = is.0.1 in
-        inr (inr (inl (number, slice_get-within axioms number is.0.0 uses.axiom_at, (is.0.0, uses.axiom_at, (theta, (uses.terms, λ k e within. finite.choices _ (uses.choices k e within)), (place, uses.literal_at, (parts, (is.0.2, omega (arith, is.1)), refl)))))))
+        inr (inr (inl (
+          number,
+          slice_get-within axioms number is.0.0 uses.axiom_at,
+          (
+            is.0.0,
+            uses.axiom_at,
+            (
+              theta,
+              (uses.terms, λ k e within. finite.choices _ (uses.choices k e within)),
+              (place, uses.literal_at, (parts, (is.0.2, omega (arith, is.1)), refl)),
+            ),
+          ),
+        )))
     parted (gap atom) is =
         let same : lit.atom ≡ atom = ap (λ (l : Lit). l.atom) is.0.0 in
         inr (inr (inr (inl ((is.0.0 ∙ ap positive_of (sym same), subst rules.IsGap (sym same) is.0.1), ap (λ a. gap a) same))))

@@ -3,7 +3,8 @@ use Rattle.std.specs.Prelude.{◌≡◌, ◌⊎◌, ℕ, ◌<◌, ◌≤◌, Lis
 use Rattle.px_terms.specs.declared.atom.Atom.{Atom}
 use Rattle.px_terms.specs.declared.clause.Lit.{Lit}
 use Rattle.px_terms.specs.declared.term.Term.{Term}
-use Rattle.px_terms.specs.declared.term.Term.TheVariants.{Obj, Var, Any}
+use Rattle.px_terms.specs.declared.term.Term.TheVariants.{Obj}
+use Rattle.px_terms.specs.Language.{object_of}
 use Rattle.px_terms.specs.Substitution.{substitute_atom}
 use Rattle.px_proof.specs.Derivation.{Derivation, Derivations, fact, ancestor, step, gap, open_place, none, also, greatest_height}
 use Rattle.px_proof.specs.Literals.{positive_of}
@@ -35,12 +36,6 @@ IsAnswer s formula vars = (objects : List ℕ) × (ds : Derivations) × IsList (
 abbrev pub IsProvable : Setting → Atom → Type 0
 IsProvable s atom = IsAnswer s (atom ∷ []) 0
 
--- the number of the object that the term is
-abbrev pub object_of : Term → ℕ
-object_of (Obj n) = n
-object_of (Var v) = 0
-object_of Any = 0
-
 -- the objects that the steps choose, in preorder
 abbrev mutual
   pub choices_of : Derivation → List ℕ
@@ -65,6 +60,6 @@ AtMost (m ∷ ms) (n ∷ ns) = (m < n) ⊎ ((m ≡ n) × AtMost ms ns)
 pub record IsFirst (s : Setting) (formula : List Atom) (vars : ℕ) (objects : List ℕ) (ds : Derivations) : Type 0 where
   pub finished : IsList (proofs_in s) s formula vars objects ds
   pub least :
-      (others : List ℕ) (es : Derivations) → IsList (proofs_in s) s formula vars others es →
-      ShapeBefore (ticks_of ds) (ticks_of es) ⊎ ((ticks_of ds ≡ ticks_of es)
+      (others : List ℕ) (es : Derivations) → IsList (proofs_in s) s formula vars others es
+      → ShapeBefore (ticks_of ds) (ticks_of es) ⊎ ((ticks_of ds ≡ ticks_of es)
       × AtMost (objects ++ all_choices_of ds) (others ++ all_choices_of es))

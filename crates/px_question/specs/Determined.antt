@@ -13,8 +13,8 @@ use Rattle.px_question.specs.Settings.{Setting, proofs_in}
 abbrev pub FirstIsOne : Type 0
 FirstIsOne =
     (s : Setting) (formula : List Atom) (vars : ℕ) (objects others : List ℕ) (ds es : Derivations) → IsFirst s formula vars objects ds
-    → IsFirst s formula vars others es →
-    (objects ≡ others) × (ds ≡ es)
+    → IsFirst s formula vars others es
+    → (objects ≡ others) × (ds ≡ es)
 
 -- a limit has one list of shapes
 pub record LimitsAreOne : Type 0 where
@@ -33,8 +33,8 @@ GapListsAreOne = (s : Setting) (formula : List Atom) (vars : ℕ) (lists others 
 pub record FewOrLimited : Type 0 where
   pub proofs : (s : Setting) (formula : List Atom) (vars : ℕ) (shapes : List (List Tick)) → AreFewShapes s formula vars
       → ¬ IsLimited s formula vars shapes
-  pub before : (s : Setting) (formula : List Atom) (vars : ℕ) (shapes : List (List Tick)) (objects : List ℕ) (ds : Derivations) →
-      IsList (proofs_in s) s formula vars objects ds → AreFewBefore s formula vars ds → ¬ IsLimited s formula vars shapes
+  pub before : (s : Setting) (formula : List Atom) (vars : ℕ) (shapes : List (List Tick)) (objects : List ℕ) (ds : Derivations)
+      → IsList (proofs_in s) s formula vars objects ds → AreFewBefore s formula vars ds → ¬ IsLimited s formula vars shapes
   pub gap_proofs : (s : Setting) (formula : List Atom) (vars : ℕ) (shapes : List (List Tick)) → AreFewGapShapes s formula vars
       → ¬ IsGapLimited s formula vars shapes
   pub gap_shapes : (s : Setting) (formula : List Atom) (vars : ℕ) → AreFewGapShapes s formula vars → AreFewShapes s formula vars

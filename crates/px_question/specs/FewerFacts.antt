@@ -15,15 +15,15 @@ abbrev pub with_facts : Setting → List Atom → Setting
 with_facts s facts = record { objects = s.objects; axioms = s.axioms; facts = facts; added = s.added; height = s.height; limit = s.limit }
 
 -- the first place of the atom in the list
-abbrev pub place_in : List Atom → Atom → ℕ
-place_in [] atom = 0
-place_in (first ∷ atoms) atom = cond (atom_eq first atom) 0 (suc (place_in atoms atom))
+abbrev pub place_among_facts : List Atom → Atom → ℕ
+place_among_facts [] atom = 0
+place_among_facts (first ∷ atoms) atom = cond (atom_eq first atom) 0 (suc (place_among_facts atoms atom))
 
 -- the leaf that names the place of its atom in the list
 abbrev pub leaf_in : List Atom → Leaf → Leaf
-leaf_in atoms leaf = record { column = leaf.column; index = place_in atoms leaf.atom; atom = leaf.atom }
+leaf_in atoms leaf = record { column = leaf.column; index = place_among_facts atoms leaf.atom; atom = leaf.atom }
 
--- the derivation whose leaves do so
+-- the derivation with such a leaf for each of its leaves
 abbrev mutual
   pub placed_in : List Atom → Derivation → Derivation
   placed_in atoms (fact leaf) = fact (leaf_in atoms leaf)
@@ -36,9 +36,9 @@ abbrev mutual
   all_placed_in atoms none = none
   all_placed_in atoms (also d ds) = also (placed_in atoms d) (all_placed_in atoms ds)
 
--- Of a question whose facts are among those of another that is otherwise the same: its lists of proofs and of loose gap proofs
--- are lists of the other once their leaves name the places there. Where its facts are a set of atoms and fewer shapes of the
--- other exist than the limit, fewer exist of it.
+-- Of a question whose facts are among those of another that is otherwise the same: its lists of proofs and of loose gap proofs are lists
+-- of the other once their leaves name the places there. Where its facts are a set of atoms and the other has fewer shapes than the limit,
+-- it has fewer, too.
 pub record FewerFactsHaveNoMore : Type 0 where
   pub proofs : (s : Setting) (fewer formula : List Atom) (vars : ℕ) (objects : List ℕ) (ds : Derivations) → All (Contains s.facts) fewer
       → IsList (proofs_in (with_facts s fewer)) (with_facts s fewer) formula vars objects ds

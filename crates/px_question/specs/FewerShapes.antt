@@ -3,7 +3,8 @@ use Rattle.std.proofs.Common.{◌≡◌, ◌∙◌, ℕ, ◌≤◌, Some, List, 
 use Rattle.std.specs.Prelude.{Contains, remove, slice_get}
 use Rattle.px_base.specs.ListLaws.{All-at, AllByRecursion-at, Contains-first, Contains-later}
 use Rattle.px_proof.specs.declared.shape.Tick.{Tick}
-use Rattle.px_proof.specs.PlaceLaws.{length-remove, other_part, slice_get-read, slice_get-within, some_same}
+use Rattle.px_base.specs.Answers.{some_same}
+use Rattle.px_proof.specs.PlaceLaws.{length-remove, other_part, slice_get-read, slice_get-within}
 use Rattle.px_proof.specs.Shapes.{ShapeBefore}
 use Rattle.px_question.specs.Limits.{AreFewerThan, AreFirstShapes, IsAscending}
 use Rattle.px_question.specs.ShapeOrder.{ShapeBefore-irrefl}
@@ -13,7 +14,7 @@ pub Contains-place : {X : Type 0} (xs : List X) (x : X) → Contains xs x → (k
 Contains-place xs x (k, below, is) = (k, slice_get-read xs k x below ∙ ap (λ y. Some y) is)
 
 pub Contains-at : {X : Type 0} (xs : List X) (k : ℕ) (x : X) → slice_get xs k ≡ Some x → Contains xs x
-Contains-at xs k x at = let below = slice_get-within xs k x at in (k, below, some_same _ x (sym (slice_get-read xs k x below) ∙ at))
+Contains-at xs k x at = let below = slice_get-within xs k x at in (k, below, some_same (sym (slice_get-read xs k x below) ∙ at))
 
 -- different shapes that are all in a list are no more than it has
 pub no_more : (shapes seen : List (List Tick)) → IsAscending shapes → ((shape : List Tick) → Contains shapes shape → Contains seen shape)
@@ -29,11 +30,11 @@ no_more (x ∷ xs) seen up within =
         → Contains (remove seen place) y
     kept place at y has (k, there) = elim (other_part seen place k y there) [
       | inl same ↦ absurd (ShapeBefore-irrefl y (subst (λ (z : List Tick). ShapeBefore z y)
-          (some_same x y (sym at ∙ ap (slice_get seen) (sym same) ∙ there)) (AllByRecursion-at (ShapeBefore x) xs y up.0 has)))
+          (some_same (sym at ∙ ap (slice_get seen) (sym same) ∙ there)) (AllByRecursion-at (ShapeBefore x) xs y up.0 has)))
       | inr other ↦ Contains-at (remove seen place) other.0 y other.1
     ]
 
--- where fewer shapes of the kind exist than the number, there are not that many different ones among them
+-- where fewer shapes of the kind exist than the number, there aren't that many different ones among them
 pub too_few : (P : List Tick → Type 0) (count : ℕ) (shapes : List (List Tick)) → AreFewerThan P count → length shapes ≡ count
     → IsAscending shapes → ¬ ((shape : List Tick) → Contains shapes shape → P shape)
 too_few P count shapes few long up each = omega (
@@ -43,7 +44,7 @@ too_few P count shapes few long up each = omega (
   no_more shapes few.seen up (λ shape has. few.all shape (each shape has)),
 )
 
--- the same where the shapes are the first ones of a kind that is among theirs
+-- where fewer shapes of a kind exist than the number, that many shapes aren't the first ones of a kind that is among it
 pub few_firsts : (P Q : List Tick → Type 0) (count : ℕ) (shapes : List (List Tick)) → AreFewerThan P count
     → ((shape : List Tick) → Q shape → P shape) → length shapes ≡ count → ¬ AreFirstShapes Q shapes
 few_firsts P Q count shapes few among long firsts = too_few P count shapes few long firsts.ascending

@@ -14,7 +14,7 @@ use Rattle.px_proof.specs.Proves.{Rules, with_gaps}
 use Rattle.px_question.specs.declared.gap_list.GapList.{GapList}
 use Rattle.px_question.specs.Answers.{IsAnswer, IsList, IsProvable}
 use Rattle.px_question.specs.Limits.{AreFewGapShapes, IsGapLimited, IsLimited, StaysBelowLimit}
-use Rattle.px_question.specs.Settings.{Setting, IsAddable, loose_gaps_in, proofs_in}
+use Rattle.px_question.specs.Settings.{Setting, IsAddableIn, loose_gaps_in, proofs_in}
 
 -- the atoms that are closed by a gap
 abbrev mutual
@@ -31,7 +31,7 @@ abbrev mutual
 
 -- gap proofs: a gap closes an atom that some operator adds and that isn't provable
 abbrev pub gaps_in : Setting → Rules
-gaps_in s = with_gaps (λ atom. IsAddable s atom × (¬ IsProvable s atom)) (proofs_in s)
+gaps_in s = with_gaps (λ atom. IsAddableIn s atom × (¬ IsProvable s atom)) (proofs_in s)
 
 -- the formula has no answer, and in some list of gap proofs of it a gap closes the atom
 abbrev pub IsGapOf : Setting → List Atom → ℕ → Atom → Type 0
@@ -67,8 +67,8 @@ MeetsGapLimit s formula vars kept shapes =
     ((kept ≡ formula) × IsGapLimited s formula vars shapes)
     ⊎ ((atom : Atom) × (kept ≡ atom ∷ []) × IsLooseGap s formula vars atom × IsLimited s kept 0 shapes)
 
--- Finding the gaps of the formula stays below the limit: fewer shapes of unfinished gap proofs exist, and so it is where each atom that
--- a loose gap proof of it closes is to be proved.
+-- Finding the gaps of the formula stays below the limit: fewer shapes of unfinished gap proofs exist, and proving each atom that a loose
+-- gap proof of it closes stays below the limit, too.
 pub record StaysBelowGapLimit (s : Setting) (formula : List Atom) (vars : ℕ) : Type 0 where
   pub shapes : AreFewGapShapes s formula vars
   pub atoms : (atom : Atom) → IsLooseGap s formula vars atom → StaysBelowLimit s (atom ∷ []) 0

@@ -1,3 +1,4 @@
+-- The files of definitions and laws.
 pub mod Settings
 pub mod Answers
 pub mod Limits

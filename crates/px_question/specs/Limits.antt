@@ -27,8 +27,8 @@ pub record AreFirstShapes (IsShape : List Tick → Type 0) (shapes : List (List 
   pub each : All IsShape shapes
   pub first : (shape : List Tick) → IsShape shape → Contains shapes shape ⊎ All (λ kept. ShapeBefore kept shape) shapes
 
--- as many shapes of unfinished lists as the limit, the first ones, all before each finished list; where there is no finished list
--- they need only exist
+-- as many shapes of unfinished lists as the limit, the first ones, all before each finished list; where there is no finished list it is
+-- enough that they exist
 pub record IsLimited (s : Setting) (formula : List Atom) (vars : ℕ) (shapes : List (List Tick)) : Type 0 where
   pub count : length shapes ≡ s.limit
   pub kept : AreFirstShapes (IsPartialShape (proofs_in s) s formula vars) shapes

@@ -24,8 +24,8 @@ pub record IsRowProof (problem : Problem) (atom : Atom) (leaves : List Leaf) (d 
   pub of_problem : IsDerivationOf problem 0 d
   pub leaves_are : leaves_of d ≡ leaves
 
--- such a proof whose leaves have column 0 and name their atoms' places among the model's atoms; and with whatever other leaves of
--- the same atoms in their places it is one still
+-- such a proof whose leaves have column 0 and name their atoms' places among the model's atoms; and with whatever other leaves of the same
+-- atoms in their places it still is one
 pub record IsAnswerProof (problem : Problem) (atoms : List Atom) (atom : Atom) (d : Derivation) : Type 0 where
   pub here : IsRowProof problem atom (leaves_of d) d
   pub placed : All (λ leaf. (leaf.column ≡ 0) × (slice_get atoms leaf.index ≡ Some leaf.atom)) (leaves_of d)

@@ -1,11 +1,10 @@
 -- What the prover reads of a problem and a model, and by which rules it proves.
-use Rattle.std.specs.Prelude.{ℕ, ◌<◌, List, map, flat_map, Contains}
+use Rattle.std.specs.Prelude.{ℕ, List, map, flat_map, Contains}
 use Rattle.px_terms.specs.declared.atom.Atom.{Atom}
 use Rattle.px_terms.specs.declared.clause.Clause.{Clause}
 use Rattle.px_terms.specs.declared.problem.Problem.{Problem}
 use Rattle.px_terms.specs.declared.problem.Schema.{Schema}
-use Rattle.px_terms.specs.declared.term.Term.{Term}
-use Rattle.px_terms.specs.declared.term.Term.TheVariants.{Obj, Var, Any}
+use Rattle.px_terms.specs.Language.{IsObjectBelow}
 use Rattle.px_proof.specs.Proves.{Rules, from_places, with_gaps}
 
 -- the objects, the axioms, the facts in their order, the predicates that some operator adds, the greatest height of a
@@ -33,20 +32,14 @@ setting_of problem atoms = record {
   limit = problem.shapes;
 }
 
--- the term is an object below the number
-abbrev pub IsObjectBelow : ℕ → Term → Type 0
-IsObjectBelow objects (Obj n) = n < objects
-IsObjectBelow objects (Var v) = ⊥
-IsObjectBelow objects Any = ⊥
-
 -- finished proofs, whose steps choose objects of the problem, and whose leaves name the places of facts
 abbrev pub proofs_in : Setting → Rules
 proofs_in s = from_places (IsObjectBelow s.objects) s.facts
 
 -- some operator adds the predicate of the atom
-abbrev pub IsAddable : Setting → Atom → Type 0
-IsAddable s atom = Contains s.added atom.pred
+abbrev pub IsAddableIn : Setting → Atom → Type 0
+IsAddableIn s atom = Contains s.added atom.pred
 
 -- loose gap proofs: an atom whose predicate some operator adds may be closed by a gap, provable or not
 abbrev pub loose_gaps_in : Setting → Rules
-loose_gaps_in s = with_gaps (IsAddable s) (proofs_in s)
+loose_gaps_in s = with_gaps (IsAddableIn s) (proofs_in s)

@@ -25,9 +25,9 @@ pub fn answers_make_rows()
     ensures { AnswersMakeRows }
 {}
 
-/// A question from fewer facts has no more: its lists of proofs are lists of proofs from the other facts once their
-/// leaves name the places there, and where fewer shapes than the limit exist from the other facts, fewer exist from
-/// these. This is a law about the definitions.
+/// A question from fewer facts has no more proofs and shapes: its lists of proofs are lists of proofs from the other facts once their
+/// leaves name the places there, and where fewer shapes than the limit exist from the other facts, fewer exist from these. This is a law
+/// about the definitions.
 pub fn fewer_facts_have_no_more()
     ensures { FewerFactsHaveNoMore }
 {}
@@ -43,8 +43,8 @@ pub fn few_or_limited()
     ensures { FewOrLimited }
 {}
 
-/// Proving a formula meets the limit, or has a first answer with fewer shapes before it, or has none and fewer shapes
-/// exist; and so of unfinished gap proofs. What doesn't meet a limit stays below it. This is a law about the definitions.
+/// Proving a formula meets the limit, or has a first answer with fewer shapes before it, or has no answer and fewer shapes exist; for
+/// unfinished gap proofs it is alike. What doesn't meet a limit stays below it. This is a law about the definitions.
 pub fn questions_are_decided()
     ensures { QuestionsAreDecided }
 {}

@@ -20,7 +20,7 @@ fn laws_are_calls(_rt: HostRuntime) {
     gap_lists_are_ordered();
 }
 
-/// The gap list of one object and one atom.
+/// Returns the gap list of one object and one atom.
 fn gap_list(alloc: Global, object: u32, gap: Atom) -> Result<GapList, NoMemory> {
     let objects = Sequence::from_vec(Vec::from_array(alloc, [object])?);
     let gaps = Sequence::from_vec(Vec::from_array(alloc, [gap])?);

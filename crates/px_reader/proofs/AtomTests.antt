@@ -1,11 +1,13 @@
 -- Tests of the code's atoms, as tests of a line's.
-use Rattle.px_reader.proofs.Common.{◌≡◌, ℕ, Bool, List, [], ◌∷◌, ◌++◌, map, length, refl, sym, ap, ◌∙◌, ◌||◌, ◌==◌, not, slice_index, list_any, flat_map, append-nil, length-map, list_any-append, has_name, has_wrong_arity, is_known_argument, Declared, number_in, atoms_of, arguments_of, wanted_by_edit, Line, list_any-map, list_any_flat, argument_view, signed_view, room_edit_view, binding_view, lacks, lacks_argument, WrittenBinding, list_all-map, WrittenAtom}
+use Rattle.px_reader.proofs.Common.{◌≡◌, ℕ, Bool, List, [], ◌∷◌, ◌++◌, map, length, refl, sym, ap, ◌∙◌, ◌||◌, ◌==◌, not, slice_index, list_any, flat_map, append-nil, length-map, list_any-append, has_name, has_wrong_arity, is_known_argument, Declared, number_in, line_atoms, arguments_of, wanted_by_edit, Line, list_any-map, list_any_flat, position-map, some-position, argument_view, signed_view, room_edit_view, binding_view, lacks, lacks_argument, WrittenBinding, list_all-map, WrittenAtom}
 use Rattle.px_script.specs.Items as items
-use Rattle.px_reader.specs.declared.statement.Argument.{Argument}
 use Rattle.px_reader.specs.declared.statement.WrittenRoomEdit.{WrittenRoomEdit}
 
 -- a test of all, of items seen otherwise
 pub ruleset all_maps = (list_all-map)
+
+-- a place among items seen otherwise
+pub ruleset positions = (list_any-map, position-map, some-position)
 
 -- the arguments of atoms, one atom after another
 abbrev pub arguments : List items.SignedAtom → List items.Argument
@@ -24,13 +26,13 @@ module _ (l : Line) (atoms : List WrittenAtom) where
       → list_any (λ atom. list_any (λ a. p (argument_view a)) atom.arguments.items) atoms ≡ list_any p (arguments_of l)
   arguments-any p are = sym (atoms-any p atoms) ∙ ap (list_any p) are
 
-  pub predicates-lack : (names : List (List ℕ)) → map signed_view atoms ≡ atoms_of l
+  pub predicates-lack : (names : List (List ℕ)) → map signed_view atoms ≡ line_atoms l
       → list_any (λ atom. not (has_name atom.predicate.now names)) atoms
-      ≡ list_any (λ x. not (has_name x.atom.predicate names)) (atoms_of l)
+      ≡ list_any (λ x. not (has_name x.atom.predicate names)) (line_atoms l)
   predicates-lack names are = sym (list_any-map (λ x. not (has_name x.atom.predicate names)) signed_view atoms)
       ∙ ap (list_any (λ x. not (has_name x.atom.predicate names))) are
 
-  pub arities-differ : (d : Declared) → map signed_view atoms ≡ atoms_of l
+  pub arities-differ : (d : Declared) → map signed_view atoms ≡ line_atoms l
       → list_any (λ atom. not (length atom.arguments.items == slice_index d.arities (number_in atom.predicate.now d.names.predicates)))
       atoms ≡ has_wrong_arity d l
   arities-differ d are = sym (step atoms)
@@ -43,12 +45,12 @@ module _ (l : Line) (atoms : List WrittenAtom) where
       step [] = refl
       step (atom ∷ more) = rw (length-map atom.arguments.items argument_view, step more) refl
 
-  pub names-lack : (d : Declared) → map signed_view atoms ≡ atoms_of l → arguments (map signed_view atoms) ≡ arguments_of l
+  pub names-lack : (d : Declared) → map signed_view atoms ≡ line_atoms l → arguments (map signed_view atoms) ≡ arguments_of l
       → (list_any (λ atom. not (has_name atom.predicate.now d.names.predicates)) atoms || list_any (lacks_argument d) atoms)
-      ≡ (list_any (λ x. not (has_name x.atom.predicate d.names.predicates)) (atoms_of l) || list_any (λ a. not (is_known_argument d a))
+      ≡ (list_any (λ x. not (has_name x.atom.predicate d.names.predicates)) (line_atoms l) || list_any (λ a. not (is_known_argument d a))
       (arguments_of l))
   names-lack d are arguments-are = ap (λ b. b || list_any (lacks_argument d) atoms) (predicates-lack d.names.predicates are)
-      ∙ ap (λ b. list_any (λ x. not (has_name x.atom.predicate d.names.predicates)) (atoms_of l) || b)
+      ∙ ap (λ b. list_any (λ x. not (has_name x.atom.predicate d.names.predicates)) (line_atoms l) || b)
       (arguments-any (λ a. not (is_known_argument d a)) arguments-are)
 
 -- names outside atoms

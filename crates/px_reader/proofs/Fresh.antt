@@ -1,5 +1,5 @@
 -- The names that a line without a fault declares are fresh: they are names, no two of a kind are equal, and there is room for them.
-use Rattle.px_reader.proofs.Common.{◌≡◌, ◌≤◌, ℕ, true, List, [], ◌∷◌, ◌++◌, map, length, refl, sym, ap, ◌∙◌, subst, arith, chars, all_scalars, and_parts, get_or-append_seam, length-append, NameLists, Lexeme, name, Lexes, Statement, line_of, is_formed, Declared, greatest, well-formed, line-kept, IsFaultless, AreInRange, AreOfKinds, IsFresh, IsNamed, leaves, text_of, Bor, AllByRecursion, IsName, is_name, get_or_append_left, chars-encodes, IsWelcome, names_in, Kind, IsLexeme, most_objects, most_commands, Limit}
+use Rattle.px_reader.proofs.Common.{◌≡◌, ◌≤◌, ℕ, true, List, [], ◌∷◌, ◌++◌, map, length, refl, sym, ap, ◌∙◌, subst, arith, chars, all_scalars, and_parts, get_or-append_seam, length-append, NameLists, Lexeme, name, Lexes, Statement, line_of, is_formed, Declared, greatest, well-formed, line-kept, IsFaultless, AreInRange, AreOfKinds, IsFresh, IsNameLexeme, leaves, text_of, Bor, AllByRecursion, IsName, is_name, get_or_append_left, chars-encodes, IsWelcome, names_in, Kind, IsLexeme, most_objects, most_commands, Limit}
 
 -- ---- the names in the lexemes of a line are names
 
@@ -8,11 +8,12 @@ scalars-parts [] ys e = (refl, e)
 scalars-parts (x ∷ xs) ys e =
     let both = and_parts _ (all_scalars (xs ++ ys)) e in let more = scalars-parts xs ys both.1 in (rw (both.0, more.0) refl, more.1)
 
-text-named : (l : Lexeme) (text : List ℕ) → IsLexeme l text → all_scalars text ≡ true → IsNamed l
+text-named : (l : Lexeme) (text : List ℕ) → IsLexeme l text → all_scalars text ≡ true → IsNameLexeme l
 text-named (name n) text is scalars = ap is_name (ap chars is.1 ∙ chars-encodes text scalars) ∙ is.0
 text-named _ text is scalars = tt
 
-pub lexemes-named : (lexemes : List Lexeme) (line : List ℕ) → all_scalars line ≡ true → Lexes line lexemes → AllByRecursion IsNamed lexemes
+pub lexemes-named : (lexemes : List Lexeme) (line : List ℕ) → all_scalars line ≡ true → Lexes line lexemes
+    → AllByRecursion IsNameLexeme lexemes
 lexemes-named [] line scalars lexes = tt
 lexemes-named (l ∷ lexemes) line scalars (rest, begins, more) =
     let outer = scalars-parts begins.blanks (begins.text ++ rest) (sym (ap all_scalars begins.whole) ∙ scalars) in
@@ -20,7 +21,7 @@ lexemes-named (l ∷ lexemes) line scalars (rest, begins, more) =
     (text-named l begins.text begins.is_lexeme inner.0, lexemes-named lexemes rest inner.1 more)
 
 -- the names of a line of objects
-pub objects-named : (names : List (Bor (List ℕ))) → AllByRecursion IsNamed (map name (map text_of names) ++ [])
+pub objects-named : (names : List (Bor (List ℕ))) → AllByRecursion IsNameLexeme (map name (map text_of names) ++ [])
     → AllByRecursion (λ n. IsName n.now) names
 objects-named [] named = tt
 objects-named (n ∷ names) named = (named.0, objects-named names named.1)

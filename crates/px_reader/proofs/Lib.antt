@@ -1,3 +1,4 @@
+-- The files of lemmas.
 pub mod Common
 -- characters and tokens
 pub mod Texts

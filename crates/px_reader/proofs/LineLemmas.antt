@@ -1,8 +1,8 @@
 -- Lines without what ends them, and what reading a line shows.
-use Rattle.px_reader.proofs.Common.{AllByRecursion, IsNamed, all_scalars, spelling, subst, ◌≡◌, ◌≢◌, ℕ, ◌+◌, ◌-◌, ◌<◌, true, List, [], ◌∷◌, ◌++◌, take, drop, length, get_or, refl, sym, ap, ◌∙◌, inl, inr, arith, Option, None, Some, Result, Ok, Err, IfOk, slice_index, ◌==◌, bytes_eq, eqb-true, take-append-drop, take_more, take_all, bytes_eq-Decides, Lexeme, Lexes, mark, without_mark, without_return, Statement, line_of, Forms, begins_with_word, is_formed, Declared, coded, Stage, Fails, parse-sound, parse-complete, by_test, parse, HasFault, LineEnds, HasCharAt, after_line, MatchOption}
+use Rattle.px_reader.proofs.Common.{AllByRecursion, IsNameLexeme, all_scalars, spelling, subst, ◌≡◌, ◌≢◌, ℕ, ◌+◌, ◌-◌, ◌<◌, true, List, [], ◌∷◌, ◌++◌, take, drop, length, get_or, refl, sym, ap, ◌∙◌, inl, inr, arith, Option, None, Some, Result, Ok, Err, IfOk, slice_index, ◌==◌, bytes_eq, eqb-true, take-append-drop, take_more, take_all, bytes_eq-Decides, Lexeme, Lexes, mark, without_mark, without_return, Statement, line_of, Forms, begins_with_word, is_formed, Declared, coded, Stage, Fails, parse-sound, parse-complete, by_test, parse, HasFault, LineEnds, HasCharAt, after_line, MatchOption}
 use Rattle.std.specs.Prelude.{encode_utf8}
 use Rattle.px_base.specs.declared.no_memory.NoMemory.{NoMemory}
-use Rattle.px_reader.specs.declared.fault.Fault.{Fault}
+use Rattle.px_reader.specs.declared.fault.LineFault.{LineFault}
 use Rattle.px_reader.proofs.Fresh.{lexemes-named}
 use lib.Utf8.{encode}
 
@@ -36,11 +36,11 @@ module _ (stage : Stage) (d : Declared) (line : List ℕ) where
   formed lexemes s e = (form lexemes s e).1
 
   pub named : (lexemes : List Lexeme) → Lexes line lexemes → all_scalars line ≡ true → (s : Statement) → Some s ≡ parse d lexemes
-      → AllByRecursion IsNamed (spelling s)
-  named lexemes lexes scalars s e = subst (AllByRecursion IsNamed) (form lexemes s e).0 (lexemes-named lexemes line scalars lexes)
+      → AllByRecursion IsNameLexeme (spelling s)
+  named lexemes lexes scalars s e = subst (AllByRecursion IsNameLexeme) (form lexemes s e).0 (lexemes-named lexemes line scalars lexes)
 
   pub ends-read : (n : ℕ) (after : Declared) (lexemes : List Lexeme) → Lexes line lexemes → (s : Statement) → Some s ≡ parse d lexemes
-      → (r : Result (Option Fault) NoMemory) → IfOk r (HasFault stage d s)
+      → (r : Result (Option LineFault) NoMemory) → IfOk r (HasFault stage d s)
       → IfOk r (λ fault. MatchOption fault (after ≡ after_line n d s) (λ _. Unit {0})) → IfOk r (LineEnds stage n d line after)
   ends-read n after [] lexes s e r fault declared = cc
   ends-read n after (x ∷ xs) lexes s e (Ok None) fault declared = (x ∷ xs, lexes, (s, form (x ∷ xs) s e, fault, declared))

@@ -1,5 +1,5 @@
 -- What reading a text, and bytes, ends with.
-use Rattle.px_reader.proofs.Common.{◌≡◌, ℕ, ◌+◌, ◌≤◌, List, [], ◌∷◌, map, take, length, refl, sym, ap, ◌∙◌, subst, inr, arith, Some, Result, Ok, Err, IfOk, IfErr, count_by, ◌==◌, IsErrAnd, slice_split, IsUtf8, bytes_eq, chars, length-map, length-drop, map-map, count_by-le-length, ScriptValue, Declared, OpenBlock, Refusal, mark, without_mark, without_return, lines_of, Stage, PassAll, FailsIn, IsScript, FirstFault, ReadsOneWay, by_test, of-stage, characters_of, LinesFail, HasFirstFault, IsRead, IsRefused, content, refusal_told, Bor, IsOfStage}
+use Rattle.px_reader.proofs.Common.{◌≡◌, ℕ, ◌+◌, ◌≤◌, List, [], ◌∷◌, map, take, length, refl, sym, ap, ◌∙◌, subst, inr, arith, Some, Result, Ok, Err, IfOk, IfErr, count_by, ◌==◌, IsErrAnd, slice_split, IsUtf8, bytes_eq, chars, length-map, length-drop, map-map, count_by-le-length, ScriptValue, Declared, OpenBlock, Refusal, mark, without_mark, without_return, lines_of, Stage, PassAll, FailsIn, IsScript, FirstFault, ReadsOneWay, by_test, of-stage, characters_of, LinesFail, HasFirstFault, IsRead, IsLineRefused, content, refusal_told, Bor, IsOfStage}
 use Rattle.std.proofs.lemmas.List.Splits.{length-slice_split}
 use Rattle.px_script.proofs.Law.{reads-one-way}
 use Rattle.px_reader.specs.declared.script.Script.{Script}
@@ -51,7 +51,7 @@ module _ (stage : Stage) (bytes : List ℕ) where
   all-scripts (Err NoMemory) script fault value is = refl
 
   pub all-faults : (r : Result Script ScriptErr) → IfOk r (λ s. IsScript stage bytes (content s)) → IfErr r (HasFirstFault stage bytes)
-      → (line : ℕ) (refusal : Refusal) → FirstFault stage bytes line refusal → IsRefused r line refusal
+      → (line : ℕ) (refusal : Refusal) → FirstFault stage bytes line refusal → IsLineRefused r line refusal
   all-faults (Ok s) script fault line refusal first = law.not_both script.last line refusal script.spells first
   all-faults (Err (Refused refused)) script fault line refusal first =
       law.one_fault refused.line line (refusal_told refused) refusal fault first

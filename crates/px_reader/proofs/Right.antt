@@ -1,5 +1,5 @@
 -- What a line without a fault lets a step take for granted.
-use Rattle.px_reader.proofs.Common.{◌≡◌, ℕ, ◌≤◌, true, List, [], ◌∷◌, ◌++◌, map, length, get_or, false, refl, sym, ap, ◌∙◌, subst, inl, inr, arith, All, Option, None, Some, slice_index, get_or-append_seam, eqb-true, cases_lt, append-nil, length-map, get_or_past, ArePlainBelow, IsClause, IsGround, has_wrong_arity, Declared, OpenOperator, operator_here, parameters_of, number_in, atom_of, literal_of, clause_of, variables_of, own_problem, atoms_of, is_formed, SignedAtom, Line, Statement, plain, line_of, «axiom», fact, IsRight, IsFaultless, stands-right, at-top, has_other_arity, atoms-right, line-kept, well-formed, atoms-with, unmap, no-parameters, OperatorsInRange, AreInRange, not-false, each-fails, AreReadable, argument_view, signed_view, WrittenAtom, length-append}
+use Rattle.px_reader.proofs.Common.{◌≡◌, ℕ, ◌≤◌, true, List, [], ◌∷◌, ◌++◌, map, length, get_or, false, refl, sym, ap, ◌∙◌, subst, inl, inr, arith, All, Option, None, Some, slice_index, get_or-append_seam, eqb-true, cases_lt, append-nil, length-map, get_or_past, ArePlainBelow, IsClause, IsGround, has_wrong_arity, Declared, OpenOperator, operator_here, parameters_of, number_in, atom_of, literal_of, clause_of, variable_names_of, own_problem, line_atoms, is_formed, SignedAtom, Line, Statement, plain, line_of, «axiom», fact, IsRight, IsFaultless, stands-right, at-top, has_other_arity, atoms-right, line-kept, well-formed, atoms-with, unmap, no-parameters, OperatorsInRange, AreInRange, not-false, each-fails, AreReadable, argument_view, signed_view, WrittenAtom, length-append}
 use Rattle.px_terms.specs.ValidityLaws.{atom_of-is_ground}
 
 few-in : (d : Declared) (o : Option OpenOperator) → OperatorsInRange d.version d.names (own_problem d) d.things o
@@ -15,12 +15,12 @@ arity-small arities small k = elim (cases_lt k (length arities)) [
 ]
 
 -- no atom of a line has more than six arguments
-sizes : (d : Declared) (l : Line) → AreInRange d → has_wrong_arity d l ≡ false → All (λ x. length x.atom.arguments ≤ 6) (atoms_of l)
+sizes : (d : Declared) (l : Line) → AreInRange d → has_wrong_arity d l ≡ false → All (λ x. length x.atom.arguments ≤ 6) (line_atoms l)
 sizes d l r right = each-fails (has_other_arity d) (λ x. length x.atom.arguments ≤ 6)
     (λ x e. let count : length x.atom.arguments ≡ slice_index d.arities (number_in x.atom.predicate d.names.predicates) = eqb-true _ _
     (not-false _ e) in
     let small = arity-small d.arities r.problem.arities (number_in x.atom.predicate d.names.predicates) in omega (arith, count, small))
-    (atoms_of l) right
+    (line_atoms l) right
 
 -- the facts of a line have objects alone
 facts-are : (d : Declared) (xs : List SignedAtom) → AreInRange d → IsRight d (fact xs) → All IsGround (map (atom_of d []) xs)
@@ -29,9 +29,9 @@ facts-are d xs r f = let top = at-top d (line_of (fact xs)) (stands-right d (lin
     (atoms-right d (fact xs) xs (record { atoms = refl; arguments = refl }) f) in
     λ k a below. atom_of-is_ground (own_problem d) _ (all k a below)
 
--- the atoms of a line can be told by numbers
+-- the atoms of a line can be written by numbers
 pub readable : (d : Declared) (s : Statement) (atoms slice : List WrittenAtom) → slice ≡ atoms → AreInRange d → IsRight d s
-    → atoms_of (line_of s) ≡ map signed_view atoms ++ [] → AreReadable d slice
+    → line_atoms (line_of s) ≡ map signed_view atoms ++ [] → AreReadable d slice
 readable d s atoms slice is r right are = let P : List SignedAtom → Type 0 = All (λ x. length x.atom.arguments ≤ 6) in
     let viewed = unmap signed_view (λ x. length x.atom.arguments ≤ 6) atoms
     (subst P (are ∙ append-nil (map signed_view atoms)) (sizes d (line_of s) r right.arity)) in subst (AreReadable d) (sym is) (record {
@@ -47,7 +47,7 @@ facts-ground d atoms r right = unmap signed_view (λ x. IsGround (atom_of d [] x
 
 -- the new clause is the last of the axioms
 pub axiom-plain : (d : Declared) (xs : List SignedAtom) → AreInRange d → is_formed d (line_of («axiom» xs)) ≡ true
-    → IsFaultless d («axiom» xs) → ArePlainBelow (length (variables_of xs)) (map (literal_of d (variables_of xs)) xs)
+    → IsFaultless d («axiom» xs) → ArePlainBelow (length (variable_names_of xs)) (map (literal_of d (variable_names_of xs)) xs)
 axiom-plain d xs r formed f = let after = line-kept 0 d r («axiom» xs) (well-formed d (line_of («axiom» xs)) formed) f in
     let last = after.problem.valid.arena.each (length d.axioms) (clause_of d xs)
     (omega (arith, length-append d.axioms (clause_of d xs ∷ []))) in

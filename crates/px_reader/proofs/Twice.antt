@@ -1,5 +1,5 @@
 -- Names, and numbers, of which one stands twice: there are fewer different ones than all.
-use Rattle.px_reader.proofs.Common.{◌≡◌, ℕ, suc, Bool, true, false, List, [], ◌∷◌, ◌++◌, map, length, refl, sym, ap, ◌∙◌, arith, ◌==◌, ◌||◌, nat_lt, cond, list_any, filter, nat_cmp, is_eq, ordering_then, Ordering, Less, Equal, Greater, nat_tests, list_any-append, length-map, is_eq-slice_cmp, bytes_eq, bytes_eq-Decides, has_name, repeats, repeats-cons, stands_twice, binds_twice, binding_view, by_test, WrittenBinding, Bor, text_cmp, text_of, both_answers, eq_by_cmp, Binding, list_any_none}
+use Rattle.px_reader.proofs.Common.{◌≡◌, ℕ, suc, Bool, true, false, List, [], ◌∷◌, ◌++◌, map, length, refl, sym, ap, ◌∙◌, arith, ◌==◌, ◌||◌, nat_lt, cond, list_any, filter, nat_cmp, is_eq, ordering_then, Ordering, Less, Equal, Greater, nat_tests, list_any-append, length-map, is_eq-slice_cmp, bytes_eq, bytes_eq-Decides, has_name, repeats, repeats-cons, stands_twice, binds_twice, binding_view, by_test, WrittenBinding, Bor, text_cmp, text_of, both_answers, eq_by_cmp, Binding, list_any_none, list_any-map}
 pub use Rattle.std.proofs.Math.Bool.{or-false as or_false}
 use Rattle.std.specs.BTreeSet.{BTreeSet, IsFromIterResult, btree_set_len}
 use Rattle.std.specs.Cmp.{IsTotalOrder}
@@ -117,3 +117,7 @@ binds-fewer bindings different are =
     ∙ ap (λ b. b || nat_lt (distinct_count (eq_by_cmp nat_cmp) (numbers bindings)) (length (numbers bindings)))
     (list_any_none (λ k. has_name (as_name k) []) (numbers bindings) (λ k d below. refl)))
     ∙ binds-repeats bindings
+
+pub ruleset fewer_different = (binds-fewer, names-taken, names-repeat)
+
+pub ruleset long_names = (or_false, list_any-map)

@@ -1,5 +1,5 @@
 -- The different variables of atoms.
-use Rattle.px_reader.proofs.Common.{◌≡◌, ℕ, ◌<◌, ◌≤◌, Bool, true, false, List, [], ◌∷◌, ◌++◌, map, take, length, refl, sym, ap, ◌∙◌, append_assoc, arith, fold, nat_lt, if◌then◌else◌, append-nil, map-append, take_all, take-append-drop, drop, nat_tests, has_name, with_variable, variables_of, Argument, open_variable, signed_view, WrittenAtom, length-append, flat_map-append, fold-append}
+use Rattle.px_reader.proofs.Common.{◌≡◌, ℕ, ◌<◌, ◌≤◌, Bool, true, false, List, [], ◌∷◌, ◌++◌, map, take, length, refl, sym, ap, ◌∙◌, append_assoc, arith, fold, nat_lt, if◌then◌else◌, append-nil, map-append, take_all, take-append-drop, drop, nat_tests, has_name, with_variable, variable_names_of, Argument, open_variable, signed_view, WrittenAtom, length-append, flat_map-append, fold-append, length-map}
 use Rattle.px_reader.proofs.AtomTests.{arguments}
 
 -- one variable more, or none
@@ -23,18 +23,20 @@ grows seen (a ∷ xs) = let one = grown seen a in let more = grows (with_variabl
 
 -- the variables of all atoms, where no atom is left
 pub all-seen : (atoms : List WrittenAtom) (i : ℕ) → length atoms ≤ i
-    → fold with_variable [] (arguments (map signed_view (take i atoms))) ≡ variables_of (map signed_view atoms)
+    → fold with_variable [] (arguments (map signed_view (take i atoms))) ≡ variable_names_of (map signed_view atoms)
 all-seen atoms i past = ap (λ xs. fold with_variable [] (arguments (map signed_view xs))) (take_all i atoms past)
 
 -- where there are more than twelve in front, there are more than twelve
 pub many-seen : (atoms : List WrittenAtom) (i : ℕ) (seen : List (List ℕ))
     → seen ≡ fold with_variable [] (arguments (map signed_view (take i atoms))) → 12 < length seen
-    → true ≡ nat_lt 12 (length (variables_of (map signed_view atoms)))
+    → true ≡ nat_lt 12 (length (variable_names_of (map signed_view atoms)))
 many-seen atoms i seen is many = let rest = arguments (map signed_view (drop i atoms)) in
     let parts : arguments (map signed_view atoms) ≡ arguments (map signed_view (take i atoms)) ++ rest =
     ap (λ xs. arguments (map signed_view xs)) (sym (take-append-drop i atoms))
     ∙ ap arguments (map-append signed_view (take i atoms) (drop i atoms))
     ∙ flat_map-append (λ x. x.atom.arguments) (map signed_view (take i atoms)) (map signed_view (drop i atoms)) in
-    let more = grows seen rest in let whole : variables_of (map signed_view atoms) ≡ seen ++ more.0 = ap (fold with_variable []) parts
+    let more = grows seen rest in let whole : variable_names_of (map signed_view atoms) ≡ seen ++ more.0 = ap (fold with_variable []) parts
     ∙ fold-append with_variable [] (arguments (map signed_view (take i atoms))) rest ∙ ap (λ t. fold with_variable t rest) (sym is)
     ∙ more.1 in let size = ap length whole ∙ length-append seen more.0 in sym (grind (arith, nat_tests, size, many))
+
+pub ruleset seen = (all-seen, many-seen, length-map)

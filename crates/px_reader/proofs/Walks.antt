@@ -98,9 +98,14 @@ module _ {A : Type 0} (one : List Lexeme → Option (A × List Lexeme)) (advance
   all-none [] some e = absurd (omega (arith, some))
   all-none (x ∷ xs) some e = ap (after_one (all_within one (length xs))) e
 
-module _ {T A : Type 0} (view : T → A) (one : List Lexeme → Option (A × List Lexeme)) (advances : Advances one) (tokens : List Token)
-    (at : ℕ) (got : List T)
-    (whole : all_of one (lexemes_of tokens) ≡ before (map view got) (all_of one (lexemes_of (drop at tokens)))) where
+-- The tokens up to a place are these things: all are these and what the rest are.
+pub record AreReadTo {T A : Type 0} (view : T → A) (one : List Lexeme → Option (A × List Lexeme)) (tokens : List Token) (at : ℕ)
+    (got : List T) : Type 0 where
+  pub whole : all_of one (lexemes_of tokens) ≡ before (map view got) (all_of one (lexemes_of (drop at tokens)))
+  pub within : at ≤ length tokens
+
+module _ {T A : Type 0} {view : T → A} {one : List Lexeme → Option (A × List Lexeme)} (advances : Advances one) {tokens : List Token}
+    {at : ℕ} {got : List T} (read : AreReadTo view one tokens at got) where
   abbrev piece : List Token
   piece = take (length tokens - at) (drop at tokens)
 
@@ -108,29 +113,27 @@ module _ {T A : Type 0} (view : T → A) (one : List Lexeme → Option (A × Lis
   piece-is = take_all (length tokens - at) (drop at tokens) (omega (arith, length-drop at tokens))
 
   pub things-more : at < length tokens → (thing : T) (count : ℕ) → Some (view thing, lexemes_of (drop count piece)) ≡ one (lexemes_of piece)
-      → (0 < count) × (count ≤ length piece) → (new : List T) → new ≡ got ++ thing ∷ []
-      → (all_of one (lexemes_of tokens) ≡ before (map view new) (all_of one (lexemes_of (drop (at + count) tokens))))
-      × (at + count ≤ length tokens)
+      → (0 < count) × (count ≤ length piece) → (new : List T) → new ≡ got ++ thing ∷ [] → AreReadTo view one tokens (at + count) new
   things-more below thing count e within new is =
       let rest : Some (view thing, lexemes_of (drop (at + count) tokens)) ≡ one (lexemes_of (drop at tokens)) =
       ap (λ t. Some (view thing, lexemes_of t)) (sym (drop-drop count at tokens))
-      ∙ ap (λ t. Some (view thing, lexemes_of (drop count t))) (sym piece-is) ∙ e ∙ ap (λ t. one (lexemes_of t)) piece-is in (
-        whole ∙ ap (before (map view got)) (all-first one advances (lexemes_of (drop at tokens)) (view thing)
+      ∙ ap (λ t. Some (view thing, lexemes_of (drop count t))) (sym piece-is) ∙ e ∙ ap (λ t. one (lexemes_of t)) piece-is in record {
+        whole = read.whole ∙ ap (before (map view got)) (all-first one advances (lexemes_of (drop at tokens)) (view thing)
             (lexemes_of (drop (at + count) tokens)) rest)
             ∙ before-more (map view got) (view thing) (all_of one (lexemes_of (drop (at + count) tokens)))
             ∙ ap (λ t. before t (all_of one (lexemes_of (drop (at + count) tokens))))
-            (sym (ap (map view) is ∙ map-append view got (thing ∷ []))),
-        omega (arith, within.1, ap length piece-is, length-drop at tokens, below),
-      )
+            (sym (ap (map view) is ∙ map-append view got (thing ∷ [])));
+        within = omega (arith, within.1, ap length piece-is, length-drop at tokens, below);
+      }
 
   pub things-none : at < length tokens → None ≡ one (lexemes_of piece) → None ≡ all_of one (lexemes_of tokens)
   things-none below e = let long : 0 < length (lexemes_of (drop at tokens)) = omega
       (arith, length-map (drop at tokens) lexeme_of, length-drop at tokens, below) in
       ap (before (map view got)) (all-none one advances (lexemes_of (drop at tokens)) long (e ∙ ap (λ t. one (lexemes_of t)) piece-is))
-      ∙ sym whole
+      ∙ sym read.whole
 
   pub things-end : length tokens ≤ at → Some (map view got) ≡ all_of one (lexemes_of tokens)
-  things-end ended = sym (whole ∙ ap (λ t. before (map view got) (all_of one (lexemes_of t))) (drop_all at tokens ended)
+  things-end ended = sym (read.whole ∙ ap (λ t. before (map view got) (all_of one (lexemes_of t))) (drop_all at tokens ended)
       ∙ ap (before (map view got)) (all-ended one advances 0) ∙ ap Some (append-nil (map view got)))
 
 -- ---- items

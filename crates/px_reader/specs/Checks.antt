@@ -1,4 +1,4 @@
--- Tests of the code's statements, and of what it has of them.
+-- Tests of the code's statements, and of what it keeps of them.
 use Rattle.px_script.specs.Declarations.{Declared, OpenOperator, parameters_here, names_here}
 use Rattle.px_script.specs.Stages.{Stage}
 use Rattle.std.specs.List.{list_any}
@@ -19,30 +19,30 @@ use Rattle.px_reader.specs.StatementViews.{argument_view}
 use Rattle.px_reader.specs.declared.fault.Limit.{Limit}
 use Rattle.px_reader.specs.declared.statement.SignedAtom.{SignedAtom}
 
--- a lexeme that is to be a name is one
-abbrev pub IsNamed : Lexeme → Type 0
-IsNamed (name text) = IsName text
-IsNamed _ = Unit {0}
+-- a lexeme that has to be a name is one
+abbrev pub IsNameLexeme : Lexeme → Type 0
+IsNameLexeme (name text) = IsName text
+IsNameLexeme _ = Unit {0}
 
 -- the names of a kind are different, and no more than there may be
 pub record AreOfKind (kind : Kind) (names : List (List ℕ)) : Type 0 where
   pub distinct : AreDistinct names
   pub few : length names ≤ limit_of kind
 
--- the names of each kind are so
+-- the names of each kind are like this
 pub record AreOfKinds (names : NameLists) : Type 0 where
   pub objects : AreOfKind kind.Object names.objects
   pub predicates : AreOfKind kind.Predicate names.predicates
   pub operators : AreOfKind kind.Operator names.operators
   pub results : AreOfKind kind.Result names.results
 
--- the name is one, is new to its kind, and there is room for it
+-- the name is a name and new to its kind, and there is room for it
 abbrev pub IsFresh : Kind → NameLists → List ℕ → Type 0
 IsFresh kind names n = IsName n × AreOfKind kind (names_of kind names ++ n ∷ [])
 
 -- an atom with a variable
-abbrev pub varies : SignedAtom → Bool
-varies atom = list_any (λ a. spec.is_variable (argument_view a)) atom.arguments.items
+abbrev pub atom_varies : SignedAtom → Bool
+atom_varies atom = list_any (λ a. spec.is_variable (argument_view a)) atom.arguments.items
 
 -- some argument of the atom isn't declared
 abbrev pub lacks_argument : Declared → SignedAtom → Bool
@@ -63,7 +63,7 @@ grown_by o (delete atoms) = grown o (λ schema. length schema.del) atoms
 grown_by o (add atoms) = grown o (λ schema. length schema.add) atoms
 grown_by o _ = 0
 
--- the atoms can be told by numbers: none has more than six arguments, and the open operator has no more than eight parameters
+-- the atoms can be given by numbers: none has more than six arguments, and the open operator has no more than eight parameters
 pub record AreReadable (d : Declared) (atoms : List SignedAtom) : Type 0 where
   pub few : length (parameters_here d) ≤ 8
   pub sizes : All (λ atom. length atom.arguments.items ≤ 6) atoms
@@ -85,6 +85,6 @@ early_limits d s = (has_long_name d (line_of s), number_of name_bytes) ∷ early
 abbrev pub early_fault : Stage → Declared → Statement → Option Refusal
 early_fault stage d s = first_of (causes_with stage d s (early_limits d s))
 
--- the first of these limits that is passed, if one is
+-- the first of these limits that is passed, if any is
 abbrev pub IsFirstLimit : Option Limit → List (Bool × ℕ) → Type 0
 IsFirstLimit found tests = option_map limit_refusal found ≡ first_of (map passed tests)

@@ -1,8 +1,8 @@
 -- What the definitions see of faults.
 use Rattle.std.specs.Prelude.{ℕ}
 use Rattle.px_script.specs.Faults.{Refusal, coded}
-use Rattle.px_reader.specs.declared.fault.Fault.{Fault}
-use Rattle.px_reader.specs.declared.fault.Fault.TheVariants as fault
+use Rattle.px_reader.specs.declared.fault.LineFault.{LineFault}
+use Rattle.px_reader.specs.declared.fault.LineFault.TheVariants as fault
 use Rattle.px_reader.specs.declared.fault.Limit.{Limit}
 use Rattle.px_reader.specs.declared.fault.Limit.TheVariants as limit
 
@@ -28,7 +28,7 @@ limit_number limit.Numbers = 16
 abbrev pub limit_refusal : Limit → Refusal
 limit_refusal limit = record { code = 8; limit = limit_number limit }
 
-abbrev pub refusal_of : Fault → Refusal
+abbrev pub refusal_of : LineFault → Refusal
 refusal_of fault.NotText = coded 1
 refusal_of fault.BadToken = coded 2
 refusal_of fault.UnknownWord = coded 3

@@ -1,3 +1,4 @@
+-- The files of definitions and laws.
 pub mod CommandViews
 pub mod StatementViews
 pub mod LineViews

@@ -9,7 +9,7 @@ use Rattle.std.specs.Str.{chars}
 use Rattle.px_script.specs.Faults.{Refusal, fault_at}
 use Rattle.px_script.specs.Lines.{without_return}
 use Rattle.px_script.specs.Scripts.{Passes, Fails, FailsIn, FirstFault}
-use Rattle.px_reader.specs.declared.fault.Fault.{Fault}
+use Rattle.px_reader.specs.declared.fault.LineFault.{LineFault}
 use Rattle.px_reader.specs.declared.script.Refused.{Refused}
 use Rattle.px_reader.specs.declared.script.ScriptErr.{ScriptErr}
 use Rattle.px_reader.specs.declared.script.ScriptErr.TheVariants as script
@@ -24,11 +24,11 @@ abbrev pub stage_view : List (Bor (List ℕ)) → Stage
 stage_view words = map text_of words
 
 -- this is the first fault of a statement, if it has one
-abbrev pub HasFault : Stage → Declared → Statement → Option Fault → Type 0
+abbrev pub HasFault : Stage → Declared → Statement → Option LineFault → Type 0
 HasFault stage d s fault = fault_at stage d s ≡ option_map refusal_of fault
 
 -- a line has no fault and leaves this, or has this first fault
-abbrev pub LineEnds : Stage → ℕ → Declared → List ℕ → Declared → Option Fault → Type 0
+abbrev pub LineEnds : Stage → ℕ → Declared → List ℕ → Declared → Option LineFault → Type 0
 LineEnds stage n d characters after None = Passes stage n d characters after
 LineEnds stage n d characters after (Some fault) = Fails stage d characters (refusal_of fault)
 
@@ -40,7 +40,7 @@ abbrev pub refusal_told : Refused → Refusal
 refusal_told refused = record { code = refused.code; limit = refused.limit }
 
 -- the refusal of an input for a fault of a line
-abbrev pub told : ℕ → Fault → ScriptErr
+abbrev pub told : ℕ → LineFault → ScriptErr
 told line fault = script.Refused (record { line = line; code = (refusal_of fault).code; limit = (refusal_of fault).limit })
 
 -- the lines have this first fault, unless memory ran out
@@ -62,7 +62,7 @@ abbrev pub IsRead : Result Script ScriptErr → ScriptValue → Type 0
 IsRead result value = MatchResult result (λ s. content s ≡ value) (λ error. error ≡ script.NoMemory)
 
 -- the input is refused, for this fault of this line unless memory ran out
-abbrev pub IsRefused : Result Script ScriptErr → ℕ → Refusal → Type 0
-IsRefused (Ok s) line refusal = ⊥
-IsRefused (Err (script.Refused refused)) line refusal = (refused.line ≡ line) × (refusal_told refused ≡ refusal)
-IsRefused (Err script.NoMemory) line refusal = Unit {0}
+abbrev pub IsLineRefused : Result Script ScriptErr → ℕ → Refusal → Type 0
+IsLineRefused (Ok s) line refusal = ⊥
+IsLineRefused (Err (script.Refused refused)) line refusal = (refused.line ≡ line) × (refusal_told refused ≡ refusal)
+IsLineRefused (Err script.NoMemory) line refusal = Unit {0}

@@ -30,8 +30,8 @@ abbrev pub kind_view : ℕ → block.BlockKind → BlockKind
 kind_view number (block.TheVariants.Operator o) = of_operator (operator_view number o)
 kind_view number block.TheVariants.Building = of_building
 
-abbrev pub block_view : ℕ → code.OpenBlock → OpenBlock
-block_view number block = record { line = block.line; kind = kind_view number block.kind }
+abbrev pub open_block_view : ℕ → code.OpenBlock → OpenBlock
+open_block_view number block = record { line = block.line; kind = kind_view number block.kind }
 
 -- In version 1 each result is a table, and there are no sorts.
 abbrev pub declared_of : Reader → Declared
@@ -56,7 +56,7 @@ declared_of reader = record {
   shapes = reader.shapes;
   commands = map command_view reader.commands.items;
   disturbs = reader.disturbs;
-  block = option_map (block_view (length reader.schemas.items)) reader.block;
+  block = option_map (open_block_view (length reader.schemas.items)) reader.block;
   own_domain = reader.own_domain;
   begun = reader.begun;
 }

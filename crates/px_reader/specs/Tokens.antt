@@ -26,7 +26,7 @@ Scans (Ok (Some answer)) first = (first ≡ found (lexeme_of answer.0) (chars an
 Scans (Ok None) first = first ≡ ignored
 Scans (Err e) first = first ≡ bad
 
--- a name stands at the front, and what follows it, or none does
+-- a name stands at the front, and what follows it, or no name does
 abbrev pub NameAt : List ℕ → Option (Bor (List ℕ) × Bor (List ℕ)) → Type 0
 NameAt [] None = Unit {0}
 NameAt [] (Some split) = ⊥
@@ -40,7 +40,7 @@ is_of Blank c = is_blank c
 is_of Continues c = is_xid_continue c
 is_of Digit c = is_ascii_digit c
 
--- the text is characters that pass, and then rest, which doesn't begin with one
+-- the text is characters that pass, and then the rest, which doesn't begin with one
 pub record Skips (p : ℕ → Bool) (text rest : List ℕ) : Type 0 where
   pub front : List ℕ
   pub whole : text ≡ front ++ rest

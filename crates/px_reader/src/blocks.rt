@@ -67,7 +67,7 @@ const OPERATORS: [&str; 7] = [
     "GOTOB", "GOTOD", "OPEN", "CLOSE", "GOTHRU", "PUSHD", "PUSHTHRU",
 ];
 
-/// The names as texts of their own.
+/// Returns the names as texts of their own.
 fn owned(alloc: Global, names: &[&str]) -> Result<Vec<String>, NoMemory>
     ensures { IfOk result (λ owned. map string_bytes owned.items ≡ map text_of names.now) }
 {

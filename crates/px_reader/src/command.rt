@@ -29,13 +29,13 @@ pub enum Command {
     Show {
         name: u32,
     },
-    /// Change facts from outside at a turn of the next run, between sensing and acting or before both.
+    /// Change facts from outside at a turn of the next run, between sensing and acting, or before both.
     DisturbAtoms {
         turn: u32,
         between: bool,
         edits: Sequence<AtomEdit>,
     },
-    /// The same for the places of a building.
+    /// Change the places of a building's things from outside, at such a point.
     DisturbRooms {
         turn: u32,
         between: bool,

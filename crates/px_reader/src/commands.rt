@@ -1,7 +1,7 @@
 //! The commands that lines add.
 ghost use Rattle.std.specs.Prelude.{◌≡◌, ◌≤◌, ◌<◌, ◌∷◌, [], length, map, IfOk, OnOk};
 ghost use Rattle.px_script.specs.Statements as spec;
-ghost use Rattle.px_reader.specs.Common.{IsFresh, variables_of, with_command, with_names, a_plan, AreReadable, command_view, declared_of, leaves, signed_view, room_edit_view, binding_view};
+ghost use Rattle.px_reader.specs.Common.{IsFresh, variable_names_of, with_command, with_names, a_plan, AreReadable, command_view, declared_of, leaves, signed_view, room_edit_view, binding_view};
 
 use crate::command::Command;
 use crate::reader::Reader;
@@ -19,7 +19,7 @@ impl Reader {
     }
 
     pub fn add_plan(&mut self, name: &str, goal: &[SignedAtom<'_>]) -> Result<(), NoMemory>
-        requires few_variables { length (variables_of (map signed_view goal.now)) ≤ 12 }
+        requires few_variables { length (variable_names_of (map signed_view goal.now)) ≤ 12 }
         requires readable { AreReadable (declared_of self.old) goal.now }
         requires fresh { IsFresh Kind.Result self.old.names name.now }
         ensures { OnOk result (declared_of self.new ≡ leaves 0 (declared_of self.old) (spec.plan name.now (map signed_view goal.now))) }
@@ -34,7 +34,7 @@ impl Reader {
         })
     }
 
-    /// Adds the name of a plan, and answers its number.
+    /// Adds the name of a plan, and returns its number.
     fn add_plan_name(&mut self, name: &str) -> Result<u32, NoMemory>
         requires { IsFresh Kind.Result self.old.names name.now }
         ensures number { IfOk result (λ number. number ≡ length self.old.names.results) }

@@ -7,7 +7,7 @@ ghost use Rattle.px_terms.specs.Clauses.{ArePlainBelow};
 ghost use Rattle.px_terms.specs.Instances.{IsGround};
 ghost use Rattle.px_script.specs.Statements as spec;
 ghost use Rattle.px_script.proofs.Faultless.{IsFaultless, IsRight};
-ghost use Rattle.px_reader.specs.Common.{AllByRecursion, AreOfKind, AreOfKinds, IsFresh, IsNamed, spelling, with_name, atom_of, literal_of, variables_of, is_formed, line_of, AreInRange, AreReadable, is_fact, declared_of, leaves, with_more, signed_view, statement_view, text_of};
+ghost use Rattle.px_reader.specs.Common.{AllByRecursion, AreOfKind, AreOfKinds, IsFresh, IsNameLexeme, spelling, with_name, atom_of, literal_of, variable_names_of, is_formed, line_of, AreInRange, AreReadable, is_fact, declared_of, leaves, with_more, signed_view, statement_view, text_of};
 
 use crate::blocks::Role;
 use crate::command::Command;
@@ -27,13 +27,13 @@ fn set(limit: &mut Option<u32>, number: u32) -> Result<(), NoMemory>
 }
 
 impl Reader {
-    /// Adds what the line says, where it has no fault but that there may be too many facts.
+    /// Adds what the line says, where it has no fault, except that there may be too many facts.
     pub fn declare(&mut self, line: u32, statement: Statement<'_>) -> Result<(), NoMemory>
         requires range { AreInRange (declared_of self.old) }
         requires formed { is_formed (declared_of self.old) (line_of (statement_view statement)) ≡ true }
         requires right { IsRight (declared_of self.old) (statement_view statement) }
         requires faultless { is_fact (statement_view statement) ≡ false → IsFaultless (declared_of self.old) (statement_view statement) }
-        requires named { AllByRecursion IsNamed (spelling (statement_view statement)) }
+        requires named { AllByRecursion IsNameLexeme (spelling (statement_view statement)) }
         requires fresh { is_fact (statement_view statement) ≡ false
             → AreOfKinds (leaves line (declared_of self.old) (statement_view statement)).names }
         ensures { OnOk result (declared_of self.new ≡ leaves line (declared_of self.old) (statement_view statement.entry)) }
@@ -70,7 +70,7 @@ impl Reader {
         }
     }
 
-    /// Adds a name that is new to its kind, which has room for it, and answers its number.
+    /// Adds a name that is new to its kind, which has room for it, and returns its number.
     #[tactic(auto, using(crate::proofs::Fresh::welcome))]
     pub fn add_name(&mut self, kind: Kind, name: &str) -> Result<u32, NoMemory>
         requires { IsFresh kind self.old.names name.now }
@@ -106,10 +106,10 @@ impl Reader {
     }
 
     fn add_axiom(&mut self, literals: &[SignedAtom<'_>]) -> Result<(), NoMemory>
-        requires few_variables { length (variables_of (map signed_view literals.now)) ≤ 12 }
+        requires few_variables { length (variable_names_of (map signed_view literals.now)) ≤ 12 }
         requires readable { AreReadable (declared_of self.old) literals.now }
-        requires plain { ArePlainBelow (length (variables_of (map signed_view literals.now)))
-            (map (literal_of (declared_of self.old) (variables_of (map signed_view literals.now))) (map signed_view literals.now)) }
+        requires plain { ArePlainBelow (length (variable_names_of (map signed_view literals.now)))
+            (map (literal_of (declared_of self.old) (variable_names_of (map signed_view literals.now))) (map signed_view literals.now)) }
         ensures { OnOk result (declared_of self.new ≡ leaves 0 (declared_of self.old) (spec.«axiom» (map signed_view literals.now))) }
     {
         let variables = variables(self.alloc, literals)?;

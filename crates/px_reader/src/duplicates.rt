@@ -26,7 +26,8 @@ fn different_parameters(
     bindings.iter().map(|b| b.parameter).collect(alloc)
 }
 
-/// Some parameter is bound more than once.
+/// Returns whether some parameter is bound more than once.
+#[tactic(auto, using(crate::proofs::Twice::fewer_different))]
 fn binds_twice(alloc: Global, bindings: &[WrittenBinding<'_>]) -> Result<bool, NoMemory>
     ensures { IfOk result (λ found. found ≡ binds_twice (map binding_view bindings.now)) }
 {
@@ -35,7 +36,7 @@ fn binds_twice(alloc: Global, bindings: &[WrittenBinding<'_>]) -> Result<bool, N
 }
 
 impl Reader {
-    /// The line declares what is declared already, or a name twice.
+    /// Returns whether the line declares what is declared already, or a name twice.
     #[tactic(auto, using(crate::proofs::Twice::group_repeats))]
     pub fn has_duplicate(&self, statement: &Statement<'_>) -> Result<bool, NoMemory>
         ensures { IfOk result (λ found. found ≡ has_duplicate (declared_of self.now) (statement_view statement.now)) }
@@ -63,7 +64,8 @@ impl Reader {
         }
     }
 
-    /// One of the names is an object's, or stands twice.
+    /// Returns whether one of the names is an object's, or stands twice.
+    #[tactic(auto, using(crate::proofs::Twice::fewer_different))]
     fn repeats(&self, names: &[&str]) -> Result<bool, NoMemory>
         ensures { IfOk result (λ found. found ≡ repeats self.now.names.objects (map text_of names.now)) }
     {

@@ -33,7 +33,7 @@ pub enum Limit {
 
 /// What is wrong with a line.
 #[derive(Clone, Copy)]
-pub enum Fault {
+pub enum LineFault {
     /// A byte belongs to no character.
     NotText,
     /// A character begins no token, or the rest of the line doesn't have the form of its word.
@@ -50,24 +50,24 @@ pub enum Fault {
     NotBuilt,
 }
 
-impl Fault {
-    /// Its code, and the number of the limit that is passed, or 0.
+impl LineFault {
+    /// Returns its code, and the number of the limit that is passed, or 0.
     pub fn numbers(self) -> (u8, u8)
         ensures code { result.0 ≡ (refusal_of self).code }
         ensures limit { result.1 ≡ (refusal_of self).limit }
     {
         match self {
-            Fault::NotText => (1, 0),
-            Fault::BadToken => (2, 0),
-            Fault::UnknownWord => (3, 0),
-            Fault::UnknownName => (4, 0),
-            Fault::Duplicate => (5, 0),
-            Fault::Arity => (6, 0),
-            Fault::Unbound => (7, 0),
-            Fault::Limit(limit) => (8, limit as u8),
-            Fault::Order => (9, 0),
-            Fault::MissingEnd => (10, 0),
-            Fault::NotBuilt => (11, 0),
+            LineFault::NotText => (1, 0),
+            LineFault::BadToken => (2, 0),
+            LineFault::UnknownWord => (3, 0),
+            LineFault::UnknownName => (4, 0),
+            LineFault::Duplicate => (5, 0),
+            LineFault::Arity => (6, 0),
+            LineFault::Unbound => (7, 0),
+            LineFault::Limit(limit) => (8, limit as u8),
+            LineFault::Order => (9, 0),
+            LineFault::MissingEnd => (10, 0),
+            LineFault::NotBuilt => (11, 0),
         }
     }
 }

@@ -10,7 +10,7 @@ use crate::token::Token;
 use px_base::NoMemory;
 use std::alloc::Global;
 
-/// The number that the tokens are.
+/// Returns the number that the tokens are.
 pub fn number(tokens: &[Token<'_>]) -> Option<u32>
     ensures { (f : ℕ → spec.Statement) → option_map f result ≡ number_form f (lexemes_of tokens.now) }
 {
@@ -20,7 +20,7 @@ pub fn number(tokens: &[Token<'_>]) -> Option<u32>
     }
 }
 
-/// The name that the tokens are.
+/// Returns the name that the tokens are.
 pub fn name<'a>(tokens: &[Token<'a>]) -> Option<&'a str>
     ensures { (f : List ℕ → spec.Statement) → option_map (λ name. f name.now) result ≡ name_form f (lexemes_of tokens.now) }
 {
@@ -30,7 +30,7 @@ pub fn name<'a>(tokens: &[Token<'a>]) -> Option<&'a str>
     }
 }
 
-/// A statement of a line without more tokens.
+/// Returns the statement, if the line has no more tokens.
 pub fn alone<'a>(statement: Statement<'a>, tokens: &[Token<'a>]) -> Option<Statement<'a>>
     ensures { option_map statement_view result ≡ nothing_form (statement_view statement.entry) (lexemes_of tokens.now) }
 {
@@ -104,7 +104,7 @@ pub fn learn<'a>(tokens: &[Token<'a>]) -> Option<Statement<'a>>
     }
 }
 
-/// Whether the word says that edits come between sensing and acting, or before both.
+/// Returns whether the word says that edits come between sensing and acting, or before both.
 fn between_of(word: &str) -> Option<bool>
     ensures { result ≡ time_of word.now }
 {
@@ -115,7 +115,7 @@ fn between_of(word: &str) -> Option<bool>
     }
 }
 
-/// Edits of the script's kind: of a building where it has one so far, and else of atoms.
+/// Returns edits of the script's kind: of a building where it has one so far, and else of atoms.
 fn edits<'a>(
     alloc: Global,
     with_building: bool,

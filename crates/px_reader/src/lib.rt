@@ -2,29 +2,29 @@
 //!
 //! # Calling it
 //!
-//! - [`read_script`] takes the bytes of an input, fewer than 4,294,967,295, and answers a [`Script`]: its names, its
+//! - [`read_script`] takes the bytes of an input, fewer than 4,294,967,295, and returns a [`Script`]: its names, its
 //!   problem, its facts, its building if it has one, and its commands. What it is about follows from the bytes alone
 //!   (`IsScript` of `px_script`). The problem is valid, each of its numbers has a name, the facts are ground atoms of it, the
 //!   numbers in the commands are in range, and all is within the limits. A `Script` keeps that (`in_range`, by `IsInRange` of
 //!   `px_script`), so a caller may hand its parts on to the search and the printer. One that is read has only commands of words
 //!   that are built (`of_stage`, by `IsOfStage`).
-//! - Where the bytes are no script it answers [`ScriptErr::Refused`] with the first fault: its line from 1, its code, and
+//! - Where the bytes are no script it returns [`ScriptErr::Refused`] with the first fault: its line from 1, its code, and
 //!   the number of the limit that is passed, or 0. That comes exactly where `FirstFault` of `px_script` holds.
 //! - [`Command`] is what a script asks for, in its order.
 //! - All words of version 1 are read and built, and what they say is declared and checked. A building's script has the problem of
-//!   `px_rooms` and the facts of its first state. Which words are built is told in one place, the list `STAGE` of `reading`
+//!   `px_rooms` and the facts of its first state. The words that are built are listed in one place, `STAGE` of `reading`
 //!   (`stage_now` of `px_script`); below it all is proved for whatever words are built. A line of another word is refused with
-//!   code 11 where no cause stands before it. A bad form has code 2, as the bare word `room`; and a line out of order has code 9.
-//! - Tokens and names borrow from the input. How fast it reads is measured (`bench/reading`). Its tests stand in `px_run`
-//!   (`reading_tests`), since a crate with tests is proved twice.
+//!   code 11 where no cause stands before it. A bad form, such as the bare word `room`, has code 2; and a line out of order has code 9.
+//! - Tokens and names borrow from the input. How fast it reads is measured (`bench/reading`). Its tests stand in
+//!   `px_run_tests` (`reading_tests`), since a crate with tests is proved twice.
 //!
 //! # How it is made
 //!
-//! A line's tokens (`token`) are parsed to a `Statement` (`lists`, `series`, `forms`, `parsing`), which says where it
-//! may stand, what its atoms may be, and which they are (`line`). `Reader` has what the lines so far have declared, field by
-//! field as `Declared` of `px_script` (`declared_of` in `specs/Readers`). The causes to refuse a line are tests of the reader, in
-//! the order of their codes (`order`, `naming`, `duplicates`, `limits`), and a line without a fault is declared (`declaring`,
-//! `blocks`, `commands`, over `terms`). Facts alone are counted once they are added.
+//! A line's tokens (`token`) are parsed to a `Statement` (`lists`, `series`, `forms`, `parsing`), which says where it may stand, what its
+//! atoms may be, and which they are (`line`). `Reader` has what the lines so far have declared, with the fields of `Declared` of
+//! `px_script` (`declared_of` in `specs/Readers`). The causes to refuse a line are tests of the reader, in the order of their codes
+//! (`order`, `naming`, `duplicates`, `limits`), and a line without a fault is declared (`declaring`, `blocks`, `commands`, over `terms`).
+//! Only facts are counted after they are added. Of `specs/`, public clauses cite only `CommandViews` and `LineReads`.
 #![tactic(auto)]
 
 mod blocks;

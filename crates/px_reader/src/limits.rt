@@ -2,7 +2,7 @@
 ghost use Rattle.std.specs.Prelude.{◌≡◌, ◌<◌, ◌+◌, ◌^◌, ◌&&◌, [], ◌∷◌, length, map, nat_lt, IfOk, if◌then◌else◌, Some, None};
 ghost use Rattle.px_script.specs.Limits as limit;
 ghost use Rattle.px_script.specs.Statements as spec;
-ghost use Rattle.px_reader.specs.Common.{IsFirstLimit, list_any, has_long_name, Declared, operator_here, variables_of, passed, own_limits, over, outside, disturbance_limits, line_of, AreInRange, early_limits, grown_by, declared_of, signed_view, statement_view};
+ghost use Rattle.px_reader.specs.Common.{IsFirstLimit, list_any, has_long_name, Declared, operator_here, variable_names_of, passed, own_limits, over, outside, disturbance_limits, line_of, AreInRange, early_limits, grown_by, declared_of, signed_view, statement_view};
 
 use crate::fault::Limit;
 use crate::reader::Reader;
@@ -11,7 +11,7 @@ use crate::terms::has_many_variables;
 use px_base::NoMemory;
 use px_names::Kind;
 
-/// How many bytes a name has at most that has a number in its kind.
+/// The greatest number of bytes of a name that has a number in its kind.
 const NAME_BYTES: usize = 64;
 
 fn any_long(names: &[&str]) -> bool
@@ -21,7 +21,8 @@ fn any_long(names: &[&str]) -> bool
 }
 
 impl Statement<'_> {
-    /// A name that the line declares, but for parameters, is too long.
+    /// Returns whether a name that the line declares, but for parameters, is too long.
+    #[tactic(auto, using(crate::proofs::Twice::long_names))]
     fn has_long_name(&self) -> bool
         ensures { (d : Declared) → result ≡ has_long_name d (line_of (statement_view self.now)) }
     {
@@ -39,14 +40,14 @@ impl Statement<'_> {
     }
 }
 
-/// The limit, if it is passed.
+/// Returns the limit, if it is passed.
 fn passed(is_passed: bool, limit: Limit) -> Option<Limit>
     ensures { result ≡ (if is_passed then Some limit else None) }
 {
     if is_passed { Some(limit) } else { None }
 }
 
-/// The limit of numbers, if this one is outside its bounds.
+/// Returns the limit of numbers, if this one is outside its bounds.
 fn outside(number: u32, least: u32, most: u32) -> Option<Limit>
     ensures { IsFirstLimit result (outside (record { least = least; most = most }) number ∷ []) }
 {
@@ -54,7 +55,7 @@ fn outside(number: u32, least: u32, most: u32) -> Option<Limit>
 }
 
 impl Reader {
-    /// The least number of the limits that the line passes, but for that of facts.
+    /// Returns the least number of the limits that the line passes, but for that of facts.
     pub fn passed_limit(&self, statement: &Statement<'_>) -> Result<Option<Limit>, NoMemory>
         requires { AreInRange (declared_of self.now) }
         ensures { IfOk result (λ found. IsFirstLimit found (early_limits (declared_of self.now) (statement_view statement.now))) }
@@ -127,7 +128,7 @@ impl Reader {
     fn plan_limit(&self, goal: &[SignedAtom<'_>]) -> Result<Option<Limit>, NoMemory>
         requires { self.now.version ≡ 1 }
         ensures { IfOk result (λ found. IsFirstLimit found (over (declared_of self.now) limit.variables
-            (length (variables_of (map signed_view goal.now))) ∷ over (declared_of self.now) limit.goal_atoms (length goal.now)
+            (length (variable_names_of (map signed_view goal.now))) ∷ over (declared_of self.now) limit.goal_atoms (length goal.now)
             ∷ over (declared_of self.now) limit.commands (length self.now.commands.items + 1) ∷ [])) }
     {
         let many = has_many_variables(self.alloc, goal)?;
@@ -161,7 +162,7 @@ impl Reader {
             .or(outside(turn, 1, 9999))
     }
 
-    /// How many atoms a list of the open operator has with the line's.
+    /// Returns how many atoms a list of the open operator has with the line's.
     fn grown(&self, statement: &Statement<'_>) -> usize
         ensures { result ≡ grown_by (operator_here (declared_of self.now).block) (statement_view statement.now) }
     {
@@ -176,7 +177,7 @@ impl Reader {
         }
     }
 
-    /// The line is one of facts, and with it there are more than 512 different facts.
+    /// Returns whether the line is one of facts, and with it there are more than 512 different facts.
     pub fn has_too_many_facts(&self, is_fact: bool) -> bool
         ensures { result ≡ (is_fact && nat_lt 512 (length self.now.facts.atoms)) }
     {

@@ -1,6 +1,6 @@
 //! The words of lines, where a line stands, what its atoms may be, and its atoms.
 ghost use Rattle.std.specs.Prelude.{◌≡◌, map};
-ghost use Rattle.px_script.specs.Forms.{atoms_of};
+ghost use Rattle.px_script.specs.Forms.{line_atoms};
 ghost use Rattle.px_reader.specs.Common.{flat_map, excludes_building, arguments_of, is_signed, is_variable, is_word, line_of, is_fact, place_view, manner_view, argument_view, sign_view, signed_view, statement_view};
 
 use crate::statement::{Argument, Sign, SignedAtom, Statement};
@@ -34,7 +34,7 @@ pub const WORDS: [&str; 24] = [
     "facts",
 ];
 
-/// The name is one of these words.
+/// Returns whether the name is one of these words.
 pub fn is_word(name: &str) -> bool
     ensures { result ≡ is_word 1 name.now }
 {
@@ -63,7 +63,7 @@ pub enum Place {
 }
 
 impl Place {
-    /// The line is one that a building excludes.
+    /// Returns whether the line is one that a building excludes.
     pub fn excludes_building(self) -> bool
         ensures { result ≡ excludes_building (place_view self) }
     {
@@ -89,7 +89,7 @@ pub enum Manner {
 }
 
 impl Manner {
-    /// The sign may stand before the line's atoms.
+    /// Returns whether the sign may stand before the line's atoms.
     pub fn is_signed(self, sign: Sign) -> bool
         ensures { result ≡ is_signed (manner_view self) (sign_view sign) }
     {
@@ -110,7 +110,7 @@ impl Argument<'_> {
 }
 
 impl<'a> Statement<'a> {
-    /// The word that begins the line.
+    /// Returns the word that begins the line.
     pub fn word(&self) -> &'static str
         ensures { result.now ≡ (line_of (statement_view self.now)).word }
     {
@@ -186,9 +186,9 @@ impl<'a> Statement<'a> {
     }
 
     // Alike: `is_filled` in `parsing`, which has the same lines with atoms among others.
-    /// The atoms of the line, which has no arguments but theirs.
+    /// Returns the atoms of the line, which has no arguments but theirs.
     pub fn atoms(&self) -> &[SignedAtom<'a>]
-        ensures atoms { map signed_view result.now ≡ atoms_of (line_of (statement_view self.now)) }
+        ensures atoms { map signed_view result.now ≡ line_atoms (line_of (statement_view self.now)) }
         ensures arguments { flat_map (λ x. x.atom.arguments) (map signed_view result.now)
             ≡ arguments_of (line_of (statement_view self.now)) }
     {

@@ -8,7 +8,7 @@ use crate::token::Token;
 use px_base::NoMemory;
 use std::alloc::Global;
 
-/// The argument that a token is.
+/// Returns the argument that a token is.
 fn argument_of(token: Token<'_>) -> Option<Argument<'_>>
     ensures { option_map argument_view result ≡ argument_of (lexeme_of token.entry) }
 {
@@ -21,7 +21,7 @@ fn argument_of(token: Token<'_>) -> Option<Argument<'_>>
 }
 
 // Alike: `names_among`, which takes arguments in place of tokens.
-/// The names that the tokens are, to the last.
+/// Returns the names that the tokens are, to the last.
 pub fn names<'a>(alloc: Global, tokens: &[Token<'a>]) -> Result<Option<Vec<&'a str>>, NoMemory>
     ensures { IfOk result (λ found. list_view text_of found ≡ names_of (lexemes_of tokens.now)) }
 {
@@ -35,7 +35,7 @@ pub fn names<'a>(alloc: Global, tokens: &[Token<'a>]) -> Result<Option<Vec<&'a s
     Ok(Some(names))
 }
 
-/// An argument in front, and the sign after it.
+/// Returns an argument in front, and the sign after it.
 fn argument_and_sign<'a>(tokens: &[Token<'a>]) -> Option<(Argument<'a>, char)>
     ensures item { option_map (λ p. (argument_view p.0, p.1, lexemes_of (drop 2 tokens.now))) result
         ≡ item_at argument_of (lexemes_of tokens.now) }
@@ -56,7 +56,7 @@ fn argument_at<'a>(tokens: &[Token<'a>], at: usize) -> Option<(Argument<'a>, cha
     argument_and_sign(&tokens[at..])
 }
 
-/// The arguments from a place on, between commas and up to a closing parenthesis, and the place after it.
+/// Returns the arguments from a place on, between commas and up to a closing parenthesis, and the place after it.
 fn arguments_after<'a>(
     alloc: Global,
     tokens: &[Token<'a>],
@@ -82,7 +82,7 @@ fn arguments_after<'a>(
     Ok(None)
 }
 
-/// The arguments in parentheses in front, or none, and how many tokens they take.
+/// Returns the arguments in parentheses in front, or no arguments, and how many tokens they take.
 pub fn arguments<'a>(
     alloc: Global,
     tokens: &[Token<'a>],
@@ -98,7 +98,7 @@ pub fn arguments<'a>(
     }
 }
 
-/// The names that arguments are, where they are all names.
+/// Returns the names that arguments are, where they are all names.
 fn names_among<'a>(
     alloc: Global,
     arguments: &[Argument<'a>],
@@ -115,7 +115,7 @@ fn names_among<'a>(
     Ok(Some(names))
 }
 
-/// The names in parentheses, or none, where the line ends after them.
+/// Returns the names in parentheses, or no names, where the line ends after them.
 pub fn listed_names<'a>(
     alloc: Global,
     tokens: &[Token<'a>],

@@ -9,7 +9,7 @@ use crate::reader::Reader;
 use crate::statement::{Argument, SignedAtom, Statement, WrittenBinding, WrittenRoomEdit};
 use px_names::Kind;
 
-/// Where the name stands in a list.
+/// Returns where the name stands in a list.
 pub fn place_of(name: &str, names: &[String]) -> Option<usize>
     ensures number { result ≡ position (λ other. bytes_eq name.now (string_bytes other)) names.now }
     ensures within { IfSome result (λ number. number < length names.now) }
@@ -17,6 +17,7 @@ pub fn place_of(name: &str, names: &[String]) -> Option<usize>
     names.iter().position(|other| name == other.as_str())
 }
 
+#[tactic(auto, using(crate::proofs::AtomTests::positions))]
 fn is_among(name: &str, names: &[String]) -> bool
     ensures { result ≡ has_name name.now (map string_bytes names.now) }
 {
@@ -30,14 +31,14 @@ impl Reader {
         self.names.find(kind, name).is_some()
     }
 
-    /// The number of a name in its kind.
+    /// Returns the number of a name in its kind.
     pub fn number(&self, kind: Kind, name: &str) -> u32
         ensures { result ≡ number_in name.now (names_of kind self.now.names) }
     {
         self.names.find(kind, name).unwrap_or(0)
     }
 
-    /// The operator whose block is open.
+    /// Returns the operator whose block is open.
     pub fn open_operator(&self) -> Option<&OpenOperator>
         ensures { MatchOption result (operator_here (declared_of self.now).block ≡ None)
             (λ o. operator_here (declared_of self.now).block ≡ Some (operator_view (length self.now.schemas.items) o.now)) }
@@ -48,7 +49,8 @@ impl Reader {
         }
     }
 
-    /// Which parameter of the open operator the name is.
+    /// Returns which parameter of the open operator the name is.
+    #[tactic(auto, using(crate::proofs::AtomTests::positions))]
     pub fn parameter(&self, name: &str) -> Option<usize>
         ensures number { result ≡ position (bytes_eq name.now) (parameters_here (declared_of self.now)) }
         ensures found { is_some result ≡ has_name name.now (parameters_here (declared_of self.now)) }
@@ -58,7 +60,7 @@ impl Reader {
         place_of(name, &operator.parameters)
     }
 
-    /// Some name of the line isn't declared in the kind of its place.
+    /// Returns whether some name of the line isn't declared in the kind of its place.
     pub fn has_unknown_name(&self, statement: &Statement<'_>) -> bool
         ensures { result ≡ has_unknown_name (declared_of self.now) (line_of (statement_view statement.now)) }
     {
@@ -103,7 +105,7 @@ impl Reader {
         }
     }
 
-    /// Some name outside atoms that the line wants isn't declared in its kind.
+    /// Returns whether some name outside atoms that the line wants isn't declared in its kind.
     fn lacks_name(&self, statement: &Statement<'_>) -> bool
         ensures { result ≡ list_any (lacks (declared_of self.now)) (wanted_by (line_of (statement_view statement.now))) }
     {
@@ -150,7 +152,7 @@ impl Reader {
         bindings.iter().any(|b| !self.has(Kind::Object, b.object))
     }
 
-    /// Some atom has another number of arguments than its predicate.
+    /// Returns whether some atom has another number of arguments than its predicate.
     pub fn has_wrong_arity(&self, statement: &Statement<'_>) -> bool
         ensures { result ≡ has_wrong_arity (declared_of self.now) (line_of (statement_view statement.now)) }
     {
@@ -177,7 +179,7 @@ impl Reader {
         }
     }
 
-    /// Some argument may not stand in the line.
+    /// Returns whether some argument may not stand in the line.
     pub fn is_unbound(&self, statement: &Statement<'_>) -> bool
         ensures { result ≡ is_unbound (declared_of self.now) (line_of (statement_view statement.now)) }
     {
@@ -196,7 +198,7 @@ impl Reader {
         atom.arguments.iter().any(|x| !self.takes(manner, x))
     }
 
-    /// The argument may stand in atoms of the manner.
+    /// Returns whether the argument may stand in atoms of the manner.
     fn takes(&self, manner: Manner, argument: &Argument<'_>) -> bool
         ensures { result ≡ takes (declared_of self.now) (manner_view manner) (argument_view argument.now) }
     {

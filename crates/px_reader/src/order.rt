@@ -12,14 +12,14 @@ use px_world::Thing;
 
 impl SignedAtom<'_> {
     fn has_variable(&self) -> bool
-        ensures { result ≡ checks.varies self.now }
+        ensures { result ≡ checks.atom_varies self.now }
     {
         self.arguments.iter().any(|argument| argument.is_variable())
     }
 }
 
 fn any_varies(atoms: &[SignedAtom<'_>]) -> bool
-    ensures { result ≡ list_any checks.varies atoms.now }
+    ensures { result ≡ list_any checks.atom_varies atoms.now }
 {
     atoms.iter().any(|atom| atom.has_variable())
 }
@@ -31,7 +31,7 @@ fn any_robot(things: &[Thing]) -> bool
 }
 
 impl Statement<'_> {
-    /// The line has a parameter of an operator, or of a table in a binding.
+    /// Returns whether the line has a parameter of an operator, or of a table in a binding.
     fn has_parameter(&self) -> bool
         ensures { result ≡ list_any has_parameter (line_of (statement_view self.now)).items }
     {
@@ -48,7 +48,7 @@ impl Statement<'_> {
         any_varies(self.atoms()) || self.has_parameter()
     }
 
-    /// The line's word is none of those that are built.
+    /// Returns whether the line's word isn't built.
     pub fn is_unbuilt(&self, stage: &[&str]) -> bool
         ensures { result ≡ is_unbuilt (stage_view stage.now) (statement_view self.now) }
     {
@@ -57,7 +57,7 @@ impl Statement<'_> {
 }
 
 impl Reader {
-    /// The line stands where it may not.
+    /// Returns whether the line stands where it may not.
     pub fn is_out_of_order(&self, statement: &Statement<'_>) -> bool
         ensures { result ≡ is_out_of_order (declared_of self.now) (line_of (statement_view statement.now)) }
     {
@@ -76,7 +76,7 @@ impl Reader {
         Some(self.block.as_ref()?.kind.block())
     }
 
-    /// The line may stand where this block is open, or none.
+    /// Returns whether the line may stand where this block is open, or no block.
     fn may_stand(&self, place: Place) -> bool
         ensures { result ≡ may_stand (block_here (declared_of self.now)) (place_view place) }
     {
@@ -88,7 +88,7 @@ impl Reader {
         }
     }
 
-    /// A building stands beside a line that it excludes.
+    /// Returns whether a building stands beside a line that it excludes.
     fn has_two_domains(&self, place: Place) -> bool
         ensures { result ≡ has_two_domains (declared_of self.now) (place_view place) }
     {
@@ -98,28 +98,28 @@ impl Reader {
         }
     }
 
-    /// A line `building` stood.
+    /// Returns whether a line `building` stood.
     pub fn has_building(&self) -> bool
         ensures { result ≡ has_building (declared_of self.now) }
     {
         self.things.is_some()
     }
 
-    /// A variable or a parameter stands before any object.
+    /// Returns whether a variable or a parameter stands before any object.
     fn varies_too_early(&self, statement: &Statement<'_>) -> bool
         ensures { result ≡ varies_too_early (declared_of self.now) (line_of (statement_view statement.now)) }
     {
         statement.varies() && self.names.count(Kind::Object) == 0
     }
 
-    /// The robot's line stood.
+    /// Returns whether the robot's line stood.
     pub fn has_robot(&self) -> bool
         ensures { result ≡ has_robot (declared_of self.now) }
     {
         matches!(&self.things, Some(things) if any_robot(things))
     }
 
-    /// The building ends without a robot.
+    /// Returns whether the building ends without a robot.
     fn lacks_robot(&self, place: Place) -> bool
         ensures { result ≡ lacks_robot (declared_of self.now) (block_here (declared_of self.now)) (place_view place) }
     {

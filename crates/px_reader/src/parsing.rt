@@ -1,6 +1,6 @@
 //! The statement that the tokens of a line are.
 ghost use Rattle.std.specs.Prelude.{◌≡◌, IfOk};
-ghost use Rattle.px_script.specs.Forms.{atoms_of};
+ghost use Rattle.px_script.specs.Forms.{line_atoms};
 ghost use Rattle.px_reader.specs.Common.{list_all, option_map, Declared, has_building, is_formed, is_of_script, is_signed, is_filled, is_parameter_number, line_of, rest_form, parse, manner_view, lexemes_of, sign_view, statement_view};
 
 use crate::forms::{
@@ -14,7 +14,7 @@ use crate::token::Token;
 use px_base::NoMemory;
 use std::alloc::Global;
 
-/// The statement of a word's line, in a script with or without a building so far.
+/// Returns the statement of a word's line, in a script with or without a building so far.
 fn form<'a>(
     alloc: Global,
     with_building: bool,
@@ -52,7 +52,7 @@ fn form<'a>(
     }
 }
 
-/// The parameters of the bindings have their numbers.
+/// Returns whether the parameters of the bindings have their numbers.
 fn are_numbered(bindings: &[WrittenBinding<'_>]) -> bool
     ensures { result ≡ list_all (λ b. is_parameter_number b.parameter) bindings.now }
 {
@@ -60,7 +60,7 @@ fn are_numbered(bindings: &[WrittenBinding<'_>]) -> bool
 }
 
 impl Statement<'_> {
-    /// The line has its form, in a script with or without a building so far.
+    /// Returns whether the line has its form, in a script with or without a building so far.
     fn is_formed(&self, with_building: bool) -> bool
         ensures { (d : Declared) → d.version ≡ 1 → has_building d ≡ with_building
             → result ≡ is_formed d (line_of (statement_view self.now)) }
@@ -69,7 +69,7 @@ impl Statement<'_> {
         self.is_filled() && self.is_signed(manner) && is_of_script(manner, with_building)
     }
 
-    /// Where an item is one or more things, there is one, and parameters have their numbers.
+    /// Returns whether items of one or more things have at least one, and parameters have their numbers.
     #[tactic(auto, using(crate::proofs::AtomTests::all_maps))]
     fn is_filled(&self) -> bool
         ensures { result ≡ list_all is_filled (line_of (statement_view self.now)).items }
@@ -89,9 +89,10 @@ impl Statement<'_> {
         }
     }
 
-    /// The signs of the atoms are those of the line.
+    /// Returns whether the signs of the atoms are those of the line.
+    #[tactic(auto, using(crate::proofs::AtomTests::all_maps))]
     fn is_signed(&self, manner: Manner) -> bool
-        ensures { result ≡ list_all (λ x. is_signed (manner_view manner) x.sign) (atoms_of (line_of (statement_view self.now))) }
+        ensures { result ≡ list_all (λ x. is_signed (manner_view manner) x.sign) (line_atoms (line_of (statement_view self.now))) }
     {
         are_signed(manner, self.atoms())
     }
@@ -113,7 +114,7 @@ fn is_of_script(manner: Manner, with_building: bool) -> bool
     }
 }
 
-/// The statement that the tokens of a line are, in a script with or without a building so far.
+/// Returns the statement that the tokens of a line are, in a script with or without a building so far.
 pub fn statement<'a>(
     alloc: Global,
     with_building: bool,

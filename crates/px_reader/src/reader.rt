@@ -3,11 +3,11 @@ ghost use Rattle.std.specs.Prelude.{◌≡◌, ◌<◌, ◌≤◌, ◌+◌, true
 ghost use Rattle.px_rooms.specs.States.{IsBuilding, first_state, rendering, standings};
 ghost use Rattle.px_terms.specs.Validity.{IsValid};
 ghost use Rattle.px_script.specs.Ranges.{IsInRange};
-ghost use Rattle.px_reader.specs.Common.{AllByRecursion, IsNamed, spelling, after_line, option_map, chars, content_of, facts_of, problem_of, nothing_declared, begins_with_word, is_formed, line_of, AreInRange, early_fault, refusal_of, HasFault, LineEnds, content, stage_view, declared_of, lexemes_of, statement_view};
+ghost use Rattle.px_reader.specs.Common.{AllByRecursion, IsNameLexeme, spelling, after_line, option_map, chars, content_of, facts_of, problem_of, nothing_declared, begins_with_word, is_formed, line_of, AreInRange, early_fault, refusal_of, HasFault, LineEnds, content, stage_view, declared_of, lexemes_of, statement_view};
 
 use crate::blocks::OpenBlock;
 use crate::command::Command;
-use crate::fault::{Fault, Limit};
+use crate::fault::{Limit, LineFault};
 use crate::line::is_word;
 use crate::parsing::statement;
 use crate::script::Script;
@@ -53,7 +53,7 @@ pub struct Reader {
 }
 
 impl Reader {
-    /// The reader before the first line.
+    /// Returns the reader before the first line.
     pub fn new(alloc: Global) -> Result<Reader, NoMemory>
         ensures { IfOk result (λ reader. declared_of reader ≡ nothing_declared) }
     {
@@ -81,7 +81,7 @@ impl Reader {
         })
     }
 
-    /// The first token is a word that may begin a line.
+    /// Returns whether the first token is a word that may begin a line.
     fn begins_with_word(&self, tokens: &[Token<'_>]) -> bool
         requires { self.now.version ≡ 1 }
         ensures { result ≡ begins_with_word (declared_of self.now) (lexemes_of tokens.now) }
@@ -89,28 +89,28 @@ impl Reader {
         matches!(tokens, [Token::Name(name), ..] if is_word(name))
     }
 
-    /// Reads the next line, and answers its fault, if it has one.
+    /// Reads the next line, and returns its fault, if it has one.
     pub fn read_line(
         &mut self,
         stage: &[&str],
         number: u32,
         line: &str,
-    ) -> Result<Option<Fault>, NoMemory>
+    ) -> Result<Option<LineFault>, NoMemory>
         requires { AreInRange (declared_of self.old) }
         ensures { IfOk result (LineEnds (stage_view stage.now) number (declared_of self.old) (chars line.now) (declared_of self.new)) }
     {
         let Some(tokens) = tokens(self.alloc, line)? else {
-            return Ok(Some(Fault::BadToken));
+            return Ok(Some(LineFault::BadToken));
         };
         if tokens.is_empty() {
             return Ok(None);
         }
         if !self.begins_with_word(&tokens) {
-            return Ok(Some(Fault::UnknownWord));
+            return Ok(Some(LineFault::UnknownWord));
         }
         match statement(self.alloc, self.has_building(), &tokens)? {
             Some(statement) => self.read_statement(stage, number, statement),
-            None => Ok(Some(Fault::BadToken)),
+            None => Ok(Some(LineFault::BadToken)),
         }
     }
 
@@ -119,10 +119,10 @@ impl Reader {
         stage: &[&str],
         number: u32,
         statement: Statement<'_>,
-    ) -> Result<Option<Fault>, NoMemory>
+    ) -> Result<Option<LineFault>, NoMemory>
         requires range { AreInRange (declared_of self.old) }
         requires formed { is_formed (declared_of self.old) (line_of (statement_view statement)) ≡ true }
-        requires named { AllByRecursion IsNamed (spelling (statement_view statement)) }
+        requires named { AllByRecursion IsNameLexeme (spelling (statement_view statement)) }
         ensures fault { IfOk result (HasFault (stage_view stage.now) (declared_of self.old) (statement_view statement.entry)) }
         ensures declared { IfOk result (λ fault. MatchOption fault
             (declared_of self.new ≡ after_line number (declared_of self.old) (statement_view statement.entry)) (λ _. Unit {0})) }
@@ -136,38 +136,42 @@ impl Reader {
                 self.own_domain = own_domain;
                 self.begun = true;
                 if self.has_too_many_facts(is_fact) {
-                    return Ok(Some(Fault::Limit(Limit::Facts)));
+                    return Ok(Some(LineFault::Limit(Limit::Facts)));
                 }
                 Ok(None)
             }
         }
     }
 
-    /// The first fault of a line by what it says, in the order of the causes, but for the limit of facts.
-    fn fault(&self, stage: &[&str], statement: &Statement<'_>) -> Result<Option<Fault>, NoMemory>
+    /// Returns the first fault of a line by what it says, in the order of the causes, but for the limit of facts.
+    fn fault(
+        &self,
+        stage: &[&str],
+        statement: &Statement<'_>,
+    ) -> Result<Option<LineFault>, NoMemory>
         requires { AreInRange (declared_of self.now) }
         ensures { IfOk result (λ fault. option_map refusal_of fault
             ≡ early_fault (stage_view stage.now) (declared_of self.now) (statement_view statement.now)) }
     {
         if self.is_out_of_order(statement) {
-            Ok(Some(Fault::Order))
+            Ok(Some(LineFault::Order))
         } else if statement.is_unbuilt(stage) {
-            Ok(Some(Fault::NotBuilt))
+            Ok(Some(LineFault::NotBuilt))
         } else if self.has_unknown_name(statement) {
-            Ok(Some(Fault::UnknownName))
+            Ok(Some(LineFault::UnknownName))
         } else if self.has_duplicate(statement)? {
-            Ok(Some(Fault::Duplicate))
+            Ok(Some(LineFault::Duplicate))
         } else if self.has_wrong_arity(statement) {
-            Ok(Some(Fault::Arity))
+            Ok(Some(LineFault::Arity))
         } else if self.is_unbound(statement) {
-            Ok(Some(Fault::Unbound))
+            Ok(Some(LineFault::Unbound))
         } else {
             let limit = self.passed_limit(statement)?;
-            Ok(limit.map(|limit| Fault::Limit(limit)))
+            Ok(limit.map(|limit| LineFault::Limit(limit)))
         }
     }
 
-    /// The script, where no block is open.
+    /// Returns the script, where no block is open.
     #[tactic(auto, using(crate::proofs::Finishing::content_is, crate::proofs::Finishing::content_in_range))]
     pub fn finish(self) -> Result<Script, NoMemory>
         requires { IsInRange (content_of (declared_of self)) }
@@ -197,7 +201,7 @@ fn building(things: Option<Vec<Thing>>) -> Option<Building>
     })
 }
 
-/// The problem of a script's own lines, with the limits that they give, or those that hold where they give none.
+/// Returns the problem of a script's own lines, with the limits that they give, or those that hold where they give none.
 fn own_problem(
     names: &Names,
     arities: Vec<u8>,
@@ -226,7 +230,7 @@ fn own_problem(
     }
 }
 
-/// The problem and the first facts of a script: its own, or those of its building with the limits of its own problem.
+/// Returns the problem and the first facts of a script: its own, or those of its building with the limits of its own problem.
 #[tactic(auto, using(crate::proofs::Finishing::building_made, crate::proofs::Finishing::facts_made))]
 fn subject(
     alloc: Global,
@@ -251,7 +255,7 @@ fn subject(
     }
 }
 
-/// The facts of a building's first state.
+/// Returns the facts of a building's first state.
 fn first_facts(alloc: Global, building: &Building) -> Result<Model, NoMemory>
     requires short { length building.now.things < 4294967295 }
     requires building { IsBuilding building.now.things }

@@ -3,9 +3,9 @@ ghost use Rattle.std.specs.Prelude.{◌≡◌, ℕ, ◌<◌, ◌+◌, ◌-◌, �
 ghost use Rattle.px_script.specs.Lines.{without_mark, without_return};
 ghost use Rattle.px_script.specs.Ranges.{IsOfStage};
 ghost use Rattle.px_script.specs.Scripts.{PassAll, IsScript, FirstFault};
-ghost use Rattle.px_reader.specs.Common.{slice_split, ScriptValue, nothing_declared, Refusal, stage_now, characters_of, stage_view, LinesFail, HasFirstFault, IsRead, IsRefused, content, told, declared_of};
+ghost use Rattle.px_reader.specs.Common.{slice_split, ScriptValue, nothing_declared, Refusal, stage_now, characters_of, stage_view, LinesFail, HasFirstFault, IsRead, IsLineRefused, content, told, declared_of};
 
-use crate::fault::Fault;
+use crate::fault::LineFault;
 use crate::line::WORDS;
 use crate::reader::Reader;
 use crate::script::{Refused, Script, ScriptErr};
@@ -15,14 +15,14 @@ use std::str;
 /// The words that are built: all of version 1.
 const STAGE: [&str; 24] = WORDS;
 
-/// The parts of a text between line feeds.
+/// Returns the parts of a text between line feeds.
 fn parts<'a>(alloc: Global, text: &'a str) -> Result<Vec<&'a str>, AllocError>
     ensures { IfOk result (λ parts. map (λ part. part.now) parts.items ≡ slice_split (λ b. b == 10) text.now) }
 {
     text.split('\n').collect(alloc)
 }
 
-/// The text without a byte order mark in front.
+/// Returns the text without a byte order mark in front.
 fn without_mark(text: &str) -> &str
     ensures { result.now ≡ without_mark text.now }
 {
@@ -32,7 +32,7 @@ fn without_mark(text: &str) -> &str
     }
 }
 
-/// The line without a carriage return at its end.
+/// Returns the line without a carriage return at its end.
 fn without_return(line: &str) -> &str
     ensures { result.now ≡ without_return line.now }
 {
@@ -42,7 +42,7 @@ fn without_return(line: &str) -> &str
     }
 }
 
-fn refused(line: u32, fault: Fault) -> ScriptErr
+fn refused(line: u32, fault: LineFault) -> ScriptErr
     ensures { result ≡ told line fault }
 {
     let (code, limit) = fault.numbers();
@@ -79,7 +79,7 @@ fn read_text(alloc: Global, stage: &[&str], text: &str) -> Result<Script, Script
     };
     read_each(stage, &mut reader, &lines)?;
     match &reader.block {
-        Some(block) => Err(refused(block.line, Fault::MissingEnd)),
+        Some(block) => Err(refused(block.line, LineFault::MissingEnd)),
         None => match reader.finish() {
             Ok(script) => Ok(script),
             Err(_) => Err(ScriptErr::NoMemory),
@@ -87,7 +87,7 @@ fn read_text(alloc: Global, stage: &[&str], text: &str) -> Result<Script, Script
     }
 }
 
-/// The line of the byte after these.
+/// Returns the line of the byte after these.
 fn line_after(front: &[u8]) -> u32
     requires { length front.now < 2 ^ 32 - 1 }
     ensures { result ≡ 1 + count_by (λ b. b == 10) front.now }
@@ -103,7 +103,10 @@ fn read_at(alloc: Global, stage: &[&str], bytes: &[u8]) -> Result<Script, Script
 {
     match str::from_utf8(bytes) {
         Ok(text) => read_text(alloc, stage, text),
-        Err(error) => Err(refused(line_after(&bytes[..error.valid_up_to()]), Fault::NotText)),
+        Err(error) => Err(refused(
+            line_after(&bytes[..error.valid_up_to()]),
+            LineFault::NotText,
+        )),
     }
 }
 
@@ -117,7 +120,7 @@ pub fn read_script(alloc: Global, bytes: &[u8]) -> Result<Script, ScriptErr>
     ensures of_stage { IfOk result (λ script. IsOfStage stage_now (content script)) }
     ensures refused { IfErr result (HasFirstFault stage_now bytes.now) }
     ensures all_scripts { (value : ScriptValue) → IsScript stage_now bytes.now value → IsRead result value }
-    ensures all_faults { (line : ℕ) (refusal : Refusal) → FirstFault stage_now bytes.now line refusal → IsRefused result line refusal }
+    ensures all_faults { (line : ℕ) (refusal : Refusal) → FirstFault stage_now bytes.now line refusal → IsLineRefused result line refusal }
 {
     read_at(alloc, &STAGE, bytes)
 }

@@ -1,4 +1,4 @@
-//! What a script is about, and why an input is none.
+//! What a script is about, and why an input isn't one.
 ghost use Rattle.px_script.specs.Ranges.{IsInRange};
 ghost use Rattle.px_script.specs.RangeLaws.{IsInRange-prop};
 ghost use Rattle.px_reader.specs.CommandViews.{script_of};
@@ -29,7 +29,7 @@ pub struct Script {
     pub building: Option<Building>,
     /// The commands, in their order.
     pub commands: Sequence<Command>,
-    pub ghost in_range: { IsInRange (script_of version names problem facts building commands) } by { IsInRange-prop (script_of version names problem facts building commands) },
+    pub ghost in_range: { IsInRange (script_of version names problem facts building commands) } by { IsInRange-prop _ },
 }
 
 /// The first fault of an input: its line from 1, its code, and the number of the limit that is passed, or 0.
@@ -46,7 +46,7 @@ pub struct Refused {
 /// Why no script is read.
 #[derive(Debug, Drop, Error)]
 pub enum ScriptErr {
-    /// The input is no script.
+    /// The input isn't a script.
     #[error("no script")]
     Refused(Refused),
     /// There is no memory for it.

@@ -8,7 +8,7 @@ use crate::token::Token;
 use px_base::NoMemory;
 use std::alloc::Global;
 
-/// The sign of an atom that a character is.
+/// Returns the sign of an atom that a character is.
 fn sign_of(character: char) -> Option<Sign>
     ensures { option_map sign_view result ≡ sign_of character }
 {
@@ -20,7 +20,7 @@ fn sign_of(character: char) -> Option<Sign>
     }
 }
 
-/// The atom in front, after its sign, and how many tokens it takes.
+/// Returns the atom in front, after its sign, and how many tokens it takes.
 fn atom_after<'a>(
     alloc: Global,
     sign: Sign,
@@ -43,7 +43,7 @@ fn atom_after<'a>(
     Ok(Some((atom, count + 1)))
 }
 
-/// The atom in front, with a sign or none, and how many tokens both take.
+/// Returns the atom in front, with a sign or without, and how many tokens both take.
 fn atom<'a>(
     alloc: Global,
     tokens: &[Token<'a>],
@@ -63,7 +63,7 @@ fn atom<'a>(
     }
 }
 
-/// Whether the word says that a door is open, or that it is closed.
+/// Returns whether the word says that a door is open, or that it is closed.
 pub fn open_of(word: &str) -> Option<bool>
     ensures { result ≡ open_of word.now }
 {
@@ -74,7 +74,7 @@ pub fn open_of(word: &str) -> Option<bool>
     }
 }
 
-/// The edit of a building that a word and the name after it begin, and how many more tokens it takes.
+/// Returns the edit of a building that a word and the name after it begin, and how many more tokens it takes.
 fn room_edit_for<'a>(
     word: &str,
     name: &'a str,
@@ -97,7 +97,7 @@ fn room_edit_for<'a>(
     }
 }
 
-/// The edit of a building in front, and how many tokens it takes.
+/// Returns the edit of a building in front, and how many tokens it takes.
 fn room_edit<'a>(tokens: &[Token<'a>]) -> Option<(WrittenRoomEdit<'a>, usize)>
     ensures found { front_view room_edit_view tokens.now result ≡ room_edit_at (lexemes_of tokens.now) }
     ensures within { IfSome result (λ p. (0 < p.1) × (p.1 ≤ length tokens.now)) }
@@ -109,7 +109,7 @@ fn room_edit<'a>(tokens: &[Token<'a>]) -> Option<(WrittenRoomEdit<'a>, usize)>
     Some((edit, count + 2))
 }
 
-/// The number of a parameter by its name, which is the letter p and the number from 1 to 9999.
+/// Returns the number of a parameter by its name, which is the letter p and the number from 1 to 9999.
 fn parameter_of(name: &str) -> Option<u32>
     ensures { result ≡ parameter_of name.now }
 {
@@ -123,7 +123,7 @@ fn parameter_of(name: &str) -> Option<u32>
     }
 }
 
-/// The binding in front, and how many tokens it takes.
+/// Returns the binding in front, and how many tokens it takes.
 fn binding<'a>(tokens: &[Token<'a>]) -> Option<(WrittenBinding<'a>, usize)>
     ensures found { front_view binding_view tokens.now result ≡ binding_at (lexemes_of tokens.now) }
     ensures within { IfSome result (λ p. (0 < p.1) × (p.1 ≤ length tokens.now)) }
@@ -137,7 +137,7 @@ fn binding<'a>(tokens: &[Token<'a>]) -> Option<(WrittenBinding<'a>, usize)>
 
 // Alike: the three functions below, one for each kind of thing, since each reads another type of things.
 
-/// The atoms that the tokens are, to the last.
+/// Returns the atoms that the tokens are, to the last.
 pub fn atoms<'a>(
     alloc: Global,
     tokens: &[Token<'a>],
@@ -156,7 +156,7 @@ pub fn atoms<'a>(
     Ok(Some(atoms))
 }
 
-/// The edits of a building that the tokens are, to the last.
+/// Returns the edits of a building that the tokens are, to the last.
 pub fn room_edits<'a>(
     alloc: Global,
     tokens: &[Token<'a>],
@@ -175,7 +175,7 @@ pub fn room_edits<'a>(
     Ok(Some(edits))
 }
 
-/// The bindings that the tokens are, to the last.
+/// Returns the bindings that the tokens are, to the last.
 pub fn bindings<'a>(
     alloc: Global,
     tokens: &[Token<'a>],

@@ -65,7 +65,7 @@ pub enum Statement<'a> {
     Plan(&'a str, Vec<SignedAtom<'a>>),
     Learn(&'a str, &'a str),
     Show(&'a str),
-    /// The turn, whether between sensing and acting, and the edits.
+    /// The turn, whether the edits come between sensing and acting, and the edits.
     DisturbAtoms(u32, bool, Vec<SignedAtom<'a>>),
     DisturbRooms(u32, bool, Vec<WrittenRoomEdit<'a>>),
     Run(&'a str, Vec<WrittenBinding<'a>>),

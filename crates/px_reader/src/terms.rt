@@ -1,6 +1,6 @@
 //! Terms, atoms and edits by numbers.
 ghost use Rattle.std.specs.Prelude.{◌≡◌, ◌≤◌, ◌<◌, length, map, nat_lt, fold, position, IfOk, IfSome, OnOk};
-ghost use Rattle.px_reader.specs.Common.{bytes_eq, has_name, parameters_here, number_in, term_of, atom_of, literal_of, atom_edit_of, room_edit_of, binding_of, variables_of, binding_pair, AreReadable, with_variable, declared_of, argument_view, signed_view, room_edit_view, binding_view, text_of};
+ghost use Rattle.px_reader.specs.Common.{bytes_eq, has_name, parameters_here, number_in, term_of, atom_of, literal_of, atom_edit_of, room_edit_of, binding_of, variable_names_of, binding_pair, AreReadable, with_variable, declared_of, argument_view, signed_view, room_edit_view, binding_view, text_of};
 
 use crate::command::Binding;
 use crate::reader::Reader;
@@ -11,7 +11,7 @@ use px_terms::{Atom, Lit, Term};
 use px_world::{AtomEdit, RoomEdit};
 use std::alloc::Global;
 
-/// Where a name stands among these.
+/// Returns where a name stands among these.
 fn place_among(names: &[&str], name: &str) -> Option<usize>
     ensures number { result ≡ position (λ other. bytes_eq name.now other.now) names.now }
     ensures within { IfSome result (λ number. number < length names.now) }
@@ -19,7 +19,8 @@ fn place_among(names: &[&str], name: &str) -> Option<usize>
     names.iter().position(|other| name == *other)
 }
 
-/// The name is one of these.
+/// Returns whether the name is one of these.
+#[tactic(auto, using(crate::proofs::AtomTests::positions))]
 pub fn is_one_of(names: &[&str], name: &str) -> bool
     ensures { result ≡ has_name name.now (map text_of names.now) }
 {
@@ -53,10 +54,10 @@ fn add_variables<'a>(
     Ok(())
 }
 
-/// The different variables of the atoms, by first occurrence.
+/// Returns the different variables of the atoms, by first occurrence.
 pub fn variables<'a>(alloc: Global, atoms: &[SignedAtom<'a>]) -> Result<Vec<&'a str>, NoMemory>
-    ensures names { IfOk result (λ found. map text_of found.items ≡ variables_of (map signed_view atoms.now)) }
-    ensures few { IfOk result (λ found. length found.items ≡ length (variables_of (map signed_view atoms.now))) }
+    ensures names { IfOk result (λ found. map text_of found.items ≡ variable_names_of (map signed_view atoms.now)) }
+    ensures few { IfOk result (λ found. length found.items ≡ length (variable_names_of (map signed_view atoms.now))) }
 {
     let mut variables = Vec::new(alloc);
     for atom in atoms {
@@ -65,9 +66,10 @@ pub fn variables<'a>(alloc: Global, atoms: &[SignedAtom<'a>]) -> Result<Vec<&'a 
     Ok(variables)
 }
 
-/// The atoms, of which each has as many arguments as its predicate, have more than twelve different variables.
+/// Returns whether the atoms, each with as many arguments as its predicate, have more than twelve different variables.
+#[tactic(auto, using(crate::proofs::Variables::seen))]
 pub fn has_many_variables(alloc: Global, atoms: &[SignedAtom<'_>]) -> Result<bool, NoMemory>
-    ensures { IfOk result (λ many. many ≡ nat_lt 12 (length (variables_of (map signed_view atoms.now)))) }
+    ensures { IfOk result (λ many. many ≡ nat_lt 12 (length (variable_names_of (map signed_view atoms.now)))) }
 {
     let mut variables = Vec::new(alloc);
     for atom in atoms {
@@ -79,6 +81,7 @@ pub fn has_many_variables(alloc: Global, atoms: &[SignedAtom<'_>]) -> Result<boo
     Ok(variables.len() > 12)
 }
 
+#[tactic(auto, using(crate::proofs::AtomTests::positions))]
 fn variable_number(variables: &[&str], name: &str) -> u32
     requires { length variables.now ≤ 12 }
     ensures { result ≡ number_in name.now (map text_of variables.now) }
@@ -106,7 +109,7 @@ impl Reader {
         }
     }
 
-    /// An atom by numbers, with these variables.
+    /// Returns an atom by numbers, with these variables.
     pub fn atom(&self, variables: &[&str], atom: &SignedAtom<'_>) -> Atom
         requires few { length (parameters_here (declared_of self.now)) ≤ 8 }
         requires few_variables { length variables.now ≤ 12 }
@@ -199,7 +202,7 @@ impl Reader {
         Ok(numbered)
     }
 
-    /// The number of an object.
+    /// Returns the number of an object.
     pub fn object(&self, name: &str) -> u32
         ensures { result ≡ number_in name.now self.now.names.objects }
     {

@@ -20,7 +20,7 @@ pub enum Token<'a> {
 #[derive(Clone, Copy)]
 struct BadToken;
 
-/// The tokens of a line, or none where a character begins no token.
+/// Returns the tokens of a line, or `None` where a character begins no token.
 pub fn tokens<'a>(alloc: Global, line: &'a str) -> Result<Option<Vec<Token<'a>>>, NoMemory>
     ensures { IfOk result (λ found. MatchOption found ((all : List Lexeme) → ¬ Lexes (chars line.now) all)
         (λ tokens. Lexes (chars line.now) (map lexeme_of tokens.items))) }
@@ -39,7 +39,7 @@ pub fn tokens<'a>(alloc: Global, line: &'a str) -> Result<Option<Vec<Token<'a>>>
     }
 }
 
-// The first token of a line, and what follows it.
+// Returns the first token of a line, and what follows it.
 fn first_token(line: &str) -> Result<Option<(Token<'_>, &str)>, BadToken>
     ensures { Scans result (first (chars line.now)) }
 {
@@ -47,7 +47,7 @@ fn first_token(line: &str) -> Result<Option<(Token<'_>, &str)>, BadToken>
     token_at(text)
 }
 
-// The token at the front of a text.
+// Returns the token at the front of a text.
 fn token_at(text: &str) -> Result<Option<(Token<'_>, &str)>, BadToken>
     ensures { Scans result (first_at (chars text.now)) }
 {
@@ -76,7 +76,7 @@ fn is_sign(ch: char) -> bool
     matches!(ch, '(' | ')' | ',' | '~' | '$' | '+' | '-' | '=')
 }
 
-// The name at the front of a text.
+// Returns the name at the front of a text.
 fn name_at(text: &str) -> Option<(&str, &str)>
     ensures { NameAt (chars text.now) result }
 {
@@ -88,7 +88,7 @@ fn name_at(text: &str) -> Option<(&str, &str)>
     }
 }
 
-// The variable whose question mark stands before a text.
+// Returns the variable whose question mark stands before a text.
 fn variable_at(text: &str) -> Result<Option<(Token<'_>, &str)>, BadToken>
     ensures { Scans result (first_variable (chars text.now)) }
 {
@@ -98,7 +98,8 @@ fn variable_at(text: &str) -> Result<Option<(Token<'_>, &str)>, BadToken>
     }
 }
 
-// The number at the front of a text, which no name may follow.
+// Returns the number at the front of a text, which no name may follow.
+#[tactic(auto, using(crate::proofs::Numbers::digits))]
 fn number_at(text: &str) -> Result<Option<(Token<'_>, &str)>, BadToken>
     requires { 0 < length (front_while is_ascii_digit (chars text.now)) }
     ensures { Scans result (first_number (chars text.now)) }
@@ -111,14 +112,15 @@ fn number_at(text: &str) -> Result<Option<(Token<'_>, &str)>, BadToken>
     }
 }
 
-// A name could go on with this text.
+// Returns whether a name could go on with this text.
 fn goes_on(text: &str) -> bool
     ensures { result ≡ goes_on (chars text.now) }
 {
     matches!(split_first(text), Some((first, _)) if unicode_ident::is_xid_continue(first))
 }
 
-// The number that digits stand for, up to 32 bits.
+// Returns the number that digits stand for, up to 32 bits.
+#[tactic(auto, using(crate::proofs::Numbers::digits))]
 fn number_value(digits: &str) -> u32
     requires some { 0 < length (chars digits.now) }
     requires digits { all_ascii_digits (chars digits.now) ≡ true }
@@ -146,7 +148,7 @@ impl Class {
     }
 }
 
-// What follows the longest front that is of a class.
+// Returns what follows the longest front that is of a class.
 fn skip_while(text: &str, class: Class) -> &str
     ensures { Skips (is_of class) text.now result.now }
 {
@@ -160,7 +162,7 @@ fn skip_while(text: &str, class: Class) -> &str
     rest
 }
 
-// The longest front of a text that is of a class, and what follows it.
+// Returns the longest front of a text that is of a class, and what follows it.
 fn split_while(text: &str, class: Class) -> (&str, &str)
     ensures whole { text.now ≡ result.0.now ++ result.1.now }
     ensures front { chars result.0.now ≡ front_while (is_of class) (chars text.now) }

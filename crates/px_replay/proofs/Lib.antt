@@ -1,3 +1,4 @@
+-- The files of lemmas.
 pub mod GoalSteps
 pub mod OpenSteps
 pub mod PlanSteps

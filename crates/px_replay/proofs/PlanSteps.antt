@@ -23,24 +23,38 @@ use Rattle.px_replay.proofs.OpenSteps.{fresh-sum}
 
 pub rows-fresh : (rows : List (List Proof)) → sum_by (sum_by fresh_in) (rows_of rows) ≡ sum_by row_fresh rows
 rows-fresh [] = refl
-rows-fresh (row ∷ rows) = omega (arith, fresh-sum row, rows-fresh rows, sum_by-cons row_fresh row rows, sum_by-cons (sum_by fresh_in) (map derivation_of row) (rows_of rows))
+rows-fresh (row ∷ rows) =
+    omega (
+      arith,
+      fresh-sum row,
+      rows-fresh rows,
+      sum_by-cons row_fresh row rows,
+      sum_by-cons (sum_by fresh_in) (map derivation_of row) (rows_of rows),
+    )
 
-pub four_sums : (table : Table) → fresh_variables table ≡ step_variables table.steps + goal_objects table.goal + table.goal_vars + sum_by row_fresh table.proofs
+pub four_sums : (table : Table) → fresh_variables table
+    ≡ step_variables table.steps + goal_objects table.goal + table.goal_vars + sum_by row_fresh table.proofs
 four_sums table = omega (arith, rows-fresh table.proofs)
 
-schemas : (problem : Problem) (first : ℕ) (steps : List OpInst) → All (IsStepOf problem 0) steps → All (HasSchema problem) (opened_steps first steps)
+schemas : (problem : Problem) (first : ℕ) (steps : List OpInst) → All (IsStepOf problem 0) steps
+    → All (HasSchema problem) (opened_steps first steps)
 schemas problem first [] are = All-nil (HasSchema problem)
 schemas problem first (s ∷ steps) are =
     let here = All-head (IsStepOf problem 0) s steps are in
-    All-cons (HasSchema problem) _ _ record { op = here.op; count = length-variables first (length s.args) ∙ here.count } (schemas problem (first + length s.args) steps (All-tail (IsStepOf problem 0) s steps are))
+    All-cons (HasSchema problem) _ _ record { op = here.op; count = length-variables first (length s.args) ∙ here.count }
+    (schemas problem (first + length s.args) steps (All-tail (IsStepOf problem 0) s steps are))
 
-pub schemas_opened : (problem : Problem) (plan : Table) → IsTable problem plan → plan.params ≡ 0 → All (HasSchema problem) (steps_opened plan)
-schemas_opened problem plan is_table no_params = schemas problem 0 plan.steps (subst (λ (k : ℕ). All (IsStepOf problem k) plan.steps) no_params is_table.in_range.steps)
+pub schemas_opened : (problem : Problem) (plan : Table) → IsTable problem plan → plan.params ≡ 0
+    → All (HasSchema problem) (steps_opened plan)
+schemas_opened problem plan is_table no_params =
+    schemas problem 0 plan.steps (subst (λ (k : ℕ). All (IsStepOf problem k) plan.steps) no_params is_table.in_range.steps)
 
 -- the goal's own variables stay far below all that a number can be
-pub goal_within : (problem : Problem) (plan : Table) (own : ℕ) → IsTable problem plan → plan.params ≡ 0 → plan.goal_vars ≤ 1000000 → own ≤ 1000000
+pub goal_within : (problem : Problem) (plan : Table) (own : ℕ) → IsTable problem plan → plan.params ≡ 0 → plan.goal_vars ≤ 1000000
+    → own ≤ 1000000
     → All (λ (atom : Atom). All (IsVariableBelow (2 ^ 32 - own)) atom.args) plan.goal
-goal_within problem plan own is_table no_params most few k d below = λ j e inside. term_within _ ((is_table.in_range.goal k d below).1 j e inside)
+goal_within problem plan own is_table no_params most few k d below =
+    λ j e inside. term_within _ ((is_table.in_range.goal k d below).1 j e inside)
   where
     room : (v : ℕ) → v < plan.params + plan.goal_vars → v < 2 ^ 32 - own
     room v low = omega (arith, low, no_params, most, few)

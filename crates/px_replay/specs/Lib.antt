@@ -1,3 +1,4 @@
+-- The files of definitions and laws.
 pub mod FreshOf
 pub mod FreshVariables
 pub mod Opened

@@ -12,7 +12,7 @@ use Rattle.px_proof.specs.Derivation.{Derivation, no_atom, terms_of}
 use Rattle.px_proof.specs.Literals.{positive_of}
 use Rattle.px_table.specs.declared.table.Table.{Table}
 use Rattle.px_table.specs.Marks.{step_at}
-use Rattle.px_table.specs.Supports.{variables_from}
+use Rattle.px_terms.specs.Substitution.{variables_from}
 use Rattle.px_table.specs.Tables.{rows_of}
 use Rattle.px_replay.specs.FreshVariables.{fresh_in, is_object}
 use Rattle.px_replay.specs.Replay.{opened, pairs_of}
@@ -94,7 +94,7 @@ goal_opened plan = opened_goal (step_variables plan.steps) (first_own plan) plan
 abbrev pub rows_opened : Problem → Table → List (List Derivation)
 rows_opened problem plan = opened_rows (add_at problem (steps_opened plan)) (first_of_rows plan) (rows_of plan.proofs)
 
--- the terms that the opened table has; the goal's own variables are none of them
+-- the terms that the opened table has, apart from the goal's own variables
 abbrev pub opened_terms : Problem → Table → List Term
 opened_terms problem plan =
     flat_map (λ (inst : OpInst). inst.args) (steps_opened plan)
@@ -109,7 +109,7 @@ row_pairs axioms [] row = []
 row_pairs axioms (atom ∷ atoms) [] = []
 row_pairs axioms (atom ∷ atoms) (d ∷ row) = pairs_of axioms [] (positive_of atom) d ++ row_pairs axioms atoms row
 
--- row by row, those of each step's precondition, and at the end those of the goal
+-- row by row, the pairs of the proofs of each step's precondition, and at the end those of the goal's
 abbrev pub rows_pairs : Problem → List OpInst → List Atom → List (List Derivation) → List (Atom × Atom)
 rows_pairs problem steps goal [] = []
 rows_pairs problem [] goal (row ∷ rows) = row_pairs problem.axioms goal row

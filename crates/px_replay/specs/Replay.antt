@@ -7,7 +7,7 @@ use Rattle.px_terms.specs.declared.term.Term.{Term}
 use Rattle.px_proof.specs.declared.proof.Leaf.{Leaf}
 use Rattle.px_proof.specs.Derivation.{Derivation, Derivations, fact, ancestor, step, gap, open_place, none, also, no_atom}
 use Rattle.px_proof.specs.Proves.{instance_of, parts_of}
-use Rattle.px_table.specs.Supports.{variables_from}
+use Rattle.px_terms.specs.Substitution.{variables_from}
 use Rattle.px_replay.specs.FreshVariables.{fresh_in}
 
 abbrev pub atom_at : List Lit → ℕ → Atom
@@ -33,7 +33,7 @@ abbrev mutual
   all_pairs_of axioms path (lit ∷ lits) none = []
   all_pairs_of axioms path (lit ∷ lits) (also d ds) = pairs_of axioms path lit d ++ all_pairs_of axioms path lits ds
 
--- all of a proof but these equations: the signs, and that numbers and places are there
+-- all that a proof of the literal needs but these equations: the signs, and that numbers and places are there
 abbrev mutual
   pub HasForm : List Clause → List Lit → Lit → Derivation → Type 0
   HasForm axioms path lit (fact leaf) = lit.positive ≡ true

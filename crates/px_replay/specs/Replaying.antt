@@ -17,7 +17,7 @@ use Rattle.px_unify.specs.Changes.{Binds, Fits, HasSolutions, MakesEachEqual, Na
 use Rattle.px_proof.specs.Derivation.{Derivation, Derivations, terms_of, all_terms_of}
 use Rattle.px_replay.specs.Replay.{HasForm, HaveForms, pairs_of, all_pairs_of}
 
--- the proof has the form of one of the literal, all variables are the bindings', and what fits them has a solution of its pairs
+-- the proof has the form of a proof of the literal, all variables are the bindings', and something that fits them makes its pairs equal
 pub record CanReplay (axioms : List Clause) (path : List Lit) (lit : Lit) (d : Derivation) (changes : List Change) : Type 0 where
   pub form : HasForm axioms path lit d
   pub path_below : ArePlainBelow (variables_of changes) path
@@ -25,7 +25,8 @@ pub record CanReplay (axioms : List Clause) (path : List Lit) (lit : Lit) (d : D
   pub terms_below : All (IsPlainBelow (variables_of changes)) (terms_of d)
   pub solved : (sigma : List Term) × Fits sigma changes × MakesEachEqual (pairs_of axioms path lit d) sigma
 
--- the same of several, one for each literal
+-- the proofs have the forms of proofs of the literals, one each, all variables are the bindings', and something that fits makes
+-- their pairs equal
 pub record CanReplayEach (axioms : List Clause) (path lits : List Lit) (ds : Derivations) (changes : List Change) : Type 0 where
   pub forms : HaveForms axioms path lits ds
   pub path_below : ArePlainBelow (variables_of changes) path
@@ -34,7 +35,7 @@ pub record CanReplayEach (axioms : List Clause) (path lits : List Lit) (ds : Der
   pub solved : (sigma : List Term) × Fits sigma changes × MakesEachEqual (all_pairs_of axioms path lits ds) sigma
   pub solvable : HasSolutions changes
 
--- a substitution fits the new bindings just where it fitted the old ones and makes the pairs equal
+-- a substitution fits the new bindings exactly where it fitted the old ones and makes the pairs equal
 pub record IsReplayOf (old new : List Change) (pairs : List (Atom × Atom)) : Type 0 where
   pub narrowed : NarrowedBy old new (MakesEachEqual pairs)
   pub grows : Binds old new
@@ -49,7 +50,7 @@ ArePlainAtoms n atoms = All (λ atom. All (IsPlainBelow n) atom.args) atoms
 abbrev pub RowForms : List Clause → List Atom → List Derivation → Type 0
 RowForms axioms atoms row = AllZip (λ atom d. HasForm axioms [] (positive_of atom) d) atoms row
 
--- row by row those of proofs of each step's precondition, and at the end of the goal
+-- row by row, the proofs have the forms of proofs of each step's precondition, and at the end of the goal
 abbrev pub PlanForms : Problem → List OpInst → List Atom → List (List Derivation) → Type 0
 PlanForms problem [] goal [] = ⊥
 PlanForms problem [] goal (row ∷ []) = RowForms problem.axioms goal row

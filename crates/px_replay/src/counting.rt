@@ -1,7 +1,7 @@
 //! How many variables opening a table takes.
 ghost use Rattle.std.specs.Prelude.{◌≡◌, ◌≤◌, ◌-◌, ◌^◌, length, min, sum_by, count_by};
 ghost use Rattle.px_proof.specs.Derivation.{fact};
-ghost use Rattle.px_replay.specs.FreshOf.{fresh_of, row_fresh};
+ghost use Rattle.px_replay.specs.FreshOf.{fresh_of_proof, row_fresh};
 ghost use Rattle.px_replay.specs.FreshVariables.{fresh_in, fresh_variables, is_object};
 ghost use Rattle.px_replay.specs.Opened.{goal_objects, step_variables};
 
@@ -19,7 +19,7 @@ pub fn fresh_count(table: &Table) -> usize
         .saturating_add(count_rows(table.proofs.as_slice()))
 }
 
-/// How many arguments the steps have.
+/// Returns how many arguments the steps have.
 pub fn count_steps(steps: &[OpInst]) -> usize
     ensures { result ≡ min (step_variables steps.now) (2 ^ 64 - 1) }
 {
@@ -30,7 +30,7 @@ pub fn count_steps(steps: &[OpInst]) -> usize
     count
 }
 
-/// How many objects stand in the goal.
+/// Returns how many objects stand in the goal.
 pub fn count_goal(goal: &[Atom]) -> usize
     ensures { result ≡ min (goal_objects goal.now) (2 ^ 64 - 1) }
 {
@@ -41,7 +41,7 @@ pub fn count_goal(goal: &[Atom]) -> usize
     count
 }
 
-/// How many of the arguments are objects.
+/// Returns how many of the arguments are objects.
 pub fn count_objects(args: &[Term]) -> u32
     requires { length args.now ≤ 6 }
     ensures { result ≡ count_by is_object args.now }
@@ -51,7 +51,7 @@ pub fn count_objects(args: &[Term]) -> u32
         .count() as u32
 }
 
-/// How many variables the rows take.
+/// Returns how many variables the rows take.
 fn count_rows(rows: &[Row]) -> usize
     ensures { result ≡ min (sum_by row_fresh rows.now) (2 ^ 64 - 1) }
 {
@@ -62,7 +62,7 @@ fn count_rows(rows: &[Row]) -> usize
     count
 }
 
-/// How many variables the leaf takes.
+/// Returns how many variables the leaf takes.
 fn count_leaf(leaf: &Leaf) -> usize
     ensures { result ≡ fresh_in (fact leaf.now) }
 {
@@ -73,10 +73,10 @@ fn count_leaf(leaf: &Leaf) -> usize
     }
 }
 
-/// How many variables the proof takes.
+/// Returns how many variables the proof takes.
 #[cycle(counts)]
 fn count_proof(proof: &Proof) -> usize
-    ensures { result ≡ min (fresh_of proof.now) (2 ^ 64 - 1) }
+    ensures { result ≡ min (fresh_of_proof proof.now) (2 ^ 64 - 1) }
 {
     match proof {
         Proof::Fact(leaf) => count_leaf(leaf),
@@ -90,7 +90,7 @@ fn count_proof(proof: &Proof) -> usize
     }
 }
 
-/// The same of all of the proofs.
+/// Returns how many variables the proofs take together.
 #[cycle(counts)]
 fn count_each(proofs: &[Proof]) -> usize
     ensures { result ≡ min (row_fresh proofs.now) (2 ^ 64 - 1) }

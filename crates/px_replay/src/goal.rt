@@ -51,7 +51,7 @@ pub fn named_goal(
     Ok(made)
 }
 
-/// The same of one atom.
+/// Returns the atom with the terms of the list, from number `first` on, for its objects, and its own variables from number `own` on.
 fn named_atom(names: &[Term], own: u32, first: u32, atom: &Atom) -> Atom
     requires objects { first + count_by is_object atom.now.args ≤ length names.now }
     requires few { length names.now ≤ 1000000 }
@@ -83,7 +83,7 @@ fn name_each(names: &[Term], own: u32, first: u32, args: &[Term], into: &mut [Te
     }
 }
 
-/// The term for one argument.
+/// Returns the term for one argument.
 fn name_of(names: &[Term], own: u32, next: u32, term: Term) -> Term
     requires object { next + cond (is_object term) 1 0 ≤ length names.now }
     requires variable { IsVariableBelow (2 ^ 32 - own) term }
@@ -96,7 +96,7 @@ fn name_of(names: &[Term], own: u32, next: u32, term: Term) -> Term
     }
 }
 
-/// 1 for an object, and 0 for any other term.
+/// Returns 1 for an object, and 0 for any other term.
 fn object_count(term: Term) -> u32
     ensures { result ≡ cond (is_object term) 1 0 }
 {

@@ -12,10 +12,11 @@
 //!   `specs/Opened`). The variables of the steps come first, then those of the goal's objects, those that the goal has itself, and
 //!   those of the proofs.
 //! - [`replay_rows`] makes equal what has to be equal in an opened plan (`rows_pairs`). What fits the bindings afterwards is what
-//!   fitted them before and makes each pair of atoms equal (`IsReplayOf` of `specs/Replaying`). Who calls it knows that something
-//!   does (`CanReplayRows`), as the plan itself does where it is a table, so no pair clashes.
-//! - [`named_goal`] gives a goal other terms for its objects, and [`variables`] makes a list of variables.
+//!   fitted them before and makes each pair of atoms equal (`IsReplayOf` of `specs/Replaying`). The caller has to know that some
+//!   substitution does (`CanReplayRows`), as that of the plan itself does where it is a table, so no pair clashes.
+//! - [`named_goal`] puts other terms in the place of a goal's objects, and [`variables`] makes a list of variables.
 //! - `opened` and `pairs_of` of `specs/Replay` say what becomes of one proof, and which atoms have to be equal in it.
+//! - No public clause cites `specs/FreshOf`.
 #![tactic(auto)]
 
 mod counting;

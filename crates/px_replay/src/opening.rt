@@ -4,11 +4,11 @@ ghost use Rattle.px_terms.specs.Operators.{adds as adds_of};
 ghost use Rattle.px_terms.specs.Validity.{IsValid};
 ghost use Rattle.px_proof.specs.Derivation.{fact, no_atom as spec_no_atom};
 ghost use Rattle.px_proof.specs.ProofTerm.{derivation_of};
-ghost use Rattle.px_table.specs.Supports.{variables_from};
+ghost use Rattle.px_terms.specs.Substitution.{variables_from};
 ghost use Rattle.px_table.specs.Tables.{rows_of};
 ghost use Rattle.px_replay.specs.FreshVariables.{fresh_in};
 ghost use Rattle.px_replay.specs.Opened.{add_at, atom_in, opened_row, opened_rows, opened_steps, step_variables};
-ghost use Rattle.px_replay.specs.FreshOf.{fresh_of, open_leaf as spec_open_leaf, row_fresh};
+ghost use Rattle.px_replay.specs.FreshOf.{fresh_of_proof, open_leaf as spec_open_leaf, row_fresh};
 ghost use Rattle.px_replay.specs.Replay.{opened};
 ghost use Rattle.px_replay.specs.Replaying.{HasSchema};
 
@@ -33,7 +33,7 @@ pub fn variables(alloc: Global, first: u32, count: u32) -> Result<Vec<Term>, NoM
     Ok(terms)
 }
 
-/// The atom without arguments.
+/// Returns the atom without arguments.
 fn no_atom() -> Atom
     ensures { result ≡ spec_no_atom }
 {
@@ -43,7 +43,7 @@ fn no_atom() -> Atom
     }
 }
 
-/// The add of that number of the step of that number, or an atom without arguments where there is none.
+/// Returns the add of that number of the step of that number, or an atom without arguments where there is none.
 fn named_add(problem: &Problem, steps: &[OpInst], column: u32, index: u32) -> Atom
     requires problem { IsValid problem.now }
     requires schemas { All (HasSchema problem.now) steps.now }
@@ -55,7 +55,7 @@ fn named_add(problem: &Problem, steps: &[OpInst], column: u32, index: u32) -> At
     add_of(problem, &steps[column as usize - 1], index)
 }
 
-/// The add of that number of the step.
+/// Returns the add of that number of the step.
 fn add_of(problem: &Problem, inst: &OpInst, index: u32) -> Atom
     requires problem { IsValid problem.now }
     requires schema { HasSchema problem.now inst.now }
@@ -70,7 +70,7 @@ fn add_of(problem: &Problem, inst: &OpInst, index: u32) -> Atom
     apply(inst.args(), &adds[index as usize])
 }
 
-/// The leaf with fresh variables from number `next` on, or with the add that it names.
+/// Returns the leaf with fresh variables from number `next` on, or with the add that it names.
 fn open_leaf(
     alloc: Global,
     problem: &Problem,
@@ -100,7 +100,7 @@ fn open_leaf(
     })
 }
 
-/// The atom with fresh variables from number `first` on for its arguments.
+/// Returns the atom with fresh variables from number `first` on for its arguments.
 // Alike: `open_step`, since atoms and steps have no constructor in common.
 fn fresh_atom(alloc: Global, first: u32, atom: &Atom) -> Result<Atom, NoMemory>
     requires { first + length atom.now.args ≤ 1000000 }
@@ -113,7 +113,7 @@ fn fresh_atom(alloc: Global, first: u32, atom: &Atom) -> Result<Atom, NoMemory>
     }
 }
 
-/// The proof with fresh variables from number `next` on for all that its form leaves open.
+/// Returns the proof with fresh variables from number `next` on for all that its form leaves open.
 // Alike: `Proof::try_copy` of `px_proof`, which says why.
 #[cycle(opens)]
 fn open_proof(
@@ -125,9 +125,9 @@ fn open_proof(
 ) -> Result<Proof, NoMemory>
     requires problem { IsValid problem.now }
     requires schemas { All (HasSchema problem.now) steps.now }
-    requires room { next.old + fresh_of proof.now ≤ 1000000 }
+    requires room { next.old + fresh_of_proof proof.now ≤ 1000000 }
     ensures proof { IfOk result (λ made. derivation_of made ≡ opened (add_at problem.now steps.now) next.old (derivation_of proof.now)) }
-    ensures next { IfOk result (λ _. next.new ≡ next.old + fresh_of proof.now) }
+    ensures next { IfOk result (λ _. next.new ≡ next.old + fresh_of_proof proof.now) }
 {
     match proof {
         Proof::Fact(leaf) => Ok(Proof::Fact(open_leaf(alloc, problem, steps, next, leaf)?)),
@@ -153,7 +153,7 @@ fn open_proof(
     }
 }
 
-/// The same of each of the proofs, in order.
+/// Returns each of the proofs, in order, with fresh variables for all that its form leaves open.
 #[cycle(opens)]
 fn open_each(
     proofs: &[Proof],
@@ -164,10 +164,10 @@ fn open_each(
 ) -> Result<Vec<Proof>, NoMemory>
     requires problem { IsValid problem.now }
     requires schemas { All (HasSchema problem.now) steps.now }
-    requires room { next.old + sum_by fresh_of proofs.now ≤ 1000000 }
+    requires room { next.old + sum_by fresh_of_proof proofs.now ≤ 1000000 }
     ensures proofs { IfOk result (λ made. map derivation_of made.items ≡ opened_row (add_at problem.now steps.now) next.old
         (map derivation_of proofs.now)) }
-    ensures next { IfOk result (λ _. next.new ≡ next.old + sum_by fresh_of proofs.now) }
+    ensures next { IfOk result (λ _. next.new ≡ next.old + sum_by fresh_of_proof proofs.now) }
 {
     let mut made = Vec::new(alloc);
     for proof in proofs {
@@ -203,7 +203,7 @@ pub fn open_rows(
     Ok(made)
 }
 
-/// The step with fresh variables from number `first` on for its arguments.
+/// Returns the step with fresh variables from number `first` on for its arguments.
 fn open_step(alloc: Global, first: u32, inst: &OpInst) -> Result<OpInst, NoMemory>
     requires { first + length inst.now.args ≤ 1000000 }
     ensures { IfOk result (λ made. made ≡ record { op = inst.now.op; args = variables_from first (length inst.now.args) }) }

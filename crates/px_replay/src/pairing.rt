@@ -7,7 +7,7 @@ ghost use Rattle.px_unify.specs.Changes.{Binds, Fits, HasSolutions, MakesEqual, 
 ghost use Rattle.px_proof.specs.Derivation.{derivations, step};
 ghost use Rattle.px_proof.specs.ProofTerm.{derivation_of};
 ghost use Rattle.px_proof.specs.Proves.{parts_of};
-ghost use Rattle.px_proof.specs.Path.{literals_of};
+ghost use Rattle.px_proof.specs.Path.{path_literals};
 ghost use Rattle.px_replay.specs.Replay.{all_pairs_of, pairs_of};
 ghost use Rattle.px_replay.specs.Replaying.{CanReplay, CanReplayEach, IsReplayOf};
 
@@ -33,8 +33,8 @@ fn make_equal(bind: &mut Bind, a: &Atom, b: &Atom)
 /// Makes the pairs of the proof equal.
 #[cycle(replays)]
 pub fn replay(proof: &Proof, bind: &mut Bind, arena: &ClauseArena, path: &Path, lit: &Lit)
-    requires { CanReplay arena.now (literals_of path.now) lit.now (derivation_of proof.now) bind.old }
-    ensures { IsReplayOf bind.old bind.new (pairs_of arena.now (literals_of path.now) lit.now (derivation_of proof.now)) }
+    requires { CanReplay arena.now (path_literals path.now) lit.now (derivation_of proof.now) bind.old }
+    ensures { IsReplayOf bind.old bind.new (pairs_of arena.now (path_literals path.now) lit.now (derivation_of proof.now)) }
 {
     match proof {
         Proof::Fact(leaf) => make_equal(bind, &lit.atom, &leaf.atom),
@@ -61,7 +61,7 @@ pub fn replay(proof: &Proof, bind: &mut Bind, arena: &ClauseArena, path: &Path, 
     }
 }
 
-/// The same of a step.
+/// Makes the pairs of a step equal.
 #[cycle(replays)]
 fn replay_step(
     subs: &[Proof],
@@ -73,9 +73,9 @@ fn replay_step(
     theta: &[Term],
     place: u32,
 )
-    requires { CanReplay arena.now (literals_of path.now) lit.now (step clause theta.now place (derivations (map derivation_of subs.now)))
+    requires { CanReplay arena.now (path_literals path.now) lit.now (step clause theta.now place (derivations (map derivation_of subs.now)))
         bind.old }
-    ensures { IsReplayOf bind.old bind.new (pairs_of arena.now (literals_of path.now) lit.now
+    ensures { IsReplayOf bind.old bind.new (pairs_of arena.now (path_literals path.now) lit.now
         (step clause theta.now place (derivations (map derivation_of subs.now)))) }
 {
     let lits = arena.lits(clause);
@@ -84,7 +84,7 @@ fn replay_step(
     replay_each(subs, bind, arena, &below, lits, theta, place)
 }
 
-/// The same of the parts of a step, in order.
+/// Makes the pairs of the parts of a step equal, in order.
 #[cycle(replays)]
 fn replay_each(
     subs: &[Proof],
@@ -97,9 +97,9 @@ fn replay_each(
 )
     requires place { place < length lits.now }
     requires plain { ArePlainBelow (length theta.now) lits.now }
-    requires can { CanReplayEach arena.now (literals_of path.now) (parts_of lits.now theta.now place)
+    requires can { CanReplayEach arena.now (path_literals path.now) (parts_of lits.now theta.now place)
         (derivations (map derivation_of subs.now)) bind.old }
-    ensures { IsReplayOf bind.old bind.new (all_pairs_of arena.now (literals_of path.now) (parts_of lits.now theta.now place)
+    ensures { IsReplayOf bind.old bind.new (all_pairs_of arena.now (path_literals path.now) (parts_of lits.now theta.now place)
         (derivations (map derivation_of subs.now))) }
 {
     for (k, sub) in subs.iter().enumerate() {

@@ -18,7 +18,7 @@ use std::alloc::Global;
 pub struct Opened {
     /// The steps, each with a variable for each argument.
     pub steps: Vec<OpInst>,
-    /// The goal, with a variable for each of its objects and its own variables behind those.
+    /// The goal, with a variable for each of its objects and its own variables after those.
     pub goal: Vec<Atom>,
     /// The proofs, with a variable for each argument of a fact of the initial model and for each variable of an axiom.
     pub rows: Vec<Row>,

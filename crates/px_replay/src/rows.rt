@@ -30,7 +30,7 @@ fn replay_row(row: &[Proof], bind: &mut Bind, arena: &ClauseArena, atoms: &[Atom
     }
 }
 
-/// The atoms that the instance needs.
+/// Returns the atoms that the instance needs.
 fn needs(alloc: Global, problem: &Problem, inst: &OpInst) -> Result<Vec<Atom>, NoMemory>
     requires problem { IsValid problem.now }
     requires schema { HasSchema problem.now inst.now }

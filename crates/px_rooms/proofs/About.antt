@@ -47,7 +47,8 @@ about state k atom has = AllByRecursion-at (IsAbout k) (atoms_about state k) ato
 
 -- ---- the facts of a state are those about the robot and about each thing
 
-from-place : (n : ℕ) (things : List Standing) (atom : Atom) → Contains (atoms_from n things) atom → (j : ℕ) × Contains (atoms_of_thing (n + j) (slice_get things j)) atom
+from-place : (n : ℕ) (things : List Standing) (atom : Atom) → Contains (atoms_from n things) atom
+    → (j : ℕ) × Contains (atoms_of_thing (n + j) (slice_get things j)) atom
 from-place n [] atom has = absurd (Contains-none atom has)
 from-place n (one ∷ things) atom has = elim (Contains-append_cases (thing_atoms n one) (atoms_from (n + 1) things) atom has) [
   | inl here ↦ (0, subst (λ k. Contains (thing_atoms k one) atom) (omega arith) here)
@@ -55,22 +56,30 @@ from-place n (one ∷ things) atom has = elim (Contains-append_cases (thing_atom
       (suc found.0, subst (λ k. Contains (atoms_of_thing k (slice_get things found.0)) atom) (omega arith) found.1)
 ]
 
-place-from : (n : ℕ) (things : List Standing) (j : ℕ) (atom : Atom) → Contains (atoms_of_thing (n + j) (slice_get things j)) atom → Contains (atoms_from n things) atom
+place-from : (n : ℕ) (things : List Standing) (j : ℕ) (atom : Atom) → Contains (atoms_of_thing (n + j) (slice_get things j)) atom
+    → Contains (atoms_from n things) atom
 place-from n [] j atom has = absurd (Contains-none atom has)
 place-from n (one ∷ things) zero atom has =
-    Contains-append_left (thing_atoms n one) (atoms_from (n + 1) things) atom (subst (λ k. Contains (thing_atoms k one) atom) (omega arith) has)
+    Contains-append_left (thing_atoms n one) (atoms_from (n + 1) things) atom
+    (subst (λ k. Contains (thing_atoms k one) atom) (omega arith) has)
 place-from n (one ∷ things) (suc j) atom has = Contains-append_right (thing_atoms n one) (atoms_from (n + 1) things) atom
     (place-from (n + 1) things j atom (subst (λ k. Contains (atoms_of_thing k (slice_get things j)) atom) (omega arith) has))
 
 pub rendering-about : (state : RoomState) (atom : Atom) → Contains (rendering state) atom → (k : ℕ) × Contains (atoms_about state k) atom
 rendering-about state atom has =
-    elim (Contains-append_cases (robot_atoms state) (atoms_from 1 state.things) atom ((set_of-members atom_cmp atom_cmp-total atom_cmp-same (robot_atoms state ++ atoms_from 1 state.things) atom).0 has)) [
+    elim (Contains-append_cases (robot_atoms state) (atoms_from 1 state.things) atom
+    ((set_of-members atom_cmp atom_cmp-total atom_cmp-same (robot_atoms state ++ atoms_from 1 state.things) atom).0 has)) [
       | inl here ↦ (0, here)
-      | inr later ↦ let found = from-place 1 state.things atom later in (suc found.0, subst (λ k. Contains (atoms_of_thing k (slice_get state.things found.0)) atom) (omega arith) found.1)
+      | inr later ↦ let found =
+          from-place 1 state.things atom later in
+          (suc found.0, subst (λ k. Contains (atoms_of_thing k (slice_get state.things found.0)) atom) (omega arith) found.1)
     ]
 
 pub about-rendering : (state : RoomState) (k : ℕ) (atom : Atom) → Contains (atoms_about state k) atom → Contains (rendering state) atom
-about-rendering state k atom has = (set_of-members atom_cmp atom_cmp-total atom_cmp-same (robot_atoms state ++ atoms_from 1 state.things) atom).1 (either k has) where
-  either : (k : ℕ) → Contains (atoms_about state k) atom → Contains (robot_atoms state ++ atoms_from 1 state.things) atom
-  either zero here = Contains-append_left (robot_atoms state) (atoms_from 1 state.things) atom here
-  either (suc j) there = Contains-append_right (robot_atoms state) (atoms_from 1 state.things) atom (place-from 1 state.things j atom (subst (λ k. Contains (atoms_of_thing k (slice_get state.things j)) atom) (omega arith) there))
+about-rendering state k atom has =
+    (set_of-members atom_cmp atom_cmp-total atom_cmp-same (robot_atoms state ++ atoms_from 1 state.things) atom).1 (either k has) where
+      either : (k : ℕ) → Contains (atoms_about state k) atom → Contains (robot_atoms state ++ atoms_from 1 state.things) atom
+      either zero here = Contains-append_left (robot_atoms state) (atoms_from 1 state.things) atom here
+      either (suc j) there =
+          Contains-append_right (robot_atoms state) (atoms_from 1 state.things) atom
+          (place-from 1 state.things j atom (subst (λ k. Contains (atoms_of_thing k (slice_get state.things j)) atom) (omega arith) there))

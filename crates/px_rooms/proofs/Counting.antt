@@ -29,7 +29,8 @@ with_atom-new : (atom : Atom) (atoms : List Atom) → ¬ Contains atoms atom →
 unfolding with_item
 with_atom-new atom [] new = refl
 with_atom-new atom (x ∷ xs) new =
-    elim (atom_cmp atom x) as (λ r. atom_cmp atom x ≡ r → length (place_item r atom x xs (with_item atom_cmp atom xs)) ≡ suc (length (x ∷ xs))) [
+    elim (atom_cmp atom x) as (λ r. atom_cmp atom x ≡ r
+    → length (place_item r atom x xs (with_item atom_cmp atom xs)) ≡ suc (length (x ∷ xs))) [
       | Less ↦ λ _. refl
       | Equal ↦ λ equal. absurd (new (subst (Contains (x ∷ xs)) (sym (atom_cmp-same atom x equal)) (Contains-first x xs)))
       | Greater ↦ λ _. ap suc (with_atom-new atom xs (λ has. new (Contains-later x xs atom has)))
@@ -39,7 +40,8 @@ set-of-once : (atoms : List Atom) → AreOnce atoms → length (atom_set atoms) 
 unfolding set_of
 set-of-once [] once = refl
 set-of-once (x ∷ xs) (new, once) =
-    with_atom-new x (atom_set xs) (λ has. new ((set_of-members atom_cmp atom_cmp-total atom_cmp-same xs x).0 has)) ∙ ap suc (set-of-once xs once)
+    with_atom-new x (atom_set xs) (λ has. new ((set_of-members atom_cmp atom_cmp-total atom_cmp-same xs x).0 has))
+    ∙ ap suc (set-of-once xs once)
 
 append-once : (xs ys : List Atom) → AreOnce xs → AreOnce ys → ((a : Atom) → Contains xs a → ¬ Contains ys a) → AreOnce (xs ++ ys)
 append-once [] ys once others apart = others
@@ -85,7 +87,8 @@ thing-once : (things : List Standing) (k : ℕ) (one : Standing) → StandsRight
 thing-once things k a_room right = (Contains-none (is_room (Obj k)), tt)
 thing-once things k (a_door x y is_open) right = door-once k x y is_open right.2
 thing-once things k (a_box r beside) right = (
-  other-kind (is_box (Obj k)) (in_room (Obj k) (Obj r) ∷ beside_atoms k beside) ((λ e. omega (arith, e)), beside-kind k beside 7 (λ e. omega (arith, e))),
+  other-kind (is_box (Obj k)) (in_room (Obj k) (Obj r) ∷ beside_atoms k beside)
+      ((λ e. omega (arith, e)), beside-kind k beside 7 (λ e. omega (arith, e))),
   (other-kind (in_room (Obj k) (Obj r)) (beside_atoms k beside) (beside-kind k beside 0 (λ e. omega (arith, e))), beside-once k beside),
 )
 
@@ -109,9 +112,13 @@ from-once all n (one ∷ things) (here, right) =
 
 pub rendering-length : (state : RoomState) → IsRoomState state → length (rendering state) ≡ length (all_atoms state)
 rendering-length state is = set-of-once (all_atoms state)
-    (append-once (robot_atoms state) (atoms_from 1 state.things)
-    (other-kind (in_room robot (Obj state.robot_room)) (beside_atoms 0 state.robot_beside) (beside-kind 0 state.robot_beside 0 (λ e. omega (arith, e))), beside-once 0 state.robot_beside)
-    (from-once state.things 1 state.things (all_of (StandsRight state.things) state.things (λ q has. All-at (StandsRight state.things) state.things q is.things has)))
+    (append-once (robot_atoms state) (atoms_from 1 state.things) (
+      other-kind (in_room robot (Obj state.robot_room)) (beside_atoms 0 state.robot_beside)
+          (beside-kind 0 state.robot_beside 0 (λ e. omega (arith, e))),
+      beside-once 0 state.robot_beside,
+    )
+    (from-once state.things 1 state.things (all_of (StandsRight state.things) state.things
+    (λ q has. All-at (StandsRight state.things) state.things q is.things has)))
     (λ a has later. let found = from-later 1 state.things a later in
     apart 0 found.0 a (omega (arith, found.1)) (AllByRecursion-at (IsAbout 0) (robot_atoms state) a (all-about state 0) has) found.2))
 
@@ -128,7 +135,10 @@ few-atoms k (a_box r beside) = let few = few-beside k beside in omega (arith, fe
 
 few-from : (n : ℕ) (things : List Standing) → length (atoms_from n things) ≤ 4 * length things
 few-from n [] = omega arith
-few-from n (one ∷ things) = let here = few-atoms n one in let rest = few-from (n + 1) things in omega (arith, here, rest, length-append (thing_atoms n one) (atoms_from (n + 1) things))
+few-from n (one ∷ things) =
+    let here =
+    few-atoms n one in let rest =
+    few-from (n + 1) things in omega (arith, here, rest, length-append (thing_atoms n one) (atoms_from (n + 1) things))
 
 pub rendering-few : (state : RoomState) → IsRoomState state → length (rendering state) ≤ 4 * length state.things + 2
 rendering-few state is =

@@ -24,7 +24,8 @@ use Rattle.px_rooms.proofs.About.{IsAbout, about-rendering, rendering-about}
 -- ---- numbers
 
 pub other-number : (m n : ℕ) → m ≢ n → (m == n) ≡ false
-other-number m n differ = elim (m == n) as (λ b. (m == n) ≡ b → b ≡ false) [ true ↦ λ is. absurd (differ (eqb-true m n is)) | false ↦ λ _. refl ] refl
+other-number m n differ =
+    elim (m == n) as (λ b. (m == n) ≡ b → b ≡ false) [ true ↦ λ is. absurd (differ (eqb-true m n is)) | false ↦ λ _. refl ] refl
 
 pub same-number : (n : ℕ) → (n == n) ≡ true
 same-number n = grind (arith, nat_tests)
@@ -54,12 +55,15 @@ pattern-other atom pattern k m (terms, is) (others, is_p) differ =
 abbrev pub IsSpared : Schema → OpInst → ℕ → Type 0
 IsSpared schema inst k = AllByRecursion (λ pattern. (m : ℕ) × IsAbout m (substitute_atom inst.args pattern) × (m ≢ k)) schema.del
 
-spared-by : (args : List Term) (patterns : List Atom) (k : ℕ) (atom : Atom) → AllByRecursion (λ pattern. (m : ℕ) × IsAbout m (substitute_atom args pattern) × (m ≢ k)) patterns → IsAbout k atom
+spared-by : (args : List Term) (patterns : List Atom) (k : ℕ) (atom : Atom)
+    → AllByRecursion (λ pattern. (m : ℕ) × IsAbout m (substitute_atom args pattern) × (m ≢ k)) patterns → IsAbout k atom
     → list_any (λ pattern. is_instance atom (substitute_atom args pattern)) patterns ≡ false
 spared-by args [] k atom all is = refl
-spared-by args (p ∷ ps) k atom ((m, of_p, differ), all) is = rw (pattern-other atom (substitute_atom args p) k m is of_p differ) (spared-by args ps k atom all is)
+spared-by args (p ∷ ps) k atom ((m, of_p, differ), all) is =
+    rw (pattern-other atom (substitute_atom args p) k m is of_p differ) (spared-by args ps k atom all is)
 
-pub spared : (schema : Schema) (inst : OpInst) (k : ℕ) (atom : Atom) → IsSpared schema inst k → IsAbout k atom → is_deleted schema inst atom ≡ false
+pub spared : (schema : Schema) (inst : OpInst) (k : ℕ) (atom : Atom) → IsSpared schema inst k → IsAbout k atom
+    → is_deleted schema inst atom ≡ false
 spared schema inst k atom all is = spared-by inst.args schema.del k atom all is
 
 -- ---- the change of the facts about one object
@@ -70,19 +74,24 @@ pub record Changes (schema : Schema) (inst : OpInst) (before after : List Atom) 
   pub goes : AllByRecursion (λ a. (is_deleted schema inst a ≡ true) ⊎ Contains after a) before
 
 -- nothing is changed where nothing is deleted
-pub same-facts : (schema : Schema) (inst : OpInst) (k : ℕ) (facts : List Atom) → IsSpared schema inst k → AllByRecursion (IsAbout k) facts → Changes schema inst facts facts
+pub same-facts : (schema : Schema) (inst : OpInst) (k : ℕ) (facts : List Atom) → IsSpared schema inst k → AllByRecursion (IsAbout k) facts
+    → Changes schema inst facts facts
 same-facts schema inst k facts spare are = record {
   comes = all_of _ facts (λ a has. inl (has, spared schema inst k a spare (AllByRecursion-at (IsAbout k) facts a are has)));
   goes = all_of _ facts (λ a has. inr has);
 }
 
 -- the facts afterwards are the result where that is so of the facts about each object
-pub result-by-changes : (schema : Schema) (inst : OpInst) (old new : RoomState) → ((k : ℕ) → Changes schema inst (atoms_about old k) (atoms_about new k))
-    → AllByRecursion (λ a. (k : ℕ) × Contains (atoms_about new k) a) (atoms_of schema.add inst) → rendering new ≡ result_by schema (rendering old) inst
+pub result-by-changes : (schema : Schema) (inst : OpInst) (old new : RoomState)
+    → ((k : ℕ) → Changes schema inst (atoms_about old k) (atoms_about new k))
+    → AllByRecursion (λ a. (k : ℕ) × Contains (atoms_about new k) a) (atoms_of schema.add inst)
+    → rendering new ≡ result_by schema (rendering old) inst
 result-by-changes schema inst old new changes added =
-    same_set atom_cmp atom_cmp-total atom_cmp-same (rendering new) (result_by schema (rendering old) inst) (set_of-is_sorted atom_cmp atom_cmp-total atom_cmp-same _) (set_of-is_sorted atom_cmp atom_cmp-total atom_cmp-same _)
+    same_set atom_cmp atom_cmp-total atom_cmp-same (rendering new) (result_by schema (rendering old) inst)
+    (set_of-is_sorted atom_cmp atom_cmp-total atom_cmp-same _) (set_of-is_sorted atom_cmp atom_cmp-total atom_cmp-same _)
     (λ a. (to a, back a)) where
-      members : (a : Atom) → Contains (result_by schema (rendering old) inst) a ↔ ((Contains (rendering old) a × (is_deleted schema inst a ≡ false)) ⊎ Contains (atoms_of schema.add inst) a)
+      members : (a : Atom) → Contains (result_by schema (rendering old) inst) a
+          ↔ ((Contains (rendering old) a × (is_deleted schema inst a ≡ false)) ⊎ Contains (atoms_of schema.add inst) a)
       members a = result_by-members schema (rendering old) inst a
 
       to : (a : Atom) → Contains (rendering new) a → Contains (result_by schema (rendering old) inst) a
@@ -101,5 +110,6 @@ result-by-changes schema inst old new changes added =
               | inl gone ↦ both_answers (is_deleted schema inst a) was.1 gone
               | inr stays ↦ about-rendering new found.0 a stays
             ]
-        | inr is_added ↦ let found = AllByRecursion-at _ (atoms_of schema.add inst) a added is_added in about-rendering new found.0 a found.1
+        | inr is_added ↦ let found =
+            AllByRecursion-at _ (atoms_of schema.add inst) a added is_added in about-rendering new found.0 a found.1
       ]

@@ -11,7 +11,7 @@ use Rattle.px_terms.specs.Operators.{atoms_of, precondition, schema_of}
 use Rattle.px_terms.specs.Substitution.{substitute_atom}
 use Rattle.px_terms.specs.Validity.{IsAtomOf, IsInstanceOf, IsValid}
 use Rattle.px_terms.specs.ValidityLaws.{precondition-is_of}
-use Rattle.px_world.specs.Worlds.{IsRefused}
+use Rattle.px_world.specs.Worlds.{IsActionRefused}
 use Rattle.px_rooms.specs.Following.{FactsAreFew, IsMet, RefusalsAreAllowed}
 use Rattle.px_rooms.specs.States.{IsRoomWorld, RoomState, building_rules, rendering}
 use Rattle.px_rooms.proofs.Meeting.{HaveBelow, have-all, have-not}
@@ -23,27 +23,33 @@ use Rattle.px_rooms.proofs.Worlds.{rendering-ground, rules-valid}
 
 pub record IsUnmet (state : RoomState) (inst : OpInst) : Type 0 where
   pub not_met : ¬ IsMet state inst
-  pub may_fail : IsRefused (building_rules state) (rendering state) inst
+  pub may_fail : IsActionRefused (building_rules state) (rendering state) inst
 
 -- what the problem of a world needs is what the rules of its state need
-pub needs-same : (problem : Problem) (state : RoomState) (schema : Schema) (inst : OpInst) → IsRoomWorld problem state → schema ≡ schema_of problem inst
+pub needs-same : (problem : Problem) (state : RoomState) (schema : Schema) (inst : OpInst) → IsRoomWorld problem state
+    → schema ≡ schema_of problem inst
     → atoms_of schema.pre inst ≡ precondition (building_rules state) inst
 needs-same problem state schema inst world here =
     ap (λ (s : Schema). atoms_of s.pre inst) here ∙ ap (λ (p : Problem). precondition p inst) world.rules
 
-pub unmet : (problem : Problem) (state : RoomState) (schema : Schema) (inst : OpInst) (k : ℕ) (atom : Atom) → IsRoomWorld problem state → IsInstanceOf (building_rules state) inst
-    → schema ≡ schema_of problem inst → slice_get (atoms_of schema.pre inst) k ≡ Some atom → ¬ Contains (rendering state) atom → IsUnmet state inst
+pub unmet : (problem : Problem) (state : RoomState) (schema : Schema) (inst : OpInst) (k : ℕ) (atom : Atom) → IsRoomWorld problem state
+    → IsInstanceOf (building_rules state) inst
+    → schema ≡ schema_of problem inst → slice_get (atoms_of schema.pre inst) k ≡ Some atom → ¬ Contains (rendering state) atom
+    → IsUnmet state inst
 unmet problem state schema inst k atom world of_problem here at unknown =
-    let there : slice_get (precondition (building_rules state) inst) k ≡ Some atom = subst (λ atoms. slice_get atoms k ≡ Some atom) (needs-same problem state schema inst world here) at in
+    let there : slice_get (precondition (building_rules state) inst) k ≡ Some atom =
+    subst (λ atoms. slice_get atoms k ≡ Some atom) (needs-same problem state schema inst world here) at in
     let needed = has_at (precondition (building_rules state) inst) k atom there in
     let valid = subst IsValid world.rules (rules-valid problem state world) in
     record {
       not_met = have-not (Contains (rendering state)) (precondition (building_rules state) inst) k atom there unknown;
       may_fail = refused state world.is_state inst atom needed
-          (All-at (IsAtomOf (building_rules state) 0) (precondition (building_rules state) inst) atom (precondition-is_of (building_rules state) inst valid of_problem) needed).1 unknown;
+          (All-at (IsAtomOf (building_rules state) 0) (precondition (building_rules state) inst) atom
+          (precondition-is_of (building_rules state) inst valid of_problem) needed).1 unknown;
     }
 
-pub met : (problem : Problem) (state : RoomState) (schema : Schema) (inst : OpInst) (k : ℕ) → IsRoomWorld problem state → schema ≡ schema_of problem inst
+pub met : (problem : Problem) (state : RoomState) (schema : Schema) (inst : OpInst) (k : ℕ) → IsRoomWorld problem state
+    → schema ≡ schema_of problem inst
     → HaveBelow (Contains (rendering state)) (atoms_of schema.pre inst) k → length schema.pre ≤ k → IsMet state inst
 met problem state schema inst k world here have past =
     let count : length (atoms_of schema.pre inst) ≡ length schema.pre = length-map schema.pre (substitute_atom inst.args) in
@@ -54,8 +60,11 @@ met problem state schema inst k world here have past =
 
 pub refusals-allowed : RefusalsAreAllowed
 refusals-allowed state inst atom is of_problem needed unknown =
-    let valid = buildings_are_valid (length state.things + 1) 1 1 2 (omega arith) (omega arith, omega arith) (omega arith, omega arith) (omega arith, omega arith) in
-    refused state is inst atom needed (All-at (IsAtomOf (building_rules state) 0) (precondition (building_rules state) inst) atom (precondition-is_of (building_rules state) inst valid of_problem) needed).1 unknown
+    let valid =
+    buildings_are_valid (length state.things + 1) 1 1 2 (omega arith) (omega arith, omega arith) (omega arith, omega arith)
+    (omega arith, omega arith) in
+    refused state is inst atom needed (All-at (IsAtomOf (building_rules state) 0) (precondition (building_rules state) inst) atom
+    (precondition-is_of (building_rules state) inst valid of_problem) needed).1 unknown
 
 pub facts-few : FactsAreFew
 facts-few state is = (rendering-ground state, rendering-few state is)

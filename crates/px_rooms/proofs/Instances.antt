@@ -10,7 +10,7 @@ use Rattle.px_terms.specs.Operators.{no_schema}
 use Rattle.px_terms.specs.Validity.{IsInstanceOf, IsTermOf}
 use Rattle.px_rooms.specs.declared.action.RoomAction.{RoomAction}
 use Rattle.px_rooms.specs.declared.action.RoomAction.TheVariants as act
-use Rattle.px_rooms.specs.Changes.{instance_of}
+use Rattle.px_rooms.specs.Changes.{instance_of_action}
 use Rattle.px_rooms.specs.Domain.{room_schemas}
 use Rattle.px_rooms.specs.Following.{InstancesAreActions}
 use Rattle.px_rooms.specs.States.{RoomState, building_rules}
@@ -31,44 +31,60 @@ module _ (problem : Problem) where
 
   two_of : (args : List Term) → length args ≡ 2 → AreObjects args → (x : ℕ) × (y : ℕ) × (args ≡ Obj x ∷ Obj y ∷ [])
   two_of [] e all = absurd (omega (arith, e))
-  two_of (Obj n ∷ args) e all = let rest = one_of args (omega (arith, e)) (All-tail (IsTermOf problem 0) (Obj n) args all) in (n, rest.0, ap (λ ys. Obj n ∷ ys) rest.1)
+  two_of (Obj n ∷ args) e all =
+      let rest =
+      one_of args (omega (arith, e)) (All-tail (IsTermOf problem 0) (Obj n) args all) in (n, rest.0, ap (λ ys. Obj n ∷ ys) rest.1)
   two_of (Var v ∷ args) e all = absurd (omega (arith, All-head (IsTermOf problem 0) (Var v) args all))
   two_of (WildCard ∷ args) e all = absurd (All-head (IsTermOf problem 0) WildCard args all)
 
   three_of : (args : List Term) → length args ≡ 3 → AreObjects args → (x : ℕ) × (y : ℕ) × (z : ℕ) × (args ≡ Obj x ∷ Obj y ∷ Obj z ∷ [])
   three_of [] e all = absurd (omega (arith, e))
-  three_of (Obj n ∷ args) e all = let rest = two_of args (omega (arith, e)) (All-tail (IsTermOf problem 0) (Obj n) args all) in (n, rest.0, rest.1, ap (λ ys. Obj n ∷ ys) rest.2)
+  three_of (Obj n ∷ args) e all =
+      let rest =
+      two_of args (omega (arith, e)) (All-tail (IsTermOf problem 0) (Obj n) args all) in (n, rest.0, rest.1, ap (λ ys. Obj n ∷ ys) rest.2)
   three_of (Var v ∷ args) e all = absurd (omega (arith, All-head (IsTermOf problem 0) (Var v) args all))
   three_of (WildCard ∷ args) e all = absurd (All-head (IsTermOf problem 0) WildCard args all)
 
-  four_of : (args : List Term) → length args ≡ 4 → AreObjects args → (w : ℕ) × (x : ℕ) × (y : ℕ) × (z : ℕ) × (args ≡ Obj w ∷ Obj x ∷ Obj y ∷ Obj z ∷ [])
+  four_of : (args : List Term) → length args ≡ 4 → AreObjects args
+      → (w : ℕ) × (x : ℕ) × (y : ℕ) × (z : ℕ) × (args ≡ Obj w ∷ Obj x ∷ Obj y ∷ Obj z ∷ [])
   four_of [] e all = absurd (omega (arith, e))
-  four_of (Obj n ∷ args) e all = let rest = three_of args (omega (arith, e)) (All-tail (IsTermOf problem 0) (Obj n) args all) in (n, rest.0, rest.1, rest.2, ap (λ ys. Obj n ∷ ys) rest.3)
+  four_of (Obj n ∷ args) e all =
+      let rest =
+      three_of args (omega (arith, e)) (All-tail (IsTermOf problem 0) (Obj n) args all) in
+      (n, rest.0, rest.1, rest.2, ap (λ ys. Obj n ∷ ys) rest.3)
   four_of (Var v ∷ args) e all = absurd (omega (arith, All-head (IsTermOf problem 0) (Var v) args all))
   four_of (WildCard ∷ args) e all = absurd (All-head (IsTermOf problem 0) WildCard args all)
 
 -- ---- the action of an instance
 
 abbrev IsActions : OpInst → Type 0
-IsActions inst = (action : RoomAction) × (inst ≡ instance_of action)
+IsActions inst = (action : RoomAction) × (inst ≡ instance_of_action action)
 
 abbrev with_args : ℕ → List Term → OpInst
 with_args op args = record { op = op; args = args }
 
-action-of : (problem : Problem) (op : ℕ) (args : List Term) → op < 7 → length args ≡ (slice_index_or room_schemas op no_schema).params → All (IsTermOf problem 0) args → IsActions (with_args op args)
-action-of problem zero args below count all = let told = two_of problem args count all in (act.GoToBox told.0 told.1, ap (with_args 0) told.2)
-action-of problem (suc zero) args below count all = let told = three_of problem args count all in (act.GoToDoor told.0 told.1 told.2, ap (with_args 1) told.3)
-action-of problem (suc (suc zero)) args below count all = let told = one_of problem args count all in (act.Open told.0, ap (with_args 2) told.1)
-action-of problem (suc (suc (suc zero))) args below count all = let told = one_of problem args count all in (act.Close told.0, ap (with_args 3) told.1)
-action-of problem (suc (suc (suc (suc zero)))) args below count all = let told = three_of problem args count all in (act.GoThrough told.0 told.1 told.2, ap (with_args 4) told.3)
+action-of : (problem : Problem) (op : ℕ) (args : List Term) → op < 7 → length args ≡ (slice_index_or room_schemas op no_schema).params
+    → All (IsTermOf problem 0) args → IsActions (with_args op args)
+action-of problem zero args below count all =
+    let told = two_of problem args count all in (act.GoToBox told.0 told.1, ap (with_args 0) told.2)
+action-of problem (suc zero) args below count all =
+    let told = three_of problem args count all in (act.GoToDoor told.0 told.1 told.2, ap (with_args 1) told.3)
+action-of problem (suc (suc zero)) args below count all =
+    let told = one_of problem args count all in (act.Open told.0, ap (with_args 2) told.1)
+action-of problem (suc (suc (suc zero))) args below count all =
+    let told = one_of problem args count all in (act.Close told.0, ap (with_args 3) told.1)
+action-of problem (suc (suc (suc (suc zero)))) args below count all =
+    let told = three_of problem args count all in (act.GoThrough told.0 told.1 told.2, ap (with_args 4) told.3)
 action-of problem (suc (suc (suc (suc (suc zero))))) args below count all =
     let told = four_of problem args count all in (act.PushToDoor told.0 told.1 told.2 told.3, ap (with_args 5) told.4)
 action-of problem (suc (suc (suc (suc (suc (suc zero)))))) args below count all =
     let told = four_of problem args count all in (act.PushThrough told.0 told.1 told.2 told.3, ap (with_args 6) told.4)
 action-of problem (suc (suc (suc (suc (suc (suc (suc k))))))) args below count all = absurd (omega (arith, below))
 
-pub action-of-instance : (state : RoomState) (inst : OpInst) → IsInstanceOf (building_rules state) inst → (action : RoomAction) × (inst ≡ instance_of action)
-action-of-instance state inst of_problem = action-of (building_rules state) inst.op inst.args of_problem.op of_problem.count of_problem.objects
+pub action-of-instance : (state : RoomState) (inst : OpInst) → IsInstanceOf (building_rules state) inst
+    → (action : RoomAction) × (inst ≡ instance_of_action action)
+action-of-instance state inst of_problem =
+    action-of (building_rules state) inst.op inst.args of_problem.op of_problem.count of_problem.objects
 
 -- ---- which action an instance is of
 
@@ -87,7 +103,7 @@ back =
 abbrev read : OpInst → RoomAction
 read inst = slice_index_or back inst.op (λ os. act.Open 0) (map number_of inst.args)
 
-read-back : (one : RoomAction) → read (instance_of one) ≡ one
+read-back : (one : RoomAction) → read (instance_of_action one) ≡ one
 read-back (act.GoToBox b r) = refl
 read-back (act.GoToDoor d r s) = refl
 read-back (act.Open d) = refl
@@ -120,24 +136,34 @@ pick (suc (suc (suc (suc zero)))) a b c d = act.GoThrough a b c
 pick (suc (suc (suc (suc (suc zero))))) a b c d = act.PushToDoor a b c d
 pick (suc (suc (suc (suc (suc (suc k)))))) a b c d = act.PushThrough a b c d
 
-picked : (action : RoomAction) (a b c d : ℕ) → Reads (instance_of action).args a b c d → pick (instance_of action).op a b c d ≡ action
+picked : (action : RoomAction) (a b c d : ℕ) → Reads (instance_of_action action).args a b c d
+    → pick (instance_of_action action).op a b c d ≡ action
 picked (act.GoToBox x y) a b c d reads = let one : a ≡ x = reads.one x refl in let two : b ≡ y = reads.two y refl in cc
-picked (act.GoToDoor x y z) a b c d reads = let one : a ≡ x = reads.one x refl in let two : b ≡ y = reads.two y refl in let three : c ≡ z = reads.three z refl in cc
+picked (act.GoToDoor x y z) a b c d reads =
+    let one : a ≡ x = reads.one x refl in let two : b ≡ y = reads.two y refl in let three : c ≡ z = reads.three z refl in cc
 picked (act.Open x) a b c d reads = let one : a ≡ x = reads.one x refl in cc
 picked (act.Close x) a b c d reads = let one : a ≡ x = reads.one x refl in cc
-picked (act.GoThrough x y z) a b c d reads = let one : a ≡ x = reads.one x refl in let two : b ≡ y = reads.two y refl in let three : c ≡ z = reads.three z refl in cc
+picked (act.GoThrough x y z) a b c d reads =
+    let one : a ≡ x = reads.one x refl in let two : b ≡ y = reads.two y refl in let three : c ≡ z = reads.three z refl in cc
 picked (act.PushToDoor w x y z) a b c d reads =
-    let one : a ≡ w = reads.one w refl in let two : b ≡ x = reads.two x refl in let three : c ≡ y = reads.three y refl in let four : d ≡ z = reads.four z refl in cc
+    let one : a ≡ w =
+    reads.one w refl in let two : b ≡ x =
+    reads.two x refl in let three : c ≡ y = reads.three y refl in let four : d ≡ z = reads.four z refl in cc
 picked (act.PushThrough w x y z) a b c d reads =
-    let one : a ≡ w = reads.one w refl in let two : b ≡ x = reads.two x refl in let three : c ≡ y = reads.three y refl in let four : d ≡ z = reads.four z refl in cc
+    let one : a ≡ w =
+    reads.one w refl in let two : b ≡ x =
+    reads.two x refl in let three : c ≡ y = reads.three y refl in let four : d ≡ z = reads.four z refl in cc
 
 -- so the instance is that of the action that is picked by its operator's number
-pub read-action : (state : RoomState) (inst : OpInst) (op a b c d : ℕ) → IsInstanceOf (building_rules state) inst → inst.op ≡ op → Reads inst.args a b c d → inst ≡ instance_of (pick op a b c d)
+pub read-action : (state : RoomState) (inst : OpInst) (op a b c d : ℕ) → IsInstanceOf (building_rules state) inst → inst.op ≡ op
+    → Reads inst.args a b c d → inst ≡ instance_of_action (pick op a b c d)
 read-action state inst op a b c d of_problem number reads =
     let told = action-of-instance state inst of_problem in
-    let same : pick (instance_of told.0).op a b c d ≡ told.0 = picked told.0 a b c d (subst (λ (i : OpInst). Reads i.args a b c d) told.1 reads) in
-    let by_number : pick op a b c d ≡ pick (instance_of told.0).op a b c d = ap (λ n. pick n a b c d) (sym number ∙ ap (λ (i : OpInst). i.op) told.1) in
-    told.1 ∙ ap instance_of (sym (by_number ∙ same))
+    let same : pick (instance_of_action told.0).op a b c d ≡ told.0 =
+    picked told.0 a b c d (subst (λ (i : OpInst). Reads i.args a b c d) told.1 reads) in
+    let by_number : pick op a b c d ≡ pick (instance_of_action told.0).op a b c d =
+    ap (λ n. pick n a b c d) (sym number ∙ ap (λ (i : OpInst). i.op) told.1) in
+    told.1 ∙ ap instance_of_action (sym (by_number ∙ same))
 
 pub pick-last : (op a b c d : ℕ) → 6 ≤ op → pick op a b c d ≡ act.PushThrough a b c d
 pick-last zero a b c d less = absurd (omega (arith, less))
@@ -148,6 +174,8 @@ pick-last (suc (suc (suc (suc zero)))) a b c d less = absurd (omega (arith, less
 pick-last (suc (suc (suc (suc (suc zero))))) a b c d less = absurd (omega (arith, less))
 pick-last (suc (suc (suc (suc (suc (suc k)))))) a b c d less = refl
 
-pub reads-of : (args given : List Term) (a b c d : ℕ) → given ≡ args → ((n : ℕ) → slice_get given 0 ≡ Some (Obj n) → a ≡ n) → ((n : ℕ) → slice_get given 1 ≡ Some (Obj n) → b ≡ n)
+pub reads-of : (args given : List Term) (a b c d : ℕ) → given ≡ args → ((n : ℕ) → slice_get given 0 ≡ Some (Obj n) → a ≡ n)
+    → ((n : ℕ) → slice_get given 1 ≡ Some (Obj n) → b ≡ n)
     → ((n : ℕ) → slice_get given 2 ≡ Some (Obj n) → c ≡ n) → ((n : ℕ) → slice_get given 3 ≡ Some (Obj n) → d ≡ n) → Reads args a b c d
-reads-of args given a b c d is one two three four = subst (λ xs. Reads xs a b c d) is (record { one = one; two = two; three = three; four = four })
+reads-of args given a b c d is one two three four =
+    subst (λ xs. Reads xs a b c d) is (record { one = one; two = two; three = three; four = four })

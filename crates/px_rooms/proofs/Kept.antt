@@ -19,7 +19,8 @@ pub record KeepsKinds (change : Standing → Standing) : Type 0 where
   pub box : (r : ℕ) (beside : Option ℕ) → (s : ℕ) × (after : Option ℕ) × (change (a_box r beside) ≡ a_box s after)
 
 -- what it makes of each kind of thing is enough
-keeping : (change : Standing → Standing) → change a_room ≡ a_room → ((x y : ℕ) (was : Bool) → (is : Bool) × (change (a_door x y was) ≡ a_door x y is))
+keeping : (change : Standing → Standing) → change a_room ≡ a_room
+    → ((x y : ℕ) (was : Bool) → (is : Bool) × (change (a_door x y was) ≡ a_door x y is))
     → ((r : ℕ) (beside : Option ℕ) → (s : ℕ) × (after : Option ℕ) × (change (a_box r beside) ≡ a_box s after)) → KeepsKinds change
 keeping change room door box = record { kind = kind; room = room; door = door; box = box } where
   kind : (one : Standing) → kind_of (change one) ≡ kind_of one
@@ -44,15 +45,19 @@ set-members (y ∷ xs) (suc k) x q has = elim (Contains-cases y (set xs k x) q h
   | inr later ↦ elim (set-members xs k x q later) [ inl old ↦ inl (Contains-later y xs q old) | inr new ↦ inr new ]
 ]
 
-module _ (change : Standing → Standing) (keeps : KeepsKinds change) (things : List Standing) (t : ℕ) (was : Standing) (here : slice_get things t ≡ Some was) where
+module _ (change : Standing → Standing) (keeps : KeepsKinds change) (things : List Standing) (t : ℕ) (was : Standing)
+    (here : slice_get things t ≡ Some was) where
   abbrev after : List Standing
   after = things_with (suc t) change things
 
-  at-after : (n : ℕ) (one : Standing) → thing_at things n ≡ Some one → (thing_at after n ≡ Some one) ⊎ (thing_at after n ≡ Some (change one))
+  at-after : (n : ℕ) (one : Standing) → thing_at things n ≡ Some one
+      → (thing_at after n ≡ Some one) ⊎ (thing_at after n ≡ Some (change one))
   at-after zero one is = absurd (cc)
   at-after (suc k) one is = by_number (k == t) refl where
     by_number : (b : Bool) → (k == t) ≡ b → (thing_at after (suc k) ≡ Some one) ⊎ (thing_at after (suc k) ≡ Some (change one))
-    by_number true equal = inr (subst (λ j. slice_get after j ≡ Some (change one)) (sym (eqb-true k t equal)) (changed-here change things t one (subst (λ j. slice_get things j ≡ Some one) (eqb-true k t equal) is)))
+    by_number true equal =
+        inr (subst (λ j. slice_get after j ≡ Some (change one)) (sym (eqb-true k t equal))
+        (changed-here change things t one (subst (λ j. slice_get things j ≡ Some one) (eqb-true k t equal) is)))
     by_number false other = inl (changed-there change things t k (differing k t other) ∙ is)
 
   pub room-stays : (n : ℕ) → IsRoomAt things n → IsRoomAt after n

@@ -1,3 +1,4 @@
+-- The files of lemmas.
 pub mod Wanted
 pub mod Numbers
 pub mod Instances

@@ -2,6 +2,7 @@
 use Rattle.std.specs.Prelude.{◌≡◌, ◌⊎◌, ◌<◌, ◌+◌, ℕ, Bool, false, IsTrue, Some, List, length, All, slice_get, slice_index_or}
 use Rattle.std.proofs.Common.{sym, ap, ◌∙◌, subst, inl, inr, arith}
 use Rattle.std.proofs.lemmas.Option.{get_or_from_slice_get, slice_get-get_or, slice_get_within}
+use Rattle.px_base.specs.Answers.{some_same}
 
 module _ {X : Type 0} (P : X → Type 0) (xs : List X) where
   -- the items below the place have it
@@ -13,12 +14,9 @@ module _ {X : Type 0} (P : X → Type 0) (xs : List X) where
     split : (j k : ℕ) → j < k + 1 → (j < k) ⊎ (j ≡ k)
     split j k below = grind arith
 
-    some : {Y : Type 0} (a b : Y) → Some a ≡ Some b → a ≡ b
-    some a b e = cc
-
     either : (j < k) ⊎ (j ≡ k) → P y
     either (inl less) = have j y less at
-    either (inr same) = subst P (some x y (sym is ∙ ap (slice_get xs) (sym same) ∙ at)) here
+    either (inr same) = subst P (some_same (sym is ∙ ap (slice_get xs) (sym same) ∙ at)) here
 
   pub have-all : HaveBelow (length xs) → All P xs
   have-all have k d below = have k (slice_index_or xs k d) below (slice_get-get_or xs k d below)

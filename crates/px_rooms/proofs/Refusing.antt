@@ -23,7 +23,7 @@ use Rattle.px_terms.specs.Order.{atom_eq}
 use Rattle.px_terms.specs.OrderLaws.{atom_eq-decides, atom_eq-equivalence}
 use Rattle.px_terms.specs.States.{AreValues, AxiomsHold, Holds, IsState, LiteralHoldsUnder, State, element_of}
 use Rattle.px_terms.specs.Validity.{IsTermOf}
-use Rattle.px_world.specs.Worlds.{IsRefused}
+use Rattle.px_world.specs.Worlds.{IsActionRefused}
 use Rattle.px_rooms.specs.declared.standing.Standing.{Standing}
 use Rattle.px_rooms.specs.declared.standing.Standing.TheVariants.{Room as a_room, Door as a_door, Box as a_box}
 use Rattle.px_rooms.specs.Domain.{both_ways, connects}
@@ -65,29 +65,36 @@ tuples_of : ℕ → List Atom → List (List ℕ)
 tuples_of pred [] = []
 tuples_of pred (atom ∷ atoms) = put_tuple (atom.pred == pred) (map number_of atom.args) (tuples_of pred atoms)
 
-put-there : (b : Bool) (pred : ℕ) (x atom : Atom) (tuples : List (List ℕ)) → (x.pred == pred) ≡ b → atom.pred ≡ pred → (x ≡ atom) ⊎ Contains tuples (map number_of atom.args)
+put-there : (b : Bool) (pred : ℕ) (x atom : Atom) (tuples : List (List ℕ)) → (x.pred == pred) ≡ b → atom.pred ≡ pred
+    → (x ≡ atom) ⊎ Contains tuples (map number_of atom.args)
     → Contains (put_tuple b (map number_of x.args) tuples) (map number_of atom.args)
 unfolding put_tuple
 put-there true pred x atom tuples equal is (inl same) =
-    subst (λ (a : Atom). Contains (map number_of x.args ∷ tuples) (map number_of a.args)) same (Contains-first (map number_of x.args) tuples)
+    subst (λ (a : Atom). Contains (map number_of x.args ∷ tuples) (map number_of a.args)) same
+    (Contains-first (map number_of x.args) tuples)
 put-there true pred x atom tuples equal is (inr later) = Contains-later (map number_of x.args) tuples (map number_of atom.args) later
 put-there false pred x atom tuples other is (inl same) =
     both_answers (x.pred == pred) other (subst (λ n. (n == pred) ≡ true) (sym is ∙ ap (λ (a : Atom). a.pred) (sym same)) (same-number pred))
 put-there false pred x atom tuples other is (inr later) = later
 
-tuple-there : (pred : ℕ) (atoms : List Atom) (atom : Atom) → Contains atoms atom → atom.pred ≡ pred → Contains (tuples_of pred atoms) (map number_of atom.args)
+tuple-there : (pred : ℕ) (atoms : List Atom) (atom : Atom) → Contains atoms atom → atom.pred ≡ pred
+    → Contains (tuples_of pred atoms) (map number_of atom.args)
 unfolding tuples_of
 tuple-there pred [] atom has is = absurd (Contains-none atom has)
 tuple-there pred (x ∷ xs) atom has is =
-    put-there (x.pred == pred) pred x atom (tuples_of pred xs) refl is (elim (Contains-cases x xs atom has) [ inl same ↦ inl same | inr later ↦ inr (tuple-there pred xs atom later is) ])
+    put-there (x.pred == pred) pred x atom (tuples_of pred xs) refl is
+    (elim (Contains-cases x xs atom has) [ inl same ↦ inl same | inr later ↦ inr (tuple-there pred xs atom later is) ])
 
-there-put : (b : Bool) (pred : ℕ) (x : Atom) (tuples : List (List ℕ)) (tuple : List ℕ) → (x.pred == pred) ≡ b → Contains (put_tuple b (map number_of x.args) tuples) tuple
+there-put : (b : Bool) (pred : ℕ) (x : Atom) (tuples : List (List ℕ)) (tuple : List ℕ) → (x.pred == pred) ≡ b
+    → Contains (put_tuple b (map number_of x.args) tuples) tuple
     → ((x.pred ≡ pred) × (map number_of x.args ≡ tuple)) ⊎ Contains tuples tuple
 unfolding put_tuple
-there-put true pred x tuples tuple equal has = elim (Contains-cases (map number_of x.args) tuples tuple has) [ inl is ↦ inl (eqb-true x.pred pred equal, is) | inr later ↦ inr later ]
+there-put true pred x tuples tuple equal has =
+    elim (Contains-cases (map number_of x.args) tuples tuple has) [ inl is ↦ inl (eqb-true x.pred pred equal, is) | inr later ↦ inr later ]
 there-put false pred x tuples tuple other has = inr has
 
-there-tuple : (pred : ℕ) (atoms : List Atom) (tuple : List ℕ) → Contains (tuples_of pred atoms) tuple → (atom : Atom) × Contains atoms atom × (atom.pred ≡ pred) × (map number_of atom.args ≡ tuple)
+there-tuple : (pred : ℕ) (atoms : List Atom) (tuple : List ℕ) → Contains (tuples_of pred atoms) tuple
+    → (atom : Atom) × Contains atoms atom × (atom.pred ≡ pred) × (map number_of atom.args ≡ tuple)
 unfolding tuples_of
 there-tuple pred [] tuple has = absurd (Contains-none tuple has)
 there-tuple pred (x ∷ xs) tuple has = elim (there-put (x.pred == pred) pred x (tuples_of pred xs) tuple refl has) [
@@ -104,7 +111,8 @@ table-at : (n first k : ℕ) (atoms : List Atom) → k < n → slice_index_or (t
 unfolding tables
 table-at zero first k atoms below = absurd (omega (arith, below))
 table-at (suc n) first zero atoms below = ap (λ p. tuples_of p atoms) (omega arith)
-table-at (suc n) first (suc k) atoms below = table-at n (suc first) k atoms (omega (arith, below)) ∙ ap (λ p. tuples_of p atoms) (omega arith)
+table-at (suc n) first (suc k) atoms below =
+    table-at n (suc first) k atoms (omega (arith, below)) ∙ ap (λ p. tuples_of p atoms) (omega arith)
 
 table-past : (n first k : ℕ) (atoms : List Atom) → n ≤ k → slice_index_or (tables n first atoms) k [] ≡ []
 unfolding tables
@@ -112,12 +120,14 @@ table-past zero first k atoms past = refl
 table-past (suc n) first zero atoms past = absurd (omega (arith, past))
 table-past (suc n) first (suc k) atoms past = table-past n (suc first) k atoms (omega (arith, past))
 
-tables-each : (P : List (List ℕ) → Type 0) (n first : ℕ) (atoms : List Atom) → ((pred : ℕ) → P (tuples_of pred atoms)) → All P (tables n first atoms)
+tables-each : (P : List (List ℕ) → Type 0) (n first : ℕ) (atoms : List Atom) → ((pred : ℕ) → P (tuples_of pred atoms))
+    → All P (tables n first atoms)
 unfolding tables
 tables-each P zero first atoms each = All-nil P
-tables-each P (suc n) first atoms each = All-cons P (tuples_of first atoms) (tables n (suc first) atoms) (each first) (tables-each P n (suc first) atoms each)
+tables-each P (suc n) first atoms each =
+    All-cons P (tuples_of first atoms) (tables n (suc first) atoms) (each first) (tables-each P n (suc first) atoms each)
 
--- ---- ground atoms are told by their numbers
+-- ---- ground atoms are determined by their numbers
 
 objects-by-numbers : (xs ys : List Term) → All IsObject xs → All IsObject ys → map number_of xs ≡ map number_of ys → xs ≡ ys
 objects-by-numbers [] [] _ _ is = refl
@@ -168,20 +178,28 @@ module _ (state : RoomState) where
   fact-holds : (atom : Atom) → atom.pred < 8 → All IsNamed atom.args → Contains (rendering state) atom → Holds facts_state atom
   fact-holds atom pred named has =
       subst (λ tuples. Contains tuples (map (element_of facts_state []) atom.args)) (sym (table-at 8 0 atom.pred (rendering state) pred))
-      (subst (Contains (tuples_of (0 + atom.pred) (rendering state))) (sym (element-is atom.args named)) (tuple-there (0 + atom.pred) (rendering state) atom has (omega arith)))
+      (subst (Contains (tuples_of (0 + atom.pred) (rendering state))) (sym (element-is atom.args named))
+      (tuple-there (0 + atom.pred) (rendering state) atom has (omega arith)))
 
-  tuple-is-fact : (atom : Atom) → IsGround atom → Contains (slice_index_or facts_state.tuples atom.pred []) (map number_of atom.args) → Contains (rendering state) atom
+  tuple-is-fact : (atom : Atom) → IsGround atom → Contains (slice_index_or facts_state.tuples atom.pred []) (map number_of atom.args)
+      → Contains (rendering state) atom
   tuple-is-fact atom is_ground has = by_pred (or_past atom.pred) where
     or_past : (k : ℕ) → (k < 8) ⊎ (8 ≤ k)
     or_past k = grind arith
 
     by_pred : (atom.pred < 8) ⊎ (8 ≤ atom.pred) → Contains (rendering state) atom
     by_pred (inl below) =
-        let found = there-tuple (0 + atom.pred) (rendering state) (map number_of atom.args) (subst (λ tuples. Contains tuples (map number_of atom.args)) (table-at 8 0 atom.pred (rendering state) below) has) in
-        let args = objects-by-numbers found.0.args atom.args (All-at IsGround (rendering state) found.0 (rendering-ground state) found.1) is_ground found.3 in
+        let found =
+        there-tuple (0 + atom.pred) (rendering state) (map number_of atom.args)
+        (subst (λ tuples. Contains tuples (map number_of atom.args)) (table-at 8 0 atom.pred (rendering state) below) has) in
+        let args =
+        objects-by-numbers found.0.args atom.args
+        (All-at IsGround (rendering state) found.0 (rendering-ground state) found.1) is_ground found.3 in
         let pred : found.0.pred ≡ atom.pred = found.2 ∙ omega arith in
         subst (Contains (rendering state)) (λ i. record { pred = pred i; args = args i }) found.1
-    by_pred (inr past) = absurd (Contains-none _ (subst (λ tuples. Contains tuples (map number_of atom.args)) (table-past 8 0 atom.pred (rendering state) past) has))
+    by_pred (inr past) =
+        absurd (Contains-none _ (subst (λ tuples. Contains tuples (map number_of atom.args))
+        (table-past 8 0 atom.pred (rendering state) past) has))
 
   holds-fact : (atom : Atom) → All IsNamed atom.args → Holds facts_state atom → Contains (rendering state) atom
   holds-fact atom named holds =
@@ -215,7 +233,8 @@ module _ (state : RoomState) where
   named-three : (k x y : ℕ) → k < size → x < size → y < size → All IsNamed (Obj k ∷ Obj x ∷ Obj y ∷ [])
   named-three k x y below below_x below_y = All-cons IsNamed (Obj k) (Obj x ∷ Obj y ∷ []) (tt, below) (named-two x y below_x below_y)
 
-  box-beside-named : (k : ℕ) (beside : Option ℕ) → k < size → IsDoorOrNone state.things beside → AllByRecursion IsFactNamed (beside_atoms k beside)
+  box-beside-named : (k : ℕ) (beside : Option ℕ) → k < size → IsDoorOrNone state.things beside
+      → AllByRecursion IsFactNamed (beside_atoms k beside)
   box-beside-named k None below is = tt
   box-beside-named k (Some x) below is = ((omega arith, named-two k x below (door-below x is)), tt)
 
@@ -228,32 +247,50 @@ module _ (state : RoomState) where
   door-named k true below = (omega arith, named-one k below)
   door-named k false below = (omega arith, named-one k below)
 
-  thing-named : (k : ℕ) (standing : Standing) → k < size → StandsRight state.things standing → AllByRecursion IsFactNamed (thing_atoms k standing)
+  thing-named : (k : ℕ) (standing : Standing) → k < size → StandsRight state.things standing
+      → AllByRecursion IsFactNamed (thing_atoms k standing)
   thing-named k a_room below right = ((omega arith, named-one k below), tt)
   thing-named k (a_door x y is_open) below right =
       let is_x = room-below x right.0 in
-      let is_y = room-below y right.1 in
-      ((omega arith, named-one k below), ((omega arith, named-three k x y below is_x is_y), ((omega arith, named-three k y x below is_y is_x), (door-named k is_open below, tt))))
-  thing-named k (a_box r beside) below right = ((omega arith, named-one k below), ((omega arith, named-two k r below (room-below r right.0)), box-beside-named k beside below right.1))
+      let is_y = room-below y right.1 in (
+        (omega arith, named-one k below),
+        (
+          (omega arith, named-three k x y below is_x is_y),
+          ((omega arith, named-three k y x below is_y is_x), (door-named k is_open below, tt)),
+        ),
+      )
+  thing-named k (a_box r beside) below right = (
+    (omega arith, named-one k below),
+    ((omega arith, named-two k r below (room-below r right.0)), box-beside-named k beside below right.1),
+  )
 
   module _ (is : IsRoomState state) where
-    of_thing-named : (k : ℕ) (standing : Option Standing) → slice_get state.things k ≡ standing → AllByRecursion IsFactNamed (atoms_of_thing (suc k) standing)
+    of_thing-named : (k : ℕ) (standing : Option Standing) → slice_get state.things k ≡ standing
+        → AllByRecursion IsFactNamed (atoms_of_thing (suc k) standing)
     of_thing-named k None here = tt
     of_thing-named k (Some standing) here =
-        thing-named (suc k) standing (number-below (suc k) standing here) (All-at (StandsRight state.things) state.things standing is.things (has_at state.things k standing here))
+        thing-named (suc k) standing (number-below (suc k) standing here)
+        (All-at (StandsRight state.things) state.things standing is.things (has_at state.things k standing here))
 
     about-named : (k : ℕ) → AllByRecursion IsFactNamed (atoms_about state k)
-    about-named zero = ((omega arith, named-two 0 state.robot_room (omega arith) (room-below state.robot_room is.robot_room)), robot-beside-named state.robot_beside is.robot_beside)
+    about-named zero = (
+      (omega arith, named-two 0 state.robot_room (omega arith) (room-below state.robot_room is.robot_room)),
+      robot-beside-named state.robot_beside is.robot_beside,
+    )
     about-named (suc k) = of_thing-named k (slice_get state.things k) refl
 
     fact-named : (atom : Atom) → Contains (rendering state) atom → IsFactNamed atom
-    fact-named atom has = let found = rendering-about state atom has in AllByRecursion-at IsFactNamed (atoms_about state found.0) atom (about-named found.0) found.1
+    fact-named atom has =
+        let found =
+        rendering-about state atom has in AllByRecursion-at IsFactNamed (atoms_about state found.0) atom (about-named found.0) found.1
 
     -- ---- it is a state in which the axiom and all facts hold
 
     numbers-named : (terms : List Term) → All IsNamed terms → All (λ n. n < size) (map number_of terms)
     numbers-named [] all = All-nil (λ n. n < size)
-    numbers-named (term ∷ terms) all = All-cons (λ n. n < size) (number_of term) (map number_of terms) (All-head IsNamed term terms all).1 (numbers-named terms (All-tail IsNamed term terms all))
+    numbers-named (term ∷ terms) all =
+        All-cons (λ n. n < size) (number_of term) (map number_of terms) (All-head IsNamed term terms all).1
+        (numbers-named terms (All-tail IsNamed term terms all))
 
     tuples-named : (pred : ℕ) → All (All (λ n. n < size)) (tuples_of pred (rendering state))
     tuples-named pred = All-each (All (λ n. n < size)) (tuples_of pred (rendering state)) (λ tuple has.
@@ -268,18 +305,27 @@ module _ (state : RoomState) where
     }
 
     facts-hold : All (Holds facts_state) (rendering state)
-    facts-hold = All-each (Holds facts_state) (rendering state) (λ atom has. fact-holds atom (fact-named atom has).0 (fact-named atom has).1 has)
+    facts-hold =
+        All-each (Holds facts_state) (rendering state) (λ atom has. fact-holds atom (fact-named atom has).0 (fact-named atom has).1 has)
 
     -- the door connects in no way, or in both
-    either-way : (d x y : ℕ) → (¬ Contains (rendering state) (connects (Obj d) (Obj x) (Obj y))) ⊎ Contains (rendering state) (connects (Obj d) (Obj y) (Obj x))
+    either-way : (d x y : ℕ) → (¬ Contains (rendering state) (connects (Obj d) (Obj x) (Obj y)))
+        ⊎ Contains (rendering state) (connects (Obj d) (Obj y) (Obj x))
     either-way d x y = by_test (list_any (atom_eq (connects (Obj d) (Obj x) (Obj y))) (rendering state)) refl where
       by_test : (b : Bool) → list_any (atom_eq (connects (Obj d) (Obj x) (Obj y))) (rendering state) ≡ b
-          → (¬ Contains (rendering state) (connects (Obj d) (Obj x) (Obj y))) ⊎ Contains (rendering state) (connects (Obj d) (Obj y) (Obj x))
-      by_test true found = inr (connects-back state d x y (Contains-from_any (λ p q. (atom_eq-decides p q).0) (connects (Obj d) (Obj x) (Obj y)) (rendering state) found))
-      by_test false none = inl (λ has. both_answers _ none (list_any-from_Contains atom_eq-equivalence (connects (Obj d) (Obj x) (Obj y)) (rendering state) has))
+          → (¬ Contains (rendering state) (connects (Obj d) (Obj x) (Obj y)))
+          ⊎ Contains (rendering state) (connects (Obj d) (Obj y) (Obj x))
+      by_test true found =
+          inr (connects-back state d x y (Contains-from_any (λ p q. (atom_eq-decides p q).0) (connects (Obj d) (Obj x) (Obj y))
+          (rendering state) found))
+      by_test false none =
+          inl (λ has. both_answers _ none (list_any-from_Contains atom_eq-equivalence (connects (Obj d) (Obj x) (Obj y))
+          (rendering state) has))
 
     connects-ground : (d x y : ℕ) → IsGround (connects (Obj d) (Obj x) (Obj y))
-    connects-ground d x y = All-cons IsObject (Obj d) (Obj x ∷ Obj y ∷ []) tt (All-cons IsObject (Obj x) (Obj y ∷ []) tt (All-cons IsObject (Obj y) [] tt (All-nil IsObject)))
+    connects-ground d x y =
+        All-cons IsObject (Obj d) (Obj x ∷ Obj y ∷ []) tt
+        (All-cons IsObject (Obj x) (Obj y ∷ []) tt (All-cons IsObject (Obj y) [] tt (All-nil IsObject)))
 
     axiom-true : (values : List ℕ) → Any (LiteralHoldsUnder facts_state values) both_ways.lits
     axiom-true values =
@@ -287,22 +333,32 @@ module _ (state : RoomState) where
         let x = slice_index values 1 in
         let y = slice_index values 2 in
         elim (either-way d x y) [
-          | inl neither ↦ (0, slice_index_or both_ways.lits 0 no_literal, omega arith, refl, λ holds. neither (tuple-is-fact (connects (Obj d) (Obj x) (Obj y)) (connects-ground d x y) holds))
+          | inl neither ↦ (
+            0,
+            slice_index_or both_ways.lits 0 no_literal,
+            omega arith,
+            refl,
+            λ holds. neither (tuple-is-fact (connects (Obj d) (Obj x) (Obj y)) (connects-ground d x y) holds),
+          )
           | inr back ↦ (
             1,
             slice_index_or both_ways.lits 1 no_literal,
             omega arith,
             refl,
-            subst (λ tuples. Contains tuples (d ∷ y ∷ x ∷ [])) (sym (table-at 8 0 2 (rendering state) (omega arith))) (tuple-there 2 (rendering state) (connects (Obj d) (Obj y) (Obj x)) back refl),
+            subst (λ tuples. Contains tuples (d ∷ y ∷ x ∷ [])) (sym (table-at 8 0 2 (rendering state) (omega arith)))
+                (tuple-there 2 (rendering state) (connects (Obj d) (Obj y) (Obj x)) back refl),
           )
         ]
 
     axioms-hold : AxiomsHold (building_rules state) facts_state
-    axioms-hold = one (λ (clause : Clause). (values : List ℕ) → AreValues facts_state clause.vars values → Any (LiteralHoldsUnder facts_state values) clause.lits) both_ways (λ values are. axiom-true values)
+    axioms-hold =
+        one (λ (clause : Clause). (values : List ℕ) → AreValues facts_state clause.vars values
+        → Any (LiteralHoldsUnder facts_state values) clause.lits) both_ways (λ values are. axiom-true values)
 
     -- an atom of the problem's that isn't a fact is false there
-    pub refused : (inst : OpInst) (atom : Atom) → Contains (precondition (building_rules state) inst) atom → All (IsTermOf (building_rules state) 0) atom.args → ¬ Contains (rendering state) atom
-        → IsRefused (building_rules state) (rendering state) inst
+    pub refused : (inst : OpInst) (atom : Atom) → Contains (precondition (building_rules state) inst) atom
+        → All (IsTermOf (building_rules state) 0) atom.args → ¬ Contains (rendering state) atom
+        → IsActionRefused (building_rules state) (rendering state) inst
     refused inst atom needed of_problem unknown = record {
       state = facts_state;
       is_state = is-state;
@@ -310,7 +366,9 @@ module _ (state : RoomState) where
       hold = facts-hold;
       atom = atom;
       needed = needed;
-      false_there = λ holds. unknown (holds-fact atom (All-each IsNamed atom.args (λ term has. named term (All-at (IsTermOf (building_rules state) 0) atom.args term of_problem has))) holds);
+      false_there =
+          λ holds. unknown (holds-fact atom (All-each IsNamed atom.args
+          (λ term has. named term (All-at (IsTermOf (building_rules state) 0) atom.args term of_problem has))) holds);
     } where
       named : (term : Term) → IsTermOf (building_rules state) 0 term → IsNamed term
       named (Obj n) below = (tt, below)

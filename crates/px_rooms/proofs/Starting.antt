@@ -34,25 +34,31 @@ robots-more (thing.Door a b is_open ∷ things) one = robots-more things one
 robots-more (thing.Box r ∷ things) one = robots-more things one
 robots-more (thing.Robot r ∷ things) one = ap (λ xs. r ∷ xs) (robots-more things one)
 
-pub add-next : (things : List Thing) (k : ℕ) (d : Thing) (old new : List Standing) → k < length things → new ≡ old ++ standings (slice_index_or things k d ∷ []) → old ≡ standings (take k things)
+pub add-next : (things : List Thing) (k : ℕ) (d : Thing) (old new : List Standing) → k < length things
+    → new ≡ old ++ standings (slice_index_or things k d ∷ []) → old ≡ standings (take k things)
     → new ≡ standings (take (k + 1) things)
 add-next things k d old new below more before =
-    more ∙ ap (λ xs. xs ++ standings (slice_index_or things k d ∷ [])) before ∙ sym (standings-more (take k things) (slice_index_or things k d)) ∙ ap standings (sym (take_more things k d below))
+    more ∙ ap (λ xs. xs ++ standings (slice_index_or things k d ∷ [])) before
+    ∙ sym (standings-more (take k things) (slice_index_or things k d)) ∙ ap standings (sym (take_more things k d below))
 
-pub robots-next : (things : List Thing) (k : ℕ) (d : Thing) (one : Robots) → k < length things → AreRobots one (robot_rooms (take k things) ++ robot_rooms (slice_index_or things k d ∷ []))
+pub robots-next : (things : List Thing) (k : ℕ) (d : Thing) (one : Robots) → k < length things
+    → AreRobots one (robot_rooms (take k things) ++ robot_rooms (slice_index_or things k d ∷ []))
     → AreRobots one (robot_rooms (take (k + 1) things))
 robots-next things k d one below are =
     subst (AreRobots one) (sym (ap robot_rooms (take_more things k d below) ∙ robots-more (take k things) (slice_index_or things k d))) are
 
-pub first-robot : (one : Robots) (room : ℕ) (before : List ℕ) → one ≡ robots.None → AreRobots one before → AreRobots (robots.One room) (before ++ room ∷ [])
+pub first-robot : (one : Robots) (room : ℕ) (before : List ℕ) → one ≡ robots.None → AreRobots one before
+    → AreRobots (robots.One room) (before ++ room ∷ [])
 first-robot one room before is are = ap (λ xs. xs ++ room ∷ []) (subst (λ r. AreRobots r before) is are)
 
-pub second-robot : (one : Robots) (first room : ℕ) (before : List ℕ) → one ≡ robots.One first → AreRobots one before → AreRobots robots.Several (before ++ room ∷ [])
+pub second-robot : (one : Robots) (first room : ℕ) (before : List ℕ) → one ≡ robots.One first → AreRobots one before
+    → AreRobots robots.Several (before ++ room ∷ [])
 second-robot one first room before is are =
     let told : before ≡ first ∷ [] = subst (λ r. AreRobots r before) is are in
     omega (arith, ap length told, length-append before (room ∷ []))
 
-pub later-robot : (one : Robots) (room : ℕ) (before : List ℕ) → one ≡ robots.Several → AreRobots one before → AreRobots robots.Several (before ++ room ∷ [])
+pub later-robot : (one : Robots) (room : ℕ) (before : List ℕ) → one ≡ robots.Several → AreRobots one before
+    → AreRobots robots.Several (before ++ room ∷ [])
 later-robot one room before is are =
     let told : 2 ≤ length before = subst (λ r. AreRobots r before) is are in
     omega (arith, told, length-append before (room ∷ []))
@@ -62,6 +68,7 @@ later-robot one room before is are =
 pub objects_are : (things : List Thing) → length (robot_rooms things) ≡ 1 → length things ≡ length (standings things) + 1
 objects_are things single = let all = counted things in omega (arith, all, single)
 
-pub valid-of : {E : Type 0} (result : Result Problem E) (problem : Problem) → IfOk result (λ p. p ≡ problem) → IsValid problem → IfOk result IsValid
+pub valid-of : {E : Type 0} (result : Result Problem E) (problem : Problem) → IfOk result (λ p. p ≡ problem) → IsValid problem
+    → IfOk result IsValid
 valid-of (Ok p) problem is valid = subst IsValid (sym is) valid
 valid-of (Err e) problem is valid = tt

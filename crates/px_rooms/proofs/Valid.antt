@@ -47,7 +47,8 @@ abbrev literal_fits : ℕ → Lit → Bool
 literal_fits params lit = atom_fits params lit.atom
 
 -- what follows from a test of each item
-each : {X : Type 0} (test : X → Bool) (P : X → Type 0) → ((x : X) → test x ≡ true → P x) → (xs : List X) → list_all test xs ≡ true → All P xs
+each : {X : Type 0} (test : X → Bool) (P : X → Type 0) → ((x : X) → test x ≡ true → P x) → (xs : List X) → list_all test xs ≡ true
+    → All P xs
 each test P goes [] all = All-nil P
 each test P goes (x ∷ xs) all = All-cons P x xs (goes x (first_so _ _ all)) (each test P goes xs (second_so _ _ all))
 
@@ -77,8 +78,10 @@ module _ (objects height nodes shapes : ℕ) (some : 1 ≤ objects) where
 
   atom-fits : (params : ℕ) (atom : Atom) → atom_fits params atom ≡ true → IsAtomOf problem params atom
   atom-fits params atom e =
-      let arity = first_so _ _ e in
-      ((below atom.pred 8 (first_so _ _ arity), eqb-true (length atom.args) (slice_index arities atom.pred) (second_so _ _ arity)), each (term_fits params) (IsTermOf problem params) (term-fits params) atom.args (second_so _ _ e))
+      let arity = first_so _ _ e in (
+        (below atom.pred 8 (first_so _ _ arity), eqb-true (length atom.args) (slice_index arities atom.pred) (second_so _ _ arity)),
+        each (term_fits params) (IsTermOf problem params) (term-fits params) atom.args (second_so _ _ e),
+      )
 
   pattern-fits : (params : ℕ) (atom : Atom) → pattern_fits params atom ≡ true → IsPatternOf problem params atom
   pattern-fits params atom e =
@@ -87,8 +90,10 @@ module _ (objects height nodes shapes : ℕ) (some : 1 ≤ objects) where
         each (pattern_term_fits params) (IsPatternTermOf problem params) (pattern-term-fits params) atom.args (second_so _ _ e),
       )
 
-  schema-fits : (k : ℕ) (schema : Schema) → schema.op ≡ k → schema.params ≤ 8 → list_all (atom_fits schema.params) schema.pre ≡ true → list_all (pattern_fits schema.params) schema.del ≡ true
-      → list_all (atom_fits schema.params) schema.add ≡ true → length schema.pre < 4294967295 → length schema.del < 4294967295 → length schema.add < 4294967295 → IsSchemaOf problem k schema
+  schema-fits : (k : ℕ) (schema : Schema) → schema.op ≡ k → schema.params ≤ 8 → list_all (atom_fits schema.params) schema.pre ≡ true
+      → list_all (pattern_fits schema.params) schema.del ≡ true
+      → list_all (atom_fits schema.params) schema.add ≡ true → length schema.pre < 4294967295 → length schema.del < 4294967295
+      → length schema.add < 4294967295 → IsSchemaOf problem k schema
   schema-fits k schema number params pre del add few_pre few_del few_add = record {
     number = number;
     params = params;
@@ -99,23 +104,37 @@ module _ (objects height nodes shapes : ℕ) (some : 1 ≤ objects) where
   }
 
   each-schema : (k : ℕ) → k < 7 → IsSchemaOf problem k (slice_index_or room_schemas k no_schema)
-  each-schema zero inside = schema-fits 0 (slice_index_or room_schemas 0 no_schema) refl (omega arith) refl refl refl (omega arith) (omega arith) (omega arith)
-  each-schema (suc zero) inside = schema-fits 1 (slice_index_or room_schemas 1 no_schema) refl (omega arith) refl refl refl (omega arith) (omega arith) (omega arith)
-  each-schema (suc (suc zero)) inside = schema-fits 2 (slice_index_or room_schemas 2 no_schema) refl (omega arith) refl refl refl (omega arith) (omega arith) (omega arith)
-  each-schema (suc (suc (suc zero))) inside = schema-fits 3 (slice_index_or room_schemas 3 no_schema) refl (omega arith) refl refl refl (omega arith) (omega arith) (omega arith)
-  each-schema (suc (suc (suc (suc zero)))) inside = schema-fits 4 (slice_index_or room_schemas 4 no_schema) refl (omega arith) refl refl refl (omega arith) (omega arith) (omega arith)
-  each-schema (suc (suc (suc (suc (suc zero))))) inside = schema-fits 5 (slice_index_or room_schemas 5 no_schema) refl (omega arith) refl refl refl (omega arith) (omega arith) (omega arith)
-  each-schema (suc (suc (suc (suc (suc (suc zero)))))) inside = schema-fits 6 (slice_index_or room_schemas 6 no_schema) refl (omega arith) refl refl refl (omega arith) (omega arith) (omega arith)
+  each-schema zero inside =
+      schema-fits 0 (slice_index_or room_schemas 0 no_schema) refl (omega arith) refl refl refl (omega arith) (omega arith) (omega arith)
+  each-schema (suc zero) inside =
+      schema-fits 1 (slice_index_or room_schemas 1 no_schema) refl (omega arith) refl refl refl (omega arith) (omega arith) (omega arith)
+  each-schema (suc (suc zero)) inside =
+      schema-fits 2 (slice_index_or room_schemas 2 no_schema) refl (omega arith) refl refl refl (omega arith) (omega arith) (omega arith)
+  each-schema (suc (suc (suc zero))) inside =
+      schema-fits 3 (slice_index_or room_schemas 3 no_schema) refl (omega arith) refl refl refl (omega arith) (omega arith) (omega arith)
+  each-schema (suc (suc (suc (suc zero)))) inside =
+      schema-fits 4 (slice_index_or room_schemas 4 no_schema) refl (omega arith) refl refl refl (omega arith) (omega arith) (omega arith)
+  each-schema (suc (suc (suc (suc (suc zero))))) inside =
+      schema-fits 5 (slice_index_or room_schemas 5 no_schema) refl (omega arith) refl refl refl (omega arith) (omega arith) (omega arith)
+  each-schema (suc (suc (suc (suc (suc (suc zero)))))) inside =
+      schema-fits 6 (slice_index_or room_schemas 6 no_schema) refl (omega arith) refl refl refl (omega arith) (omega arith) (omega arith)
   each-schema (suc (suc (suc (suc (suc (suc (suc k))))))) inside = absurd (omega (arith, inside))
 
   axiom-fits : (clause : Clause) → clause.vars ≤ 12 → list_all (literal_fits clause.vars) clause.lits ≡ true → IsAxiomOf problem clause
-  axiom-fits clause few lits = record { vars = few; lits = each (literal_fits clause.vars) (λ (lit : Lit). IsAtomOf problem clause.vars lit.atom) (λ lit e. atom-fits clause.vars lit.atom e) clause.lits lits }
+  axiom-fits clause few lits =
+      record {
+        vars = few;
+        lits = each (literal_fits clause.vars) (λ (lit : Lit). IsAtomOf problem clause.vars lit.atom)
+            (λ lit e. atom-fits clause.vars lit.atom e) clause.lits lits;
+      }
 
-  clause-plain : (clause : Clause) → 1 ≤ length clause.lits → length clause.lits ≤ 6 → list_all (literal_fits clause.vars) clause.lits ≡ true → IsClause clause
+  clause-plain : (clause : Clause) → 1 ≤ length clause.lits → length clause.lits ≤ 6
+      → list_all (literal_fits clause.vars) clause.lits ≡ true → IsClause clause
   clause-plain clause some_lits few_lits lits = record {
     size = (some_lits, few_lits);
     plain = each (literal_fits clause.vars) (λ (lit : Lit). All (IsPlainBelow clause.vars) lit.atom.args)
-        (λ lit e. each (term_fits clause.vars) (IsPlainBelow clause.vars) (plain clause.vars) lit.atom.args (second_so _ _ e)) clause.lits lits;
+        (λ lit e. each (term_fits clause.vars) (IsPlainBelow clause.vars) (plain clause.vars) lit.atom.args (second_so _ _ e)) clause.lits
+        lits;
   }
 
   is-valid : 1 ≤ height → height ≤ 8 → 1 ≤ nodes → nodes ≤ 50000 → 2 ≤ shapes → shapes ≤ 70000 → IsValid problem

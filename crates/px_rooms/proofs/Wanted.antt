@@ -65,7 +65,8 @@ pub two_rooms_short : (things : List Thing) → things ≡ two_rooms → length 
 two_rooms_short things is = omega (arith, ap length is)
 
 -- the first state's problem is that of the building
-pub same_rules : (things : List Thing) (state : RoomState) (problem : Problem) → state ≡ first_state things → problem ≡ building_problem (length (standings things) + 1) 1 1 2
+pub same_rules : (things : List Thing) (state : RoomState) (problem : Problem) → state ≡ first_state things
+    → problem ≡ building_problem (length (standings things) + 1) 1 1 2
     → building_rules state ≡ problem
 same_rules things state problem is made = ap building_rules is ∙ sym made
 

@@ -4,7 +4,7 @@ use Rattle.std.proofs.Common.{zero, suc, sym, ap, ◌∙◌, subst, arith}
 use Rattle.std.proofs.lemmas.List.Elements.{All-cons, All-nil}
 use Rattle.std.specs.List.{AllByRecursion}
 use Rattle.px_base.proofs.Loops.{is_false}
-use Rattle.px_base.specs.Answers.{some_or_none}
+use Rattle.px_base.specs.Answers.{some_or_none, some_same}
 use Rattle.px_base.specs.ListLaws.{All-each, AllByRecursion-at}
 use Rattle.px_base.specs.SetLaws.{set_of-is_sorted}
 use Rattle.px_terms.specs.declared.atom.Atom.{Atom}
@@ -27,7 +27,8 @@ use Rattle.px_rooms.proofs.Valid.{buildings_are_valid}
 
 pub rules-valid : (rules : Problem) (state : RoomState) → IsRoomWorld rules state → IsValid rules
 rules-valid rules state is =
-    subst IsValid (sym is.rules) (buildings_are_valid (length state.things + 1) 1 1 2 (omega arith) (omega arith, omega arith) (omega arith, omega arith) (omega arith, omega arith))
+    subst IsValid (sym is.rules) (buildings_are_valid (length state.things + 1) 1 1 2 (omega arith) (omega arith, omega arith)
+    (omega arith, omega arith) (omega arith, omega arith))
 
 -- ---- each fact is ground
 
@@ -38,7 +39,9 @@ ground-two : (pred k x : ℕ) → IsGround (record { pred = pred; args = Obj k �
 ground-two pred k x = All-cons IsObject (Obj k) (Obj x ∷ []) tt (All-cons IsObject (Obj x) [] tt (All-nil IsObject))
 
 ground-three : (pred k x y : ℕ) → IsGround (record { pred = pred; args = Obj k ∷ Obj x ∷ Obj y ∷ [] })
-ground-three pred k x y = All-cons IsObject (Obj k) (Obj x ∷ Obj y ∷ []) tt (All-cons IsObject (Obj x) (Obj y ∷ []) tt (All-cons IsObject (Obj y) [] tt (All-nil IsObject)))
+ground-three pred k x y =
+    All-cons IsObject (Obj k) (Obj x ∷ Obj y ∷ []) tt
+    (All-cons IsObject (Obj x) (Obj y ∷ []) tt (All-cons IsObject (Obj y) [] tt (All-nil IsObject)))
 
 beside-ground : (k : ℕ) (beside : Option ℕ) → AllByRecursion IsGround (beside_atoms k beside)
 beside-ground k None = tt
@@ -63,33 +66,36 @@ about-ground state (suc k) = of_thing-ground (suc k) (slice_get state.things k)
 
 pub rendering-ground : (state : RoomState) → All IsGround (rendering state)
 rendering-ground state = All-each IsGround (rendering state)
-    (λ atom has. let found = rendering-about state atom has in AllByRecursion-at IsGround (atoms_about state found.0) atom (about-ground state found.0) found.1)
+    (λ atom has. let found = rendering-about state atom has in
+    AllByRecursion-at IsGround (atoms_about state found.0) atom (about-ground state found.0) found.1)
 
 pub rendering-ascending : (state : RoomState) → IsAtomSet (rendering state)
 rendering-ascending state = set_of-is_sorted atom_cmp atom_cmp-total atom_cmp-same _
 
 -- ---- an atom is a fact where it is one about its first argument
 
-pub fact-by-first : (state : RoomState) (atom : Atom) (n : ℕ) (terms : List Term) → atom.args ≡ Obj n ∷ terms → Contains (atoms_about state n) atom ↔ Contains (rendering state) atom
+pub fact-by-first : (state : RoomState) (atom : Atom) (n : ℕ) (terms : List Term) → atom.args ≡ Obj n ∷ terms
+    → Contains (atoms_about state n) atom ↔ Contains (rendering state) atom
 fact-by-first state atom n terms told = ((λ has. about-rendering state n atom has), (λ has. found-about state atom n terms told has))
 
-pub first-is-object : (state : RoomState) (atom : Atom) → Contains (rendering state) atom → (n : ℕ) × (terms : List Term) × (atom.args ≡ Obj n ∷ terms)
-first-is-object state atom has = let found = rendering-about state atom has in let told = about state found.0 atom found.1 in (found.0, told.0, told.1)
+pub first-is-object : (state : RoomState) (atom : Atom) → Contains (rendering state) atom
+    → (n : ℕ) × (terms : List Term) × (atom.args ≡ Obj n ∷ terms)
+first-is-object state atom has =
+    let found = rendering-about state atom has in let told = about state found.0 atom found.1 in (found.0, told.0, told.1)
 
 -- ---- the first argument
 
 first-is : (terms : List Term) (n : ℕ) → number_first terms ≡ Some n → (rest : List Term) × (terms ≡ Obj n ∷ rest)
 first-is [] n is = absurd (cc)
-first-is (Obj m ∷ terms) n is = (terms, ap (λ k. Obj k ∷ terms) (some m n is)) where
-  some : (a b : ℕ) → Some a ≡ Some b → a ≡ b
-  some a b e = cc
+first-is (Obj m ∷ terms) n is = (terms, ap (λ k. Obj k ∷ terms) (some_same is))
 first-is (Var v ∷ terms) n is = absurd (cc)
 first-is (WildCard ∷ terms) n is = absurd (cc)
 
 first-not : (terms : List Term) (n : ℕ) (rest : List Term) → number_first terms ≡ None → ¬ (terms ≡ Obj n ∷ rest)
 first-not terms n rest none is = some_or_none (sym (ap number_first is) ∙ none)
 
-pub has-some : (state : RoomState) (atom : Atom) (n : ℕ) (b : Bool) → number_first atom.args ≡ Some n → IsTrue b ↔ Contains (atoms_about state n) atom → IsTrue b ↔ Contains (rendering state) atom
+pub has-some : (state : RoomState) (atom : Atom) (n : ℕ) (b : Bool) → number_first atom.args ≡ Some n → IsTrue b
+    ↔ Contains (atoms_about state n) atom → IsTrue b ↔ Contains (rendering state) atom
 has-some state atom n b first test =
     let told = first-is atom.args n first in
     let fact = fact-by-first state atom n told.0 told.1 in

@@ -8,13 +8,13 @@ use Rattle.px_terms.specs.declared.term.Term.TheVariants.{Obj, Any as WildCard}
 use Rattle.px_terms.specs.Operators.{result_by}
 use Rattle.px_world.specs.declared.edits.RoomEdit.{RoomEdit}
 use Rattle.px_world.specs.declared.edits.RoomEdit.TheVariants as edit
-use Rattle.px_rooms.specs.Domain.{closed, in_room, next_to, opened, robot}
+use Rattle.px_rooms.specs.Domain.{closed, in_room, next_to, opened_door, robot}
 use Rattle.px_rooms.specs.declared.action.RoomAction.{RoomAction}
 use Rattle.px_rooms.specs.declared.action.RoomAction.TheVariants as act
 use Rattle.px_rooms.specs.declared.standing.Standing.{Standing}
 use Rattle.px_rooms.specs.declared.standing.Standing.TheVariants.{Room as a_room, Door as a_door, Box as a_box}
-use Rattle.px_rooms.specs.declared.change.Change.{Change}
-use Rattle.px_rooms.specs.declared.change.Change.TheVariants.{Turned, Beside, Into}
+use Rattle.px_rooms.specs.declared.change.ThingChange.{ThingChange}
+use Rattle.px_rooms.specs.declared.change.ThingChange.TheVariants.{Turned, Beside, Into}
 use Rattle.px_rooms.specs.States.{IsBoxAt, IsDoorAt, IsRoomAt, RoomState}
 
 -- ---- changes of a thing
@@ -24,8 +24,8 @@ abbrev pub things_with : ℕ → (Standing → Standing) → List Standing → L
 things_with zero change things = things
 things_with (suc k) change things = set things k (change (slice_index_or things k a_room))
 
-abbrev pub with_thing : ℕ → (Standing → Standing) → RoomState → RoomState
-with_thing number change state = record state { things = things_with number change state.things }
+abbrev pub with_changed_thing : ℕ → (Standing → Standing) → RoomState → RoomState
+with_changed_thing number change state = record state { things = things_with number change state.things }
 
 -- a door is opened or closed
 abbrev pub turned : Bool → Standing → Standing
@@ -46,7 +46,7 @@ put_into r (a_door x y is_open) = a_door x y is_open
 put_into r (a_box old beside) = a_box r None
 
 -- what that change makes of a thing
-abbrev pub changed_by : Change → Standing → Standing
+abbrev pub changed_by : ThingChange → Standing → Standing
 changed_by (Turned is_open) = turned is_open
 changed_by (Beside d) = put_beside d
 changed_by (Into r) = put_into r
@@ -57,31 +57,31 @@ changed_by (Into r) = put_into r
 abbrev pub acted : RoomAction → RoomState → RoomState
 acted (act.GoToBox b r) state = record state { robot_beside = Some b }
 acted (act.GoToDoor d r s) state = record state { robot_beside = Some d }
-acted (act.Open d) state = with_thing d (turned true) state
-acted (act.Close d) state = with_thing d (turned false) state
+acted (act.Open d) state = with_changed_thing d (turned true) state
+acted (act.Close d) state = with_changed_thing d (turned false) state
 acted (act.GoThrough d r s) state = record state { robot_room = s; robot_beside = None }
-acted (act.PushToDoor b d r s) state = record (with_thing b (put_beside d) state) { robot_beside = Some b }
-acted (act.PushThrough b d r s) state = record (with_thing b (put_into s) state) { robot_room = s; robot_beside = Some b }
+acted (act.PushToDoor b d r s) state = record (with_changed_thing b (put_beside d) state) { robot_beside = Some b }
+acted (act.PushThrough b d r s) state = record (with_changed_thing b (put_into s) state) { robot_room = s; robot_beside = Some b }
 
 -- the action as an instance of its operator
-abbrev pub instance_of : RoomAction → OpInst
-instance_of (act.GoToBox b r) = record { op = 0; args = Obj b ∷ Obj r ∷ [] }
-instance_of (act.GoToDoor d r s) = record { op = 1; args = Obj d ∷ Obj r ∷ Obj s ∷ [] }
-instance_of (act.Open d) = record { op = 2; args = Obj d ∷ [] }
-instance_of (act.Close d) = record { op = 3; args = Obj d ∷ [] }
-instance_of (act.GoThrough d r s) = record { op = 4; args = Obj d ∷ Obj r ∷ Obj s ∷ [] }
-instance_of (act.PushToDoor b d r s) = record { op = 5; args = Obj b ∷ Obj d ∷ Obj r ∷ Obj s ∷ [] }
-instance_of (act.PushThrough b d r s) = record { op = 6; args = Obj b ∷ Obj d ∷ Obj r ∷ Obj s ∷ [] }
+abbrev pub instance_of_action : RoomAction → OpInst
+instance_of_action (act.GoToBox b r) = record { op = 0; args = Obj b ∷ Obj r ∷ [] }
+instance_of_action (act.GoToDoor d r s) = record { op = 1; args = Obj d ∷ Obj r ∷ Obj s ∷ [] }
+instance_of_action (act.Open d) = record { op = 2; args = Obj d ∷ [] }
+instance_of_action (act.Close d) = record { op = 3; args = Obj d ∷ [] }
+instance_of_action (act.GoThrough d r s) = record { op = 4; args = Obj d ∷ Obj r ∷ Obj s ∷ [] }
+instance_of_action (act.PushToDoor b d r s) = record { op = 5; args = Obj b ∷ Obj d ∷ Obj r ∷ Obj s ∷ [] }
+instance_of_action (act.PushThrough b d r s) = record { op = 6; args = Obj b ∷ Obj d ∷ Obj r ∷ Obj s ∷ [] }
 
--- the new state is what the action leaves of which that is the instance
+-- the new state is what the action with that instance leaves
 pub record IsMoved (inst : OpInst) (old new : RoomState) : Type 0 where
   pub action : RoomAction
-  pub by_action : inst ≡ instance_of action
+  pub by_action : inst ≡ instance_of_action action
   pub left : new ≡ acted action old
 
 -- ---- edits
 
--- beside what it was, unless that is the one
+-- what it was beside, unless that is this thing
 abbrev pub parted_from : ℕ → Option ℕ → Option ℕ
 parted_from b None = None
 parted_from b (Some x) = if x == b then None else Some x
@@ -89,8 +89,8 @@ parted_from b (Some x) = if x == b then None else Some x
 -- the state that an edit leaves
 abbrev pub state_edited : RoomEdit → RoomState → RoomState
 state_edited (edit.Robot r) state = record state { robot_room = r; robot_beside = None }
-state_edited (edit.Box b r) state = record (with_thing b (put_into r) state) { robot_beside = parted_from b state.robot_beside }
-state_edited (edit.Door d is_open) state = with_thing d (turned is_open) state
+state_edited (edit.Box b r) state = record (with_changed_thing b (put_into r) state) { robot_beside = parted_from b state.robot_beside }
+state_edited (edit.Door d is_open) state = with_changed_thing d (turned is_open) state
 
 -- its numbers name things of the kinds that are wanted
 abbrev pub IsAdmitted : RoomState → RoomEdit → Type 0
@@ -98,7 +98,7 @@ IsAdmitted state (edit.Robot r) = IsRoomAt state.things r
 IsAdmitted state (edit.Box b r) = IsBoxAt state.things b × IsRoomAt state.things r
 IsAdmitted state (edit.Door d is_open) = IsDoorAt state.things d
 
--- the same of the facts, as an operator that needs nothing: what it deletes, and what it adds
+-- a change of the facts, as an operator that needs nothing: what it deletes, and what it adds
 abbrev pub change_of_facts : List Atom → List Atom → Schema
 change_of_facts del add = record { op = 0; params = 0; pre = []; del = del; add = add }
 
@@ -106,8 +106,8 @@ abbrev pub edit_schema : RoomEdit → Schema
 edit_schema (edit.Robot r) = change_of_facts (in_room robot WildCard ∷ next_to robot WildCard ∷ []) (in_room robot (Obj r) ∷ [])
 edit_schema (edit.Box b r) = change_of_facts (in_room (Obj b) WildCard ∷ next_to (Obj b) WildCard ∷ next_to robot (Obj b) ∷ [])
     (in_room (Obj b) (Obj r) ∷ [])
-edit_schema (edit.Door d true) = change_of_facts (closed (Obj d) ∷ []) (opened (Obj d) ∷ [])
-edit_schema (edit.Door d false) = change_of_facts (opened (Obj d) ∷ []) (closed (Obj d) ∷ [])
+edit_schema (edit.Door d true) = change_of_facts (closed (Obj d) ∷ []) (opened_door (Obj d) ∷ [])
+edit_schema (edit.Door d false) = change_of_facts (opened_door (Obj d) ∷ []) (closed (Obj d) ∷ [])
 
 -- the facts that an edit leaves
 abbrev pub facts_edited : RoomEdit → List Atom → List Atom

@@ -28,7 +28,7 @@ room_predicates =
     ∷ record { name = codes "BOX"; arity = 1 }
     ∷ []
 
--- Alike: `WorkedDanger` of `px_match` and `Lamps` of `px_terms` name their own predicates, too; each example is read by itself
+-- Alike: `WorkedDanger` of `px_match` and `Lamps` of `px_terms` name their own predicates, too; each example is read by itself.
 
 abbrev pub in_room : Term → Term → Atom
 in_room x r = record { pred = 0; args = x ∷ r ∷ [] }
@@ -39,8 +39,8 @@ next_to x y = record { pred = 1; args = x ∷ y ∷ [] }
 abbrev pub connects : Term → Term → Term → Atom
 connects d x y = record { pred = 2; args = d ∷ x ∷ y ∷ [] }
 
-abbrev pub opened : Term → Atom
-opened d = record { pred = 3; args = d ∷ [] }
+abbrev pub opened_door : Term → Atom
+opened_door d = record { pred = 3; args = d ∷ [] }
 
 abbrev pub closed : Term → Atom
 closed d = record { pred = 4; args = d ∷ [] }
@@ -56,7 +56,7 @@ is_box b = record { pred = 7; args = b ∷ [] }
 
 -- ---- the axiom
 
--- a door that connects two rooms connects them the other way, too
+-- a door that connects two rooms in one order connects them in the other, too
 abbrev pub both_ways : Clause
 both_ways = let d = Var 0 in let x = Var 1 in let y = Var 2 in record {
   vars = 3;
@@ -83,7 +83,7 @@ pub record RoomOperator : Type 0 where
   pub del : List Atom
   pub add : List Atom
 
--- Alike: the operators from `go_to_box` to `push_through` are written out one by one, each to be read by itself
+-- Alike: the operators from `go_to_box` to `push_through` are written out one by one, each to be read by itself.
 
 -- the robot goes to box b in room r
 abbrev pub go_to_box : RoomOperator
@@ -112,7 +112,7 @@ open_door = let d = Var 0 in record {
   parameters = codes "d" ∷ [];
   pre = is_door d ∷ next_to robot d ∷ closed d ∷ [];
   del = closed d ∷ [];
-  add = opened d ∷ [];
+  add = opened_door d ∷ [];
 }
 
 -- the robot closes door d, which it is beside
@@ -120,8 +120,8 @@ abbrev pub close_door : RoomOperator
 close_door = let d = Var 0 in record {
   name = codes "CLOSE";
   parameters = codes "d" ∷ [];
-  pre = is_door d ∷ next_to robot d ∷ opened d ∷ [];
-  del = opened d ∷ [];
+  pre = is_door d ∷ next_to robot d ∷ opened_door d ∷ [];
+  del = opened_door d ∷ [];
   add = closed d ∷ [];
 }
 
@@ -130,7 +130,7 @@ abbrev pub go_through : RoomOperator
 go_through = let d = Var 0 in let r = Var 1 in let s = Var 2 in record {
   name = codes "GOTHRU";
   parameters = codes "d" ∷ codes "r" ∷ codes "s" ∷ [];
-  pre = connects d r s ∷ in_room robot r ∷ opened d ∷ [];
+  pre = connects d r s ∷ in_room robot r ∷ opened_door d ∷ [];
   del = in_room robot WildCard ∷ next_to robot WildCard ∷ [];
   add = in_room robot s ∷ [];
 }
@@ -150,7 +150,7 @@ abbrev pub push_through : RoomOperator
 push_through = let b = Var 0 in let d = Var 1 in let r = Var 2 in let s = Var 3 in record {
   name = codes "PUSHTHRU";
   parameters = codes "b" ∷ codes "d" ∷ codes "r" ∷ codes "s" ∷ [];
-  pre = is_box b ∷ in_room b r ∷ in_room robot r ∷ connects d r s ∷ opened d ∷ next_to robot b ∷ next_to b d ∷ [];
+  pre = is_box b ∷ in_room b r ∷ in_room robot r ∷ connects d r s ∷ opened_door d ∷ next_to robot b ∷ next_to b d ∷ [];
   del = in_room robot WildCard ∷ in_room b WildCard ∷ next_to robot WildCard ∷ next_to b WildCard ∷ [];
   add = in_room robot s ∷ in_room b s ∷ next_to robot b ∷ [];
 }

@@ -6,9 +6,9 @@ use Rattle.px_terms.specs.Instances.{IsGround}
 use Rattle.px_terms.specs.Operators.{precondition, result_of}
 use Rattle.px_terms.specs.Validity.{IsInstanceOf}
 use Rattle.px_world.specs.declared.edits.RoomEdit.{RoomEdit}
-use Rattle.px_world.specs.Worlds.{IsRefused}
+use Rattle.px_world.specs.Worlds.{IsActionRefused}
 use Rattle.px_rooms.specs.declared.action.RoomAction.{RoomAction}
-use Rattle.px_rooms.specs.Changes.{IsAdmitted, acted, facts_edited, instance_of, state_edited}
+use Rattle.px_rooms.specs.Changes.{IsAdmitted, acted, facts_edited, instance_of_action, state_edited}
 use Rattle.px_rooms.specs.States.{IsRoomState, RoomState, building_rules, rendering}
 
 -- each atom of the precondition is a fact
@@ -17,14 +17,15 @@ IsMet state inst = All (Contains (rendering state)) (precondition (building_rule
 
 -- an action whose precondition is met leaves a state of the building, whose facts are the operator's result
 abbrev pub ActionsAreResults : Type 0
-ActionsAreResults = (state : RoomState) (one : RoomAction) → IsRoomState state → IsMet state (instance_of one)
-    → IsRoomState (acted one state) × (rendering (acted one state) ≡ result_of (building_rules state) (rendering state) (instance_of one))
+ActionsAreResults = (state : RoomState) (one : RoomAction) → IsRoomState state → IsMet state (instance_of_action one)
+    → IsRoomState (acted one state) × (rendering (acted one state)
+    ≡ result_of (building_rules state) (rendering state) (instance_of_action one))
 
 -- each instance of an operator over the building's objects is that of one action
 pub record InstancesAreActions : Type 0 where
   pub each : (state : RoomState) (inst : OpInst) → IsInstanceOf (building_rules state) inst → (action : RoomAction)
-      × (inst ≡ instance_of action)
-  pub once : (one other : RoomAction) → instance_of one ≡ instance_of other → one ≡ other
+      × (inst ≡ instance_of_action action)
+  pub once : (one other : RoomAction) → instance_of_action one ≡ instance_of_action other → one ≡ other
 
 -- an edit that is admitted leaves a state of the building, whose facts are those that the edit leaves
 abbrev pub EditsAreEdits : Type 0
@@ -35,7 +36,7 @@ EditsAreEdits = (state : RoomState) (one : RoomEdit) → IsRoomState state → I
 abbrev pub RefusalsAreAllowed : Type 0
 RefusalsAreAllowed = (state : RoomState) (inst : OpInst) (atom : Atom) → IsRoomState state → IsInstanceOf (building_rules state) inst
     → Contains (precondition (building_rules state) inst) atom
-    → ¬ Contains (rendering state) atom → IsRefused (building_rules state) (rendering state) inst
+    → ¬ Contains (rendering state) atom → IsActionRefused (building_rules state) (rendering state) inst
 
 -- each fact is ground, and there are at most four for each thing and two more
 abbrev pub FactsAreFew : Type 0

@@ -1,3 +1,4 @@
+-- The files of definitions and laws.
 pub mod Domain
 pub mod States
 pub mod Looking

@@ -9,7 +9,7 @@ use Rattle.px_world.specs.declared.thing.Thing.{Thing}
 use Rattle.px_world.specs.declared.thing.Thing.TheVariants as thing
 use Rattle.px_rooms.specs.declared.standing.Standing.{Standing}
 use Rattle.px_rooms.specs.declared.standing.Standing.TheVariants.{Room as a_room, Door as a_door, Box as a_box}
-use Rattle.px_rooms.specs.Domain.{building_problem, closed, connects, in_room, is_box, is_door, is_room, next_to, opened, robot}
+use Rattle.px_rooms.specs.Domain.{building_problem, closed, connects, in_room, is_box, is_door, is_room, next_to, opened_door, robot}
 
 -- the robot's room, the box or door that it is beside, and the things by their numbers, which begin with 1
 pub record RoomState : Type 0 where
@@ -17,6 +17,7 @@ pub record RoomState : Type 0 where
   pub robot_beside : Option ℕ
   pub things : List Standing
 
+-- Alike: `step_at` of `px_table`, of another list that is counted from 1.
 -- the robot, number 0, is no thing
 abbrev pub thing_at : List Standing → ℕ → Option Standing
 thing_at things zero = None
@@ -84,26 +85,26 @@ beside_atoms x None = []
 beside_atoms x (Some y) = next_to (Obj x) (Obj y) ∷ []
 
 abbrev pub door_atom : ℕ → Bool → Atom
-door_atom d true = opened (Obj d)
+door_atom d true = opened_door (Obj d)
 door_atom d false = closed (Obj d)
 
--- those of the thing of that number
+-- the facts about the thing of that number
 abbrev pub thing_atoms : ℕ → Standing → List Atom
 thing_atoms k a_room = is_room (Obj k) ∷ []
 thing_atoms k (a_door x y is_open) = is_door (Obj k) ∷ connects (Obj k) (Obj x) (Obj y) ∷ connects (Obj k) (Obj y) (Obj x) ∷ door_atom k
     is_open ∷ []
 thing_atoms k (a_box r beside) = is_box (Obj k) ∷ in_room (Obj k) (Obj r) ∷ beside_atoms k beside
 
--- those of the robot
+-- the facts about the robot
 abbrev pub robot_atoms : RoomState → List Atom
 robot_atoms state = in_room robot (Obj state.robot_room) ∷ beside_atoms 0 state.robot_beside
 
--- those of the things from that number on
+-- the facts about the things from that number on
 abbrev pub atoms_from : ℕ → List Standing → List Atom
 atoms_from k [] = []
 atoms_from k (one ∷ things) = thing_atoms k one ++ atoms_from (k + 1) things
 
--- all of a state, the robot's first
+-- all facts of a state, the robot's first
 abbrev pub all_atoms : RoomState → List Atom
 all_atoms state = robot_atoms state ++ atoms_from 1 state.things
 

@@ -11,8 +11,8 @@ use Rattle.px_world.specs.declared.thing.Thing.{Thing}
 use Rattle.px_world.specs.declared.thing.Thing.TheVariants as thing
 use Rattle.px_rooms.specs.declared.action.RoomAction.{RoomAction}
 use Rattle.px_rooms.specs.declared.action.RoomAction.TheVariants as act
-use Rattle.px_rooms.specs.Changes.{IsAdmitted, acted, facts_edited, instance_of, state_edited}
-use Rattle.px_rooms.specs.Domain.{closed, connects, in_room, is_box, is_door, is_room, next_to, opened}
+use Rattle.px_rooms.specs.Changes.{IsAdmitted, acted, facts_edited, instance_of_action, state_edited}
+use Rattle.px_rooms.specs.Domain.{closed, connects, in_room, is_box, is_door, is_room, next_to, opened_door}
 use Rattle.px_rooms.specs.declared.standing.Standing.TheVariants.{Room as a_room, Door as a_door, Box as a_box}
 use Rattle.px_rooms.specs.States.{IsBuilding, RoomState, building_rules, first_state, rendering}
 
@@ -38,13 +38,13 @@ standing robot_room robot_beside is_open box_room box_beside =
 -- whether each atom of the action's precondition is a fact
 abbrev pub is_met : RoomState → RoomAction → Bool
 is_met state action = list_all (λ atom. list_any (atom_eq atom) (rendering state))
-    (precondition (building_rules state) (instance_of action))
+    (precondition (building_rules state) (instance_of_action action))
 
 -- the precondition is met, the action leaves that state, and its facts are what the operator says
 pub record ActionGives (state : RoomState) (action : RoomAction) (next : RoomState) : Type 0 where
   pub met : is_met state action ≡ true
   pub left : acted action state ≡ next
-  pub facts : rendering next ≡ result_of (building_rules state) (rendering state) (instance_of action)
+  pub facts : rendering next ≡ result_of (building_rules state) (rendering state) (instance_of_action action)
 
 -- the edit leaves that state, and its facts are those that the edit leaves
 pub record EditGives (state : RoomState) (one : RoomEdit) (next : RoomState) : Type 0 where
@@ -53,7 +53,8 @@ pub record EditGives (state : RoomState) (one : RoomEdit) (next : RoomState) : T
 
 -- ---- the facts
 
--- the facts that are ordered after where things are: the ways through the door, whether it is open, and the kinds of the things
+-- the facts that are ordered after those that say where things are: the ways through the door, whether it is open, and the kinds of the
+-- things
 abbrev pub ways_and_kinds : Atom → List Atom
 ways_and_kinds door =
     connects (Obj 3) (Obj 1) (Obj 2)
@@ -73,9 +74,9 @@ pub record StateFacts : Type 0 where
       in_room (Obj 0) (Obj 1) ∷ in_room (Obj 4) (Obj 1) ∷ ways_and_kinds (closed (Obj 3))
   pub later_facts : rendering (standing 1 (Some 4) true 1 (Some 3)) ≡
       in_room (Obj 0) (Obj 1) ∷ in_room (Obj 4) (Obj 1) ∷ next_to (Obj 0) (Obj 4) ∷ next_to (Obj 4) (Obj 3) ∷ ways_and_kinds
-      (opened (Obj 3))
+      (opened_door (Obj 3))
 
--- the things may stand in any order; what is no building
+-- the things may stand in any order; which lists are no building
 pub record KindFacts : Type 0 where
   pub any_order : IsBuilding (thing.Robot 2 ∷ thing.Box 2 ∷ thing.Room ∷ [])
   pub no_robot : ¬ IsBuilding (thing.Room ∷ [])

@@ -18,18 +18,18 @@ joined separator (text ∷ []) = text
 joined separator (text ∷ next ∷ texts) = text ++ (separator ++ joined separator (next ∷ texts))
 
 -- the only object that the domain names is object 0, the robot; any other has no text
-abbrev pub term_text : List (List ℕ) → Term → List ℕ
-term_text variables (Obj n) = slice_index_or (robot_name ∷ []) n []
-term_text variables (Var v) = slice_index_or variables v []
-term_text variables Any = codes "$"
+abbrev pub domain_term_text : List (List ℕ) → Term → List ℕ
+domain_term_text variables (Obj n) = slice_index_or (robot_name ∷ []) n []
+domain_term_text variables (Var v) = slice_index_or variables v []
+domain_term_text variables Any = codes "$"
 
-abbrev pub atom_text : List (List ℕ) → Atom → List ℕ
-atom_text variables atom =
+abbrev pub domain_atom_text : List (List ℕ) → Atom → List ℕ
+domain_atom_text variables atom =
     slice_index_or (map (λ (p : RoomPredicate). p.name) room_predicates) atom.pred [] ++
-    (codes "(" ++ (joined (codes ",") (map (term_text variables) atom.args) ++ codes ")"))
+    (codes "(" ++ (joined (codes ",") (map (domain_term_text variables) atom.args) ++ codes ")"))
 
 abbrev pub atoms_text : List (List ℕ) → List Atom → List ℕ
-atoms_text variables atoms = joined (codes " ") (map (atom_text variables) atoms)
+atoms_text variables atoms = joined (codes " ") (map (domain_atom_text variables) atoms)
 
 abbrev pub sign_text : Bool → List ℕ
 sign_text true = []
@@ -37,7 +37,7 @@ sign_text false = codes "~"
 
 abbrev pub axiom_line : List (List ℕ) → Clause → List ℕ
 axiom_line variables clause = codes "axiom " ++ joined (codes " ")
-    (map (λ (lit : Lit). sign_text lit.positive ++ atom_text variables lit.atom) clause.lits)
+    (map (λ (lit : Lit). sign_text lit.positive ++ domain_atom_text variables lit.atom) clause.lits)
 
 abbrev pub predicate_line : RoomPredicate → List ℕ
 predicate_line p = codes "predicate " ++ (p.name ++ (codes " " ++ digit_text p.arity))

@@ -7,10 +7,10 @@ ghost use Rattle.px_rooms.specs.Added.{AreAdded, of_pred};
 ghost use Rattle.px_rooms.specs.Domain.{in_room};
 ghost use Rattle.px_rooms.specs.States.{atoms_from, beside_atoms, thing_atoms};
 
-use crate::facts::{CLOSED, CONNECTS, IN_ROOM, IS_BOX, IS_DOOR, IS_ROOM, NEXT_TO, OPENED, atom};
+use crate::facts::{CLOSED, CONNECTS, IN_ROOM, IS_BOX, IS_DOOR, IS_ROOM, NEXT_TO, OPENED};
 use crate::standing::Standing;
 use px_ops::Model;
-use px_terms::Term;
+use px_terms::{Atom, Term};
 
 /// Adds a ground atom to a model that has room for it, if its predicate is the wanted one.
 fn add_one(kind: u32, args: &[Term], pred: u32, into: &mut Model)
@@ -21,7 +21,7 @@ fn add_one(kind: u32, args: &[Term], pred: u32, into: &mut Model)
     ensures spare { into.old.spare ≤ into.new.spare + length (of_pred pred (record { pred = kind; args = args.now } ∷ [])) }
 {
     if kind == pred {
-        into.insert_spare(atom(kind, args));
+        into.insert_spare(Atom::of(kind, args));
     }
 }
 

@@ -1,6 +1,6 @@
 //! Each state of a small building, and each action and edit in it, beside the plain simulator.
 use crate::action::RoomAction;
-use crate::pair::{Begun, Pair};
+use crate::pair::{BegunPair, Pair};
 use crate::tests::two_rooms;
 use px_terms::NoMemory;
 use px_world::RoomEdit;
@@ -46,13 +46,13 @@ fn other_room(room: u32) -> u32 {
     if room == 1 { 2 } else { 1 }
 }
 
-/// Pushes the box, beside which the robot isn't yet, to the door. Do both take the same?
+/// Pushes the box, beside which the robot isn't yet, to the door. Returns whether both take the same.
 fn push_box(pair: &mut Pair, room: u32) -> bool {
     pair.act(&RoomAction::GoToBox(4, room))
         && pair.act(&RoomAction::PushToDoor(4, 3, room, other_room(room)))
 }
 
-/// Brings both into the state. Do they take the same?
+/// Brings both into the state. Returns whether they take the same.
 fn arrange(pair: &mut Pair, state: &Arranged) -> bool {
     let edits = pair.edit(&RoomEdit::Robot(state.box_room))
         && pair.edit(&RoomEdit::Box(4, state.box_room))
@@ -93,7 +93,7 @@ fn edit(number: u32) -> RoomEdit {
     }
 }
 
-/// Tries the operator's instances in the state. How many are taken, if both always take the same and then have the same facts?
+/// Tries the operator's instances in the state. Returns how many are taken, if both always take the same and then have the same facts.
 fn taken_of(
     alloc: Global,
     pair: &mut Pair,
@@ -118,7 +118,7 @@ fn taken_of(
     Ok(Some(taken))
 }
 
-/// Do both take the same edits in the state, and have then the same facts?
+/// Returns whether both take the same edits in the state, and then have the same facts.
 fn take_the_same_edits(alloc: Global, pair: &mut Pair, state: &Arranged) -> Result<bool, NoMemory> {
     for number in 0..40u32 {
         let agree = pair.edit(&edit(number)) && pair.have_same_facts(alloc)?;
@@ -129,7 +129,7 @@ fn take_the_same_edits(alloc: Global, pair: &mut Pair, state: &Arranged) -> Resu
     Ok(true)
 }
 
-/// How many actions are taken in the state, if both always agree?
+/// Returns how many actions are taken in the state, if both always agree.
 fn taken_in(alloc: Global, pair: &mut Pair, state: &Arranged) -> Result<Option<u32>, NoMemory> {
     let mut taken = 0u32;
     for (op, count) in INSTANCES.iter().enumerate() {
@@ -142,7 +142,7 @@ fn taken_in(alloc: Global, pair: &mut Pair, state: &Arranged) -> Result<Option<u
     Ok(if agree { Some(taken) } else { None })
 }
 
-/// How many actions are taken in all states, if both always agree?
+/// Returns how many actions are taken in all states, if both always agree.
 fn taken_in_all(alloc: Global, pair: &mut Pair) -> Result<Option<u32>, NoMemory> {
     let mut taken = 0u32;
     for number in 0..48u32 {
@@ -164,7 +164,7 @@ fn taken_in_all(alloc: Global, pair: &mut Pair) -> Result<Option<u32>, NoMemory>
 #[test]
 fn all_states_of_two_rooms(rt: HostRuntime) -> Result<(), NoMemory> {
     let building = two_rooms(rt.alloc())?;
-    let Begun::Both(mut pair) = Pair::begin(rt.alloc(), &building)? else {
+    let BegunPair::Both(mut pair) = Pair::begin(rt.alloc(), &building)? else {
         assert!(&rt; false, "no building");
         return Ok(());
     };

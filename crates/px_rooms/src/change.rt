@@ -2,7 +2,7 @@
 
 /// What may change of a thing of one kind. A thing of another kind stays as it is.
 #[derive(Clone, Copy)]
-pub(crate) enum Change {
+pub(crate) enum ThingChange {
     /// A door is opened or closed.
     Turned(bool),
     /// A box is put beside a door.

@@ -8,18 +8,18 @@ use px_world::{RoomEdit, Thing};
 use std::alloc::Global;
 
 /// Three rooms, two doors and two boxes.
-const KINDS: [Kind; 7] = [
-    Kind::Room,
-    Kind::Room,
-    Kind::Room,
-    Kind::Door,
-    Kind::Door,
-    Kind::Box,
-    Kind::Box,
+const KINDS: [DrawnKind; 7] = [
+    DrawnKind::Room,
+    DrawnKind::Room,
+    DrawnKind::Room,
+    DrawnKind::Door,
+    DrawnKind::Door,
+    DrawnKind::Box,
+    DrawnKind::Box,
 ];
 
 #[derive(Clone, Copy, PartialEq, Eq)]
-enum Kind {
+enum DrawnKind {
     Room,
     Door,
     Box,
@@ -54,19 +54,19 @@ impl Dice {
     }
 
     /// Returns the number of a thing of that kind, and now and then any number.
-    fn number(&mut self, kind: Kind) -> u32 {
+    fn number(&mut self, kind: DrawnKind) -> u32 {
         if self.roll(20) == 0 {
             return self.roll(10);
         }
         let place = match kind {
-            Kind::Room => self.roll(3),
-            Kind::Door => 3 + self.roll(2),
-            Kind::Box => 5 + self.roll(2),
+            DrawnKind::Room => self.roll(3),
+            DrawnKind::Door => 3 + self.roll(2),
+            DrawnKind::Box => 5 + self.roll(2),
         };
         (place + self.first % 7) % 7 + 1
     }
 
-    /// Things in a row that begins with any kind, with the robot somewhere, and now and then no robot or two.
+    /// Returns things in the order of `KINDS`, beginning anywhere, with the robot somewhere, and now and then no robot or two.
     pub(crate) fn things(&mut self, alloc: Global) -> Result<Vec<Thing>, NoMemory> {
         let mut things = Vec::new(alloc);
         self.first = self.roll(7);
@@ -85,18 +85,18 @@ impl Dice {
 
     fn robot(&mut self) -> Thing {
         Thing::Robot {
-            room: self.number(Kind::Room),
+            room: self.number(DrawnKind::Room),
         }
     }
 
-    fn thing(&mut self, kind: Kind) -> Thing {
+    fn thing(&mut self, kind: DrawnKind) -> Thing {
         match kind {
-            Kind::Room => Thing::Room,
-            Kind::Door => {
-                let a = self.number(Kind::Room);
-                let mut b = self.number(Kind::Room);
+            DrawnKind::Room => Thing::Room,
+            DrawnKind::Door => {
+                let a = self.number(DrawnKind::Room);
+                let mut b = self.number(DrawnKind::Room);
                 if a == b {
-                    b = self.number(Kind::Room);
+                    b = self.number(DrawnKind::Room);
                 }
                 Thing::Door {
                     a,
@@ -104,8 +104,8 @@ impl Dice {
                     is_open: self.roll(2) == 0,
                 }
             }
-            Kind::Box => Thing::Box {
-                room: self.number(Kind::Room),
+            DrawnKind::Box => Thing::Box {
+                room: self.number(DrawnKind::Room),
             },
         }
     }
@@ -122,15 +122,15 @@ impl Dice {
         action
     }
 
-    /// Any action, which is mostly one through a door of the robot's room.
+    /// Returns any action, mostly one through a door of the robot's room.
     fn any_action(&mut self, plain: &Plain) -> RoomAction {
-        let target = self.number(Kind::Box);
-        let door = self.number(Kind::Door);
+        let target = self.number(DrawnKind::Box);
+        let door = self.number(DrawnKind::Door);
         let mut room = plain.robot_room();
-        let mut other = self.number(Kind::Room);
+        let mut other = self.number(DrawnKind::Room);
         match plain.door(door) {
             Some((a, b, _)) if self.roll(5) > 0 => other = if a == room { b } else { a },
-            _ => room = self.number(Kind::Room),
+            _ => room = self.number(DrawnKind::Room),
         }
         match self.roll(12) {
             0 => RoomAction::GoToBox(target, room),
@@ -143,12 +143,12 @@ impl Dice {
         }
     }
 
-    /// Any edit.
+    /// Returns any edit.
     pub(crate) fn edit(&mut self) -> RoomEdit {
         match self.roll(3) {
-            0 => RoomEdit::Robot(self.number(Kind::Room)),
-            1 => RoomEdit::Box(self.number(Kind::Box), self.number(Kind::Room)),
-            _ => RoomEdit::Door(self.number(Kind::Door), self.roll(2) == 0),
+            0 => RoomEdit::Robot(self.number(DrawnKind::Room)),
+            1 => RoomEdit::Box(self.number(DrawnKind::Box), self.number(DrawnKind::Room)),
+            _ => RoomEdit::Door(self.number(DrawnKind::Door), self.roll(2) == 0),
         }
     }
 }

@@ -1,7 +1,7 @@
 //! The facts of buildings.
 ghost use Rattle.std.specs.Prelude.{◌≡◌, ◌≤◌, length};
 ghost use Rattle.px_terms.specs.declared.term.Term.TheVariants.{Obj};
-ghost use Rattle.px_rooms.specs.Domain.{closed as closed_of, connects as connects_of, in_room as in_room_of, is_box as box_of, is_door as door_of, is_room as room_of, next_to as next_to_of, opened as opened_of, robot};
+ghost use Rattle.px_rooms.specs.Domain.{closed as closed_of, connects as connects_of, in_room as in_room_of, is_box as box_of, is_door as door_of, is_room as room_of, next_to as next_to_of, opened_door as opened_of, robot};
 ghost use Rattle.px_rooms.specs.States.{door_atom as atom_of_door, thing_atoms as atoms_of_thing};
 
 use crate::standing::Standing;
@@ -28,73 +28,62 @@ pub(crate) const IS_DOOR: u32 = 6;
 /// The predicate that a thing is a box.
 pub(crate) const IS_BOX: u32 = 7;
 
-/// Returns the atom of a predicate with these arguments.
-pub(crate) fn atom(pred: u32, args: &[Term]) -> Atom
-    requires { length args.now ≤ 6 }
-    ensures { result ≡ record { pred = pred; args = args.now } }
-{
-    match Atom::new(pred, args) {
-        Some(atom) => atom,
-        None => unreachable!(),
-    }
-}
-
 // Alike: the functions of this part are one for each predicate, as in `specs/Domain`, so that facts are written in the domain's words.
 
-/// Something is in a room.
+/// Returns the atom that something is in a room.
 pub(crate) fn in_room(thing: Term, room: Term) -> Atom
     ensures { result ≡ in_room_of thing room }
 {
-    atom(IN_ROOM, &[thing, room])
+    Atom::of(IN_ROOM, &[thing, room])
 }
 
-/// Something is beside something.
+/// Returns the atom that something is beside something.
 pub(crate) fn next_to(thing: Term, other: Term) -> Atom
     ensures { result ≡ next_to_of thing other }
 {
-    atom(NEXT_TO, &[thing, other])
+    Atom::of(NEXT_TO, &[thing, other])
 }
 
-/// A door connects a room with another.
+/// Returns the atom that a door connects a room with another.
 pub(crate) fn connects(door: Term, room: Term, other: Term) -> Atom
     ensures { result ≡ connects_of door room other }
 {
-    atom(CONNECTS, &[door, room, other])
+    Atom::of(CONNECTS, &[door, room, other])
 }
 
-/// A door is open.
+/// Returns the atom that a door is open.
 pub(crate) fn opened(door: Term) -> Atom
     ensures { result ≡ opened_of door }
 {
-    atom(OPENED, &[door])
+    Atom::of(OPENED, &[door])
 }
 
-/// A door is closed.
+/// Returns the atom that a door is closed.
 pub(crate) fn closed(door: Term) -> Atom
     ensures { result ≡ closed_of door }
 {
-    atom(CLOSED, &[door])
+    Atom::of(CLOSED, &[door])
 }
 
-/// A thing is a room.
+/// Returns the atom that a thing is a room.
 pub(crate) fn is_room(thing: Term) -> Atom
     ensures { result ≡ room_of thing }
 {
-    atom(IS_ROOM, &[thing])
+    Atom::of(IS_ROOM, &[thing])
 }
 
-/// A thing is a door.
+/// Returns the atom that a thing is a door.
 pub(crate) fn is_door(thing: Term) -> Atom
     ensures { result ≡ door_of thing }
 {
-    atom(IS_DOOR, &[thing])
+    Atom::of(IS_DOOR, &[thing])
 }
 
-/// A thing is a box.
+/// Returns the atom that a thing is a box.
 pub(crate) fn is_box(thing: Term) -> Atom
     ensures { result ≡ box_of thing }
 {
-    atom(IS_BOX, &[thing])
+    Atom::of(IS_BOX, &[thing])
 }
 
 /// At most four atoms. Contracts see them as a list.

@@ -15,7 +15,7 @@ pub fn worked_domain()
     ensures { DomainFacts }
 {}
 
-/// Of a small building: its facts, each of the seven actions and the edits; and what is no building.
+/// Of a small building: its facts, each of the seven actions and the edits; and which lists are no building.
 pub fn worked_building()
     ensures states { StateFacts }
     ensures kinds { KindFacts }
@@ -23,7 +23,7 @@ pub fn worked_building()
     ensures edits { EditFacts }
 {}
 
-/// In every state: an action whose precondition is true leaves the facts that its operator says.
+/// In every state: an action whose precondition is true leaves the facts that its operator describes.
 pub fn actions_are_results()
     ensures { ActionsAreResults }
 {}
@@ -33,7 +33,7 @@ pub fn instances_are_actions()
     ensures { InstancesAreActions }
 {}
 
-/// In every state: an edit that is admitted leaves the facts that it says.
+/// In every state: an edit that is admitted leaves the facts that its definition gives.
 pub fn edits_are_edits()
     ensures { EditsAreEdits }
 {}

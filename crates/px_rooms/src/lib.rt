@@ -9,13 +9,13 @@
 //!   names. [`worked_domain`] has them as lines of a script. [`rooms_problem`] makes the problem of a building, with the limits
 //!   that are asked for. It is valid ([`buildings_are_valid`]).
 //! - `specs/Changes` says what the actions change in a state (`acted`), which instance of an operator each action is
-//!   (`instance_of`; each instance is one action, [`instances_are_actions`]), what the edits do (`state_edited`), and what an edit
-//!   leaves of the facts (`facts_edited`). `IsAdmitted` are the edits whose numbers name things of the kinds that are wanted.
+//!   (`instance_of_action`; each instance is one action, [`instances_are_actions`]), what the edits do (`state_edited`), and what an edit
+//!   leaves of the facts (`facts_edited`). `IsAdmitted` holds of the edits whose numbers name things of the kinds that are wanted.
 //!   [`worked_building`] tries each action and edit on a small building: the facts of the state that it leaves are what the
 //!   operator, or the edit of the facts, says. That is so in every state, and a state of the building is left
 //!   ([`actions_are_results`], [`edits_are_edits`]).
 //! - [`RoomWorld`] is a building as a world, which contracts see as its state. [`RoomWorld::new`] begins with the first state, and
-//!   answers `NoSuchThing` where the list is no building, if it doesn't answer `NoMemory` there, and nowhere else. `act` answers
+//!   answers `NoSuchThing` only where the list is no building, and there it answers this or `NoMemory`. `act` answers
 //!   `Guard` exactly where an atom of the precondition isn't a fact, and else does what the action of that instance does
 //!   (`IsMoved`). [`RoomWorld::edit`] answers `NoSuchThing` exactly where the edit isn't admitted. [`RoomWorld::render`] gives
 //!   all facts.

@@ -28,10 +28,10 @@ impl std::marker::Model for Pair {
 
 /// What came of a list of things.
 #[derive(Drop)]
-pub(crate) enum Begun {
+pub(crate) enum BegunPair {
     /// Both take it as a building.
     Both(Pair),
-    /// Both say that it is none.
+    /// Both say that it isn't a building.
     Neither,
     /// They differ.
     One,
@@ -40,29 +40,29 @@ pub(crate) enum Begun {
 impl Pair {
     /// Begins with the things, as both see them.
     #[tactic(auto, using(crate::proofs::Wanted::same_rules))]
-    pub(crate) fn begin(alloc: Global, building: &Building) -> Result<Begun, NoMemory> {
+    pub(crate) fn begin(alloc: Global, building: &Building) -> Result<BegunPair, NoMemory> {
         let plain = Plain::new(alloc, building.things.as_slice())?;
         if building.things.len() > 100 {
-            return Ok(Begun::One);
+            return Ok(BegunPair::One);
         }
         let world = match RoomWorld::new(alloc, building) {
             Ok(world) => world,
-            Err(RoomErr::NoSuchThing) if !plain.is_building() => return Ok(Begun::Neither),
-            Err(RoomErr::NoSuchThing) => return Ok(Begun::One),
+            Err(RoomErr::NoSuchThing) if !plain.is_building() => return Ok(BegunPair::Neither),
+            Err(RoomErr::NoSuchThing) => return Ok(BegunPair::One),
             Err(RoomErr::NoMemory) => return Err(NoMemory),
         };
         if !plain.is_building() {
-            return Ok(Begun::One);
+            return Ok(BegunPair::One);
         }
         let problem = rooms_problem(alloc, building, 1, 1, 2)?;
-        Ok(Begun::Both(Pair {
+        Ok(BegunPair::Both(Pair {
             world,
             plain,
             problem,
         }))
     }
 
-    /// Does the world take the action?
+    /// Returns whether the world takes the action.
     #[tactic(auto, using(crate::proofs::Wanted::instance_here))]
     pub(crate) fn world_acts(&mut self, action: &RoomAction) -> bool {
         let Some(inst) = instance(action) else {
@@ -71,17 +71,17 @@ impl Pair {
         is_instance_of(&self.problem, &inst) && self.world.act(&inst).is_ok()
     }
 
-    /// Do both take the action, or both refuse it?
+    /// Returns whether both take the action, or both refuse it.
     pub(crate) fn act(&mut self, action: &RoomAction) -> bool {
         self.world_acts(action) == self.plain.act(action)
     }
 
-    /// Do both take the edit, or both refuse it?
+    /// Returns whether both take the edit, or both refuse it.
     pub(crate) fn edit(&mut self, edit: &RoomEdit) -> bool {
         self.world.edit(edit).is_ok() == self.plain.edit(edit)
     }
 
-    /// Have both the same facts?
+    /// Returns whether both have the same facts.
     pub(crate) fn have_same_facts(&self, alloc: Global) -> Result<bool, NoMemory> {
         let facts = self.plain.facts(alloc)?;
         let model = self.world.render(alloc)?;

@@ -4,10 +4,10 @@ use px_terms::{Atom, NoMemory, Term};
 use px_world::{RoomEdit, Thing};
 use std::alloc::Global;
 
-/// A building as someone would draw it. Number 0 stands for nothing.
+/// A building as it would be drawn on paper. Number 0 stands for nothing.
 #[derive(Drop)]
 pub(crate) struct Plain {
-    /// The things but the robot as they are now, from number 1 on.
+    /// The things other than the robot as they are now, from number 1 on.
     things: Vec<Thing>,
     /// The door that each thing is beside.
     beside: Vec<u32>,
@@ -42,7 +42,7 @@ impl Plain {
         })
     }
 
-    /// Is this a building?
+    /// Returns whether this is a building.
     pub(crate) fn is_building(&self) -> bool {
         self.robots.len() == 1
             && self.is_room(self.robot_room())
@@ -88,7 +88,7 @@ impl Plain {
         }
     }
 
-    /// Does the door stand so?
+    /// Returns whether the door is open, or closed, as asked.
     fn stands(&self, door: u32, open: bool) -> bool {
         match self.door(door) {
             Some((_, _, is_open)) => is_open == open,
@@ -96,7 +96,7 @@ impl Plain {
         }
     }
 
-    /// Are the box and the robot in that room?
+    /// Returns whether the box and the robot are in that room.
     fn are_together(&self, target: u32, room: u32) -> bool {
         self.room_of(target) == Some(room) && self.robot_room() == room
     }
@@ -135,7 +135,7 @@ impl Plain {
         }
     }
 
-    /// May the robot do that?
+    /// Returns whether the robot may do that.
     pub(crate) fn allows(&self, action: &RoomAction) -> bool {
         match *action {
             RoomAction::GoToBox(target, room) => self.are_together(target, room),
@@ -164,7 +164,7 @@ impl Plain {
         }
     }
 
-    /// Does the action, or answers false where the robot may not.
+    /// Does the action, or returns false where the robot may not.
     pub(crate) fn act(&mut self, action: &RoomAction) -> bool {
         if !self.allows(action) {
             return false;
@@ -188,7 +188,7 @@ impl Plain {
         true
     }
 
-    /// Changes the building from outside, or answers false where it can't.
+    /// Changes the building from outside, or returns false where it can't.
     pub(crate) fn edit(&mut self, edit: &RoomEdit) -> bool {
         match *edit {
             RoomEdit::Robot(room) if self.is_room(room) => {

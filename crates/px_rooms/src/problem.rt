@@ -62,7 +62,7 @@ pub(crate) fn problem_of(
     })
 }
 
-/// Returns the axiom that a door which connects two rooms connects them the other way, too.
+/// Returns the axiom that a door which connects two rooms in one order connects them in the other, too.
 fn axioms(alloc: Global) -> Result<ClauseArena, NoMemory>
     ensures { IfOk result (λ axioms. axioms ≡ room_axioms) }
 {
@@ -98,7 +98,7 @@ fn schemas(alloc: Global) -> Result<Sequence<Schema>, NoMemory>
     Ok(Sequence::from_vec(schemas))
 }
 
-// Alike: `schema_of` of `px_bench_relevance`, which stands on its own operators and on none of this crate.
+// Alike: `schema_of` of `px_bench_relevance`, which stands on its own operators and on none of this crate's.
 
 /// Returns an operator.
 fn schema(
@@ -122,7 +122,7 @@ fn schema(
 
 // Alike: the operators from `go_to_box` to `push_through` are written out one by one, as in `specs/Domain`, to be read beside them.
 
-/// The robot goes to a box in a room.
+/// Returns the operator with which the robot goes to a box in a room.
 fn go_to_box(alloc: Global) -> Result<Schema, NoMemory>
     ensures { IfOk result (λ s. s ≡ slice_index_or room_schemas 0 no_schema) }
 {
@@ -132,7 +132,7 @@ fn go_to_box(alloc: Global) -> Result<Schema, NoMemory>
     schema(alloc, 0, 2, &pre, &del, &[next_to(ROBOT, target)])
 }
 
-/// The robot goes to a door of the room in which it is.
+/// Returns the operator with which the robot goes to a door of the room in which it is.
 fn go_to_door(alloc: Global) -> Result<Schema, NoMemory>
     ensures { IfOk result (λ s. s ≡ slice_index_or room_schemas 1 no_schema) }
 {
@@ -142,7 +142,7 @@ fn go_to_door(alloc: Global) -> Result<Schema, NoMemory>
     schema(alloc, 1, 3, &pre, &del, &[next_to(ROBOT, door)])
 }
 
-/// The robot opens a door that it is beside.
+/// Returns the operator with which the robot opens a door that it is beside.
 fn open_door(alloc: Global) -> Result<Schema, NoMemory>
     ensures { IfOk result (λ s. s ≡ slice_index_or room_schemas 2 no_schema) }
 {
@@ -151,7 +151,7 @@ fn open_door(alloc: Global) -> Result<Schema, NoMemory>
     schema(alloc, 2, 1, &pre, &[closed(door)], &[opened(door)])
 }
 
-/// The robot closes a door that it is beside.
+/// Returns the operator with which the robot closes a door that it is beside.
 fn close_door(alloc: Global) -> Result<Schema, NoMemory>
     ensures { IfOk result (λ s. s ≡ slice_index_or room_schemas 3 no_schema) }
 {
@@ -160,7 +160,7 @@ fn close_door(alloc: Global) -> Result<Schema, NoMemory>
     schema(alloc, 3, 1, &pre, &[opened(door)], &[closed(door)])
 }
 
-/// The robot goes through an open door.
+/// Returns the operator with which the robot goes through an open door.
 fn go_through(alloc: Global) -> Result<Schema, NoMemory>
     ensures { IfOk result (λ s. s ≡ slice_index_or room_schemas 4 no_schema) }
 {
@@ -174,7 +174,7 @@ fn go_through(alloc: Global) -> Result<Schema, NoMemory>
     schema(alloc, 4, 3, &pre, &del, &[in_room(ROBOT, other)])
 }
 
-/// The robot pushes a box that it is beside to a door of the room.
+/// Returns the operator with which the robot pushes a box that it is beside to a door of the room.
 fn push_to_door(alloc: Global) -> Result<Schema, NoMemory>
     ensures { IfOk result (λ s. s ≡ slice_index_or room_schemas 5 no_schema) }
 {
@@ -192,7 +192,7 @@ fn push_to_door(alloc: Global) -> Result<Schema, NoMemory>
     schema(alloc, 5, 4, &pre, &del, &add)
 }
 
-/// The robot pushes a box that it is beside, and which is beside an open door, through it.
+/// Returns the operator with which the robot pushes a box that it is beside, and which is beside an open door, through it.
 fn push_through(alloc: Global) -> Result<Schema, NoMemory>
     ensures { IfOk result (λ s. s ≡ slice_index_or room_schemas 6 no_schema) }
 {

@@ -12,7 +12,7 @@ pub enum Standing {
         a: u32,
         /// The other room.
         b: u32,
-        /// Can it be gone through?
+        /// Whether it is open.
         is_open: bool,
     },
     /// A box.

@@ -21,7 +21,7 @@ pub(crate) fn robots_of(things: &[Thing]) -> Robots
     robots
 }
 
-/// Returns the robots where a thing comes to those before.
+/// Returns the robots after one more thing is counted.
 fn with_thing(robots: Robots, thing: &Thing) -> Robots
     ensures { (before : List ℕ) → AreRobots robots before → AreRobots result (before ++ robot_rooms (thing.now ∷ [])) }
 {
@@ -31,7 +31,7 @@ fn with_thing(robots: Robots, thing: &Thing) -> Robots
     }
 }
 
-/// Returns the robot's room, where the thing is one.
+/// Returns the robot's room, if the thing is the robot.
 fn room_of_robot(thing: &Thing) -> Option<u32>
     ensures { MatchOption result (robot_rooms (thing.now ∷ []) ≡ []) (λ room. robot_rooms (thing.now ∷ []) ≡ room ∷ []) }
 {
@@ -41,7 +41,7 @@ fn room_of_robot(thing: &Thing) -> Option<u32>
     }
 }
 
-/// Returns the robots where one more comes.
+/// Returns the robots after one more robot is counted.
 fn one_more(robots: Robots, room: u32) -> Robots
     ensures { (before : List ℕ) → AreRobots robots before → AreRobots result (before ++ room ∷ []) }
 {
@@ -52,7 +52,7 @@ fn one_more(robots: Robots, room: u32) -> Robots
     }
 }
 
-/// Returns the things but the robot, as they stand at first.
+/// Returns the things other than the robot, as they stand at first.
 pub(crate) fn first_things(alloc: Global, things: &[Thing]) -> Result<Vec<Standing>, NoMemory>
     ensures { IfOk result (λ first. first.items ≡ standings things.now) }
 {
@@ -63,7 +63,7 @@ pub(crate) fn first_things(alloc: Global, things: &[Thing]) -> Result<Vec<Standi
     Ok(first)
 }
 
-/// Puts a thing last, as it stands at first; a robot is none.
+/// Appends a thing in its first state; adds nothing for a robot.
 fn add_thing(first: &mut Vec<Standing>, thing: &Thing) -> Result<(), NoMemory>
     ensures { OnOk result (first.new.items ≡ first.old.items ++ standings (thing.now ∷ [])) }
 {

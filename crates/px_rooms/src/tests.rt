@@ -5,7 +5,7 @@ ghost use Rattle.px_rooms.specs.WorkedBuilding.{two_rooms as worked_rooms};
 use crate::action::RoomAction;
 use crate::drawing::Dice;
 use crate::facts::{ROBOT, in_room, next_to, opened};
-use crate::pair::{Begun, Pair};
+use crate::pair::{BegunPair, Pair};
 use crate::{
     Building, NoSuchThing, actions_are_results, buildings_are_valid, edits_are_edits,
     facts_are_atoms, facts_are_few, instances_are_actions, refusals_are_allowed, rooms_problem,
@@ -16,7 +16,7 @@ use px_world::{RoomEdit, Thing};
 use std::alloc::Global;
 use std::rt::HostRuntime;
 
-/// Two rooms with a closed door between them, and a box and the robot in the first room.
+/// Returns two rooms with a closed door between them, and a box and the robot in the first room.
 pub(crate) fn two_rooms(alloc: Global) -> Result<Building, NoMemory>
     ensures { IfOk result (λ building. building.things ≡ worked_rooms) }
 {
@@ -50,7 +50,7 @@ fn a_problem(rt: HostRuntime) -> Result<(), NoMemory> {
 #[test]
 fn a_closed_door(rt: HostRuntime) -> Result<(), NoMemory> {
     let building = two_rooms(rt.alloc())?;
-    let Begun::Both(mut pair) = Pair::begin(rt.alloc(), &building)? else {
+    let BegunPair::Both(mut pair) = Pair::begin(rt.alloc(), &building)? else {
         assert!(&rt; false, "no building");
         return Ok(());
     };
@@ -68,7 +68,7 @@ fn a_closed_door(rt: HostRuntime) -> Result<(), NoMemory> {
     Ok(())
 }
 
-/// Do both take the same? Each eighth turn is an edit, the others are actions.
+/// Returns whether both take the same. Each eighth turn is an edit, the others are actions.
 fn take_the_same(dice: &mut Dice, turn: u32, pair: &mut Pair) -> bool {
     if turn % 8 == 7 {
         return pair.edit(&dice.edit());
@@ -77,7 +77,7 @@ fn take_the_same(dice: &mut Dice, turn: u32, pair: &mut Pair) -> bool {
     pair.act(&action)
 }
 
-/// Have both the same facts at first and after each of some turns?
+/// Returns whether both have the same facts at first and after each of some turns.
 fn stay_the_same(alloc: Global, dice: &mut Dice, pair: &mut Pair) -> Result<bool, NoMemory> {
     if !pair.have_same_facts(alloc)? {
         return Ok(false);
@@ -95,7 +95,7 @@ fn stay_the_same(alloc: Global, dice: &mut Dice, pair: &mut Pair) -> Result<bool
 enum Trial {
     /// The world and the plain simulator differ.
     Differs,
-    /// Both say that it is no building.
+    /// Both say that it isn't a building.
     IsRefused,
     /// They agree, and this many boxes were pushed through doors.
     Agrees(u32),
@@ -107,9 +107,9 @@ fn try_building(alloc: Global, dice: &mut Dice) -> Result<Trial, NoMemory> {
         things: Sequence::from_vec(dice.things(alloc)?),
     };
     match Pair::begin(alloc, &building)? {
-        Begun::One => Ok(Trial::Differs),
-        Begun::Neither => Ok(Trial::IsRefused),
-        Begun::Both(mut pair) => {
+        BegunPair::One => Ok(Trial::Differs),
+        BegunPair::Neither => Ok(Trial::IsRefused),
+        BegunPair::Both(mut pair) => {
             if stay_the_same(alloc, dice, &mut pair)? {
                 Ok(Trial::Agrees(pair.plain.pushed))
             } else {

@@ -3,7 +3,7 @@ ghost use Rattle.std.specs.Prelude.{◌≡◌, ◌↔◌, ◌<◌, length, IsTru
 ghost use Rattle.px_rooms.specs.Changes.{changed_by, things_with};
 ghost use Rattle.px_rooms.specs.States.{IsBoxAt, IsBoxOrDoorOrNone, IsDoorAt, IsDoorOrNone, IsRoomAt, StandsRight, thing_at as at_number};
 
-use crate::change::Change;
+use crate::change::ThingChange;
 use crate::standing::Standing;
 
 /// Returns the thing of that number, or `None` where there is none.
@@ -16,28 +16,28 @@ pub(crate) fn thing_at(things: &[Standing], number: u32) -> Option<Standing>
     things.get(number as usize - 1).copied()
 }
 
-/// Is the thing of that number a room?
+/// Returns whether the thing of that number is a room.
 pub(crate) fn is_room(things: &[Standing], number: u32) -> bool
     ensures { IsTrue result ↔ IsRoomAt things.now number }
 {
     matches!(thing_at(things, number), Some(Standing::Room))
 }
 
-/// Is the thing of that number a door?
+/// Returns whether the thing of that number is a door.
 pub(crate) fn is_door(things: &[Standing], number: u32) -> bool
     ensures { IsTrue result ↔ IsDoorAt things.now number }
 {
     matches!(thing_at(things, number), Some(Standing::Door { .. }))
 }
 
-/// Is the thing of that number a box?
+/// Returns whether the thing of that number is a box.
 pub(crate) fn is_box(things: &[Standing], number: u32) -> bool
     ensures { IsTrue result ↔ IsBoxAt things.now number }
 {
     matches!(thing_at(things, number), Some(Standing::Box { .. }))
 }
 
-/// Do the numbers of a thing name things of the kinds that are wanted, and a door two rooms?
+/// Returns whether the numbers of a thing name things of the kinds that are wanted, and those of a door two rooms.
 pub(crate) fn stands_right(things: &[Standing], standing: &Standing) -> bool
     ensures { IsTrue result ↔ StandsRight things.now standing.now }
 {
@@ -48,7 +48,7 @@ pub(crate) fn stands_right(things: &[Standing], standing: &Standing) -> bool
     }
 }
 
-/// Is it a door's number, if it is one?
+/// Returns whether it is a door's number, if it is a number.
 fn is_door_or_none(things: &[Standing], beside: Option<u32>) -> bool
     ensures { IsTrue result ↔ IsDoorOrNone things.now beside }
 {
@@ -58,7 +58,7 @@ fn is_door_or_none(things: &[Standing], beside: Option<u32>) -> bool
     }
 }
 
-/// Do all things stand right?
+/// Returns whether all things stand right.
 pub(crate) fn all_stand_right(things: &[Standing]) -> bool
     ensures { IsTrue result ↔ All (StandsRight things.now) things.now }
 {
@@ -66,7 +66,7 @@ pub(crate) fn all_stand_right(things: &[Standing]) -> bool
 }
 
 /// Changes the thing of that number, where there is one.
-pub(crate) fn change_thing(things: &mut [Standing], number: u32, change: Change)
+pub(crate) fn change_thing(things: &mut [Standing], number: u32, change: ThingChange)
     ensures { things.new ≡ things_with number (changed_by change) things.old }
 {
     let place = number as usize;
@@ -76,22 +76,22 @@ pub(crate) fn change_thing(things: &mut [Standing], number: u32, change: Change)
 }
 
 /// Returns the thing after the change.
-fn changed(standing: Standing, change: Change) -> Standing
+fn changed(standing: Standing, change: ThingChange) -> Standing
     ensures { result ≡ changed_by change standing }
 {
     match change {
-        Change::Turned(is_open) => match standing {
+        ThingChange::Turned(is_open) => match standing {
             Standing::Door { a, b, .. } => Standing::Door { a, b, is_open },
             other => other,
         },
-        Change::Beside(door) => match standing {
+        ThingChange::Beside(door) => match standing {
             Standing::Box { room, .. } => Standing::Box {
                 room,
                 beside: Some(door),
             },
             other => other,
         },
-        Change::Into(room) => match standing {
+        ThingChange::Into(room) => match standing {
             Standing::Box { .. } => Standing::Box { room, beside: None },
             other => other,
         },

@@ -4,9 +4,9 @@ ghost use Rattle.px_terms.specs.declared.term.Term.TheVariants.{Obj};
 ghost use Rattle.px_terms.specs.Operators.{result_of};
 ghost use Rattle.px_terms.specs.Validity.{IsInstanceOf};
 ghost use Rattle.px_world.specs.declared.edits.RoomEdit.{RoomEdit};
-ghost use Rattle.px_world.specs.Worlds.{IsRefused};
+ghost use Rattle.px_world.specs.Worlds.{IsActionRefused};
 ghost use Rattle.px_rooms.specs.Added.{AreAdded, of_pred};
-ghost use Rattle.px_rooms.specs.Changes.{IsAdmitted, IsMoved, acted, facts_edited, instance_of, state_edited};
+ghost use Rattle.px_rooms.specs.Changes.{IsAdmitted, IsMoved, acted, facts_edited, instance_of_action, state_edited};
 ghost use Rattle.px_rooms.specs.Following.{IsMet};
 ghost use Rattle.px_rooms.specs.Looking.{atoms_about, number_first};
 ghost use Rattle.px_rooms.specs.States.{IsBuilding, IsRoomState, all_atoms, building_rules, first_state, rendering, robot_atoms as atoms_of_robot};
@@ -14,7 +14,7 @@ ghost use Rattle.px_rooms.specs.States.{IsBuilding, IsRoomState, all_atoms, buil
 use crate::action::RoomAction;
 use crate::adding::{add_placed, add_things};
 use crate::building::Building;
-use crate::change::Change;
+use crate::change::ThingChange;
 use crate::errors::{NoSuchThing, RoomErr};
 use crate::facts::{FewAtoms, ROBOT, in_room, next_to, thing_atoms};
 use crate::problem::{PREDICATES, problem_of};
@@ -130,7 +130,7 @@ impl RoomWorld {
         let _ = &self.rules;
     }
 
-    /// Do the numbers of the edit name things of the kinds that are wanted?
+    /// Returns whether the numbers of the edit name things of the kinds that are wanted.
     fn takes(&self, edit: &RoomEdit) -> bool
         ensures { IsTrue result ↔ IsAdmitted self.now edit.now }
     {
@@ -167,7 +167,7 @@ impl RoomWorld {
         }
     }
 
-    /// Is the atom a fact?
+    /// Returns whether the atom is a fact.
     fn has(&self, atom: &Atom) -> bool
         ensures { IsTrue result ↔ Contains (rendering self.now) atom.now }
     {
@@ -177,11 +177,11 @@ impl RoomWorld {
         }
     }
 
-    /// Is each atom of the instance's precondition true?
+    /// Returns whether each atom of the instance's precondition is true.
     fn meets(&self, inst: &OpInst) -> bool
         requires { IsInstanceOf (building_rules self.now) inst.now }
         ensures test { IsTrue result ↔ IsMet self.now inst.now }
-        ensures guard { result ≡ false → IsRefused (building_rules self.now) (rendering self.now) inst.now }
+        ensures guard { result ≡ false → IsActionRefused (building_rules self.now) (rendering self.now) inst.now }
     {
         let schema = schema_of(&self.rules, inst);
         for k in 0..schema.pre.len() {
@@ -206,10 +206,10 @@ impl RoomWorld {
         self.take(&action);
     }
 
-    /// Returns the action of which that is the instance.
+    /// Returns the action whose instance it is.
     fn action_of(&self, inst: &OpInst) -> RoomAction
         requires { IsInstanceOf (building_rules self.now) inst.now }
-        ensures { inst.now ≡ instance_of result }
+        ensures { inst.now ≡ instance_of_action result }
     {
         let args = inst.args();
         let first = number_at(args, 0);
@@ -248,18 +248,26 @@ impl RoomWorld {
         match *action {
             RoomAction::GoToBox(target, _) => self.robot_beside = Some(target),
             RoomAction::GoToDoor(door, _, _) => self.robot_beside = Some(door),
-            RoomAction::Open(door) => change_thing(&mut self.things, door, Change::Turned(true)),
-            RoomAction::Close(door) => change_thing(&mut self.things, door, Change::Turned(false)),
+            RoomAction::Open(door) => change_thing(
+                &mut self.things,
+                door,
+                ThingChange::Turned(true),
+            ),
+            RoomAction::Close(door) => change_thing(
+                &mut self.things,
+                door,
+                ThingChange::Turned(false),
+            ),
             RoomAction::GoThrough(_, _, room) => {
                 self.robot_room = room;
                 self.robot_beside = None;
             }
             RoomAction::PushToDoor(target, door, _, _) => {
-                change_thing(&mut self.things, target, Change::Beside(door));
+                change_thing(&mut self.things, target, ThingChange::Beside(door));
                 self.robot_beside = Some(target);
             }
             RoomAction::PushThrough(target, _, _, beyond) => {
-                change_thing(&mut self.things, target, Change::Into(beyond));
+                change_thing(&mut self.things, target, ThingChange::Into(beyond));
                 self.robot_room = beyond;
                 self.robot_beside = Some(target);
             }
@@ -278,7 +286,7 @@ impl RoomWorld {
                 self.robot_beside = None;
             }
             RoomEdit::Box(target, room) => {
-                change_thing(&mut self.things, target, Change::Into(room));
+                change_thing(&mut self.things, target, ThingChange::Into(room));
                 if self.robot_beside == Some(target) {
                     self.robot_beside = None;
                 }
@@ -286,7 +294,7 @@ impl RoomWorld {
             RoomEdit::Door(door, is_open) => change_thing(
                 &mut self.things,
                 door,
-                Change::Turned(is_open),
+                ThingChange::Turned(is_open),
             ),
         }
     }
@@ -309,7 +317,7 @@ impl World for RoomWorld {
         self.has(atom)
     }
 
-    // Predicate by predicate, as the model is ordered: nearly every atom then comes after all that are there.
+    // Predicate by predicate, since the model is ordered so: nearly every atom then comes after all that are there.
     fn sense(&self, into: &mut Model) {
         self.known();
         for pred in 0..PREDICATES as u32 {
@@ -317,13 +325,13 @@ impl World for RoomWorld {
         }
     }
 
-    /// Takes the action, or refuses it: exactly where an atom of the precondition isn't a fact.
+    /// Takes the action, or refuses it: it refuses exactly where an atom of the precondition isn't a fact.
     fn act(&mut self, inst: &OpInst) -> Result<(), Guard>
         requires instance { IsInstanceOf (building_rules self.old) inst.now }
         ensures exact { MatchResult result (λ _. IsMet self.old inst.now) (λ _. ¬ IsMet self.old inst.now) }
         ensures moved { OnOk result (IsMoved inst.now self.old self.new) }
         ensures acted { OnOk result (rendering self.new ≡ result_of (building_rules self.old) (rendering self.old) inst.now) }
-        ensures guard { OnErr result (IsRefused (building_rules self.old) (rendering self.old) inst.now) }
+        ensures guard { OnErr result (IsActionRefused (building_rules self.old) (rendering self.old) inst.now) }
         ensures kept { OnErr result (self.new ≡ self.old) }
         ensures rules { building_rules self.new ≡ building_rules self.old }
         ensures admitted { (edit : RoomEdit) → IsAdmitted self.new edit ↔ IsAdmitted self.old edit }

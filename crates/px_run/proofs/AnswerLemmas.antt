@@ -10,7 +10,7 @@ use Rattle.px_io.specs.Writing.{HasNoRoomFor}
 use Rattle.px_names.specs.Lists.{NameLists}
 use Rattle.px_terms.specs.declared.problem.Problem.{Problem}
 use Rattle.px_base.specs.declared.no_memory.NoMemory.{NoMemory}
-use Rattle.px_printer.specs.Replies.{IsNamed, reply_text}
+use Rattle.px_printer.specs.Replies.{IsReplyNamed, reply_text}
 use Rattle.px_printer.specs.declared.reply.Reply.{Reply}
 use Rattle.px_script.specs.Commands.{Command, Facts}
 use Rattle.px_session.specs.Lawful.{Lawful}
@@ -82,11 +82,11 @@ answered-of (Ok reply) old new place next lawful frame = record {
 answered-of (Err error) old new place next lawful frame = tt
 
 pub named-of : (result : Result Reply NoMemory) (problem : Problem) (names : NameLists) (commands : List Command) (done : ℕ)
-    (new : SessionValue) → IfOk result (IsNamed names)
+    (new : SessionValue) → IfOk result (IsReplyNamed names)
     → OnOk result (new ≡ record { problem = problem; names = names; commands = commands; done = done; state = new.state })
-    → IfOk result (IsNamed new.names)
+    → IfOk result (IsReplyNamed new.names)
 named-of (Ok reply) problem names commands done new named frame =
-    subst (λ (n : NameLists). IsNamed n reply) (sym (ap (λ (s : SessionValue). s.names) frame)) named
+    subst (λ (n : NameLists). IsReplyNamed n reply) (sym (ap (λ (s : SessionValue). s.names) frame)) named
 named-of (Err error) problem names commands done new named frame = tt
 
 -- the text of a lawful reply

@@ -14,7 +14,7 @@ use Rattle.px_session.specs.Sessions.{IsSession, SessionState, opening}
 use Rattle.px_session.specs.Transcripts.{AreAnswers, Transcript}
 use Rattle.px_session.proofs.Kept.{sessions_are_kept}
 use Rattle.px_session.proofs.KeptRooms.{rooms_are_kept}
-use Rattle.px_run.specs.Laws.{CarriesAfter, IsCarried, PlanCarries, TranscriptsCarry}
+use Rattle.px_run.specs.Laws.{CarriesAfter, CarriesWhereDone, PlanCarries, TranscriptsCarry}
 use Rattle.px_run.specs.Outcomes.{SourceEnds}
 use Rattle.px_run.specs.declared.status.Status.{Status}
 use Rattle.px_run.specs.declared.status.Status.TheVariants as status
@@ -73,7 +73,7 @@ carry bytes text transcript done below =
 pub transcripts_carry : TranscriptsCarry
 transcripts_carry = record { carry = carry }
 
-pub is_carried : (source : SourceEnds) (result : Status) → IsCarried source result
+pub is_carried : (source : SourceEnds) (result : Status) → CarriesWhereDone source result
 is_carried source status.Done = λ bytes text came transcript done below. carry bytes text transcript done below
 is_carried source status.Usage = tt
 is_carried source (status.Refused refused) = tt

@@ -3,20 +3,20 @@ use Rattle.std.proofs.Common.{◌≡◌, ℕ, ◌+◌, ◌≤◌, List, [], ◌�
 use Rattle.std.specs.Prelude.{Option, None, Some, is_some, true}
 use Rattle.std.specs.Fmt.{decimal}
 use Rattle.px_demo.specs.Script.{demo_script}
-use Rattle.px_printer.specs.Texts.{line}
+use Rattle.px_printer.specs.Texts.{text_line}
 use Rattle.px_reader.specs.declared.script.Refused.{Refused}
 use Rattle.px_script.specs.Content.{ScriptValue}
 use Rattle.px_script.specs.Stages.{stage_now}
 use Rattle.px_script.specs.Scripts.{IsScript}
 use Rattle.px_session.specs.Demo.{Summary}
-use Rattle.px_session.specs.Opened.{SessionValue, opened}
+use Rattle.px_session.specs.Opened.{SessionValue, opened_session}
 use Rattle.px_session.proofs.OneTranscript.{transcripts_are_one}
 use Rattle.px_words.specs.declared.orders.Order.{Order}
 use Rattle.px_words.specs.declared.orders.Order.TheVariants.{Run, Demo}
 use Rattle.px_run.specs.Fronts.{HasDemoFront}
 use Rattle.px_run.specs.Outcomes.{SourceEnds, SinkEnds, DemoCompletes, DemoCompletesSurely, DemoRefuses, DemoRight, IsDemoText, RefusalRight, RunRight, StatusRight, SumRight, Wrote, limit}
 use Rattle.px_run.specs.Sums.{IsCounted, IsSumOf}
-use Rattle.px_run.specs.Transcripts.{IsRefused, refusal_text}
+use Rattle.px_run.specs.Transcripts.{IsScriptRefused, refusal_text}
 use Rattle.px_run.specs.declared.counts.Counts.{Counts}
 use Rattle.px_run.specs.declared.status.Status.{Status}
 use Rattle.px_run.specs.declared.status.Status.TheVariants as status
@@ -24,7 +24,7 @@ use Rattle.px_run.proofs.Fronts.{broke-text}
 use Rattle.px_run.proofs.OutcomeLemmas.{no-room, not-both, one-fault}
 
 summary-of : (rooms seed : ℕ) (script : ScriptValue) (text : List ℕ) → IsScript stage_now (demo_script rooms seed) script
-    → IsSumOf rooms seed (opened script) text → Summary rooms seed text
+    → IsSumOf rooms seed (opened_session script) text → Summary rooms seed text
 summary-of rooms seed script text is sum = record {
   script = script;
   spelt = is;
@@ -35,7 +35,7 @@ summary-of rooms seed script text is sum = record {
 
 pub demo-summed : (rooms seed : ℕ) (sink : SinkEnds) (script : ScriptValue) (result : Status)
     → IsScript stage_now (demo_script rooms seed) script
-    → SumRight rooms seed (opened script) sink result → DemoRight rooms seed sink result
+    → SumRight rooms seed (opened_session script) sink result → DemoRight rooms seed sink result
 demo-summed rooms seed sink script status.Done is right = (right.0, summary-of rooms seed script right.0 is right.1, right.2)
 demo-summed rooms seed sink script status.WriteFault is right = (right.0, inr (summary-of rooms seed script right.0 is right.1), right.2)
 demo-summed rooms seed sink script status.NoMemory is right = right
@@ -44,7 +44,8 @@ demo-summed rooms seed sink script status.ReadFault is right = elim right [ ]
 demo-summed rooms seed sink script status.TooLong is right = elim right [ ]
 demo-summed rooms seed sink script (status.Refused refused) is right = elim right [ ]
 
-pub demo-refused : (rooms seed : ℕ) (sink : SinkEnds) (refused : Refused) (result : Status) → IsRefused (demo_script rooms seed) refused
+pub demo-refused : (rooms seed : ℕ) (sink : SinkEnds) (refused : Refused) (result : Status)
+    → IsScriptRefused (demo_script rooms seed) refused
     → RefusalRight refused sink result → DemoRight rooms seed sink result
 demo-refused rooms seed sink refused (status.Refused answered) fault right =
     subst (λ (r : Refused). DemoRight rooms seed sink (status.Refused r)) (sym right.0) (fault, right.1)
@@ -125,13 +126,14 @@ no_memory (Some (Demo rooms seed)) source sink is quiet short wrote = wrote
 -- the line of the counts is the line of the replies
 pub summed : (rooms seed commands : ℕ) (session : SessionValue) (counts : Counts) (text : List ℕ) → IsCounted session counts
     → commands ≡ length session.commands
-    → text ≡ line (codes "demo" ∷ decimal rooms ∷ decimal seed ∷ decimal commands ∷ codes "commands" ∷ decimal counts.plans ∷ codes "plans"
+    → text ≡ text_line (codes "demo" ∷ decimal rooms ∷ decimal seed ∷ decimal commands ∷ codes "commands" ∷ decimal counts.plans
+    ∷ codes "plans"
     ∷ decimal counts.steps ∷ codes "steps" ∷ decimal counts.goals ∷ codes "goals" ∷ [])
     → IsSumOf rooms seed session text
 summed rooms seed commands session counts text counted count is = (
   counted.0,
   counted.1,
-  is ∙ (λ i. line (codes "demo" ∷ decimal rooms ∷ decimal seed ∷ decimal (count i) ∷ codes "commands" ∷ decimal (counted.2.plans i)
+  is ∙ (λ i. text_line (codes "demo" ∷ decimal rooms ∷ decimal seed ∷ decimal (count i) ∷ codes "commands" ∷ decimal (counted.2.plans i)
       ∷ codes "plans"
       ∷ decimal (counted.2.steps i) ∷ codes "steps" ∷ decimal (counted.2.goals i) ∷ codes "goals" ∷ [])),
 )

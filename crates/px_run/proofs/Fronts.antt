@@ -2,7 +2,7 @@
 use Rattle.std.proofs.Common.{◌≡◌, ℕ, ◌+◌, ◌<◌, List, [], ◌++◌, length, sym, ap, ◌∙◌, inl, inr, arith, length-append}
 use Rattle.std.proofs.lemmas.List.{append_assoc}
 use Rattle.px_reader.specs.declared.script.Refused.{Refused}
-use Rattle.px_session.specs.Opened.{opened}
+use Rattle.px_session.specs.Opened.{opened_session}
 use Rattle.px_run.specs.Fronts.{HasFront, IsDemanded, WroteFront, WroteProperFront}
 use Rattle.px_run.specs.Outcomes.{Broke, RunRight, SinkEnds, SourceEnds, Wrote}
 use Rattle.px_run.specs.Transcripts.{Begun, IsWritten, refusal_text}
@@ -48,7 +48,8 @@ broke-demanded sink bytes done next text (inl (refused, fault, none, next_is)) b
     let same = one-fault bytes other refused also fault in
     broke-text sink done next text broke none (is ∙ ap refusal_text same ∙ sym next_is)
 broke-demanded sink bytes done next text (inr (script, spelt, of)) broke (inl transcript) =
-    let begins = texts_are_one.front bytes (done ++ next) text (script, spelt, begun-next (opened script) done next of) transcript in
+    let begins =
+    texts_are_one.front bytes (done ++ next) text (script, spelt, begun-next (opened_session script) done next of) transcript in
     broke-front sink done next begins.0 text broke begins.1
 broke-demanded sink bytes done next text (inr (script, spelt, of)) broke (inr (
   refused,

@@ -1,3 +1,4 @@
+-- The files of lemmas.
 pub mod AnswerLemmas
 pub mod Carried
 pub mod CountLemmas

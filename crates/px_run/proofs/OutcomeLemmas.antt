@@ -10,8 +10,8 @@ use Rattle.px_script.specs.Faults.{Refusal}
 use Rattle.px_script.specs.Stages.{stage_now}
 use Rattle.px_script.specs.Scripts.{IsScript}
 use Rattle.px_script.proofs.Law.{reads-one-way}
-use Rattle.px_session.specs.Opened.{opened}
-use Rattle.px_run.specs.Transcripts.{IsNextOf, IsRefused, refusal_text}
+use Rattle.px_session.specs.Opened.{opened_session}
+use Rattle.px_run.specs.Transcripts.{IsNextOf, IsScriptRefused, refusal_text}
 use Rattle.px_run.specs.Outcomes.{SourceEnds, SinkEnds, Came, ExecutedRight, RefusalRight, RunRight, Completes, CompletesSurely, Refuses, limit}
 use Rattle.px_run.specs.declared.status.Status.{Status}
 use Rattle.px_run.specs.declared.status.Status.TheVariants as status
@@ -25,7 +25,7 @@ came-short source bytes came =
     omega (arith, count, short)
 
 pub run-executed : (source : SourceEnds) (sink : SinkEnds) (bytes : List ℕ) (script : ScriptValue) (result : Status) → Came source bytes
-    → IsScript stage_now bytes script → ExecutedRight (opened script) sink result → RunRight source sink result
+    → IsScript stage_now bytes script → ExecutedRight (opened_session script) sink result → RunRight source sink result
 run-executed source sink bytes script status.Done came is right =
     let text = right.1 in (
       bytes,
@@ -49,7 +49,7 @@ run-executed source sink bytes script status.TooLong came is right = elim right 
 run-executed source sink bytes script (status.Refused refused) came is right = elim right [ ]
 
 pub run-refused : (source : SourceEnds) (sink : SinkEnds) (bytes : List ℕ) (refused : Refused) (result : Status) → Came source bytes
-    → IsRefused bytes refused → RefusalRight refused sink result → RunRight source sink result
+    → IsScriptRefused bytes refused → RefusalRight refused sink result → RunRight source sink result
 run-refused source sink bytes refused (status.Refused answered) came fault right =
     subst (λ r. RunRight source sink (status.Refused r)) (sym right.0) (bytes, came, fault, right.1)
 run-refused source sink bytes refused status.WriteFault came fault right =
@@ -91,12 +91,13 @@ told-script source bytes came script told all is =
     subst (λ b. IsScript stage_now b script) (told-all source.left source.left_after bytes came told all.all all.at_end) is
 
 told-refused : (source : SourceEnds) (bytes came : List ℕ) (refused : Refused) → source.left ≡ Some bytes → Came source came
-    → IsRefused bytes refused → IsRefused came refused
+    → IsScriptRefused bytes refused → IsScriptRefused came refused
 told-refused source bytes came refused told all fault =
-    subst (λ b. IsRefused b refused) (told-all source.left source.left_after bytes came told all.all all.at_end) fault
+    subst (λ b. IsScriptRefused b refused) (told-all source.left source.left_after bytes came told all.all all.at_end) fault
 
 -- a script has no first fault
-pub not-both : (bytes : List ℕ) (script : ScriptValue) (refused : Refused) → IsScript stage_now bytes script → ¬ IsRefused bytes refused
+pub not-both : (bytes : List ℕ) (script : ScriptValue) (refused : Refused) → IsScript stage_now bytes script
+    → ¬ IsScriptRefused bytes refused
 not-both bytes script refused is fault =
     (reads-one-way stage_now bytes).not_both is.last refused.line (record { code = refused.code; limit = refused.limit }) is.spells fault
 
@@ -107,7 +108,7 @@ abbrev limit_of : Refusal → ℕ
 limit_of r = r.limit
 
 -- bytes have one first fault
-pub one-fault : (bytes : List ℕ) (a b : Refused) → IsRefused bytes a → IsRefused bytes b → a ≡ b
+pub one-fault : (bytes : List ℕ) (a b : Refused) → IsScriptRefused bytes a → IsScriptRefused bytes b → a ≡ b
 one-fault bytes a b p q =
     let same = (reads-one-way stage_now bytes).one_fault a.line b.line (record { code = a.code; limit = a.limit })
     (record { code = b.code; limit = b.limit }) p q in
@@ -160,9 +161,10 @@ run-completes_surely source sink status.WriteFault came right gone count bytes s
       | inl refusal ↦ absurd (not-both right.0 script refusal.0 here refusal.1)
       | inr next ↦
           let same : next.0 ≡ script = (reads-one-way stage_now right.0).one_content next.0 script next.1 here in
-          let of : IsNextOf (opened script) right.1 right.2 = subst (λ s. IsNextOf (opened s) right.1 right.2) same next.2 in
+          let of : IsNextOf (opened_session script) right.1 right.2 =
+          subst (λ s. IsNextOf (opened_session s) right.1 right.2) same next.2 in
           absurd (no-room sink.sure sink.written (right.1 ++ right.2) held room sure written right.5.no_room
-          (fits (right.1 ++ right.2) (begun-next (opened script) right.1 right.2 of)))
+          (fits (right.1 ++ right.2) (begun-next (opened_session script) right.1 right.2 of)))
     ]
 
 pub run-refuses : (source : SourceEnds) (sink : SinkEnds) (result : Status) (came : List ℕ) → RunRight source sink result

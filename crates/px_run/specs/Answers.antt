@@ -11,7 +11,7 @@ use Rattle.px_run.specs.declared.counts.Counts.{Counts}
 use Rattle.px_run.specs.declared.running.AnswerErr.{AnswerErr}
 use Rattle.px_run.specs.declared.running.AnswerErr.TheVariants as answer_err
 
--- the reply is lawful for the session's next command, and leaves the session with this state and one command more that is done
+-- the reply is lawful for the session's next command, and leaves the session in this state, with one command more done
 pub record IsAnswered (old : SessionValue) (answer : Reply) (new : SessionValue) : Type 0 where
   pub lawful : Lawful old.problem old.state (slice_index_or old.commands old.done Facts) answer new.state
   pub frame : new ≡ record old { done = old.done + 1; state = new.state }
@@ -30,7 +30,7 @@ AnswerRight old new sink (Ok done) = (answer : Reply) × IsAnswered old answer n
 AnswerRight old new sink (Err answer_err.Fault) = (answer : Reply) × IsAnswered old answer new × Broke sink [] (reply_text new.names answer)
 AnswerRight old new sink (Err answer_err.NoMemory) = Wrote sink []
 
--- the outcomes of putting a text
+-- the outcomes of writing a text
 abbrev pub PutRight : {T : Type 0} → List ℕ → SinkEnds → Result T AnswerErr → Type 0
 PutRight text sink (Ok done) = Wrote sink text
 PutRight text sink (Err answer_err.Fault) = Broke sink [] text

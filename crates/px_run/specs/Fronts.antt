@@ -4,13 +4,13 @@ use Rattle.px_io.specs.Writing.{AppendsFront, AppendsProperFront}
 use Rattle.px_reader.specs.declared.script.Refused.{Refused}
 use Rattle.px_session.specs.Transcripts.{Transcript}
 use Rattle.px_run.specs.Outcomes.{Came, IsDemoText, SinkEnds, SourceEnds, Wrote}
-use Rattle.px_run.specs.Transcripts.{IsRefused, refusal_text}
+use Rattle.px_run.specs.Transcripts.{IsScriptRefused, refusal_text}
 use Rattle.px_run.specs.declared.status.Status.{Status}
 use Rattle.px_run.specs.declared.status.Status.TheVariants as status
 
 -- what is to be written for the bytes: a transcript, if they are a script, or their refusal
 abbrev pub IsDemanded : List ℕ → List ℕ → Type 0
-IsDemanded bytes text = Transcript bytes text ⊎ ((refused : Refused) × IsRefused bytes refused × (text ≡ refusal_text refused))
+IsDemanded bytes text = Transcript bytes text ⊎ ((refused : Refused) × IsScriptRefused bytes refused × (text ≡ refusal_text refused))
 
 -- of the text a front was written, and not the whole text
 abbrev pub WroteProperFront : SinkEnds → List ℕ → Type 0

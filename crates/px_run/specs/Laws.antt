@@ -24,13 +24,13 @@ pub record TextsAreOne : Type 0 where
   pub front : (bytes begun text : List ℕ) → Begun bytes begun → Transcript bytes text → (rest : List ℕ) × (text ≡ begun ++ rest)
   pub short : (bytes begun text : List ℕ) → Begun bytes begun → Transcript bytes text → length begun ≤ length text
 
--- the atoms of the state carry the steps of a plan that is told to the goal that was asked for
+-- the atoms of the state carry the steps of a plan that a reply prints to the goal that was asked for
 abbrev pub PlanCarries : Problem → SessionState → Command → Reply → Type 0
 PlanCarries problem state (Plan name goal vars) (reply.Plan given moves steps) = Carries problem state.atoms steps vars goal
 PlanCarries problem state _ _ = Unit {0}
 
--- From the first state of a building the replies leave one state of it after the other, each run by the edits and steps of its turns. In
--- the last one of these the session is: the world's atoms are its facts.
+-- From the first state of a building the replies leave one state of it after the other, each run by the edits and steps of its turns. The
+-- session is in the last of these states: the world's atoms are its facts.
 pub record AreInBuilding (script : ScriptValue) (things : List Thing) (done : ℕ) (answers : List Reply)
     (state : SessionState) : Type 0 where
   pub building : RoomState
@@ -38,7 +38,7 @@ pub record AreInBuilding (script : ScriptValue) (things : List Thing) (done : �
       (take done answers) state building
   pub inside : IsInBuilding script.problem building state
 
--- So many commands are done. In the state that their replies leave, the next command is answered by a plan only where the world's atoms
+-- `done` commands are done. In the state that their replies leave, the next command is answered by a plan only where the world's atoms
 -- carry its steps to the goal; and each proper instance of each kernel of each stored and each learned table carries the steps that are
 -- left to that table's goal. With a building the replies leave a state of it.
 pub record CarriesAfter (script : ScriptValue) (answers : List Reply) (done : ℕ) : Type 0 where
@@ -48,13 +48,13 @@ pub record CarriesAfter (script : ScriptValue) (answers : List Reply) (done : �
   pub kernels : All (KernelsCarry script.problem) (tables_of state)
   pub rooms : (things : List Thing) → script.building ≡ Some things → AreInBuilding script things done answers state
 
--- it is so before each command of a transcript, and after the last
+-- this holds before each command of a transcript, and after the last
 pub record TranscriptsCarry : Type 0 where
   pub carry : (bytes text : List ℕ) → (transcript : Transcript bytes text) → (done : ℕ) → done ≤ length transcript.script.commands
       → CarriesAfter transcript.script transcript.answers done
 
--- Where all commands were answered, it is so in each transcript of the bytes that came.
-abbrev pub IsCarried : SourceEnds → Status → Type 0
-IsCarried source status.Done = (bytes text : List ℕ) → Came source bytes → (transcript : Transcript bytes text) → (done : ℕ)
+-- Where all commands were answered, `CarriesAfter` holds at each place of each transcript of the bytes that came.
+abbrev pub CarriesWhereDone : SourceEnds → Status → Type 0
+CarriesWhereDone source status.Done = (bytes text : List ℕ) → Came source bytes → (transcript : Transcript bytes text) → (done : ℕ)
     → done ≤ length transcript.script.commands → CarriesAfter transcript.script transcript.answers done
-IsCarried source _ = Unit {0}
+CarriesWhereDone source _ = Unit {0}

@@ -1,3 +1,4 @@
+-- The files of definitions and laws.
 pub mod Transcripts
 pub mod Sums
 pub mod Outcomes

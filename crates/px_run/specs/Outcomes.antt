@@ -11,16 +11,16 @@ use Rattle.px_script.specs.Content.{ScriptValue}
 use Rattle.px_script.specs.Stages.{stage_now}
 use Rattle.px_script.specs.Scripts.{IsScript}
 use Rattle.px_session.specs.Demo.{Summary}
-use Rattle.px_session.specs.Opened.{SessionValue, opened}
+use Rattle.px_session.specs.Opened.{SessionValue, opened_session}
 use Rattle.px_session.specs.Transcripts.{Transcript}
 use Rattle.px_words.specs.declared.orders.Order.{Order}
 use Rattle.px_words.specs.declared.orders.Order.TheVariants.{Run, Demo}
 use Rattle.px_run.specs.Sums.{IsSumOf}
-use Rattle.px_run.specs.Transcripts.{Begun, IsTextOf, IsBegunOf, IsNextOf, IsRefused, IsWritten, refusal_text}
+use Rattle.px_run.specs.Transcripts.{Begun, IsTextOf, IsBegunOf, IsNextOf, IsScriptRefused, IsWritten, refusal_text}
 use Rattle.px_run.specs.declared.status.Status.{Status}
 use Rattle.px_run.specs.declared.status.Status.TheVariants as status
 
--- what a source tells, before a call and after it
+-- what a source shows, before a call and after it
 pub record SourceEnds : Type 0 where
   pub left : Option (List ℕ)
   pub left_after : Option (List ℕ)
@@ -30,7 +30,7 @@ pub record SourceEnds : Type 0 where
   pub faults_after : ℕ
   pub never_fails : Bool
 
--- what a source of these meanings tells, before a call and after it
+-- what a source of these meanings shows, before a call and after it
 abbrev pub source_ends : {S : Type 0} → (S → Option (List ℕ)) → (S → ℕ) → (S → ℕ) → (S → Bool) → S → S → SourceEnds
 source_ends left taken faults never_fails before after = record {
   left = left before;
@@ -42,7 +42,7 @@ source_ends left taken faults never_fails before after = record {
   never_fails = never_fails before;
 }
 
--- what a sink tells, before a call and after it
+-- what a sink shows, before a call and after it
 pub record SinkEnds : Type 0 where
   pub written : Option (List ℕ)
   pub written_after : Option (List ℕ)
@@ -50,7 +50,7 @@ pub record SinkEnds : Type 0 where
   pub faults_after : ℕ
   pub sure : Option ℕ
 
--- what a sink of these meanings tells, before a call and after it
+-- what a sink of these meanings shows, before a call and after it
 abbrev pub sink_ends : {S : Type 0} → (S → Option (List ℕ)) → (S → ℕ) → (S → Option ℕ) → S → S → SinkEnds
 sink_ends written faults sure before after = record {
   written = written before;
@@ -93,7 +93,7 @@ UsageRight sink _ = ⊥
 abbrev pub RunRight : SourceEnds → SinkEnds → Status → Type 0
 RunRight source sink status.Done = (bytes : List ℕ) × (text : List ℕ) × Came source bytes × Transcript bytes text × Wrote sink text
 RunRight source sink (status.Refused refused) =
-    (bytes : List ℕ) × Came source bytes × IsRefused bytes refused × Wrote sink (refusal_text refused)
+    (bytes : List ℕ) × Came source bytes × IsScriptRefused bytes refused × Wrote sink (refusal_text refused)
 RunRight source sink status.ReadFault =
     Rose source.faults source.faults_after × (source.taken_after ≤ source.taken + limit) × (source.never_fails ≡ false) × Wrote sink []
 RunRight source sink status.TooLong = (source.taken + limit < source.taken_after) × (source.faults_after ≡ source.faults) × Wrote sink []
@@ -105,13 +105,13 @@ RunRight source sink status.Usage = ⊥
 
 -- what is written in one piece for a demo: where and why its script is refused, or the line that sums it up
 abbrev pub IsDemoText : (rooms seed : ℕ) → List ℕ → Type 0
-IsDemoText rooms seed text = ((refused : Refused) × IsRefused (demo_script rooms seed) refused × (text ≡ refusal_text refused))
+IsDemoText rooms seed text = ((refused : Refused) × IsScriptRefused (demo_script rooms seed) refused × (text ≡ refusal_text refused))
     ⊎ Summary rooms seed text
 
 -- The outcomes of `demo`, which reads nothing.
 abbrev pub DemoRight : (rooms seed : ℕ) → SinkEnds → Status → Type 0
 DemoRight rooms seed sink status.Done = (text : List ℕ) × Summary rooms seed text × Wrote sink text
-DemoRight rooms seed sink (status.Refused refused) = IsRefused (demo_script rooms seed) refused × Wrote sink (refusal_text refused)
+DemoRight rooms seed sink (status.Refused refused) = IsScriptRefused (demo_script rooms seed) refused × Wrote sink (refusal_text refused)
 DemoRight rooms seed sink status.WriteFault = (text : List ℕ) × IsDemoText rooms seed text × Broke sink [] text
 DemoRight rooms seed sink status.NoMemory = Wrote sink []
 DemoRight rooms seed sink _ = ⊥
@@ -122,26 +122,26 @@ StatusRight None source sink result = UsageRight sink result
 StatusRight (Some Run) source sink result = RunRight source sink result
 StatusRight (Some (Demo rooms seed)) source sink result = DemoRight rooms seed sink result
 
--- A script whose bytes are known, and no count that rose, give the whole transcript, or memory ran out.
+-- Where a script's bytes are known and no count rose, the whole transcript is written, or memory ran out.
 abbrev pub Completes : SourceEnds → SinkEnds → Status → Type 0
 Completes source sink result =
     (bytes : List ℕ) (script : ScriptValue) → source.left ≡ Some bytes → length bytes ≤ limit → IsScript stage_now bytes script
     → (¬ Rose source.faults source.faults_after) → (¬ Rose sink.faults sink.faults_after)
     → (result ≡ status.Done) ⊎ (result ≡ status.NoMemory)
 
--- So do a source that never fails, and a sink that is sure to take all that may be written.
+-- The same holds for a source that never fails and a sink that is sure to take all that may be written.
 abbrev pub CompletesSurely : SourceEnds → SinkEnds → Status → Type 0
 CompletesSurely source sink result =
     (bytes : List ℕ) (script : ScriptValue) (held : List ℕ) (room : ℕ) → source.left ≡ Some bytes → length bytes ≤ limit
     → IsScript stage_now bytes script
     → source.never_fails ≡ true → sink.written ≡ Some held → sink.sure ≡ Some room
-    → ((text : List ℕ) → IsBegunOf (opened script) text → length held + length text ≤ room)
+    → ((text : List ℕ) → IsBegunOf (opened_session script) text → length held + length text ≤ room)
     → (result ≡ status.Done) ⊎ (result ≡ status.NoMemory)
 
--- Told bytes that are no script are refused, if no read failed, no write failed and memory didn't run out.
+-- Bytes that are known and no script are refused, if no read failed, no write failed and memory didn't run out.
 abbrev pub Refuses : SourceEnds → SinkEnds → Status → Type 0
 Refuses source sink result = (bytes : List ℕ) (refused : Refused) → source.left ≡ Some bytes → length bytes ≤ limit
-    → IsRefused bytes refused
+    → IsScriptRefused bytes refused
     → (¬ Rose source.faults source.faults_after) → (result ≡ status.Refused refused) ⊎ (result ≡ status.NoMemory)
     ⊎ (result ≡ status.WriteFault)
 
@@ -151,16 +151,16 @@ DemoCompletes rooms seed sink result =
     (script : ScriptValue) → IsScript stage_now (demo_script rooms seed) script → (¬ Rose sink.faults sink.faults_after)
     → (result ≡ status.Done) ⊎ (result ≡ status.NoMemory)
 
--- So does a sink that is sure to take the line.
+-- The line of such a demo is also written where the sink is sure to take it, unless memory ran out.
 abbrev pub DemoCompletesSurely : (rooms seed : ℕ) → SinkEnds → Status → Type 0
 DemoCompletesSurely rooms seed sink result =
     (script : ScriptValue) (held : List ℕ) (room : ℕ) → IsScript stage_now (demo_script rooms seed) script
     → sink.written ≡ Some held → sink.sure ≡ Some room → ((text : List ℕ) → Summary rooms seed text → length held + length text ≤ room)
     → (result ≡ status.Done) ⊎ (result ≡ status.NoMemory)
 
--- Where it is none, it is refused, if no write failed and memory didn't run out.
+-- Where a demo's script isn't one, it is refused, if no write failed and memory didn't run out.
 abbrev pub DemoRefuses : (rooms seed : ℕ) → SinkEnds → Status → Type 0
-DemoRefuses rooms seed sink result = (refused : Refused) → IsRefused (demo_script rooms seed) refused
+DemoRefuses rooms seed sink result = (refused : Refused) → IsScriptRefused (demo_script rooms seed) refused
     → (result ≡ status.Refused refused) ⊎ (result ≡ status.NoMemory) ⊎ (result ≡ status.WriteFault)
 
 -- the outcomes of summing up a demo's script

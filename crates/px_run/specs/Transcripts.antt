@@ -9,7 +9,7 @@ use Rattle.px_script.specs.Content.{ScriptValue}
 use Rattle.px_script.specs.Stages.{stage_now}
 use Rattle.px_script.specs.Scripts.{IsScript, FirstFault}
 use Rattle.px_session.specs.Lawful.{Lawful}
-use Rattle.px_session.specs.Opened.{SessionValue, opened}
+use Rattle.px_session.specs.Opened.{SessionValue, opened_session}
 use Rattle.px_session.specs.Sessions.{SessionState}
 use Rattle.px_session.specs.Transcripts.{AreAnswers, texts}
 
@@ -47,18 +47,18 @@ pub record IsNextOf (session : SessionValue) (done next : List ℕ) : Type 0 whe
 
 -- the bytes are a script, and the text is the replies to its first commands
 abbrev pub Begun : List ℕ → List ℕ → Type 0
-Begun bytes text = (script : ScriptValue) × IsScript stage_now bytes script × IsBegunOf (opened script) text
+Begun bytes text = (script : ScriptValue) × IsScript stage_now bytes script × IsBegunOf (opened_session script) text
 
 -- the first fault of the bytes, with its line, its code, and the number of the limit that is passed, or 0
-abbrev pub IsRefused : List ℕ → Refused → Type 0
-IsRefused bytes refused = FirstFault stage_now bytes refused.line (record { code = refused.code; limit = refused.limit })
+abbrev pub IsScriptRefused : List ℕ → Refused → Type 0
+IsScriptRefused bytes refused = FirstFault stage_now bytes refused.line (record { code = refused.code; limit = refused.limit })
 
 -- the text of a refusal
 abbrev pub refusal_text : Refused → List ℕ
 refusal_text refused = refused_text refused.line refused.code refused.limit
 
--- what is written at once for the bytes, and what before it: the refusal, and nothing; or the reply to a command, and those
--- to the commands before it
+-- what is written at once for the bytes, and what is written before it: the refusal, and nothing; or the reply to a command, and those to
+-- the commands before it
 abbrev pub IsWritten : List ℕ → List ℕ → List ℕ → Type 0
-IsWritten bytes done next = ((refused : Refused) × IsRefused bytes refused × (done ≡ []) × (next ≡ refusal_text refused))
-    ⊎ ((script : ScriptValue) × IsScript stage_now bytes script × IsNextOf (opened script) done next)
+IsWritten bytes done next = ((refused : Refused) × IsScriptRefused bytes refused × (done ≡ []) × (next ≡ refusal_text refused))
+    ⊎ ((script : ScriptValue) × IsScript stage_now bytes script × IsNextOf (opened_session script) done next)

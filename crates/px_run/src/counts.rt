@@ -20,8 +20,8 @@ pub(crate) struct Counts {
     pub goals: u64,
 }
 
-/// Returns the counts with those of one reply more. `NoMemory` where a count passes its type, which comes nowhere: a demo has at most 36
-/// commands, and no reply in memory has that many steps.
+/// Returns the counts with those of one reply more. `NoMemory` where a count doesn't fit its type, which never happens: a demo has at most
+/// 36 commands, and no reply in memory has that many steps.
 fn with_reply(counts: Counts, reply: &Reply) -> Result<Counts, NoMemory>
     ensures plans { IfOk result (λ more. more.plans ≡ counts.plans + cond (is_plan reply.now) 1 0) }
     ensures steps { IfOk result (λ more. more.steps ≡ counts.steps + step_count reply.now) }
@@ -49,7 +49,7 @@ fn with_plan(counts: Counts, count: usize) -> Result<Counts, NoMemory>
     })
 }
 
-/// Returns the counts with a goal more.
+/// Returns the counts with one goal more.
 fn with_goal(counts: Counts) -> Result<Counts, NoMemory>
     ensures plans { IfOk result (λ more. more.plans ≡ counts.plans) }
     ensures steps { IfOk result (λ more. more.steps ≡ counts.steps) }
@@ -69,7 +69,7 @@ fn sum(one: u64, other: u64) -> Result<u64, NoMemory>
     }
 }
 
-/// Does the last turn end at the goal?
+/// Returns whether the last turn ends at the goal.
 #[tactic(auto, using(crate::proofs::CountLemmas::ends_in_last, crate::proofs::CountLemmas::ends_in_none))]
 fn ends_in_goal(turns: &[Turn]) -> bool
     ensures { result ≡ ends_in_goal turns.now }
@@ -80,14 +80,14 @@ fn ends_in_goal(turns: &[Turn]) -> bool
     }
 }
 
-/// Is the end the goal?
+/// Returns whether the end is the goal.
 fn is_goal(end: TurnEnd) -> bool
     ensures { result ≡ is_goal end }
 {
     matches!(end, TurnEnd::Goal)
 }
 
-/// Answers the command at the place, the next one: the counts with those of a lawful reply.
+/// Answers the command at the place, the next one, and returns the counts with those of a lawful reply.
 fn count_answer(session: &mut Session, place: usize, counts: Counts) -> Result<Counts, NoMemory>
     requires place { place < length session.old.commands }
     requires next { place ≡ session.old.done }

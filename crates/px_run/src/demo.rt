@@ -1,11 +1,11 @@
 //! The demo: its script is made, answered and summed up.
 ghost use Rattle.std.specs.Prelude.{◌≡◌, ◌≤◌, IfOk, ◌∷◌, [], codes};
 ghost use Rattle.std.specs.Fmt.{decimal};
-ghost use Rattle.px_printer.specs.Texts.{line};
+ghost use Rattle.px_printer.specs.Texts.{text_line};
 ghost use Rattle.px_reader.specs.LineReads.{content};
 ghost use Rattle.px_script.specs.Ranges.{IsOfStage};
 ghost use Rattle.px_script.specs.Stages.{stage_now};
-ghost use Rattle.px_session.specs.Opened.{opened};
+ghost use Rattle.px_session.specs.Opened.{opened_session};
 ghost use Rattle.px_run.specs.Outcomes.{sink_ends, DemoRight, SumRight};
 ghost use Rattle.px_run.specs.Sums.{IsSumOf};
 
@@ -40,7 +40,7 @@ pub(crate) fn demo<K: Sink>(alloc: Global, rooms: u32, seed: u32, sink: &mut K) 
 /// Answers the commands of the script, and writes the line that sums up the replies.
 fn sum_up<K: Sink>(alloc: Global, script: Script, rooms: u32, seed: u32, sink: &mut K) -> Status
     requires stage { IsOfStage stage_now (content script) }
-    ensures right { SumRight rooms seed (opened (content script)) (sink_ends K.written K.faults K.sure sink.old sink.new) result }
+    ensures right { SumRight rooms seed (opened_session (content script)) (sink_ends K.written K.faults K.sure sink.old sink.new) result }
     ensures nature { K.sure sink.new ≡ K.sure sink.old }
 {
     let Ok(text) = summary(alloc, script, rooms, seed) else {
@@ -55,7 +55,7 @@ fn sum_up<K: Sink>(alloc: Global, script: Script, rooms: u32, seed: u32, sink: &
 /// Returns the line that sums up the replies to the commands of the script.
 fn summary(alloc: Global, script: Script, rooms: u32, seed: u32) -> Result<Vec<u8>, NoMemory>
     requires stage { IsOfStage stage_now (content script) }
-    ensures { IfOk result (λ text. IsSumOf rooms seed (opened (content script)) text.items) }
+    ensures { IfOk result (λ text. IsSumOf rooms seed (opened_session (content script)) text.items) }
 {
     match Session::new(alloc, script) {
         Ok(mut session) => session_summary(alloc, &mut session, rooms, seed),
@@ -87,7 +87,7 @@ fn summary_line(
     commands: usize,
     counts: &Counts,
 ) -> Result<Vec<u8>, NoMemory>
-    ensures { IfOk result (λ text. text.items ≡ line (codes "demo" ∷ decimal rooms ∷ decimal seed ∷ decimal commands ∷ codes "commands"
+    ensures { IfOk result (λ text. text.items ≡ text_line (codes "demo" ∷ decimal rooms ∷ decimal seed ∷ decimal commands ∷ codes "commands"
         ∷ decimal counts.now.plans ∷ codes "plans" ∷ decimal counts.now.steps ∷ codes "steps" ∷ decimal counts.now.goals ∷ codes "goals"
         ∷ [])) }
 {

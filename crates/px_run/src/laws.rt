@@ -1,8 +1,8 @@
 //! Laws about what is written. The calls do nothing.
 ghost use Rattle.px_run.specs.Laws.{TextsAreOne, TranscriptsCarry};
 
-/// The bytes determine what is written for all commands of a script, though a search that met the limit of shapes may tell of one
-/// question or another. What is written for the first commands begins it.
+/// The bytes determine what is written for all commands of a script, though a search that met the limit of shapes may report one question
+/// or another. What is written for the first commands begins it.
 pub fn texts_are_one()
     ensures { TextsAreOne }
 {}

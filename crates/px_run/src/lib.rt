@@ -3,22 +3,23 @@
 //! # Calling it
 //!
 //! - [`planex_main`] is the program without its streams: it takes the words, a source and a sink, which may be
-//!   in memory, and answers a `Status`. Its contract is one table over the statuses (`specs/Outcomes`): what each
+//!   in memory, and returns a `Status`. Its contract is one table over the statuses (`specs/Outcomes`): what each
 //!   status says of what came from the source and of what was written.
 //! - The single word `run` answers the commands of the script that comes from the source. The words `demo ROOMS SEED` make the script of
 //!   `px_demo`, answer its commands, and write one line that sums up the replies (the clauses `demo_completes`, `demo_completes_surely`,
 //!   `demo_refuses` and `demo_front` of the top call, and `right`). Every other list of words is answered by how the program is called.
 //! - What is written for a script is a transcript (`px_session/specs/Transcripts`): one lawful reply for each command, in
-//!   order, each in the state that the one before left. Which replies are lawful is told by `Lawful` of `px_session`.
+//!   order, each in the state that the one before left. `Lawful` of `px_session` defines which replies are lawful.
 //! - The bytes determine it, and what is written for the first commands begins it ([`texts_are_one`]). Each plan in it
 //!   carries, and so does each table that is stored or learned on the way, from each proper instance of each of its kernels
 //!   ([`transcripts_carry`]; the clause `carries` of the top call says it of the bytes that came).
 //! - Bytes that aren't a script are refused with the line, the code and the limit of their first fault, as `px_script`
 //!   defines it. Nothing is answered before the whole script was read.
 //! - After a write that failed, the replies before it and a proper front of the next text were written, and so a proper front of what
-//!   the bytes demand (`front` in `specs/Fronts`). Each reply is put as a whole; no clause says so, a test
+//!   the bytes demand (`front` in `specs/Fronts`). Each reply is written as a whole; no clause says so, a test
 //!   shows it.
 //! - A script has at most 1,048,576 bytes. Where more came, the answer is `TooLong`.
+//! - No public clause cites `specs/Answers` and `specs/Sums`.
 #![tactic(auto)]
 
 mod counts;

@@ -1,6 +1,6 @@
 //! Answers commands in order, and writes the replies.
 ghost use Rattle.std.specs.Prelude.{◌≡◌, ◌<◌, IfOk, length};
-ghost use Rattle.px_printer.specs.Replies.{IsNamed, reply_text};
+ghost use Rattle.px_printer.specs.Replies.{IsReplyNamed, reply_text};
 ghost use Rattle.px_run.specs.Answers.{AnswerRight, IsAnswerText, IsAnswered, PutRight};
 ghost use Rattle.px_run.specs.Outcomes.{sink_ends, ExecutedRight};
 
@@ -67,14 +67,14 @@ pub(crate) fn lawful_reply(session: &mut Session, place: usize) -> Result<Reply,
     requires place { place < length session.old.commands }
     requires next { place ≡ session.old.done }
     ensures answered { IfOk result (λ reply. IsAnswered session.old reply session.new) }
-    ensures named { IfOk result (IsNamed session.new.names) }
+    ensures named { IfOk result (IsReplyNamed session.new.names) }
 {
     session.execute(place)
 }
 
 /// Returns the text of a reply of the session.
 fn text_of(alloc: Global, reply: &Reply, session: &Session) -> Result<Vec<u8>, NoMemory>
-    requires named { IsNamed session.now.names reply.now }
+    requires named { IsReplyNamed session.now.names reply.now }
     ensures text { IfOk result (λ text. text.items ≡ reply_text session.now.names reply.now) }
 {
     reply_text(alloc, reply, session.names())

@@ -4,11 +4,11 @@ ghost use Rattle.std.specs.Io.KnownBytes.{Consumes};
 ghost use Rattle.px_reader.specs.LineReads.{content};
 ghost use Rattle.px_script.specs.Ranges.{IsOfStage};
 ghost use Rattle.px_script.specs.Stages.{stage_now};
-ghost use Rattle.px_session.specs.Opened.{opened};
+ghost use Rattle.px_session.specs.Opened.{opened_session};
 ghost use Rattle.px_words.specs.Orders.{order_of};
 ghost use Rattle.px_words.specs.declared.orders.Order.TheVariants.{Run, Demo};
 ghost use Rattle.px_run.specs.Fronts.{HasDemoFront, HasFront};
-ghost use Rattle.px_run.specs.Laws.{IsCarried};
+ghost use Rattle.px_run.specs.Laws.{CarriesWhereDone};
 ghost use Rattle.px_run.specs.Outcomes.{source_ends, sink_ends, DemoCompletes, DemoCompletesSurely, DemoRefuses, UsageRight, RefusalRight, ExecutedRight, RunRight, StatusRight, Completes, CompletesSurely, Refuses};
 
 use crate::demo::demo;
@@ -29,10 +29,10 @@ const LIMIT: usize = 1_048_576;
 /// Does all that the program does: `words` are those of the command line, without the program's name. `run` reads a script from the
 /// source and answers it; `demo ROOMS SEED` makes a script, and sums up the replies to it; any other words are `Usage`.
 ///
-/// For every script, with or without a building, the transcript holds one lawful reply for each command (`right`). So each plan
-/// that is told carries the world's atoms to its goal, each table that is kept carries the steps that are left from each proper
-/// instance of each of its kernels, PLANEX acts by the highest kernel that fits, and the replies that no plan was found, that a limit
-/// was met or that no kernel fits come exactly where their definitions hold (`carries`; laws of `px_session`).
+/// For every script, with or without a building, the transcript holds one lawful reply for each command (`right`). So each plan that a
+/// reply prints carries the world's atoms to its goal, each table that is kept carries the steps that are left from each proper instance
+/// of each of its kernels, PLANEX acts by the highest kernel that fits, and the replies that no plan was found, that a limit was met or
+/// that no kernel fits come exactly where their definitions hold (`carries`; laws of `px_session`).
 #[tactic(auto, using(crate::proofs::Carried::is_carried))]
 pub fn planex_main<'a, S: Source, K: Sink>(
     alloc: Global,
@@ -68,7 +68,7 @@ pub fn planex_main<'a, S: Source, K: Sink>(
         → DemoRefuses rooms seed (sink_ends K.written K.faults K.sure sink.old sink.new) result }
     ensures demo_front { (rooms seed : ℕ) → order_of (map (λ word. word.now) words.now) ≡ Some (Demo rooms seed)
         → HasDemoFront rooms seed (sink_ends K.written K.faults K.sure sink.old sink.new) result }
-    ensures carries { IsCarried (source_ends S.left S.taken S.faults S.never_fails source.old source.new) result }
+    ensures carries { CarriesWhereDone (source_ends S.left S.taken S.faults S.never_fails source.old source.new) result }
     ensures gone { (came : List ℕ) × Consumes (S.left source.old) (S.left source.new) came
         × (S.taken source.new ≡ S.taken source.old + length came) }
     ensures unread { ¬ (order_of (map (λ word. word.now) words.now) ≡ Some Run) → source.new ≡ source.old }
@@ -142,7 +142,7 @@ fn run<S: Source, K: Sink>(alloc: Global, source: &mut S, sink: &mut K) -> Statu
 /// Answers the commands of a script.
 fn answer<K: Sink>(alloc: Global, script: Script, sink: &mut K) -> Status
     requires stage { IsOfStage stage_now (content script) }
-    ensures right { ExecutedRight (opened (content script)) (sink_ends K.written K.faults K.sure sink.old sink.new) result }
+    ensures right { ExecutedRight (opened_session (content script)) (sink_ends K.written K.faults K.sure sink.old sink.new) result }
     ensures nature { K.sure sink.new ≡ K.sure sink.old }
 {
     match Session::new(alloc, script) {

@@ -6,7 +6,7 @@ use px_run::Status;
 use std::alloc::Global;
 use std::rt::HostRuntime;
 
-// Two operators, of which one deletes by a name of one object what is true of another.
+// Two operators, of which one deletes under the name of one object what is true of another.
 const DANGER: (&str, u32) = (
     "object a b
 predicate P 1
@@ -95,7 +95,7 @@ const ANSWERED: &[(Pieces, Pieces)] = &[
     ),
 ];
 
-/// Is this written for the script?
+/// Returns whether this is written for the script.
 fn answers(alloc: Global, script: Pieces, replies: Pieces) -> Result<bool, NoMemory> {
     let wanted = joined(alloc, replies)?;
     let (status, written) = ran(alloc, joined(alloc, script)?)?;

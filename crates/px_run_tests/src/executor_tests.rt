@@ -73,7 +73,7 @@ fn step_for(holds: &[bool; 3]) -> usize
     if holds[1] { 1 } else { 0 }
 }
 
-/// Takes the step where its fact is true. Is it taken?
+/// Takes the step where its fact is true, and returns whether it is taken.
 fn takes(holds: &mut [bool; 3], step: usize) -> bool
     requires { step < 2 }
 {
@@ -117,7 +117,7 @@ fn push_turns(text: &mut String, first: Planned, second: Planned) -> Result<(), 
     Ok(())
 }
 
-/// Does the session take the turns that a plain executor takes?
+/// Returns whether the session takes the turns that a plain executor takes.
 fn agrees(alloc: Global, first: Planned, second: Planned) -> Result<bool, NoMemory> {
     let mut script = String::new(alloc);
     script.push_str(PROBLEM)?;

@@ -22,7 +22,7 @@ fn a_script_comes_in_pieces_and_each_read_may_fail(rt: HostRuntime) -> Result<()
     Ok(())
 }
 
-/// Each reply is put as a whole, and what came before it stands where its write fails.
+/// Each reply is written as a whole, and what came before it stands where its write fails.
 #[test]
 fn each_write_may_fail(rt: HostRuntime) -> Result<(), NoMemory> {
     let alloc = rt.alloc();

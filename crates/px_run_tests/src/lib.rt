@@ -1,4 +1,4 @@
-//! Tests of `px_printer`, `px_reader`, `px_session` and `px_run`: they stand apart from the crates that they try, since a crate with
+//! Tests of `px_printer`, `px_reader`, `px_session` and `px_run`: they stand apart from the crates that they test, since a crate with
 //! tests is proved twice. All go through [`px_run::planex_main`], with a source and a sink in memory.
 #![tactic(auto)]
 

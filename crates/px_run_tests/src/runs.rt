@@ -18,8 +18,8 @@ fn only(alloc: Global, call: u32) -> Result<Vec<u32>, NoMemory>
     Ok(list)
 }
 
-/// Returns the status of `run` and what it wrote, where this is its input. Of the input at most `most` bytes come with a read, and the sink
-/// holds `room` bytes. The read and the write of these numbers fail.
+/// Returns the status of `run` and what it wrote, where this is its input. At most `most` bytes of the input come with a read, and the
+/// sink holds `room` bytes. The read and the write of these numbers fail.
 pub(crate) fn ran_with(
     alloc: Global,
     input: Vec<u8>,
@@ -38,7 +38,7 @@ pub(crate) fn ran_with(
     Ok((status, sink.bytes().to_vec(alloc)?))
 }
 
-/// Returns the same where no read and no write fails.
+/// Returns the status of `run` and what it wrote, where no read and no write fails.
 pub(crate) fn ran(alloc: Global, input: Vec<u8>) -> Result<(Status, Vec<u8>), NoMemory> {
     ran_with(alloc, input, 4096, 8192, NEVER, NEVER)
 }

@@ -7,29 +7,29 @@ use std::alloc::Global;
 /// The robot.
 pub const ROBOT: Term = Term::Obj(0);
 
-/// INROOM(thing,room).
+/// Returns INROOM(thing,room).
 pub fn is_in(thing: Term, room: Term) -> Atom {
     atom(0, &[thing, room])
 }
 
-/// CONNECTS(door,here,there).
+/// Returns CONNECTS(door,here,there).
 pub fn connects(door: Term, here: Term, there: Term) -> Atom {
     atom(1, &[door, here, there])
 }
 
-/// BOX(thing).
+/// Returns BOX(thing).
 pub fn is_box(thing: Term) -> Atom {
     atom(2, &[thing])
 }
 
-/// GOTHRU(d,r1,r2): the robot goes through a door.
+/// Returns GOTHRU(d,r1,r2): the robot goes through a door.
 fn going(alloc: Global) -> Option<Schema> {
     let pre = [is_in(ROBOT, v(1)), connects(v(0), v(1), v(2))];
     let del = [is_in(ROBOT, Term::Any)];
     schema(alloc, (0, 3), &pre, &del, &[is_in(ROBOT, v(2))])
 }
 
-/// PUSHTHRU(b,d,r1,r2): the robot pushes a box through a door.
+/// Returns PUSHTHRU(b,d,r1,r2): the robot pushes a box through a door.
 fn pushing(alloc: Global) -> Option<Schema> {
     let door = connects(v(1), v(2), v(3));
     let pre = [is_in(v(0), v(2)), is_in(ROBOT, v(2)), door];
@@ -38,7 +38,7 @@ fn pushing(alloc: Global) -> Option<Schema> {
     schema(alloc, (1, 4), &pre, &del, &add)
 }
 
-/// The problem of these objects, predicates and operators, and of the axiom that a door leads both ways.
+/// Returns the problem of these objects, predicates and operators, and of the axiom that a door leads both ways.
 pub fn rooms(alloc: Global) -> Option<Problem> {
     let there = connects(v(0), v(1), v(2));
     let back = connects(v(0), v(2), v(1));
@@ -48,7 +48,7 @@ pub fn rooms(alloc: Global) -> Option<Problem> {
     problem_of(alloc, 7, &[2, 3, 1], axioms, schemas)
 }
 
-/// The robot in room 1, the box in room 2, door 4 between rooms 1 and 2, and door 5 between rooms 2 and 3.
+/// Returns the model with the robot in room 1, the box in room 2, door 4 between rooms 1 and 2, and door 5 between rooms 2 and 3.
 pub fn opening(alloc: Global) -> Option<Model> {
     let facts = [
         is_in(ROBOT, o(1)),
@@ -60,7 +60,7 @@ pub fn opening(alloc: Global) -> Option<Model> {
     model_of(alloc, &facts)
 }
 
-/// The goal that a box is in room 1.
+/// Returns the goal that a box is in room 1.
 pub fn box_in_first_room() -> [Atom; 2] {
     [is_box(v(0)), is_in(v(0), o(1))]
 }

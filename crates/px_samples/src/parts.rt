@@ -6,27 +6,24 @@ use px_ops::Model;
 use px_terms::{Atom, ClauseArena, Lit, OpInst, Problem, Schema, Term, are_plain_below, is_ground};
 use std::alloc::Global;
 
-/// The object of that number.
+/// Returns the object of that number.
 pub fn o(number: u32) -> Term {
     Term::Obj(number)
 }
 
-/// The variable of that number, or the parameter.
+/// Returns the variable of that number, or the parameter.
 pub fn v(number: u32) -> Term {
     Term::Var(number)
 }
 
-/// The predicate of that number with these terms.
+/// Returns the predicate of that number with these terms.
 pub fn atom(pred: u32, args: &[Term]) -> Atom
     requires { length args.now ≤ 6 }
 {
-    match Atom::new(pred, args) {
-        Some(atom) => atom,
-        None => unreachable!(),
-    }
+    Atom::of(pred, args)
 }
 
-/// The operator of that number with these terms.
+/// Returns the operator of that number with these terms.
 pub fn instance(op: u32, args: &[Term]) -> OpInst
     requires { length args.now ≤ 8 }
 {
@@ -36,7 +33,7 @@ pub fn instance(op: u32, args: &[Term]) -> OpInst
     }
 }
 
-/// The literal that asserts the atom.
+/// Returns the literal that asserts the atom.
 pub fn yes(atom: Atom) -> Lit {
     Lit {
         positive: true,
@@ -44,7 +41,7 @@ pub fn yes(atom: Atom) -> Lit {
     }
 }
 
-/// The literal that denies the atom.
+/// Returns the literal that denies the atom.
 pub fn no(atom: Atom) -> Lit {
     Lit {
         positive: false,
@@ -52,7 +49,7 @@ pub fn no(atom: Atom) -> Lit {
     }
 }
 
-/// Adds the axiom of these literals, over that many variables. None where it isn't one.
+/// Adds the axiom of these literals, over that many variables. Returns `None` where it isn't one.
 pub fn add_axiom(axioms: &mut ClauseArena, vars: u32, lits: &[Lit]) -> Option<()> {
     if !are_plain_below(vars, lits) {
         return None;
@@ -63,7 +60,7 @@ pub fn add_axiom(axioms: &mut ClauseArena, vars: u32, lits: &[Lit]) -> Option<()
     }
 }
 
-/// The operator of that number and that many parameters, with its preconditions, deletions and additions.
+/// Returns the operator of that number and that many parameters, with its preconditions, deletions and additions.
 pub fn schema(
     alloc: Global,
     (op, params): (u32, u32),
@@ -80,7 +77,7 @@ pub fn schema(
     })
 }
 
-/// The problem of that many objects, with predicates of these numbers of arguments, these axioms and these operators.
+/// Returns the problem of that many objects, with predicates of these numbers of arguments, these axioms and these operators.
 pub fn problem_of<const N: usize>(
     alloc: Global,
     objects: u32,
@@ -99,7 +96,7 @@ pub fn problem_of<const N: usize>(
     })
 }
 
-/// The model of the atoms. None where one has a variable.
+/// Returns the model of the atoms, or `None` where one has a variable.
 pub fn model_of(alloc: Global, atoms: &[Atom]) -> Option<Model> {
     let mut model = Model::new(alloc);
     for atom in atoms {

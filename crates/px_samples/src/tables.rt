@@ -7,7 +7,7 @@ use px_table::{Mark, Row, Table};
 use px_terms::{Atom, Term};
 use std::alloc::Global;
 
-/// The atom as it is given at first or, where the column isn't 0, as the add of that index of that step.
+/// Returns the atom as it is given at first or, where the column isn't 0, as the add of that index of that step.
 pub fn fact(column: u32, index: u32, atom: Atom) -> Proof {
     Proof::Fact(Leaf {
         column,
@@ -16,7 +16,7 @@ pub fn fact(column: u32, index: u32, atom: Atom) -> Proof {
     })
 }
 
-/// The mark of such an atom in that row.
+/// Returns the mark of such an atom in that row.
 pub fn mark(row: u32, column: u32, index: u32, atom: Atom) -> Mark {
     Mark {
         atom,
@@ -26,7 +26,7 @@ pub fn mark(row: u32, column: u32, index: u32, atom: Atom) -> Mark {
     }
 }
 
-/// The literal at that place of the axiom of that number, by proofs of the complements of the others.
+/// Returns the literal at that place of the axiom of that number, by proofs of the complements of the others.
 pub fn by_axiom<const N: usize>(
     alloc: Global,
     (clause, place): (u32, u32),
@@ -41,7 +41,7 @@ pub fn by_axiom<const N: usize>(
     })
 }
 
-/// The row of these proofs.
+/// Returns the row of these proofs.
 pub fn row<const N: usize>(alloc: Global, proofs: [Proof; N]) -> Option<Row> {
     Some(Row::from_proofs(Vec::from_array(alloc, proofs).ok()?))
 }
@@ -49,7 +49,7 @@ pub fn row<const N: usize>(alloc: Global, proofs: [Proof; N]) -> Option<Row> {
 /// The room where the robot is, the door through which it goes and the room to which, the box, the door through which it is pushed
 /// and the room to which.
 #[derive(Clone, Copy)]
-pub struct Scene {
+pub struct RoomScene {
     /// The robot's room at first.
     pub here: Term,
     /// The door from there.
@@ -64,9 +64,9 @@ pub struct Scene {
     pub end: Term,
 }
 
-/// R1, D1, R2, B1, and back by D1 to R1.
-pub fn objects() -> Scene {
-    Scene {
+/// Returns R1, D1, R2, B1, and back by D1 to R1.
+pub fn objects() -> RoomScene {
+    RoomScene {
         here: Term::Obj(1),
         door: Term::Obj(4),
         there: Term::Obj(2),
@@ -76,9 +76,9 @@ pub fn objects() -> Scene {
     }
 }
 
-/// The parameters p1 to p6.
-pub fn parameters() -> Scene {
-    Scene {
+/// Returns the parameters p1 to p6.
+pub fn parameters() -> RoomScene {
+    RoomScene {
         here: Term::Var(0),
         door: Term::Var(1),
         there: Term::Var(2),
@@ -88,14 +88,14 @@ pub fn parameters() -> Scene {
     }
 }
 
-/// The second door leads from where the box is, by the axiom from its leading there.
-fn the_other_way(alloc: Global, scene: Scene) -> Option<Proof> {
+/// Returns the proof that the second door leads from where the box is, by the axiom from its leading there.
+fn the_other_way(alloc: Global, scene: RoomScene) -> Option<Proof> {
     let there = connects(scene.back, scene.end, scene.there);
     let theta = [scene.back, scene.end, scene.there];
     by_axiom(alloc, (0, 1), &theta, [fact(0, 0, there)])
 }
 
-fn moving_rows(alloc: Global, scene: Scene) -> Option<Sequence<Row>> {
+fn moving_rows(alloc: Global, scene: RoomScene) -> Option<Sequence<Row>> {
     let robot_at_first = fact(0, 0, is_in(ROBOT, scene.here));
     let door = fact(0, 0, connects(scene.door, scene.here, scene.there));
     let box_at_first = fact(0, 0, is_in(scene.cargo, scene.there));
@@ -111,7 +111,7 @@ fn moving_rows(alloc: Global, scene: Scene) -> Option<Sequence<Row>> {
     Some(Sequence::from_vec(Vec::from_array(alloc, rows).ok()?))
 }
 
-fn moving_marks(scene: Scene) -> [Mark; 7] {
+fn moving_marks(scene: RoomScene) -> [Mark; 7] {
     [
         mark(1, 0, 0, is_in(ROBOT, scene.here)),
         mark(1, 0, 0, connects(scene.door, scene.here, scene.there)),
@@ -123,9 +123,9 @@ fn moving_marks(scene: Scene) -> [Mark; 7] {
     ]
 }
 
-/// The table of that many parameters that goes through the scene's door and pushes the box through its door back, so that some box is
-/// there.
-pub fn moving(alloc: Global, params: u32, scene: Scene) -> Option<Table> {
+/// Returns the table of that many parameters that goes through the scene's door and pushes the box through its door back, so that some box
+/// is there.
+pub fn moving(alloc: Global, params: u32, scene: RoomScene) -> Option<Table> {
     let steps = [
         instance(0, &[scene.door, scene.here, scene.there]),
         instance(1, &[scene.cargo, scene.back, scene.there, scene.end]),

@@ -1,5 +1,5 @@
 -- The atoms of a line without a fault are the problem's, and their variables are numbered in the order in which they first occur.
-use Rattle.px_script.proofs.Common.{Argument, SignedAtom, named, open_variable, anything, is_variable, is_empty, Statement, Line, Manner, patterns, line_of, Declared, number_in, parameters_here, with_variable, variables_of, term_of, atom_of, is_known_argument, takes, varies, varies_too_early, own_problem, variable_in, first_occurrences, AreNumbered, ◌≡◌, ℕ, suc, ◌+◌, ◌<◌, ◌≤◌, Bool, true, false, not, ◌&&◌, ◌||◌, ◌==◌, List, [], ◌∷◌, ◌++◌, map, length, refl, sym, ap, ◌∙◌, subst, arith, append_assoc, append-nil, eqb-true, length-append, nat_lt, All, fold, slice_index, list_any, flat_map, filter, filter_map, range_with_len, slice_index_or, nat_tests, not-false, or_parts, length-map, map-append, All-map, both_answers, has_name, Term, Obj, Var, Any, HasArity, IsTermOf, IsPatternTermOf, IsAtomOf, IsPatternOf, filter_agree, list_any_none}
+use Rattle.px_script.proofs.Common.{Argument, SignedAtom, named, open_variable, anything, is_variable, is_empty, Statement, Line, Manner, patterns, line_of, Declared, number_in, parameters_here, with_variable, variable_names_of, term_of, atom_of, is_known_argument, takes, varies, varies_too_early, own_problem, variable_in, first_occurrences, AreNumbered, ◌≡◌, ℕ, suc, ◌+◌, ◌<◌, ◌≤◌, Bool, true, false, not, ◌&&◌, ◌||◌, ◌==◌, List, [], ◌∷◌, ◌++◌, map, length, refl, sym, ap, ◌∙◌, subst, arith, append_assoc, append-nil, eqb-true, length-append, nat_lt, All, fold, slice_index, list_any, flat_map, filter, filter_map, range_with_len, slice_index_or, nat_tests, not-false, or_parts, length-map, map-append, All-map, both_answers, has_name, Term, Obj, Var, Any, HasArity, IsTermOf, IsPatternTermOf, IsAtomOf, IsPatternOf, filter_agree, list_any_none}
 use Rattle.px_script.specs.Forms as forms
 use Rattle.px_script.proofs.Lists.{by_test, each-fails, list_any_flat, number-below, number-kept, number-new, known-still, known-last}
 use Rattle.px_script.proofs.Faultless.{IsRight}
@@ -116,12 +116,12 @@ args-of d variables (x ∷ xs) =
     ∙ sym (map-append (term_of (parameters_here d) variables d.names.objects) x.atom.arguments (arguments_of xs))
 
 pub numbered : (d : Declared) (xs : List SignedAtom) → parameters_here d ≡ []
-    → AreNumbered (length (variables_of xs)) (map (atom_of d (variables_of xs)) xs)
+    → AreNumbered (length (variable_names_of xs)) (map (atom_of d (variable_names_of xs)) xs)
 numbered d xs none =
-    ap (λ t. first_occurrences (filter_map variable_in t)) (args-of d (variables_of xs) xs
-    ∙ ap (λ ps. map (term_of ps (variables_of xs) d.names.objects) (arguments_of xs)) none)
-    ∙ sym (filter-whole (first_occurrences (occurrences d.names.objects (variables_of xs) (arguments_of xs))))
-    ∙ numbered-from d.names.objects (arguments_of xs) [] (variables_of xs) (variables_of xs) refl refl
+    ap (λ t. first_occurrences (filter_map variable_in t)) (args-of d (variable_names_of xs) xs
+    ∙ ap (λ ps. map (term_of ps (variable_names_of xs) d.names.objects) (arguments_of xs)) none)
+    ∙ sym (filter-whole (first_occurrences (occurrences d.names.objects (variable_names_of xs) (arguments_of xs))))
+    ∙ numbered-from d.names.objects (arguments_of xs) [] (variable_names_of xs) (variable_names_of xs) refl refl
 
 -- arguments without variables
 variables-none : (arguments : List Argument) → list_any is_variable arguments ≡ false → fold with_variable [] arguments ≡ []
@@ -195,7 +195,7 @@ module _ (d : Declared) (predicates : length d.arities ≡ length d.names.predic
 
 -- the atoms of a line are these
 pub record HasAtoms (l : Line) (xs : List SignedAtom) : Type 0 where
-  pub atoms : forms.atoms_of l ≡ xs ++ []
+  pub atoms : forms.line_atoms l ≡ xs ++ []
   pub arguments : forms.arguments_of l ≡ arguments_of xs ++ []
 
 of-items : {A : Type 0} (p : A → Bool) (all xs : List A) → all ≡ xs ++ [] → list_any p all ≡ false → list_any p xs ≡ false
@@ -205,9 +205,9 @@ pub atoms-right : (d : Declared) (s : Statement) (xs : List SignedAtom) → HasA
     → AreRight d (line_of s).manner xs
 atoms-right d s xs has right = let outer = or_parts _ _ right.known in let inner = or_parts _ _ outer.0 in
     record {
-      declared = of-items _ (forms.atoms_of (line_of s)) xs has.atoms inner.0;
+      declared = of-items _ (forms.line_atoms (line_of s)) xs has.atoms inner.0;
       known = of-items _ (forms.arguments_of (line_of s)) (arguments_of xs) has.arguments inner.1;
-      arity = of-items _ (forms.atoms_of (line_of s)) xs has.atoms right.arity;
+      arity = of-items _ (forms.line_atoms (line_of s)) xs has.atoms right.arity;
       bound = of-items _ (forms.arguments_of (line_of s)) (arguments_of xs) has.arguments right.bound;
     }
 
@@ -217,7 +217,7 @@ empty-length (x ∷ xs) e = absurd (omega (arith, e))
 
 -- there are no variables where there is no object
 pub no-variables : (d : Declared) (l : Line) (xs : List SignedAtom) → HasAtoms l xs → varies_too_early d l ≡ false
-    → length d.names.objects ≡ 0 → length (variables_of xs) ≡ 0
+    → length d.names.objects ≡ 0 → length (variable_names_of xs) ≡ 0
 no-variables d l xs has early none =
     let still : (varies l && true) ≡ false = ap (λ b. varies l && b) (sym (empty-length d.names.objects none)) ∙ early in
     let plain = or_parts (list_any is_variable (forms.arguments_of l)) _ (and-true (varies l) still) in
@@ -246,14 +246,14 @@ module _ (d : Declared) (r : AreInRange d) (xs : List SignedAtom) where
 
   -- atoms with variables, numbered as they occur, and without a wild card
   pub atoms-open : parameters_here d ≡ [] → (manner : Manner) → takes d manner anything ≡ false → AreRight d manner xs
-      → All (IsAtomOf (own_problem d) (length (variables_of xs))) (map (atom_of d (variables_of xs)) xs)
+      → All (IsAtomOf (own_problem d) (length (variable_names_of xs))) (map (atom_of d (variable_names_of xs)) xs)
   atoms-open none manner wild right =
-      let here : length (parameters_here d) ≤ length (variables_of xs) = omega (arith, ap length none) in
-      atoms-are d r.problem.predicates (variables_of xs) (length (variables_of xs)) (is_listed (variables_of xs))
-      (IsTermOf (own_problem d) (length (variables_of xs)))
+      let here : length (parameters_here d) ≤ length (variable_names_of xs) = omega (arith, ap length none) in
+      atoms-are d r.problem.predicates (variable_names_of xs) (length (variable_names_of xs)) (is_listed (variable_names_of xs))
+      (IsTermOf (own_problem d) (length (variable_names_of xs)))
       (record { object = λ k b. b; variable = λ k b. b; wild = λ e. cc; bound = λ v e. e; parameters = here; few = omega arith })
       xs right
-      (listed-in (arguments_of xs) [] (variables_of xs) refl (list_any_none _ (arguments_of xs)
+      (listed-in (arguments_of xs) [] (variable_names_of xs) refl (list_any_none _ (arguments_of xs)
       (each-fails _ _ term-only (arguments_of xs) right.bound)))
     where
       term-only : (a : Argument) → not (takes d manner a) ≡ false → not (is_term a) ≡ false

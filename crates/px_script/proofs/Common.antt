@@ -19,24 +19,23 @@ pub use Rattle.unicode_ident.proofs.IdentLemmas.{is_xid_start-ascii, is_xid_cont
 pub use Rattle.px_base.specs.Answers.{both_answers, cons_same, some_same}
 pub use Rattle.px_base.specs.ListLaws.{All-at, All-each, AllByRecursion-map}
 pub use Rattle.px_base.specs.SetLaws.{set_of-is_sorted, set_of-members}
-pub use Rattle.px_script.specs.Common.{NameLists, has_name, AreDistinct, IsBoxAt, IsDoorAt, IsRoomAt, StandsRight, first_state, rendering, standings, IsBuilding, IsDoorOrNone, thing_at, Atom, Problem, Schema, Term, Obj, Var, Any, atom_set, IsTermOf, IsPatternTermOf, IsAtomOf, Thing, building_problem, robot_name}
+pub use Rattle.px_script.specs.Common.{Clause, NameLists, has_name, AreDistinct, IsBoxAt, IsDoorAt, IsRoomAt, StandsRight, first_state, rendering, standings, IsBuilding, IsDoorOrNone, thing_at, Atom, Problem, Schema, Term, Obj, Var, Any, atom_set, IsTermOf, IsPatternTermOf, IsAtomOf, Thing, building_problem, robot_name}
 pub use Rattle.px_names.specs.Name.{starts_name}
 pub use Rattle.px_names.specs.NameLaws.{bytes_eq-itself, has_name-decides}
 pub use Rattle.px_rooms.specs.declared.standing.Standing.{Standing}
 pub use Rattle.px_rooms.specs.declared.standing.Standing.TheVariants.{Room as a_room, Door as a_door, Box as a_box}
 pub use Rattle.px_rooms.specs.States.{robot_rooms, building_rules}
 pub use Rattle.px_rooms.proofs.Starting.{robots-more, standings-more}
-pub use Rattle.px_terms.specs.declared.clause.Clause.{Clause}
 pub use Rattle.px_terms.specs.Order.{atom_cmp}
 pub use Rattle.px_terms.specs.OrderLaws.{atom_cmp-total, atom_cmp-same}
 pub use Rattle.px_terms.specs.Validity.{HasArity, IsPatternOf, IsSchemaOf, IsAxiomOf}
 pub use Rattle.px_script.specs.Lexemes.{Lexeme, name, number, sign, Lexes, variable, is_blank, is_sign, goes_on, is_comment, IsLexeme, ends_before, Begins, IsIgnored, number_value}
 pub use Rattle.px_script.specs.Lines.{lines_of}
-pub use Rattle.px_script.specs.Items.{SignedAtom, is_empty, Named, Sign, WrittenRoomEdit, Binding, bare, robot_to, box_to, door_to, is_parameter_number, wanted_by_edit, an_object, Argument, named, open_variable, anything, is_variable, WrittenAtom, spell, spell_argument, spell_sign, spell_atom, spell_room_edit, spell_binding, is_filled, parameter_name, open_word, with_commas, in_parentheses, negated, added, removed}
+pub use Rattle.px_script.specs.Items.{SignedAtom, is_empty, Named, Sign, WrittenRoomEdit, Binding, bare, robot_to, box_to, door_to, is_parameter_number, wanted_by_edit, an_object, Argument, named, open_variable, anything, is_variable, WrittenAtom, spell, spell_argument, spell_sign, spell_atom, spell_room_edit, spell_binding, is_filled, parameter_name, open_word, with_commas, parenthesised, negated, added, removed}
 pub use Rattle.px_script.specs.Statements.{Statement, Block, plain, inside, operator_block, building_block, line_of, script, object, predicate, «axiom», operator, pre, delete, add, building, room, door, box, robot, end, fact, height, nodes, shapes, plan, learn, show, disturb_atoms, disturb_rooms, run, facts, literals, goals, atom_changes, Line, Place, Manner, patterns, spelling, time_word}
 pub use Rattle.px_script.specs.Limits.{greatest, of_height, of_nodes, of_shapes, of_version, Bounds, of_turn, is_word}
 pub use Rattle.px_script.specs.Commands.{Command, Show, Facts, Plan, Learn, DisturbAtoms, DisturbRooms, Run}
-pub use Rattle.px_script.specs.Declarations.{Declared, Roles, OpenBlock, BlockKind, OpenOperator, of_operator, of_building, block_here, kind_of_block, number_in, atom_of, nothing_declared, after_line, predicate_names, predicate_arities, operator_names, operator_here, parameters_here, parameters_of, names_here, variables_of, literal_of, clause_of, atom_edit_of, edit_by, room_edit_of, binding_of, declared_by, with_variable, term_of, has_building}
+pub use Rattle.px_script.specs.Declarations.{Declared, Roles, OpenBlock, BlockKind, OpenOperator, of_operator, of_building, block_here, kind_of_block, number_in, atom_of, nothing_declared, after_line, predicate_names, predicate_arities, operator_names, operator_here, parameters_here, parameters_of, names_here, variable_names_of, literal_of, clause_of, atom_edit_of, edit_by, room_edit_of, binding_of, declared_by, with_variable, term_of, has_building}
 pub use Rattle.px_script.specs.Content.{ScriptValue, own_problem, content_of}
 pub use Rattle.px_script.specs.Forms.{is_formed, Forms, begins_with_word, is_signed, is_of_script}
 pub use Rattle.px_script.specs.Stages.{Stage, whole_language, is_built, is_unbuilt, stage_now}

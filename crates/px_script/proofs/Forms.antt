@@ -1,5 +1,5 @@
 -- The parser reads exactly the forms of lines: each spelling back, and nothing else.
-use Rattle.px_script.proofs.Common.{decimal, Lexeme, name, number, sign, Argument, Sign, WrittenAtom, SignedAtom, WrittenRoomEdit, named, bare, robot_to, door_to, spell, spell_argument, spell_sign, spell_atom, spell_room_edit, spell_binding, is_filled, is_parameter_number, parameter_name, open_word, with_commas, in_parentheses, Statement, Line, line_of, script, object, «axiom», operator, pre, delete, add, building, room, door, robot, end, fact, height, nodes, shapes, show, disturb_atoms, disturb_rooms, run, facts, spelling, time_word, is_word, Declared, has_building, Forms, begins_with_word, is_formed, is_signed, is_of_script, ◌≡◌, ℕ, zero, suc, ◌<◌, ◌≤◌, Bool, true, false, cond, not, ◌==◌, List, [], ◌∷◌, ◌++◌, map, length, drop, refl, sym, ap, ◌∙◌, subst, arith, append_assoc, append-nil, eqb-true, length-append, ltb-true, nat_lt, Option, None, Some, codes, list_all, flat_map, option_map, option_and_then, IfSome, bytes_eq, digits_value, and_parts, not-true, bytes_eq-Decides}
+use Rattle.px_script.proofs.Common.{decimal, Lexeme, name, number, sign, Argument, Sign, WrittenAtom, SignedAtom, WrittenRoomEdit, named, bare, robot_to, door_to, spell, spell_argument, spell_sign, spell_atom, spell_room_edit, spell_binding, is_filled, is_parameter_number, parameter_name, open_word, with_commas, parenthesised, Statement, Line, line_of, script, object, «axiom», operator, pre, delete, add, building, room, door, robot, end, fact, height, nodes, shapes, show, disturb_atoms, disturb_rooms, run, facts, spelling, time_word, is_word, Declared, has_building, Forms, begins_with_word, is_formed, is_signed, is_of_script, ◌≡◌, ℕ, zero, suc, ◌<◌, ◌≤◌, Bool, true, false, cond, not, ◌==◌, List, [], ◌∷◌, ◌++◌, map, length, drop, refl, sym, ap, ◌∙◌, subst, arith, append_assoc, append-nil, eqb-true, length-append, ltb-true, nat_lt, Option, None, Some, codes, list_all, flat_map, option_map, option_and_then, IfSome, bytes_eq, digits_value, and_parts, not-true, bytes_eq-Decides}
 use Rattle.std.proofs.lemmas.Fmt.{decimal_is_IsNumeral}
 use Rattle.std.proofs.lemmas.Option.{IfSome_then}
 use Rattle.px_script.specs.Forms as spec
@@ -101,7 +101,7 @@ items-again a [] rest = rw argument-again refl
 items-again a (b ∷ more) rest = rw (argument-again a, items-again b more rest) refl
 
 arguments-again : (items : List Argument) (rest : List Lexeme) → not_open rest ≡ true
-    → items_at argument_of (in_parentheses (map spell_argument items) ++ rest) ≡ Some (items, rest)
+    → items_at argument_of (parenthesised (map spell_argument items) ++ rest) ≡ Some (items, rest)
 arguments-again [] (sign s ∷ rest) closed = rw (not-true (s == 40) closed) refl
 arguments-again [] _ closed = refl
 arguments-again (a ∷ more) rest closed = rw append_assoc (items-again a more rest)
@@ -125,12 +125,12 @@ items-sound _ = tt
 
 -- items in parentheses, or none
 arguments-sound : (lexemes : List Lexeme)
-    → IfSome (items_at argument_of lexemes) (λ r. lexemes ≡ in_parentheses (map spell_argument r.0) ++ r.1)
+    → IfSome (items_at argument_of lexemes) (λ r. lexemes ≡ parenthesised (map spell_argument r.0) ++ r.1)
 arguments-sound (sign s ∷ rest) = if-there _ _ _ (s == 40)
     (λ e. IfSome_then (items_after argument_of rest) (items-sound rest) (λ r read. opened e r.0 r.1 read)) (λ e. refl)
   where
     opened : (s == 40) ≡ true → (items : List Argument) (after : List Lexeme) → AreRead rest items after
-        → sign s ∷ rest ≡ in_parentheses (map spell_argument items) ++ after
+        → sign s ∷ rest ≡ parenthesised (map spell_argument items) ++ after
     opened e [] after read = absurd read
     opened e (b ∷ more) after read = rw (eqb-true s 40 e, read, append_assoc) refl
 arguments-sound _ = refl
@@ -139,7 +139,7 @@ names-spelled : (ns : List (List ℕ)) → (map spell_argument (map named ns) �
 names-spelled [] = (refl, refl)
 names-spelled (n ∷ ns) = let more = names-spelled ns in (ap (λ t. name n ∷ t) more.0, rw more.1 refl)
 
-parameters-again : (ps : List (List ℕ)) → names_at (in_parentheses (map name ps) ++ []) ≡ Some (ps, [])
+parameters-again : (ps : List (List ℕ)) → names_at (parenthesised (map name ps) ++ []) ≡ Some (ps, [])
 parameters-again ps = let both = names-spelled ps in rw (← both.0, arguments-again (map named ps) [] refl, both.1) refl
 
 names-among-sound : (arguments : List Argument) → IfSome (names_among arguments) (λ ns. map spell_argument arguments ≡ map name ns)
@@ -147,9 +147,9 @@ names-among-sound [] = refl
 names-among-sound (named n ∷ more) = map-there _ _ (names_among more) (names-among-sound more) (λ ns is. ap (λ t. name n ∷ t) is)
 names-among-sound _ = tt
 
-names-at-sound : (lexemes : List Lexeme) → IfSome (names_at lexemes) (λ r. lexemes ≡ in_parentheses (map name r.0) ++ r.1)
+names-at-sound : (lexemes : List Lexeme) → IfSome (names_at lexemes) (λ r. lexemes ≡ parenthesised (map name r.0) ++ r.1)
 names-at-sound lexemes = then-there _ _ (items_at argument_of lexemes) (arguments-sound lexemes) (λ front is.
-    map-there _ _ (names_among front.0) (names-among-sound front.0) (λ ns names. is ∙ ap (λ t. in_parentheses t ++ front.1) names))
+    map-there _ _ (names_among front.0) (names-among-sound front.0) (λ ns names. is ∙ ap (λ t. parenthesised t ++ front.1) names))
 
 names-again : (ns : List (List ℕ)) → names_of (map name ns ++ []) ≡ Some ns
 names-again [] = refl
@@ -197,7 +197,7 @@ room-edits-back =
     begins (robot_to r) rest = (refl, omega arith)
     begins _ rest = (refl, omega arith)
 
--- a parameter's name tells its number
+-- a parameter's name gives its number
 parameter-again : (k : ℕ) → is_parameter_number k ≡ true → parameter_of (parameter_name k) ≡ Some k
 parameter-again k good = let below : k < 10000 = ltb-true k 10000 (and_parts (nat_lt 0 k) (nat_lt k 10000) good).1 in
     let value : digits_value 10 (decimal k) ≡ k = (decimal_is_IsNumeral k (omega (arith, below))).1 in
@@ -256,7 +256,7 @@ binding-sound _ = tt
 abbrev IsSpelled : List ℕ → List Lexeme → Option Statement → Type 0
 IsSpelled w rest read = IfSome read (λ s. name w ∷ rest ≡ spelling s)
 
--- What is read of lexemes is told by what is read of each that they may be: P is what has to be so of them and of what is read.
+-- What is read of lexemes is determined by what is read of each that they may be: P is what has to be so of them and of what is read.
 module _ {A : Type 0} (P : List Lexeme → A → Type 0) where
   named-there : (f : List ℕ → List Lexeme → Option A) → ((n : List ℕ) (more : List Lexeme) → IfSome (f n more) (P (name n ∷ more)))
       → (rest : List Lexeme) → IfSome (after_name f rest) (P rest)
@@ -288,7 +288,7 @@ module _ {A : Type 0} (P : List Lexeme → A → Type 0) where
 operator-sound : (rest : List Lexeme) → IsSpelled (codes "operator") rest (operator_form rest)
 operator-sound (name n ∷ rest) = then-there _ _ (names_at rest) (names-at-sound rest) (λ items is. at-end items.0 items.1 is)
   where
-    at-end : (ps : List (List ℕ)) (after : List Lexeme) → rest ≡ in_parentheses (map name ps) ++ after
+    at-end : (ps : List (List ℕ)) (after : List Lexeme) → rest ≡ parenthesised (map name ps) ++ after
         → IsSpelled (codes "operator") (name n ∷ rest) (at_end (operator n ps, after))
     at-end ps [] is = ap (λ t. name (codes "operator") ∷ name n ∷ t) is
     at-end ps _ is = tt
@@ -343,12 +343,12 @@ rest-sound with_building w rest =
 pub record IsWellFormed (d : Declared) (l : Line) : Type 0 where
   pub word : is_word d.version l.word ≡ true
   pub filled : list_all is_filled l.items ≡ true
-  pub signs : list_all (λ x. is_signed l.manner x.sign) (spec.atoms_of l) ≡ true
+  pub signs : list_all (λ x. is_signed l.manner x.sign) (spec.line_atoms l) ≡ true
   pub of_script : is_of_script d l.manner ≡ true
 
 pub well-formed : (d : Declared) (l : Line) → is_formed d l ≡ true → IsWellFormed d l
 well-formed d l formed = let a = and_parts _ (is_of_script d l.manner) formed in
-    let b = and_parts _ (list_all (λ x. is_signed l.manner x.sign) (spec.atoms_of l)) a.0 in
+    let b = and_parts _ (list_all (λ x. is_signed l.manner x.sign) (spec.line_atoms l)) a.0 in
     let c = and_parts (is_word d.version l.word) (list_all is_filled l.items) b.0 in
     record { word = c.0; filled = c.1; signs = b.1; of_script = a.1 }
 

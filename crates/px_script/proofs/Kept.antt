@@ -8,7 +8,7 @@ use Rattle.px_script.specs.Limits as limit
 use Rattle.px_script.proofs.Atoms.{atoms-right, atoms-with, patterns-with, AreRight}
 use Rattle.px_script.proofs.Buildings.{rooms-kind, doors-kind, boxes-kind, IsKind, AreOfKind, kind-known, kind-more, roles-kept, standing-more, robots-none, robots-some, is-building}
 use Rattle.px_script.proofs.Commands.{commands-moved}
-use Rattle.px_script.proofs.Faultless.{IsFaultless, no-fault, stage-takes-away}
+use Rattle.px_script.proofs.Faultless.{IsFaultless, no-fault, only-takes-away, stage-takes-away}
 use Rattle.px_script.proofs.Forms.{IsWellFormed, well-formed}
 use Rattle.px_script.proofs.KeptLines.{no-own, settings-kept, in-bounds, still-none, carried, Keeps, object-kept, predicate-kept, axiom-kept, fact-kept, operator-kept, show-kept, facts-kept, disturb-atoms-kept, disturb-rooms-kept, run-kept, learn-kept, plan-kept}
 use Rattle.px_script.proofs.Lists.{at-most, each-fails, same-number, at-name, is-new, each-pushed}
@@ -415,3 +415,5 @@ module _ (stage : Stage) where
       let r = lines-keep stage AreOfStage (λ n d s r formed none. line-of-stage n d r s (not-false _ (no-fault stage d s none).0))
       1 nothing_declared (lines_of bytes) is.last (record { building = λ is. cc; commands = All-nil _ }) is.spells.lines in
       subst (IsOfStage stage) (sym is.is) (record { building = r.building; commands = r.commands })
+
+pub ruleset stages_take_away = (only-takes-away, script-there)

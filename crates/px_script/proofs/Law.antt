@@ -72,7 +72,7 @@ abbrev pub text_read : Stage → List ℕ → Reading
 text_read stage bytes = if is_utf8 bytes then and_then (lines_read stage 1 nothing_declared (map scan (lines_of bytes))) ended
     else fails (1 + count_by (λ b. b == 10) (take (utf8_valid_len bytes) bytes)) (coded 1)
 
--- ---- a scan tells the reading of a line
+-- ---- a scan determines the reading of a line
 
 scan-complete : (n : ℕ) (xs : List Lexeme) (line : List ℕ) → Lexes line xs → length line < n → scan_by n line ≡ Some xs
 unfolding scan_by

@@ -9,7 +9,7 @@ use Rattle.px_script.specs.Items.{Named, Argument, named, open_variable, anythin
 use Rattle.px_script.specs.Statements.{Line, Place, Block, Manner, first, opens, inside, closes, command, operator_block, building_block, table_steps, table_rows, patterns, literals, goals, table_terms, table_goals}
 use Rattle.px_script.specs.Limits.{greatest, name_bytes, variables}
 use Rattle.px_script.specs.Declarations.{Declared, has_building, block_here, names_here, declared_by, excludes_building, parameters_here, table_parameters_here, number_in}
-use Rattle.px_script.specs.Forms.{atoms_of, arguments_of}
+use Rattle.px_script.specs.Forms.{line_atoms, arguments_of}
 
 -- the six cases of a line that is out of order
 
@@ -28,7 +28,7 @@ same_block table_steps table_steps = true
 same_block table_rows table_rows = true
 same_block _ _ = false
 
--- the line may stand where this block is open, or none
+-- the line may stand where this block is open, or no block
 abbrev pub may_stand : Option Block → Place → Bool
 may_stand None (inside block) = false
 may_stand None closes = false
@@ -76,17 +76,17 @@ abbrev pub is_known_argument : Declared → Argument → Bool
 is_known_argument d (named n) = has_name n d.names.objects || has_name n (parameters_here d)
 is_known_argument d _ = true
 
--- the names outside atoms that are wanted, with their kinds
+-- the names outside atoms that have to be declared before, with their kinds
 abbrev pub wanted_by : Line → List (Named × List ℕ)
 wanted_by l = flat_map wanted_in l.items
 
--- names that no earlier line declared, in the kind that the place wants
+-- names that no earlier line declared, in the kind of their place
 abbrev pub has_unknown_name : Declared → Line → Bool
-has_unknown_name d l = list_any (λ x. not (has_name x.atom.predicate d.names.predicates)) (atoms_of l)
+has_unknown_name d l = list_any (λ x. not (has_name x.atom.predicate d.names.predicates)) (line_atoms l)
     || list_any (λ a. not (is_known_argument d a)) (arguments_of l)
     || list_any (λ w. not (has_name w.1 (names_here d w.0))) (wanted_by l)
 
--- the names that a new one of a kind may not be
+-- the names that a new name of a kind may not be
 abbrev pub taken_here : Declared → Named → List (List ℕ)
 taken_here d a_parameter = d.names.objects
 taken_here d a_room = d.names.objects
@@ -111,17 +111,17 @@ repeats_name d l = list_any (λ group. repeats (taken_here d group.0) group.1) (
 -- arities
 abbrev pub has_wrong_arity : Declared → Line → Bool
 has_wrong_arity d l =
-    list_any (λ x. not (length x.atom.arguments == slice_index d.arities (number_in x.atom.predicate d.names.predicates))) (atoms_of l)
+    list_any (λ x. not (length x.atom.arguments == slice_index d.arities (number_in x.atom.predicate d.names.predicates))) (line_atoms l)
 
 -- the letter directly followed by a number from 1 to this, without a leading zero
 abbrev pub is_numbered_by : ℕ → ℕ → List ℕ → Bool
 is_numbered_by letter most v = list_any (λ k. bytes_eq v (letter ∷ decimal k)) (range_with_len 1 most)
 
--- ?pK, where K is from 1 to how many parameters the table has whose block is open
+-- ?pK, where K is from 1 to the number of parameters of the table whose block is open
 abbrev pub is_table_parameter : Declared → List ℕ → Bool
 is_table_parameter d v = is_numbered_by 112 (table_parameters_here d.block) v
 
--- ?gK, where K is from 1 to how many variables a goal may have
+-- ?gK, where K is from 1 to the number of variables that a goal may have
 abbrev pub is_goal_variable : Declared → List ℕ → Bool
 is_goal_variable d v = is_numbered_by 103 (greatest d.version variables) v
 

@@ -6,6 +6,7 @@ pub use Rattle.px_rooms.specs.States.{first_state, rendering, IsBoxAt, IsBuildin
 pub use Rattle.px_terms.specs.AtomSets.{atom_set, IsAtomSet}
 pub use Rattle.px_terms.specs.Validity.{IsTermOf, IsPatternTermOf, IsAtomOf, IsValid}
 pub use Rattle.px_terms.specs.declared.atom.Atom.{Atom}
+pub use Rattle.px_terms.specs.declared.clause.Clause.{Clause}
 pub use Rattle.px_terms.specs.declared.clause.Lit.{Lit}
 pub use Rattle.px_terms.specs.declared.problem.Problem.{Problem}
 pub use Rattle.px_terms.specs.declared.problem.Schema.{Schema}

@@ -3,8 +3,7 @@ use Rattle.std.specs.Prelude.{ℕ, ◌+◌, Bool, true, false, List, [], ◌∷�
 use Rattle.std.specs.List.{flat_map}
 use Rattle.std.specs.Option.{option_map}
 use Rattle.std.specs.Str.{bytes_eq}
-use Rattle.px_script.specs.Common.{NameLists, no_names, has_name, RoomOperator, RoomPredicate, robot_name, room_operators, room_predicates, Atom, Lit, Schema, Term, Obj, Var, Any, atom_set, AtomEdit, RoomEdit, Thing}
-use Rattle.px_terms.specs.declared.clause.Clause.{Clause}
+use Rattle.px_script.specs.Common.{Clause, NameLists, no_names, has_name, RoomOperator, RoomPredicate, robot_name, room_operators, room_predicates, Atom, Lit, Schema, Term, Obj, Var, Any, atom_set, AtomEdit, RoomEdit, Thing}
 use Rattle.px_world.specs.declared.edits.AtomEdit.TheVariants as atom_edit
 use Rattle.px_world.specs.declared.edits.RoomEdit.TheVariants as room_edit
 use Rattle.px_world.specs.declared.thing.Thing.TheVariants as thing
@@ -44,20 +43,20 @@ pub record Declared : Type 0 where
   pub version : ℕ
   pub names : NameLists
   pub roles : Roles
-  -- those of version 2
+  -- the sorts, which only version 2 has
   pub sorts : List (List ℕ)
   pub arities : List ℕ
   pub axioms : List Clause
   pub schemas : List Schema
-  -- those of the lines `fact`, as a set
+  -- the facts of the lines `fact`, as a set
   pub facts : List Atom
-  -- of the building, if there is one
+  -- the things of the building, if there is one
   pub things : Option (List Thing)
   pub height : Option ℕ
   pub nodes : Option ℕ
   pub shapes : Option ℕ
   pub commands : List Command
-  -- the lines `disturb` since the last `run`
+  -- how many lines `disturb` stood since the last `run`
   pub disturbs : ℕ
   pub block : Option OpenBlock
   -- a line stood that a building excludes
@@ -121,7 +120,7 @@ table_parameters (of_table_steps t) = t.parameters
 table_parameters (of_table_rows t) = t.parameters
 table_parameters _ = 0
 
--- how many parameters the table has whose block is open
+-- how many parameters the table whose block is open has
 abbrev pub table_parameters_here : Option OpenBlock → ℕ
 table_parameters_here None = 0
 table_parameters_here (Some block) = table_parameters block.kind
@@ -146,7 +145,7 @@ with_objects ns d = record d { names = record d.names { objects = d.names.object
 abbrev pub with_results : List (List ℕ) → Declared → Declared
 with_results ns d = record d { names = record d.names { results = d.names.results ++ ns } }
 
--- more names of a kind; parameters are told by their operator
+-- more names of a kind; the names of parameters stand with their operator
 abbrev pub with_names : Named → List (List ℕ) → Declared → Declared
 with_names an_object ns d = with_objects ns d
 with_names a_predicate ns d = record d { names = record d.names { predicates = d.names.predicates ++ ns } }
@@ -183,8 +182,8 @@ abbrev pub with_variable : List (List ℕ) → Argument → List (List ℕ)
 with_variable seen (open_variable v) = if has_name v seen then seen else seen ++ v ∷ []
 with_variable seen _ = seen
 
-abbrev pub variables_of : List SignedAtom → List (List ℕ)
-variables_of xs = fold with_variable [] (flat_map (λ x. x.atom.arguments) xs)
+abbrev pub variable_names_of : List SignedAtom → List (List ℕ)
+variable_names_of xs = fold with_variable [] (flat_map (λ x. x.atom.arguments) xs)
 
 -- the term of an argument: a name is a parameter or an object, and never one of the variables
 abbrev pub term_of : List (List ℕ) → List (List ℕ) → List (List ℕ) → Argument → Term
@@ -206,7 +205,7 @@ abbrev pub literal_of : Declared → List (List ℕ) → SignedAtom → Lit
 literal_of d variables x = record { positive = is_bare x.sign; atom = atom_of d variables x }
 
 abbrev pub clause_of : Declared → List SignedAtom → Clause
-clause_of d xs = record { vars = length (variables_of xs); lits = map (literal_of d (variables_of xs)) xs }
+clause_of d xs = record { vars = length (variable_names_of xs); lits = map (literal_of d (variable_names_of xs)) xs }
 
 abbrev pub edit_by : Sign → Atom → AtomEdit
 edit_by added atom = atom_edit.Add atom
@@ -223,7 +222,7 @@ room_edit_of d (door_to n is_open) = room_edit.Door (number_in n d.names.objects
 abbrev pub binding_of : Declared → Binding → ℕ × ℕ
 binding_of d binding = (binding.parameter, number_in binding.object d.names.objects)
 
--- the schema changed of the operator whose block is open
+-- the schema of the operator whose block is open, changed
 abbrev pub change_schema : (Schema → Schema) → BlockKind → BlockKind
 change_schema change (of_operator o) = of_operator (record o { schema = change o.schema })
 change_schema change kind = kind
@@ -232,7 +231,7 @@ abbrev pub in_schema : (Schema → Schema) → Declared → Declared
 in_schema change d =
     record d { block = option_map {T = OpenBlock} (λ block. record block { kind = change_schema change block.kind }) d.block }
 
--- the block closed: an operator's schema is the script's from its `end` on
+-- the block closed: from its `end` on an operator's schema is the script's
 abbrev pub schema_closed : Option OpenOperator → List Schema
 schema_closed None = []
 schema_closed (Some o) = o.schema ∷ []
@@ -291,7 +290,8 @@ declares n d (fact xs) = record d { facts = atom_set (map (atom_of d []) xs ++ d
 declares n d (height limit) = record d { height = Some limit }
 declares n d (nodes limit) = record d { nodes = Some limit }
 declares n d (shapes limit) = record d { shapes = Some limit }
-declares n d (plan m xs) = with_command (Plan (length d.names.results) (map (atom_of d (variables_of xs)) xs) (length (variables_of xs))) d
+declares n d (plan m xs) =
+    with_command (Plan (length d.names.results) (map (atom_of d (variable_names_of xs)) xs) (length (variable_names_of xs))) d
 declares n d (learn m source) = with_command (Learn (length d.names.results) (number_in source d.names.results)) d
 declares n d (show m) = with_command (Show (number_in m d.names.results)) d
 declares n d (disturb_atoms turn between xs) = with_disturbance (DisturbAtoms turn between (map (atom_edit_of d) xs)) d

@@ -7,7 +7,7 @@ use Rattle.px_script.specs.Items.{SignedAtom, Binding}
 use Rattle.px_script.specs.Statements.{Statement, line_of, script, object, predicate, «axiom», operator, pre, delete, add, building, room, door, box, robot, end, fact, height, nodes, shapes, plan, learn, show, disturb_atoms, disturb_rooms, run, facts}
 use Rattle.px_script.specs.Limits as limit
 use Rattle.px_script.specs.Limits.{Limit, Bounds, greatest, number_of, number_of_numbers, of_version, of_height, of_nodes, of_shapes, of_turn}
-use Rattle.px_script.specs.Declarations.{Declared, OpenOperator, operator_here, has_building, variables_of, atom_of}
+use Rattle.px_script.specs.Declarations.{Declared, OpenOperator, operator_here, has_building, variable_names_of, atom_of}
 use Rattle.px_script.specs.Stages.{Stage, whole_language, is_unbuilt}
 use Rattle.px_script.specs.Causes.{is_out_of_order, has_unknown_name, repeats_name, has_wrong_arity, is_unbound, has_long_name, has_robot}
 
@@ -61,7 +61,8 @@ own_limits d (script version) = outside of_version version ∷ []
 own_limits d (object ns) = over d limit.objects (length d.names.objects + length ns) ∷ []
 own_limits d (predicate p arity) = over d limit.predicates (length d.names.predicates + 1) ∷ over d limit.arity arity ∷ []
 own_limits d («axiom» xs) =
-    over d limit.axioms (length d.axioms + 1) ∷ over d limit.literals (length xs) ∷ over d limit.variables (length (variables_of xs)) ∷ []
+    over d limit.axioms (length d.axioms + 1) ∷ over d limit.literals (length xs) ∷ over d limit.variables (length (variable_names_of xs))
+    ∷ []
 own_limits d (operator o ps) = over d limit.operators (length d.names.operators + 1) ∷ over d limit.parameters (length ps) ∷ []
 own_limits d (pre xs) = over d limit.operator_atoms (grown (operator_here d.block) (λ schema. length schema.pre) xs) ∷ []
 own_limits d (delete xs) = over d limit.operator_atoms (grown (operator_here d.block) (λ schema. length schema.del) xs) ∷ []
@@ -73,7 +74,8 @@ own_limits d (fact xs) = over d limit.facts (length (atom_set (map (atom_of d []
 own_limits d (height n) = outside of_height n ∷ []
 own_limits d (nodes n) = outside of_nodes n ∷ []
 own_limits d (shapes n) = outside of_shapes n ∷ []
-own_limits d (plan n xs) = over d limit.variables (length (variables_of xs)) ∷ over d limit.goal_atoms (length xs) ∷ one_more_command d ∷ []
+own_limits d (plan n xs) =
+    over d limit.variables (length (variable_names_of xs)) ∷ over d limit.goal_atoms (length xs) ∷ one_more_command d ∷ []
 own_limits d (learn n source) = one_more_command d ∷ []
 own_limits d (show n) = one_more_command d ∷ []
 own_limits d (disturb_atoms turn between xs) = disturbance_limits d turn (length xs)
@@ -93,7 +95,7 @@ coded code = record { code = code; limit = 0 }
 abbrev pub passed : Bool × ℕ → Bool × Refusal
 passed test = (test.0, record { code = 8; limit = test.1 })
 
--- the causes of what a line says, in their order, and whether they are there, where this much is built; after them these limits
+-- the causes to refuse a line for what it says, in their order, and whether they are there, where this much is built; then these limits
 abbrev pub causes_with : Stage → Declared → Statement → List (Bool × ℕ) → List (Bool × Refusal)
 causes_with stage d s last = let l = line_of s in
     (is_out_of_order d l, coded 9) ∷ (is_unbuilt stage s, coded 11) ∷ (has_unknown_name d l, coded 4)
@@ -102,7 +104,7 @@ causes_with stage d s last = let l = line_of s in
 abbrev pub causes : Stage → Declared → Statement → List (Bool × Refusal)
 causes stage d s = causes_with stage d s (limits d s)
 
--- the first that is there
+-- the first cause that is there
 abbrev pub first_of : List (Bool × Refusal) → Option Refusal
 first_of [] = None
 first_of (cause ∷ more) = if cause.0 then Some cause.1 else first_of more

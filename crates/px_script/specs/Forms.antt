@@ -7,8 +7,8 @@ use Rattle.px_script.specs.Statements.{Statement, Line, Manner, literals, atom_c
 use Rattle.px_script.specs.Limits.{is_word}
 use Rattle.px_script.specs.Declarations.{Declared, has_building}
 
-abbrev pub atoms_of : Line → List SignedAtom
-atoms_of l = flat_map atoms_in l.items
+abbrev pub line_atoms : Line → List SignedAtom
+line_atoms l = flat_map atoms_in l.items
 
 abbrev pub arguments_of : Line → List Argument
 arguments_of l = flat_map arguments_in l.items
@@ -32,7 +32,7 @@ is_of_script d _ = true
 abbrev pub is_formed : Declared → Line → Bool
 is_formed d l = is_word d.version l.word
     && list_all is_filled l.items
-    && list_all (λ x. is_signed l.manner x.sign) (atoms_of l)
+    && list_all (λ x. is_signed l.manner x.sign) (line_atoms l)
     && is_of_script d l.manner
 
 -- the lexemes are this statement, after these lines

@@ -36,7 +36,7 @@ pub data WrittenRoomEdit : Type 0 where
   box_to : List ℕ → List ℕ → WrittenRoomEdit
   door_to : List ℕ → Bool → WrittenRoomEdit
 
--- the parameter of a table, by its number from 1, and the object's name
+-- a parameter of a table by its number from 1, and the object's name
 pub record Binding : Type 0 where
   pub parameter : ℕ
   pub object : List ℕ
@@ -48,7 +48,7 @@ pub data Item : Type 0 where
   amounts : List ℕ → Item
   -- one or more names that the line declares
   declared : Named → List (List ℕ) → Item
-  -- names that the line declares, in parentheses with commas; nothing where there are none
+  -- names that the line declares, in parentheses with commas; nothing where there are no names
   listed : Named → List (List ℕ) → Item
   -- one or more names that an earlier line declared
   wanted : Named → List (List ℕ) → Item
@@ -58,7 +58,7 @@ pub data Item : Type 0 where
   bindings : List Binding → Item
   -- one or more edits of a building
   room_edits : List WrittenRoomEdit → Item
-  -- These stand in lines of version 2 alone: arguments in parentheses with commas, nothing where there are none; terms in parentheses
+  -- These stand only in lines of version 2: arguments in parentheses with commas, nothing where there are none; terms in parentheses
   -- with commas, () for none; one or more pairs of numbers.
   arguments : List Argument → Item
   terms : List Argument → Item
@@ -80,9 +80,9 @@ with_commas (x ∷ []) = x ∷ []
 with_commas (x ∷ y ∷ more) = x ∷ sign 44 ∷ with_commas (y ∷ more)
 
 -- a list in parentheses, and nothing for the empty list
-abbrev pub in_parentheses : List Lexeme → List Lexeme
-in_parentheses [] = []
-in_parentheses (x ∷ more) = sign 40 ∷ (with_commas (x ∷ more) ++ sign 41 ∷ [])
+abbrev pub parenthesised : List Lexeme → List Lexeme
+parenthesised [] = []
+parenthesised (x ∷ more) = sign 40 ∷ (with_commas (x ∷ more) ++ sign 41 ∷ [])
 
 abbrev pub spell_argument : Argument → Lexeme
 spell_argument (named n) = name n
@@ -96,7 +96,7 @@ spell_sign added = sign 43 ∷ []
 spell_sign removed = sign 45 ∷ []
 
 abbrev pub spell_atom : SignedAtom → List Lexeme
-spell_atom signed = spell_sign signed.sign ++ name signed.atom.predicate ∷ in_parentheses (map spell_argument signed.atom.arguments)
+spell_atom signed = spell_sign signed.sign ++ name signed.atom.predicate ∷ parenthesised (map spell_argument signed.atom.arguments)
 
 abbrev pub open_word : Bool → List ℕ
 open_word true = codes "open"
@@ -124,12 +124,12 @@ abbrev pub spell : Item → List Lexeme
 spell (the word) = name word ∷ []
 spell (amounts ns) = map number ns
 spell (declared kind ns) = map name ns
-spell (listed kind ns) = in_parentheses (map name ns)
+spell (listed kind ns) = parenthesised (map name ns)
 spell (wanted kind ns) = map name ns
 spell (atoms xs) = flat_map spell_atom xs
 spell (bindings bs) = flat_map spell_binding bs
 spell (room_edits es) = flat_map spell_room_edit es
-spell (arguments ts) = in_parentheses (map spell_argument ts)
+spell (arguments ts) = parenthesised (map spell_argument ts)
 spell (terms ts) = sign 40 ∷ (with_commas (map spell_argument ts) ++ sign 41 ∷ [])
 spell (pairs ps) = flat_map spell_pair ps
 
@@ -154,7 +154,7 @@ is_filled (room_edits es) = not (is_empty es)
 is_filled (pairs ps) = not (is_empty ps)
 is_filled _ = true
 
--- what is there for what
+-- what each item is there for
 
 abbrev pub atoms_in : Item → List SignedAtom
 atoms_in (atoms xs) = xs
@@ -177,7 +177,7 @@ wanted_by_edit (robot_to r) = (a_room, r) ∷ []
 wanted_by_edit (box_to b r) = (a_box, b) ∷ (a_room, r) ∷ []
 wanted_by_edit (door_to d is_open) = (a_door, d) ∷ []
 
--- the names outside atoms that an earlier line is to have declared, with their kinds
+-- the names outside atoms that an earlier line has to have declared, with their kinds
 abbrev pub wanted_in : Item → List (Named × List ℕ)
 wanted_in (wanted kind ns) = map (λ n. (kind, n)) ns
 wanted_in (bindings bs) = map (λ b. (an_object, b.object)) bs

@@ -1,3 +1,4 @@
+-- The files of definitions and laws.
 pub mod Common
 -- the definition of a script, in the order in which it reads
 pub mod Lines

@@ -1,4 +1,4 @@
--- That what is read is in range is a fact with one proof at most, so that a type can keep it.
+-- For what is read, being in range is a fact with one proof at most, so that a type can keep it.
 use Rattle.std.proofs.Common.{ap, subst}
 use Rattle.std.specs.Prelude.{◌≡◌, ℕ, Bool, List, Option, None, Some}
 use Rattle.std.proofs.Props.{props}

@@ -17,7 +17,7 @@ pub record AreNamesOf (version : ℕ) (names : List (List ℕ)) : Type 0 where
   pub distinct : AreDistinct names
   pub short : All (λ n. length n ≤ greatest version limit.name_bytes) names
 
--- Each kind is so, and has not too many names.
+-- The names of each kind are like this, and not too many.
 pub record NamesInRange (version : ℕ) (names : NameLists) : Type 0 where
   pub objects : AreNamesOf version names.objects
   pub predicates : AreNamesOf version names.predicates
@@ -57,7 +57,7 @@ pub record ProblemInRange (version : ℕ) (names : NameLists) (problem : Problem
   pub axiom_variables : All (λ clause. AreNumbered clause.vars (map (λ lit. lit.atom) clause.lits)) problem.axioms
   pub short_lists : All (HasShortLists version) problem.schemas
 
--- facts
+-- the facts
 pub record FactsInRange (version : ℕ) (problem : Problem) (building : Option (List Thing)) (facts : List Atom) : Type 0 where
   pub fact_set : IsAtomSet facts
   pub atoms : All (IsAtomOf problem 0) facts
@@ -95,7 +95,7 @@ AreRoomEditsOf (Some things) edits = All (IsAdmitted (first_state things)) edits
 abbrev pub IsWithin : Bounds → ℕ → Type 0
 IsWithin bounds n = (bounds.least ≤ n) × (n ≤ bounds.most)
 
--- the turn of a disturbance and how many edits it has
+-- the turn of a disturbance is in range, and so is the number of its edits
 abbrev pub HasTurn : ℕ → ℕ → ℕ → Type 0
 HasTurn version turn edits = IsWithin of_turn turn × (1 ≤ edits) × (edits ≤ greatest version limit.edits)
 
@@ -140,7 +140,7 @@ plan_given _ = []
 abbrev pub IsAmong : List ℕ → ℕ → Type 0
 IsAmong results n = list_any (λ given. given == n) results ≡ true
 
--- what the command names was given by a command before it, and what it learns from by a plan
+-- what the command names was given by a command before it, and what it learns from was given by a plan
 abbrev pub NamesEarlier : List Command → Command → Type 0
 NamesEarlier before (Learn name source) = IsAmong (flat_map plan_given before) source
 NamesEarlier before (Show name) = IsAmong (flat_map result_given before) name
@@ -154,11 +154,11 @@ disturbs_after n (DisturbRooms turn between edits) = n + 1
 disturbs_after n (Run name bindings) = 0
 disturbs_after n _ = n
 
--- the same after each command
+-- the disturbances since the last run, after each command
 abbrev pub all_disturbs : List Command → List ℕ
 all_disturbs commands = scan disturbs_after disturbs_after 0 commands
 
--- Each result is given once, in the order of the commands, and named by later ones alone.
+-- Each result is given once, in the order of the commands, and named only by later ones.
 pub record CommandsInRange (version : ℕ) (problem : Problem) (building : Option (List Thing)) (results : ℕ) (commands : List Command)
     : Type 0 where
   pub each : All (IsCommandOf version problem building results) commands
@@ -168,7 +168,7 @@ pub record CommandsInRange (version : ℕ) (problem : Problem) (building : Optio
   pub earlier : EachIndex commands (λ k. NamesEarlier (take k commands) (slice_index_or commands k Facts))
 
 -- The problem is valid, each of its numbers has a name, and the facts and commands are over the problem's numbers. All is within the
--- limits. That each name is a name by `IsName` is no part of it: `Names` of px_names keeps that.
+-- limits. That each name is a name by `IsName` is no part of this: `Names` of px_names keeps that.
 pub record IsInRange (script : ScriptValue) : Type 0 where
   pub version : script.version ≡ 1
   pub names : NamesInRange script.version script.names
@@ -191,7 +191,7 @@ word_of Facts = codes "facts"
 abbrev pub IsBuiltCommand : Stage → Command → Type 0
 IsBuiltCommand stage command = is_built stage (word_of command) ≡ true
 
--- The script has built commands alone, and a building only where buildings are built.
+-- The script has only commands that are built, and a building only where buildings are built.
 pub record IsOfStage (stage : Stage) (script : ScriptValue) : Type 0 where
   pub building : is_some script.building ≡ true → is_built stage (codes "building") ≡ true
   pub commands : All (IsBuiltCommand stage) script.commands

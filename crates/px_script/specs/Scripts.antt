@@ -49,7 +49,7 @@ pub record Spells (stage : Stage) (bytes : List ℕ) (script : Declared) : Type 
   pub lines : PassAll stage 1 nothing_declared (lines_of bytes) script
   pub closed : script.block ≡ None
 
--- The bytes are a script about this. Scripts that differ in their lines alone can be about the same.
+-- The bytes are a script about this. Scripts that differ only in their lines can be about the same.
 pub record IsScript (stage : Stage) (bytes : List ℕ) (script : ScriptValue) : Type 0 where
   pub last : Declared
   pub spells : Spells stage bytes last
@@ -61,7 +61,7 @@ FirstFault stage bytes line refusal =
     ((¬ IsUtf8 bytes) × (line ≡ 1 + count_by (λ b. b == 10) (take (utf8_valid_len bytes) bytes)) × (refusal ≡ coded 1))
     ⊎ (IsUtf8 bytes × FailsIn stage 1 nothing_declared (lines_of bytes) line refusal)
 
--- For all bytes exactly one of the two holds, and it determines what it names.
+-- For all bytes exactly one of the two holds, and what it names is determined.
 pub record ReadsOneWay (stage : Stage) (bytes : List ℕ) : Type 0 where
   pub one : ((script : Declared) × Spells stage bytes script) ⊎ ((line : ℕ) × (refusal : Refusal) × FirstFault stage bytes line refusal)
   pub not_both : (script : Declared) (line : ℕ) (refusal : Refusal) → Spells stage bytes script → ¬ FirstFault stage bytes line refusal

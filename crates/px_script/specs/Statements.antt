@@ -21,7 +21,7 @@ pub data Statement : Type 0 where
   plan : List ℕ → List SignedAtom → Statement
   learn : List ℕ → List ℕ → Statement
   show : List ℕ → Statement
-  -- the turn, whether between sensing and acting, and the edits
+  -- the turn, whether the edits come between sensing and acting, and the edits
   disturb_atoms : ℕ → Bool → List SignedAtom → Statement
   disturb_rooms : ℕ → Bool → List WrittenRoomEdit → Statement
   run : List ℕ → List Binding → Statement

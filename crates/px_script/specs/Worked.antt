@@ -10,11 +10,11 @@ use Rattle.px_script.specs.Lines.{mark}
 use Rattle.px_script.specs.Declarations.{predicate_names, operator_names}
 use Rattle.px_script.specs.Stages.{stage_now}
 use Rattle.px_script.specs.Scripts.{IsScript, FirstFault}
-use Rattle.px_script.specs.WorkedLines.{asserted, denied, long_name, numbered}
+use Rattle.px_script.specs.WorkedLines.{asserted, clause, denied, long_name, numbered, schema, words_in}
 
 -- the first fault of the bytes: its line, its code and its limit
-abbrev pub IsRefused : List ℕ → ℕ → ℕ → ℕ → Type 0
-IsRefused bytes line code limit = FirstFault stage_now bytes line (record { code = code; limit = limit })
+abbrev pub IsTextRefused : List ℕ → ℕ → ℕ → ℕ → Type 0
+IsTextRefused bytes line code limit = FirstFault stage_now bytes line (record { code = code; limit = limit })
 
 -- what a script that declares nothing is about
 abbrev pub nothing : ScriptValue
@@ -34,21 +34,21 @@ pub record WorkedScripts : Type 0 where
       ++ codes "operator A(x)\npre P(x)\ndelete Q(x)\nadd R(x)\nend\noperator B(x,y)\npre R(x) Q(y)\nadd G(x)\nend\n"
       ++ codes "fact P(a) Q(b)\nplan N G(a)\nfacts\n") (record nothing {
         names = record {
-          objects = codes "a" ∷ codes "b" ∷ [];
-          predicates = codes "P" ∷ codes "Q" ∷ codes "R" ∷ codes "G" ∷ [];
-          operators = codes "A" ∷ codes "B" ∷ [];
+          objects = words_in (codes "a b");
+          predicates = words_in (codes "P Q R G");
+          operators = words_in (codes "A B");
           results = codes "N" ∷ [];
         };
         problem = record nothing.problem {
           objects = 2;
           arities = 1 ∷ 1 ∷ 1 ∷ 1 ∷ [];
-          schemas = record { op = 0; params = 1; pre = numbered 0 (Var 0 ∷ []) ∷ []; del = numbered 1 (Var 0 ∷ []) ∷ []; add = numbered 2 (Var 0 ∷ []) ∷ [] }
-              ∷ record { op = 1; params = 2; pre = numbered 2 (Var 0 ∷ []) ∷ numbered 1 (Var 1 ∷ []) ∷ []; del = []; add = numbered 3 (Var 0 ∷ []) ∷ [] } ∷ [];
+          schemas = schema 0 1 (numbered 0 (Var 0 ∷ []) ∷ []) (numbered 1 (Var 0 ∷ []) ∷ []) (numbered 2 (Var 0 ∷ []) ∷ [])
+              ∷ schema 1 2 (numbered 2 (Var 0 ∷ []) ∷ numbered 1 (Var 1 ∷ []) ∷ []) [] (numbered 3 (Var 0 ∷ []) ∷ []) ∷ [];
         };
         facts = numbered 0 (Obj 0 ∷ []) ∷ numbered 1 (Obj 1 ∷ []) ∷ [];
         commands = Plan 0 (numbered 3 (Obj 0 ∷ []) ∷ []) 0 ∷ Facts ∷ [];
       })
-  -- Carriage returns, an empty line, comments, tabs, zeros in front of a number, a fact that is told twice, and no line feed at the end.
+  -- Carriage returns, an empty line, comments, tabs, zeros in front of a number, a fact that stands twice, and no line feed at the end.
   pub blanks : IsScript stage_now
       (codes "script 1\r\n\r\n# object c\nobject\ta b#c\npredicate P 01\nfact P(b)P( a )\nfact P (a)\nnodes 007\r") (record nothing {
         names = record no_names { objects = codes "a" ∷ codes "b" ∷ []; predicates = codes "P" ∷ [] };
@@ -70,10 +70,7 @@ pub record WorkedScripts : Type 0 where
           arities = 2 ∷ [];
           height = 3;
           shapes = 900;
-          axioms = record {
-            vars = 2;
-            lits = denied (numbered 0 (Var 0 ∷ Var 1 ∷ [])) ∷ asserted (numbered 0 (Var 1 ∷ Var 0 ∷ [])) ∷ [];
-          } ∷ [];
+          axioms = clause 2 (denied (numbered 0 (Var 0 ∷ Var 1 ∷ [])) ∷ asserted (numbered 0 (Var 1 ∷ Var 0 ∷ [])) ∷ []) ∷ [];
         };
         facts = numbered 0 (Obj 0 ∷ Obj 1 ∷ []) ∷ [];
         commands = Plan 0 (numbered 0 (Var 0 ∷ Obj 0 ∷ []) ∷ []) 1 ∷ Show 0 ∷ [];
@@ -83,7 +80,7 @@ pub record WorkedScripts : Type 0 where
       ++ codes "plan Q INROOM(ROBOT,R2)\ndisturb 3 before door D1 closed\nfacts\n") (record {
         version = 1;
         names = record {
-          objects = codes "ROBOT" ∷ codes "R1" ∷ codes "R2" ∷ codes "D1" ∷ codes "B1" ∷ [];
+          objects = words_in (codes "ROBOT R1 R2 D1 B1");
           predicates = predicate_names;
           operators = operator_names;
           results = codes "Q" ∷ [];
@@ -97,29 +94,29 @@ pub record WorkedScripts : Type 0 where
 
 -- Each text has its first fault in the line of this number, with this code.
 pub record AreRefused (texts : List (ℕ × ℕ × List ℕ)) : Type 0 where
-  pub each : AllByRecursion (λ t. IsRefused t.2 t.0 t.1 0) texts
+  pub each : AllByRecursion (λ t. IsTextRefused t.2 t.0 t.1 0) texts
 
 -- texts that are no scripts, with the line, the code and the limit of their first fault
 pub record WorkedRefusals : Type 0 where
-  pub no_character : IsRefused (0xFF ∷ []) 1 1 0
-  pub second_mark : IsRefused (mark ++ mark ++ codes "object a") 1 2 0
-  pub late_mark : IsRefused (codes "object a\n" ++ mark ++ codes "facts") 2 2 0
-  -- no name, source, time or state of a door; no such parameter, or sign; a token that is none, and a form, before what else is wrong
+  pub no_character : IsTextRefused (0xFF ∷ []) 1 1 0
+  pub second_mark : IsTextRefused (mark ++ mark ++ codes "object a") 1 2 0
+  pub late_mark : IsTextRefused (codes "object a\n" ++ mark ++ codes "facts") 2 2 0
+  -- no name, source, time or state of a door; no such parameter, or sign; what is no token, and a form, before what else is wrong
   pub no_form : AreRefused ((1, 2, codes "object 9") ∷ (1, 2, codes "learn M of N") ∷ (1, 2, codes "disturb 1 while +P")
       ∷ (1, 2, codes "door D R S ajar") ∷ (1, 2, codes "run N p0=a") ∷ (1, 2, codes "run N p01=a") ∷ (1, 2, codes "run N p10000=a")
       ∷ (1, 2, codes "axiom +P") ∷ (1, 2, codes "fly %") ∷ (2, 2, codes "operator A\nobject")
       ∷ (4, 2, codes "object a\n\noperator A(x)\ndelete\n") ∷ [])
   pub unknown : AreRefused ((1, 3, codes "fly R1") ∷ (1, 3, codes "obj") ∷ (1, 4, codes "fact P(a)") ∷ (1, 4, codes "learn M from N")
       ∷ (4, 4, codes "object a\npredicate P 1\nplan N P(a)\nplan N P(b)") ∷ [])
-  -- duplicates, also before an arity and before a limit
+  -- duplicates, also before a wrong arity and before a limit
   pub duplicate : AreRefused ((1, 5, codes "object a a") ∷ (2, 5, codes "object a\noperator A(x,x)")
       ∷ (4, 5, codes "object a\npredicate P 1\nplan N P(a)\nplan N P(a,a)") ∷ (2, 5, codes "nodes 5\nnodes 0") ∷ [])
-  -- arities, also before a variable; variables and wild cards, also before a long name
+  -- wrong arities, also before a variable; variables and wild cards, also before a long name
   pub arity : AreRefused ((3, 6, codes "object a\npredicate P 1\nfact P(a,a)") ∷ (3, 6, codes "object a\npredicate P 1\nfact P(?x,a)")
       ∷ (3, 7, codes "object a\npredicate P 1\nfact P(?x)")
       ∷ (3, 7, codes "object a\npredicate P 1\nplan " ++ long_name ++ codes " P($)") ∷ [])
-  pub wide_predicate : IsRefused (codes "predicate P 7") 1 8 4
-  pub other_version : IsRefused (codes "script 2") 1 8 16
+  pub wide_predicate : IsTextRefused (codes "predicate P 7") 1 8 4
+  pub other_version : IsTextRefused (codes "script 2") 1 8 16
   -- late lines, and blocks that are cut off
   pub order : AreRefused ((2, 9, codes "facts\nobject a") ∷ (3, 9, codes "building\nroom R1\nend")
       ∷ (3, 10, codes "object a\n\noperator A(x)\n") ∷ (2, 10, codes "nodes 5\nbuilding\nroom R1\nrobot R1\n") ∷ [])

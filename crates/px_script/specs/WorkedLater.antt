@@ -44,7 +44,7 @@ items_of (an_axiom k place proofs ts) = the (codes "s") ∷ amounts (k ∷ place
 abbrev proof : List Part → Line
 proof parts = line (codes "proof") (inside table_rows) table_terms (flat_map items_of parts)
 
--- how many proofs are still to come after the part, where `n` were before it
+-- how many proofs are still owed after the part, where `n` were owed before it
 abbrev owed : ℕ → Part → ℕ
 owed n (an_axiom k place proofs ts) = n - 1 + proofs
 owed n _ = n - 1
@@ -90,9 +90,9 @@ n = codes "N"
 abbrev sorted : Declared → Declared
 sorted d = record d { sorts = codes "S" ∷ [] }
 
--- a plan N, a table M and a result L that is none
-abbrev with_results : Declared → Declared
-with_results d = with_all_names ((a_plan, n ∷ []) ∷ (a_table, codes "M" ∷ []) ∷ (a_result, codes "L" ∷ []) ∷ []) d
+-- a plan N, a table M and a result L that is neither
+abbrev with_all_results : Declared → Declared
+with_all_results d = with_all_names ((a_plan, n ∷ []) ∷ (a_table, codes "M" ∷ []) ∷ (a_result, codes "L" ∷ []) ∷ []) d
 
 abbrev p : ℕ → Argument
 p k = open_variable (112 ∷ decimal k)
@@ -122,27 +122,27 @@ pub record WorkedLater : Type 0 where
   -- what lines declare
   pub sort_declares : Leave small (λ d. (with_all_names (declared_by (sort n (codes "c" ∷ []))) (sorted d)).sorts) (codes "S" ∷ n ∷ [])
   pub pursuit_is_no_table : Leave small
-      (λ d. (with_all_names (declared_by (pursue (codes "K") (q ∷ []))) (with_results d)).roles.tables) (n ∷ codes "M" ∷ [])
-  -- without a fault
+      (λ d. (with_all_names (declared_by (pursue (codes "K") (q ∷ []))) (with_all_results d)).roles.tables) (n ∷ codes "M" ∷ [])
+  -- lines without a fault
   pub domain_fits : Have small sorted None (sort n (codes "c" ∷ codes "d" ∷ []) ∷ sort n (n ∷ []) ∷ table n 2 ∷ [])
   pub param_fits : Have in_operator sorted None (param (codes "S") (codes "x" ∷ []) ∷ [])
   pub table_in_a_building : Have closed_building (λ d. d) None (table n 2 ∷ [])
   pub steps_fit : Have with_operator in_steps None
       (step (codes "O") (p 2 ∷ []) ∷ goal (p_of (p 1 ∷ []) ∷ p_of (g 12 ∷ []) ∷ []) ∷ line_of end ∷ [])
   pub proof_fits : Have small in_rows None (proof (an_axiom 0 0 1 (p 1 ∷ p 2 ∷ []) ∷ a_fact 0 0 (p_of (p 1 ∷ [])) ∷ []) ∷ [])
-  pub commands_fit : Have small with_results None (save (codes "M") ∷ certify n ∷ edit (codes "E") (codes "M") 2 ((1, 0) ∷ [])
+  pub commands_fit : Have small with_all_results None (save (codes "M") ∷ certify n ∷ edit (codes "E") (codes "M") 2 ((1, 0) ∷ [])
       ∷ duo n (codes "M") (1 ∷ 2 ∷ [])
       ∷ pursue (codes "Q") (p_of (named (codes "a") ∷ []) ∷ p_of (open_variable (codes "x") ∷ []) ∷ []) ∷ [])
   -- unknown names
   pub param_of_unknown : Have in_operator sorted (Some (coded 4)) (param n (codes "x" ∷ []) ∷ param (codes "S") (codes "a" ∷ []) ∷ [])
   pub step_of_unknown : Have with_operator in_steps (Some (coded 4))
       (step (codes "MAKE") [] ∷ step (codes "O") (named (codes "c") ∷ []) ∷ [])
-  pub no_table : Have small with_results (Some (coded 4))
+  pub no_table : Have small with_all_results (Some (coded 4))
       (save (codes "L") ∷ certify (codes "L") ∷ edit (codes "E") (codes "L") 2 ((1, 0) ∷ []) ∷ duo n (codes "L") (1 ∷ []) ∷ [])
   -- duplicates
   pub known_sort : Have small sorted (Some (coded 5)) (sort (codes "S") (codes "c" ∷ []) ∷ sort n (codes "a" ∷ []) ∷ [])
-  pub known_result : Have small with_results (Some (coded 5)) (table n 2 ∷ edit (codes "M") n 2 ((1, 0) ∷ []) ∷ pursue n (q ∷ []) ∷ [])
-  -- arities, and variables that may not stand there
+  pub known_result : Have small with_all_results (Some (coded 5)) (table n 2 ∷ edit (codes "M") n 2 ((1, 0) ∷ []) ∷ pursue n (q ∷ []) ∷ [])
+  -- wrong arities, and variables that may not stand there
   pub table_goal_arity : Have with_operator in_steps (Some (coded 6)) (goal (p_of [] ∷ []) ∷ [])
   pub unbound_in_steps : Have with_operator in_steps (Some (coded 7)) (step (codes "O") (p 3 ∷ []) ∷ step (codes "O") (p 0 ∷ [])
       ∷ step (codes "O") (open_variable (codes "p01") ∷ []) ∷ step (codes "O") (g 1 ∷ []) ∷ goal (p_of (g 13 ∷ []) ∷ [])

@@ -1,7 +1,7 @@
 -- How small lines are worked: after lines that have no fault, what the next ones leave, or their fault, where all of version 1 is built.
 use Rattle.std.specs.Prelude.{◌≡◌, ℕ, ◌==◌, true, false, List, [], ◌∷◌, map, replicate, codes, Some, ◌++◌}
 use Rattle.std.specs.List.{AllByRecursion, flat_map, range_with_len, slice_split}
-use Rattle.px_script.specs.Common.{Atom, Lit, Term, Obj, Var, Any}
+use Rattle.px_script.specs.Common.{Atom, Clause, Lit, Schema, Term, Obj, Var, Any}
 use Rattle.px_world.specs.declared.edits.AtomEdit.TheVariants as atom_edit
 use Rattle.px_world.specs.declared.edits.RoomEdit.TheVariants as room_edit
 use Rattle.px_world.specs.declared.thing.Thing.TheVariants as thing
@@ -21,17 +21,17 @@ lines text = slice_split (λ c. c == 10) text
 abbrev pub Pass : List ℕ → Declared → Type 0
 Pass text d = PassAll whole_language 1 nothing_declared (lines text) d
 
--- The lines have no fault, and what they leave is so.
+-- The lines have no fault, and what they leave has this property.
 pub record After (text : List ℕ) (P : Declared → Type 0) : Type 0 where
   pub left : Declared
   pub passes : Pass text left
   pub holds : P left
 
--- They leave this in one part.
+-- The lines leave this in one part.
 abbrev pub Leave : {A : Type 0} → List ℕ → (Declared → A) → A → Type 0
 Leave text part value = After text (λ d. part d ≡ value)
 
--- They leave this in one part, and this in another.
+-- The lines leave this in one part, and this in another.
 abbrev pub LeaveBoth : {A B : Type 0} → List ℕ → (Declared → A) → A → (Declared → B) → B → Type 0
 LeaveBoth text one value other other_value = After text (λ d. (one d ≡ value) × (other d ≡ other_value))
 
@@ -39,7 +39,7 @@ LeaveBoth text one value other other_value = After text (λ d. (one d ≡ value)
 pub record Fit (before : List ℕ) (change : Declared → Declared) (cases : List ℕ) : Type 0 where
   pub fit : After before (λ d. AllByRecursion (λ line. (next : Declared) × Passes whole_language 1 (change d) line next) (lines cases))
 
--- The same, where each of them has this code, and passes this limit, or 0.
+-- After lines that have no fault, and with what they leave changed, each line of the other text is refused so.
 pub record RefuseWhere (before : List ℕ) (change : Declared → Declared) (code limit : ℕ) (cases : List ℕ) : Type 0 where
   pub refuse : After before (λ d. AllByRecursion (λ line. Fails whole_language (change d) line (record { code = code; limit = limit }))
       (lines cases))
@@ -48,9 +48,13 @@ pub record RefuseWhere (before : List ℕ) (change : Declared → Declared) (cod
 abbrev pub Refuse : ℕ → List (List ℕ × List ℕ) → Type 0
 Refuse code texts = AllByRecursion (λ t. RefuseWhere t.0 (λ d. d) code 0 t.1) texts
 
--- it passes this limit
+-- after each first text each line of the second one passes the limit of this number
 abbrev pub Exceed : List (ℕ × List ℕ × List ℕ) → Type 0
 Exceed texts = AllByRecursion (λ t. RefuseWhere t.1 (λ d. d) 8 t.0 t.2) texts
+
+-- the words of a text, between spaces
+abbrev pub words_in : List ℕ → List (List ℕ)
+words_in text = slice_split (λ c. c == 32) text
 
 -- the text, the given number of times
 abbrev pub times : ℕ → List ℕ → List ℕ
@@ -60,7 +64,7 @@ times n text = flat_map (λ k. text) (range_with_len 0 n)
 abbrev pub long_name : List ℕ
 long_name = replicate 65 97
 
--- the atom of a predicate by its number
+-- the atom of a predicate by its number, and literals. Alike: `asserted` is `positive_of` of `px_proof`, on which nothing here stands
 abbrev pub numbered : ℕ → List Term → Atom
 numbered p terms = record { pred = p; args = terms }
 
@@ -69,6 +73,13 @@ asserted atom = record { positive = true; atom = atom }
 
 abbrev pub denied : Atom → Lit
 denied atom = record { positive = false; atom = atom }
+
+abbrev pub clause : ℕ → List Lit → Clause
+clause n literals = record { vars = n; lits = literals }
+
+-- the schema of an operator by its number, with this many parameters, and its preconditions, deletes and adds
+abbrev pub schema : ℕ → ℕ → List Atom → List Atom → List Atom → Schema
+schema n count needed deleted new = record { op = n; params = count; pre = needed; del = deleted; add = new }
 
 abbrev pub small : List ℕ
 small = codes "object a b\npredicate P 1\npredicate Q 0"
@@ -100,23 +111,15 @@ pub record WorkedDomains : Type 0 where
   pub objects : Leave (codes "object a x\nobject b") (λ d. d.names.objects) (codes "a" ∷ codes "x" ∷ codes "b" ∷ [])
   pub predicates : LeaveBoth small (λ d. d.names.predicates) (codes "P" ∷ codes "Q" ∷ []) (λ d. d.arities) (1 ∷ 0 ∷ [])
   pub like_an_object : Leave (codes "object a\npredicate a 0") (λ d. d.names.predicates) (codes "a" ∷ [])
-  pub axioms : Leave (small ++ codes "\naxiom ~P(?x) P(a) P(?x)") (λ d. d.axioms) (record {
-    vars = 1;
-    lits = denied (numbered 0 (Var 0 ∷ [])) ∷ asserted (numbered 0 (Obj 0 ∷ [])) ∷ asserted (numbered 0 (Var 0 ∷ [])) ∷ [];
-  } ∷ [])
+  pub axioms : Leave (small ++ codes "\naxiom ~P(?x) P(a) P(?x)") (λ d. d.axioms)
+      (clause 1 (denied (numbered 0 (Var 0 ∷ [])) ∷ asserted (numbered 0 (Obj 0 ∷ [])) ∷ asserted (numbered 0 (Var 0 ∷ [])) ∷ []) ∷ [])
   -- variables are numbered by first occurrence
-  pub numbers_variables : Leave (codes "object a\npredicate R 2\naxiom R(?y,?x) R(?x,?z)") (λ d. d.axioms) (record {
-    vars = 3;
-    lits = asserted (numbered 0 (Var 0 ∷ Var 1 ∷ [])) ∷ asserted (numbered 0 (Var 1 ∷ Var 2 ∷ [])) ∷ [];
-  } ∷ [])
-  pub operators : LeaveBoth (in_operator ++ codes "\npre P(x)\npre Q\ndelete P($)\nadd P(a)\nend") (λ d. d.names.operators) (codes "O" ∷ []) (λ d. d.schemas) (record {
-    op = 0;
-    params = 1;
-    pre = numbered 0 (Var 0 ∷ []) ∷ numbered 1 [] ∷ [];
-    del = numbered 0 (Any ∷ []) ∷ [];
-    add = numbered 0 (Obj 0 ∷ []) ∷ [];
-  } ∷ [])
-  pub without_parameters : Leave (codes "operator a\nend\noperator x\nend") (λ d. map (λ schema. schema.op) d.schemas) (0 ∷ 1 ∷ [])
+  pub numbers_variables : Leave (codes "object a\npredicate R 2\naxiom R(?y,?x) R(?x,?z)") (λ d. d.axioms)
+      (clause 3 (asserted (numbered 0 (Var 0 ∷ Var 1 ∷ [])) ∷ asserted (numbered 0 (Var 1 ∷ Var 2 ∷ [])) ∷ []) ∷ [])
+  pub operators : LeaveBoth (in_operator ++ codes "\npre P(x)\npre Q\ndelete P($)\nadd P(a)\nend") (λ d. d.names.operators) (codes "O" ∷ [])
+      (λ d. d.schemas)
+      (schema 0 1 (numbered 0 (Var 0 ∷ []) ∷ numbered 1 [] ∷ []) (numbered 0 (Any ∷ []) ∷ []) (numbered 0 (Obj 0 ∷ []) ∷ []) ∷ [])
+  pub without_parameters : Leave (codes "operator a\nend\noperator x\nend") (λ d. map (λ s. s.op) d.schemas) (0 ∷ 1 ∷ [])
   pub like_its_operator : Leave (codes "object a\noperator x(x)") (λ d. d.names.operators) (codes "x" ∷ [])
   pub long_parameter : Leave (codes "object a\noperator x(" ++ long_name ++ codes ")") (λ d. d.names.operators) (codes "x" ∷ [])
   pub some_facts : Leave (small ++ codes "\nfact Q P(b)\nfact P(a) Q") (λ d. d.facts)
@@ -131,7 +134,7 @@ pub record WorkedDomains : Type 0 where
   pub duplicates : Refuse 5 (([], codes "object a a") ∷ (codes "object a", codes "object x a")
       ∷ (small, codes "predicate P 0\noperator a(x,x)\noperator x(a)") ∷ (in_operator ++ codes "\nend", codes "operator O")
       ∷ (codes "height 4\nnodes 4\nshapes 4", codes "height 9\nnodes 0\nshapes 1") ∷ [])
-  -- arities, and arguments that may not stand there
+  -- wrong arities, and arguments that may not stand there
   pub arity : Refuse 6 ((small, codes "axiom Q(a)\nfact P(a,a)") ∷ [])
   pub unbound : Refuse 7 ((small, codes "axiom P($)\nfact P(?x)\nfact P($)")
       ∷ (in_operator, codes "pre P(?x)\npre P($)\ndelete P(?x)\nadd P(?x)\nadd P($)") ∷ [])
@@ -157,10 +160,9 @@ one_room = codes "building\nroom R"
 pub record WorkedBuildings : Type 0 where
   -- what lines leave
   pub names : LeaveBoth (codes "building") (λ d. d.names.objects) (codes "ROBOT" ∷ []) (λ d. d.arities) (2 ∷ 2 ∷ 3 ∷ 1 ∷ 1 ∷ 1 ∷ 1 ∷ 1 ∷ [])
-  pub predicates : Leave (codes "building") (λ d. d.names.predicates) (codes "INROOM" ∷ codes "NEXTTO" ∷ codes "CONNECTS" ∷ codes "OPENED"
-      ∷ codes "CLOSED" ∷ codes "ROOM" ∷ codes "DOOR" ∷ codes "BOX" ∷ [])
-  pub operators : Leave (codes "building") (λ d. d.names.operators) (codes "GOTOB" ∷ codes "GOTOD" ∷ codes "OPEN" ∷ codes "CLOSE"
-      ∷ codes "GOTHRU" ∷ codes "PUSHD" ∷ codes "PUSHTHRU" ∷ [])
+  pub predicates : Leave (codes "building") (λ d. d.names.predicates)
+      (words_in (codes "INROOM NEXTTO CONNECTS OPENED CLOSED ROOM DOOR BOX"))
+  pub operators : Leave (codes "building") (λ d. d.names.operators) (words_in (codes "GOTOB GOTOD OPEN CLOSE GOTHRU PUSHD PUSHTHRU"))
   pub beside_setting : Leave (codes "height 4\nbuilding") (λ d. d.names.objects) (codes "ROBOT" ∷ [])
   pub things : Leave closed_building (λ d. d.things)
       (Some (thing.Room ∷ thing.Room ∷ thing.Door 1 2 false ∷ thing.Box 2 ∷ thing.Robot 1 ∷ []))
@@ -184,7 +186,7 @@ pub record WorkedBuildings : Type 0 where
   pub long_names : Exceed ((1, open_building, codes "room " ++ long_name ++ codes "\nbox " ++ long_name ++ codes " R1")
       ∷ (1, open_building, codes "door " ++ long_name ++ codes " R1 R2 open") ∷ [])
 
--- ---- lines at the limits: the greatest that may be, and the least limit of those that are passed
+-- ---- lines at the limits: the greatest numbers that may be, and the least limit of those that are passed
 -- these numbers of objects, predicates, operators, axioms, facts of which P(a) is one, commands, disturbances
 abbrev objects : ℕ → Declared → Declared
 objects n d = record d { names = record d.names { objects = replicate n (codes "x") } }
@@ -215,7 +217,7 @@ abbrev edits : List ℕ
 edits = codes "disturb 0 before" ++ times 17 (codes "+Q")
 
 pub record WorkedLimits : Type 0 where
-  -- the greatest that may be, and the least of numbers
+  -- the greatest sizes that are allowed, and the least numbers
   pub long_enough : Leave (codes "object " ++ replicate 64 97) (λ d. d.names.objects) (replicate 64 97 ∷ [])
   pub last_object : Fit [] (objects 255) (codes "object a")
   pub last_predicate : Fit [] (predicates 63) (codes "predicate a 6")
@@ -280,7 +282,7 @@ pub record WorkedCommands : Type 0 where
       ∷ (closed_building, codes "disturb 1 before door R1 open") ∷ [])
   -- duplicates
   pub known_result : Refuse 5 ((learned, codes "plan M Q\nlearn M from N\nrun M p1=a p1=b") ∷ [])
-  -- arities, and arguments that may not stand there
+  -- wrong arities, and arguments that may not stand there
   pub arity : Refuse 6 ((small, codes "plan N Q(a)\ndisturb 1 before +P") ∷ [])
   pub unbound : Refuse 7 ((small, codes "plan N P($)\ndisturb 1 before +P(?x)\ndisturb 1 before -P($)") ∷ [])
   -- lines out of order

@@ -23,17 +23,17 @@
 //! There is no code here but laws, as functions without a body. `px_reader` reads what is defined here.
 //!
 //! - [`reads_one_way`]: bytes are a script (`Spells`, and `IsScript` with what it is about), or they have a first fault
-//!   (`FirstFault`), never both, and there is one of each at most. Each of these takes the stage, which is how much is built
+//!   (`FirstFault`), never both, and there is at most one of each. Each of these takes the stage, which is how much is built
 //!   (`stage_now`), and the law holds for every stage, so for the whole of version 1 (`whole_language`), too.
 //! - [`only_takes_away`]: where only some of version 1 is built, a line is refused as in the whole of it, or as not built, and a
 //!   script is a script of the whole of it.
 //! - [`is_in_range`]: what a script is about is in range, and of the language as far as it is built (`IsOfStage`), so a caller may
 //!   hand its numbers on. What is built is one list of words, `stage_now`, that is the whole of version 1; all laws hold of any list.
 //! - [`worked_lines`] and [`worked_texts`]: what the definition says of small lines, and of small texts from their bytes, to be
-//!   compared with what one expects.
+//!   compared with what a reader expects.
 //!
-//! The modules of `proofs` that px_reader cites (`Scanning`, `Parsing`, `States` and lemmas) are no part of what a script is: no
-//! promise speaks of them.
+//! The modules of `proofs` that px_reader cites (`Scanning`, `Parsing`, `Faultless`, `States` and lemmas) aren't part of what a script
+//! is: no clause of a public call speaks of them.
 #![tactic(auto)]
 
 ghost use Rattle.std.specs.Prelude.{List, ℕ};
@@ -48,8 +48,8 @@ ghost use Rattle.px_script.specs.Worked.{WorkedScripts, WorkedRefusals};
 ghost use Rattle.px_script.specs.WorkedLines.{WorkedBuildings, WorkedCommands, WorkedDomains, WorkedLimits, WorkedSpellings};
 ghost use Rattle.px_script.specs.WorkedLater.{WorkedLater};
 
-/// Small lines of all of version 1, each behind lines that have no fault: what it leaves, or its first fault; how lines are written; the
-/// greatest that may be, and the least limit of those that are passed; and of lines of version 2 what follows from their description.
+/// Small lines of all of version 1, each after lines without a fault: what it leaves, or its first fault; how lines are written; the
+/// greatest numbers allowed, and the least of the limits that are passed; and what follows from the description of lines of version 2.
 pub fn worked_lines()
     ensures domains { WorkedDomains }
     ensures buildings { WorkedBuildings }
@@ -65,8 +65,9 @@ pub fn reads_one_way()
     ensures { (stage : Stage) (bytes : List ℕ) → ReadsOneWay stage bytes }
 {}
 
-/// A stage only takes away: where less is built, a line either has the fault that it has in the whole of version 1, and none where it
-/// has none there, or is refused as not built. A script stays one, and about the same.
+/// A stage only takes away: where less is built, a line either is refused or passes as in the whole of version 1, or is refused as
+/// not built. A script stays one, and about the same.
+#[tactic(auto, using(crate::proofs::Kept::stages_take_away))]
 pub fn only_takes_away()
     ensures lines { (stage : Stage) (d : Declared) (s : Statement) → OnlyTakesAway stage d s }
     ensures scripts { (stage : Stage) (bytes : List ℕ) (script : ScriptValue)
@@ -74,7 +75,7 @@ pub fn only_takes_away()
 {}
 
 /// The problem of a script is valid, each of its numbers has a name and no name stands twice in its kind, the facts, the building and
-/// the commands are over its numbers, all is within the limits, and each result is given once and named by later commands alone. With a
+/// the commands are over its numbers, all is within the limits, and each result is given once and named only by later commands. With a
 /// building the problem is the building's, and the facts are those of its first state. Whatever is built, its commands are of words that
 /// are built, and it has a building only where buildings are built.
 pub fn is_in_range()
@@ -82,7 +83,7 @@ pub fn is_in_range()
     ensures stage { (stage : Stage) (bytes : List ℕ) (script : ScriptValue) → IsScript stage bytes script → IsOfStage stage script }
 {}
 
-/// Small texts, from their bytes: what some scripts are about, and the first faults of texts that are none.
+/// Small texts, from their bytes: what some scripts are about, and the first faults of texts that aren't scripts.
 pub fn worked_texts()
     ensures scripts { WorkedScripts }
     ensures refusals { WorkedRefusals }

@@ -16,11 +16,13 @@ use Rattle.px_search.specs.declared.ends.Found.{Found}
 
 -- ---- what a plan says
 
-pub each_plan : (task : Task) (result : Result Found SearchErr) → IfOk result (IsPlanned task) → (Q : Found → Type 0) → ((plan : Found) → IsPlanned task plan → Q plan) → IfOk result Q
+pub each_plan : (task : Task) (result : Result Found SearchErr) → IfOk result (IsPlanned task) → (Q : Found → Type 0)
+    → ((plan : Found) → IsPlanned task plan → Q plan) → IfOk result Q
 each_plan task (Ok plan) is Q f = f plan is
 each_plan task (Err e) is Q f = tt
 
-pub found-in : (task : Task) (result : Result Found SearchErr) → IfOk result (IsPlanned task) → IfOk result (λ plan. IsFound task plan.moves)
+pub found-in : (task : Task) (result : Result Found SearchErr) → IfOk result (IsPlanned task)
+    → IfOk result (λ plan. IsFound task plan.moves)
 found-in task result is = each_plan task result is (λ plan. IsFound task plan.moves) (λ plan is. is.found)
 
 -- ---- what the error says
@@ -39,16 +41,19 @@ module _ {F : Type 0} (task : Task) (result : Result F SearchErr) (ends : IfErr 
   pub end-limit : (nodes : List Node) (moves : ℕ) → IsErrOf result (NodeLimit nodes moves) → IsNodeLimit task nodes moves
   end-limit nodes moves is = of_error (NodeLimit nodes moves) is
 
-  pub end-shape_limit : (node : Node) (formula : List Atom) (shapes : List (List Tick)) → IsErrOf result (ShapeLimit node formula shapes) → IsShapeLimit task node formula shapes
+  pub end-shape_limit : (node : Node) (formula : List Atom) (shapes : List (List Tick)) → IsErrOf result (ShapeLimit node formula shapes)
+      → IsShapeLimit task node formula shapes
   end-shape_limit node formula shapes is = of_error (ShapeLimit node formula shapes) is
 
 -- ---- what each end says of the answer
 
-module _ {F : Type 0} (moves_of : F → List Move) (task : Task) (result : Result F SearchErr) (found : IfOk result (λ f. IsFound task (moves_of f))) (ends : IfErr result (IsEnd task)) where
+module _ {F : Type 0} (moves_of : F → List Move) (task : Task) (result : Result F SearchErr)
+    (found : IfOk result (λ f. IsFound task (moves_of f))) (ends : IfErr result (IsEnd task)) where
   pub answers_found : (moves : List Move) → IsFound task moves → IfOk result (λ f. moves_of f ≡ moves) × IfErr result (λ e. e ≡ NoMemory)
   answers_found moves is = by result found ends
     where
-      by : (r : Result F SearchErr) → IfOk r (λ f. IsFound task (moves_of f)) → IfErr r (IsEnd task) → IfOk r (λ f. moves_of f ≡ moves) × IfErr r (λ e. e ≡ NoMemory)
+      by : (r : Result F SearchErr) → IfOk r (λ f. IsFound task (moves_of f)) → IfErr r (IsEnd task)
+          → IfOk r (λ f. moves_of f ≡ moves) × IfErr r (λ e. e ≡ NoMemory)
       by (Ok f) h e = (ends_are_one.found task (moves_of f) moves h is, tt)
       by (Err Exhausted) h e = absurd (ends_are_one.found_or_exhausted task moves is e)
       by (Err (NodeLimit n m)) h e = absurd (ends_are_one.found_or_node_limit task moves n m is e)
@@ -58,17 +63,20 @@ module _ {F : Type 0} (moves_of : F → List Move) (task : Task) (result : Resul
   pub answers_exhausted : IsExhausted task → IsErrOf result Exhausted ⊎ IsErrOf result NoMemory
   answers_exhausted is = by result refl found ends
     where
-      by : (r : Result F SearchErr) → result ≡ r → IfOk r (λ f. IsFound task (moves_of f)) → IfErr r (IsEnd task) → IsErrOf result Exhausted ⊎ IsErrOf result NoMemory
+      by : (r : Result F SearchErr) → result ≡ r → IfOk r (λ f. IsFound task (moves_of f)) → IfErr r (IsEnd task)
+          → IsErrOf result Exhausted ⊎ IsErrOf result NoMemory
       by (Ok f) same h e = absurd (ends_are_one.found_or_exhausted task (moves_of f) h is)
       by (Err Exhausted) same h e = inl same
       by (Err (NodeLimit n m)) same h e = absurd (ends_are_one.node_limit_or_exhausted task n m e is)
       by (Err (ShapeLimit n f s)) same h e = absurd (ends_are_one.shape_limit_or_exhausted task n f s e is)
       by (Err NoMemory) same h e = inr same
 
-  pub answers_limit : (nodes : List Node) (moves : ℕ) → IsNodeLimit task nodes moves → IsErrOf result (NodeLimit nodes moves) ⊎ IsErrOf result NoMemory
+  pub answers_limit : (nodes : List Node) (moves : ℕ) → IsNodeLimit task nodes moves
+      → IsErrOf result (NodeLimit nodes moves) ⊎ IsErrOf result NoMemory
   answers_limit nodes moves is = by result refl found ends
     where
-      by : (r : Result F SearchErr) → result ≡ r → IfOk r (λ f. IsFound task (moves_of f)) → IfErr r (IsEnd task) → IsErrOf result (NodeLimit nodes moves) ⊎ IsErrOf result NoMemory
+      by : (r : Result F SearchErr) → result ≡ r → IfOk r (λ f. IsFound task (moves_of f)) → IfErr r (IsEnd task)
+          → IsErrOf result (NodeLimit nodes moves) ⊎ IsErrOf result NoMemory
       by (Ok f) same h e = absurd (ends_are_one.found_or_node_limit task (moves_of f) nodes moves h is)
       by (Err Exhausted) same h e = absurd (ends_are_one.node_limit_or_exhausted task nodes moves is e)
       by (Err (NodeLimit n m)) same h e =
@@ -82,10 +90,12 @@ module _ {F : Type 0} (moves_of : F → List Move) (task : Task) (result : Resul
   AnswersLimit = (node : Node) × (formula : List Atom) × (shapes : List (List Tick)) × IsErrOf result (ShapeLimit node formula shapes)
 
   -- and it comes wherever there is such a question
-  pub answers_shape_limit : (node : Node) (formula : List Atom) (shapes : List (List Tick)) → IsShapeLimit task node formula shapes → AnswersLimit ⊎ IsErrOf result NoMemory
+  pub answers_shape_limit : (node : Node) (formula : List Atom) (shapes : List (List Tick)) → IsShapeLimit task node formula shapes
+      → AnswersLimit ⊎ IsErrOf result NoMemory
   answers_shape_limit node formula shapes is = by result refl found ends
     where
-      by : (r : Result F SearchErr) → result ≡ r → IfOk r (λ f. IsFound task (moves_of f)) → IfErr r (IsEnd task) → AnswersLimit ⊎ IsErrOf result NoMemory
+      by : (r : Result F SearchErr) → result ≡ r → IfOk r (λ f. IsFound task (moves_of f)) → IfErr r (IsEnd task)
+          → AnswersLimit ⊎ IsErrOf result NoMemory
       by (Ok f) same h e = absurd (ends_are_one.shape_limit_or_found task node formula shapes (moves_of f) is h)
       by (Err Exhausted) same h e = absurd (ends_are_one.shape_limit_or_exhausted task node formula shapes is e)
       by (Err (NodeLimit n m)) same h e = absurd (ends_are_one.shape_limit_or_node_limit task node formula shapes n m is e)

@@ -9,9 +9,11 @@ use Rattle.px_search.specs.Going.{AreFirstOf, AreMovesOf, IsBegunOn, IsGoneOn}
 
 module _ (task : Task) where
   pub moves-are_first : (node : Node) (moves : List Move) → AreMovesOf task node moves → AreFirstOf task node moves
-  moves-are_first node moves are = record { allowed = λ m has. (are.all m).1 has; ordered = are.ordered; others = λ m may. inl ((are.all m).0 may) }
+  moves-are_first node moves are =
+      record { allowed = λ m has. (are.all m).1 has; ordered = are.ordered; others = λ m may. inl ((are.all m).0 may) }
 
-  abbrev pub all-begun : (kept : Kept) (node : Node) (steps : List Step) (is_all : Bool) → IsGoneOn task kept node steps → IsBegunOn task kept node steps is_all
+  abbrev pub all-begun : (kept : Kept) (node : Node) (steps : List Step) (is_all : Bool) → IsGoneOn task kept node steps
+      → IsBegunOn task kept node steps is_all
   all-begun kept node steps is_all gone = record {
     moves = gone.moves;
     are = moves-are_first node gone.moves gone.are;

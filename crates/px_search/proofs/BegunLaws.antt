@@ -38,7 +38,8 @@ never_both : (m n : Move) → move_cmp m n ≡ Less → ¬ (move_cmp n m ≡ Les
 never_both m n h k = never_less m (move_cmp-total.trans m n m h k)
 
 head-less : (m : Move) (ms : List Move) → AreInOrder (m ∷ ms) → (n : Move) → Contains ms n → move_cmp m n ≡ Less
-head-less m ms ordered n has = All-contains (λ (x : Move). move_cmp m x ≡ Less) ms n (λ k d below. ordered 0 (suc k) d (omega arith) (omega (arith, below))) has
+head-less m ms ordered n has =
+    All-contains (λ (x : Move). move_cmp m x ≡ Less) ms n (λ k d below. ordered 0 (suc k) d (omega arith) (omega (arith, below))) has
 
 tail-ordered : (m : Move) (ms : List Move) → AreInOrder (m ∷ ms) → AreInOrder ms
 tail-ordered m ms ordered i j d less below = ordered (suc i) (suc j) d (omega (arith, less)) (omega (arith, below))
@@ -48,7 +49,8 @@ abbrev pub IsOrAfter : List Move → List Move → Type 0
 IsOrAfter firsts whole = (m : Move) → Contains whole m → Contains firsts m ⊎ ((n : Move) → Contains firsts n → move_cmp n m ≡ Less)
 
 -- the first of both is the same
-heads-same : (x y : Move) (xs ys : List Move) → AreInOrder (x ∷ xs) → AreInOrder (y ∷ ys) → Contains (y ∷ ys) x → IsOrAfter (x ∷ xs) (y ∷ ys) → x ≡ y
+heads-same : (x y : Move) (xs ys : List Move) → AreInOrder (x ∷ xs) → AreInOrder (y ∷ ys) → Contains (y ∷ ys) x
+    → IsOrAfter (x ∷ xs) (y ∷ ys) → x ≡ y
 heads-same x y xs ys xs_ordered ys_ordered inside others = elim (Contains-cases y ys x inside) [
   | inl same ↦ sym same
   | inr later ↦ absurd (not_later later)
@@ -64,11 +66,14 @@ heads-same x y xs ys xs_ordered ys_ordered inside others = elim (Contains-cases 
     ]
 
 -- The first of a list: both are strictly in order, one is inside the other, and the rest of that comes after it.
-pub firsts-are_taken : (firsts whole : List Move) → AreInOrder firsts → AreInOrder whole → ((m : Move) → Contains firsts m → Contains whole m) → IsOrAfter firsts whole → take (length firsts) whole ≡ firsts
+pub firsts-are_taken : (firsts whole : List Move) → AreInOrder firsts → AreInOrder whole
+    → ((m : Move) → Contains firsts m → Contains whole m) → IsOrAfter firsts whole → take (length firsts) whole ≡ firsts
 firsts-are_taken [] whole f_ordered w_ordered inside others = refl
 firsts-are_taken (x ∷ xs) [] f_ordered w_ordered inside others = absurd (Contains-none x (inside x (Contains-first x xs)))
 firsts-are_taken (x ∷ xs) (y ∷ ys) f_ordered w_ordered inside others =
-    ap (λ (z : Move). z ∷ take (length xs) ys) (sym same) ∙ ap (λ (l : List Move). x ∷ l) (firsts-are_taken xs ys (tail-ordered x xs f_ordered) (tail-ordered y ys w_ordered) tail_inside tail_others)
+    ap (λ (z : Move). z ∷ take (length xs) ys) (sym same)
+    ∙ ap (λ (l : List Move). x ∷ l) (firsts-are_taken xs ys (tail-ordered x xs f_ordered)
+    (tail-ordered y ys w_ordered) tail_inside tail_others)
   where
     same : x ≡ y
     same = heads-same x y xs ys f_ordered w_ordered (inside x (Contains-first x xs)) others
@@ -100,7 +105,8 @@ module _ (task : Task) where
   -- ---- what moves came to
 
   -- where no node is solved, what is known goes on
-  pub progress-goes : (kept : Kept) (keys : List NodeKey) (origins : List Origin) (P Q : Type 0) (progress : Progress) → (P → Q) → IsProgress task kept keys origins P progress → IsProgress task kept keys origins Q progress
+  pub progress-goes : (kept : Kept) (keys : List NodeKey) (origins : List Origin) (P Q : Type 0) (progress : Progress) → (P → Q)
+      → IsProgress task kept keys origins P progress → IsProgress task kept keys origins Q progress
   progress-goes kept keys origins P Q Unsolved goes known = goes known
   progress-goes kept keys origins P Q Solved goes known = known
   progress-goes kept keys origins P Q (Full moves) goes known = known
@@ -108,14 +114,18 @@ module _ (task : Task) where
   -- ---- from the first moves to all
 
   -- the first moves are the first of all
-  pub firsts-of_all : (node : Node) (firsts whole : List Move) → AreFirstOf task node firsts → AreMovesOf task node whole → take (length firsts) whole ≡ firsts
+  pub firsts-of_all : (node : Node) (firsts whole : List Move) → AreFirstOf task node firsts → AreMovesOf task node whole
+      → take (length firsts) whole ≡ firsts
   firsts-of_all node firsts whole first all =
-      firsts-are_taken firsts whole first.ordered all.ordered (λ m has. (all.all m).0 (first.allowed m has)) (λ m has. first.others m ((all.all m).1 has))
+      firsts-are_taken firsts whole first.ordered all.ordered (λ m has. (all.all m).0 (first.allowed m has))
+      (λ m has. first.others m ((all.all m).1 has))
 
-  module _ (old new : Kept) (keys : List NodeKey) (origins : List Origin) (next : ℕ) (steps : List Step) (is_all : Bool) (from : ℕ) (key : NodeKey) (t : Trying task old keys origins next steps is_all from)
+  module _ (old new : Kept) (keys : List NodeKey) (origins : List Origin) (next : ℕ) (steps : List Step) (is_all : Bool) (from : ℕ)
+      (key : NodeKey) (t : Trying task old keys origins next steps is_all from)
       (from_is : from ≡ length steps) (at : slice_get keys next ≡ Some key) where
     -- none of the questions of the node meets the limit
-    pub unlimited-here : (formula : List Atom) (shapes : List (List Tick)) → ¬ ((node : Node) → IsKeyOf old key node → LimitsNode task node formula shapes)
+    pub unlimited-here : (formula : List Atom) (shapes : List (List Tick))
+        → ¬ ((node : Node) → IsKeyOf old key node → LimitsNode task node formula shapes)
     unlimited-here formula shapes limits =
         let l = limits t.node (same_here task old keys origins next steps is_all from key t at) in
         t.begun.unlimited l.question l.asked formula shapes l.met
@@ -131,11 +141,18 @@ module _ (task : Task) where
       taken = firsts-of_all t.node t.begun.moves all_here.moves t.begun.are all_here.are
 
       pub others-from : from ≤ length whole
-      others-from = omega (arith, from_moves, firsts-count t.begun.moves all_here.moves taken, steps-count new whole all_here.moves all_here.steps_are)
+      others-from =
+          omega (
+            arith,
+            from_moves,
+            firsts-count t.begun.moves all_here.moves taken,
+            steps-count new whole all_here.moves all_here.steps_are,
+          )
 
       -- as many of all moves were tried
       same_tried : take from t.begun.moves ≡ take from all_here.moves
-      same_tried = take_all from t.begun.moves (omega (arith, from_moves)) ∙ sym taken ∙ ap (λ (n : ℕ). take n all_here.moves) (sym from_moves)
+      same_tried =
+          take_all from t.begun.moves (omega (arith, from_moves)) ∙ sym taken ∙ ap (λ (n : ℕ). take n all_here.moves) (sym from_moves)
 
       pub trying-others : KeepsAll old new → Trying task new keys origins next whole true from
       trying-others keeps = record {
@@ -144,5 +161,7 @@ module _ (task : Task) where
         node = t.node;
         stands = stands-grows old new t.key t.node keeps t.stands;
         begun = all-begun task new t.node whole true all_here;
-        going = going-grows task old new keys origins next (take from all_here.moves) keeps (subst (λ (l : List Move). Going task old keys origins next l) same_tried t.going);
+        going =
+            going-grows task old new keys origins next (take from all_here.moves) keeps
+            (subst (λ (l : List Move). Going task old keys origins next l) same_tried t.going);
       }

@@ -10,7 +10,7 @@ use Rattle.px_table.specs.declared.entry.Entry.{Entry}
 use Rattle.px_table.specs.declared.entry.Move.{Move}
 use Rattle.px_table.specs.declared.entry.Move.TheVariants as move
 use Rattle.px_table.specs.declared.node.Node.{Node}
-use Rattle.px_table.specs.EntryOrder.{order_of}
+use Rattle.px_table.specs.EntryOrder.{order_of_entries}
 use Rattle.px_entries.specs.Entries.{obligations_of}
 use Rattle.px_gaps.specs.Needs.{HasAnswer}
 use Rattle.px_gaps.specs.Outcomes.{AtLimit, IfLimit}
@@ -26,9 +26,9 @@ use Rattle.px_numbers.specs.declared.nodes.NodeKey.{NodeKey}
 use Rattle.px_numbers.specs.declared.stacks.Frame.{Frame}
 use Rattle.px_numbers.specs.Numbers.{Kept, IsKeyOf, IsModelAt, IsStackAt, IsTopOf, KeepsAll}
 use Rattle.px_numbers.specs.NumberLaws.{one_at, one_model, one_stack, model_at-grows, stack_at-grows}
-use Rattle.px_ops.specs.KeepLaws.{place_in}
+use Rattle.px_ops.specs.KeepLaws.{place_within}
 use Rattle.px_ends.specs.Tasks.{Task, needs_at, needs_with, goal_from}
-use Rattle.px_search.specs.declared.notes.Place.{Place}
+use Rattle.px_search.specs.declared.notes.EntryPlace.{EntryPlace}
 use Rattle.px_search.specs.declared.notes.Offer.{Offer}
 use Rattle.px_search.specs.declared.step.Step.{Step}
 use Rattle.px_search.specs.declared.step.Step.TheVariants as step
@@ -48,22 +48,27 @@ none_top kept (e ∷ es) top = absurd top
 
 pub some_top : (kept : Kept) (stack : List Entry) (frame : Frame) → IsTopOf kept stack (Some frame) → frame.entry < length kept.entries
 some_top kept [] frame top = absurd top
-some_top kept (e ∷ es) frame top = place_in kept.entries frame.entry e top.0
+some_top kept (e ∷ es) frame top = place_within kept.entries frame.entry e top.0
 
-pub top_entry : (kept : Kept) (P : Entry → Type 0) (stack : List Entry) (frame : Frame) (entry : Entry) → All P stack → IsTopOf kept stack (Some frame) → slice_get kept.entries frame.entry ≡ Some entry → P entry
+pub top_entry : (kept : Kept) (P : Entry → Type 0) (stack : List Entry) (frame : Frame) (entry : Entry) → All P stack
+    → IsTopOf kept stack (Some frame) → slice_get kept.entries frame.entry ≡ Some entry → P entry
 top_entry kept P [] frame entry all top at = absurd top
 top_entry kept P (e ∷ es) frame entry all top at = subst P (one_at kept.entries frame.entry e entry top.0 at) (All-head P e es all)
 
-pub below_stands : (kept : Kept) (stack : List Entry) (frame : Frame) → IsTopOf kept stack (Some frame) → (rest : List Entry) × IsStackAt kept frame.below rest
+pub below_stands : (kept : Kept) (stack : List Entry) (frame : Frame) → IsTopOf kept stack (Some frame)
+    → (rest : List Entry) × IsStackAt kept frame.below rest
 below_stands kept [] frame top = absurd top
 below_stands kept (e ∷ es) frame top = (es, top.1)
 
-pub top_at : (kept : Kept) (model_number : ℕ) (frame : Frame) (model : List Atom) (stack : List Entry) → IsModelAt kept model_number model → IsTopOf kept stack (Some frame)
+pub top_at : (kept : Kept) (model_number : ℕ) (frame : Frame) (model : List Atom) (stack : List Entry) → IsModelAt kept model_number model
+    → IsTopOf kept stack (Some frame)
     → IsTopAt kept (record { model = model_number; entry = frame.entry }) frame.below model stack
 top_at kept model_number frame model [] model_at top = absurd top
-top_at kept model_number frame model (e ∷ es) model_at top = record { entry = e; rest = es; stack_is = refl; model_at = model_at; entry_at = top.0; below_at = top.1 }
+top_at kept model_number frame model (e ∷ es) model_at top =
+    record { entry = e; rest = es; stack_is = refl; model_at = model_at; entry_at = top.0; below_at = top.1 }
 
-abbrev pub top_at-grows : (old new : Kept) (place : Place) (below : ℕ) (model : List Atom) (stack : List Entry) → KeepsAll old new → IsTopAt old place below model stack → IsTopAt new place below model stack
+abbrev pub top_at-grows : (old new : Kept) (place : EntryPlace) (below : ℕ) (model : List Atom) (stack : List Entry) → KeepsAll old new
+    → IsTopAt old place below model stack → IsTopAt new place below model stack
 top_at-grows old new place below model stack keeps t = record {
   entry = t.entry;
   rest = t.rest;
@@ -74,36 +79,47 @@ top_at-grows old new place below model stack keeps t = record {
 }
 
 -- the node of a pair is that of its model and its stack
-pub same_node : (kept : Kept) (key : NodeKey) (node : Node) (model : List Atom) (stack : List Entry) → IsKeyOf kept key node → IsModelAt kept key.model model → stack ≡ node.stack
+pub same_node : (kept : Kept) (key : NodeKey) (node : Node) (model : List Atom) (stack : List Entry) → IsKeyOf kept key node
+    → IsModelAt kept key.model model → stack ≡ node.stack
     → ◌≡◌ {A = Node} (record { model = model; stack = stack }) node
 same_node kept key node model stack stands model_at stacks =
     let models = one_model kept key.model model node.model model_at stands.model in
     λ i. record { model = models i; stack = stacks i }
 
-pub if_limit : {A : Type 0} (P Q : List Atom → List (List Tick) → Type 0) (result : Result A AskErr) → IfLimit result P → ((formula : List Atom) (shapes : List (List Tick)) → P formula shapes → Q formula shapes) → IfLimit result Q
+pub if_limit : {A : Type 0} (P Q : List Atom → List (List Tick) → Type 0) (result : Result A AskErr) → IfLimit result P
+    → ((formula : List Atom) (shapes : List (List Tick)) → P formula shapes → Q formula shapes) → IfLimit result Q
 if_limit P Q (Ok a) p f = tt
 if_limit P Q (Err (ShapeLimit formula shapes)) p f = f formula shapes p
 if_limit P Q (Err NoMemory) p f = tt
 
 -- the same of an error
-pub at_limit : (P Q : List Atom → List (List Tick) → Type 0) (error : AskErr) → AtLimit error P → ((formula : List Atom) (shapes : List (List Tick)) → P formula shapes → Q formula shapes) → AtLimit error Q
+pub at_limit : (P Q : List Atom → List (List Tick) → Type 0) (error : AskErr) → AtLimit error P
+    → ((formula : List Atom) (shapes : List (List Tick)) → P formula shapes → Q formula shapes) → AtLimit error Q
 at_limit P Q (ShapeLimit formula shapes) p f = f formula shapes p
 at_limit P Q NoMemory p f = tt
 
 -- where all that a node without an answer needs has one, an entry stands on its stack
-pub stacked-applicable : (task : Task) (node : Node) → IsTriedAt task node Unanswered → IsKnownOf task.problem (needs_at task node) Applicable → node.stack ≢ []
+pub stacked-applicable : (task : Task) (node : Node) → IsTriedAt task node Unanswered
+    → IsKnownOf task.problem (needs_at task node) Applicable → node.stack ≢ []
 stacked-applicable task node tried known empty =
-    tried.0 (empty, All-head (HasAnswer task.problem) (goal_from task node.model) [] (subst (λ (s : List Entry). IsKnownOf task.problem (needs_with task node.model s) Applicable) empty known).0)
+    tried.0 (
+      empty,
+      All-head (HasAnswer task.problem) (goal_from task node.model) []
+          (subst (λ (s : List Entry). IsKnownOf task.problem (needs_with task node.model s) Applicable) empty known).0,
+    )
 
 module _ (task : Task) where
   -- ---- the goal
 
-  pub no_answer : (node : Node) (model : List Atom) → IsTriedAt task node Unanswered → node.stack ≡ [] → model ≡ node.model → ¬ HasAnswer task.problem (goal_from task model)
-  no_answer node model tried empty same answer = tried.0 (empty, subst (λ (m : List Atom). HasAnswer task.problem (goal_from task m)) same answer)
+  pub no_answer : (node : Node) (model : List Atom) → IsTriedAt task node Unanswered → node.stack ≡ [] → model ≡ node.model
+      → ¬ HasAnswer task.problem (goal_from task model)
+  no_answer node model tried empty same answer =
+      tried.0 (empty, subst (λ (m : List Atom). HasAnswer task.problem (goal_from task m)) same answer)
 
   -- ---- moves
 
-  pub gone-applicable : (kept : Kept) (node : Node) → node.stack ≢ [] → IsKnownOf task.problem (needs_at task node) Applicable → IsGoneOn task kept node (step.Apply ∷ [])
+  pub gone-applicable : (kept : Kept) (node : Node) → node.stack ≢ [] → IsKnownOf task.problem (needs_at task node) Applicable
+      → IsGoneOn task kept node (step.Apply ∷ [])
   gone-applicable kept node stacked known = record {
     moves = move.Apply ∷ [];
     are = applicable-moves task node stacked known.0;
@@ -119,9 +135,13 @@ module _ (task : Task) where
     unlimited = closed-unlimited task node known.1.unlimited known.0;
   }
 
-  pub gone-open : (kept : Kept) (node : Node) (gaps : List Atom) (entries : List Entry) (steps : List Step) → IsOpenWith task.problem (needs_at task node) gaps
-      → ((entry : Entry) → Contains entries entry ↔ IsPushable task.problem task.tables gaps node.stack node.model entry) → IsStrictlySortedBy order_of entries
-      → ((entry : Entry) → IsRelevant task.problem task.tables gaps node.stack entry → AreUnlimited task.problem (obligations_of task.problem task.tables node.model entry)) → AreStepsOf kept steps (map move.Push entries)
+  pub gone-open : (kept : Kept) (node : Node) (gaps : List Atom) (entries : List Entry) (steps : List Step)
+      → IsOpenWith task.problem (needs_at task node) gaps
+      → ((entry : Entry) → Contains entries entry ↔ IsPushable task.problem task.tables gaps node.stack node.model entry)
+      → IsStrictlySortedBy order_of_entries entries
+      → ((entry : Entry) → IsRelevant task.problem task.tables gaps node.stack entry
+      → AreUnlimited task.problem (obligations_of task.problem task.tables node.model entry))
+      → AreStepsOf kept steps (map move.Push entries)
       → IsGoneOn task kept node steps
   gone-open kept node gaps entries steps opens exact sorted unlimited are = record {
     moves = map move.Push entries;
@@ -130,11 +150,15 @@ module _ (task : Task) where
     unlimited = open-unlimited task node gaps opens.exact opens.questions.unlimited unlimited;
   }
 
-  pub begun-open : (kept : Kept) (node : Node) (gaps : List Atom) (entries : List Entry) (steps : List Step) (is_all : Bool) → IsOpenWith task.problem (needs_at task node) gaps → IsStrictlySortedBy order_of entries
+  pub begun-open : (kept : Kept) (node : Node) (gaps : List Atom) (entries : List Entry) (steps : List Step) (is_all : Bool)
+      → IsOpenWith task.problem (needs_at task node) gaps → IsStrictlySortedBy order_of_entries entries
       → ((entry : Entry) → Contains entries entry → IsPushable task.problem task.tables gaps node.stack node.model entry)
-      → ((entry : Entry) → IsPushable task.problem task.tables gaps node.stack node.model entry → Contains entries entry ⊎ ((first : Entry) → Contains entries first → order_of first entry ≡ Less))
+      → ((entry : Entry) → IsPushable task.problem task.tables gaps node.stack node.model entry
+      → Contains entries entry ⊎ ((first : Entry) → Contains entries first → order_of_entries first entry ≡ Less))
       → (is_all ≡ true → (entry : Entry) → IsPushable task.problem task.tables gaps node.stack node.model entry → Contains entries entry)
-      → ((entry : Entry) → IsRelevant task.problem task.tables gaps node.stack entry → AreUnlimited task.problem (obligations_of task.problem task.tables node.model entry)) → AreStepsOf kept steps (map move.Push entries)
+      → ((entry : Entry) → IsRelevant task.problem task.tables gaps node.stack entry
+      → AreUnlimited task.problem (obligations_of task.problem task.tables node.model entry))
+      → AreStepsOf kept steps (map move.Push entries)
       → IsBegunOn task kept node steps is_all
   begun-open kept node gaps entries steps is_all opens sorted sound others every unlimited are = record {
     moves = map move.Push entries;
@@ -146,73 +170,94 @@ module _ (task : Task) where
 
   -- ---- with an entry on top
 
-  module _ (kept : Kept) (place : Place) (below : ℕ) (model : List Atom) (stack : List Entry) (t : IsTopAt kept place below model stack) where
+  module _ (kept : Kept) (place : EntryPlace) (below : ℕ) (model : List Atom) (stack : List Entry)
+      (t : IsTopAt kept place below model stack) where
     abbrev pub the_node : Node
     the_node = record { model = model; stack = stack }
 
     -- what is known of the entry is known of what the node needs
-    pub known-top : (entry : Entry) (known : Known) → slice_get kept.entries place.entry ≡ Some entry → IsKnownOf task.problem (obligations_of task.problem task.tables model entry) known
+    pub known-top : (entry : Entry) (known : Known) → slice_get kept.entries place.entry ≡ Some entry
+        → IsKnownOf task.problem (obligations_of task.problem task.tables model entry) known
         → IsKnownOf task.problem (needs_with task model stack) known
     known-top entry known at is =
         subst (λ (s : List Entry). IsKnownOf task.problem (needs_with task model s) known) (sym t.stack_is)
-        (subst (λ (e : Entry). IsKnownOf task.problem (obligations_of task.problem task.tables model e) known) (one_at kept.entries place.entry entry t.entry at t.entry_at) is)
+        (subst (λ (e : Entry). IsKnownOf task.problem (obligations_of task.problem task.tables model e) known)
+        (one_at kept.entries place.entry entry t.entry at t.entry_at) is)
 
     -- and of what it needs over the entry alone
-    pub alone-top : (known : Known) → IsKnownOf task.problem (needs_with task model stack) known → IsKnownOf task.problem (needs_with task model (t.entry ∷ [])) known
+    pub alone-top : (known : Known) → IsKnownOf task.problem (needs_with task model stack) known
+        → IsKnownOf task.problem (needs_with task model (t.entry ∷ [])) known
     alone-top known is = subst (λ (s : List Entry). IsKnownOf task.problem (needs_with task model s) known) t.stack_is is
 
     pub first-top : take 1 stack ≡ t.entry ∷ []
     first-top = ap (λ (s : List Entry). take 1 s) t.stack_is
 
     -- the moves over the entry alone, where these don't depend on the stack
-    pub alone-gone : (steps : List Step) (is_all : Bool) → IsGoneOn task kept (record { model = model; stack = t.entry ∷ [] }) steps → IsBegunOn task kept (record { model = model; stack = take 1 stack }) steps is_all
+    pub alone-gone : (steps : List Step) (is_all : Bool) → IsGoneOn task kept (record { model = model; stack = t.entry ∷ [] }) steps
+        → IsBegunOn task kept (record { model = model; stack = take 1 stack }) steps is_all
     alone-gone steps is_all gone =
         subst (λ (s : List Entry). IsBegunOn task kept (record { model = model; stack = s }) steps is_all) (sym first-top)
         (all-begun task kept (record { model = model; stack = t.entry ∷ [] }) steps is_all gone)
 
-    pub alone-applicable : (is_all : Bool) → IsKnownOf task.problem (needs_with task model stack) Applicable → IsBegunOn task kept (record { model = model; stack = take 1 stack }) (step.Apply ∷ []) is_all
-    alone-applicable is_all known = alone-gone (step.Apply ∷ []) is_all (gone-applicable kept (record { model = model; stack = t.entry ∷ [] }) (λ e. cc) (alone-top Applicable known))
+    pub alone-applicable : (is_all : Bool) → IsKnownOf task.problem (needs_with task model stack) Applicable
+        → IsBegunOn task kept (record { model = model; stack = take 1 stack }) (step.Apply ∷ []) is_all
+    alone-applicable is_all known =
+        alone-gone (step.Apply ∷ []) is_all (gone-applicable kept (record { model = model; stack = t.entry ∷ [] }) (λ e. cc)
+        (alone-top Applicable known))
 
-    pub alone-closed : (is_all : Bool) → IsKnownOf task.problem (needs_with task model stack) Closed → IsBegunOn task kept (record { model = model; stack = take 1 stack }) [] is_all
-    alone-closed is_all known = alone-gone [] is_all (gone-closed kept (record { model = model; stack = t.entry ∷ [] }) (alone-top Closed known))
+    pub alone-closed : (is_all : Bool) → IsKnownOf task.problem (needs_with task model stack) Closed
+        → IsBegunOn task kept (record { model = model; stack = take 1 stack }) [] is_all
+    alone-closed is_all known =
+        alone-gone [] is_all (gone-closed kept (record { model = model; stack = t.entry ∷ [] }) (alone-top Closed known))
 
     -- where only pushes over the entry alone are known
-    pub begun-over : (steps left : List Step) (is_all : Bool) → IsBegunOn task kept (record { model = model; stack = t.entry ∷ [] }) steps is_all
-        → ((entries : List Entry) (moves : List Move) → IsStackAt kept below entries → AreStepsOf kept steps moves → AreStepsOf kept left (unstruck entries moves)) → IsBegunOn task kept the_node left is_all
+    pub begun-over : (steps left : List Step) (is_all : Bool)
+        → IsBegunOn task kept (record { model = model; stack = t.entry ∷ [] }) steps is_all
+        → ((entries : List Entry) (moves : List Move) → IsStackAt kept below entries → AreStepsOf kept steps moves
+        → AreStepsOf kept left (unstruck entries moves)) → IsBegunOn task kept the_node left is_all
     begun-over steps left is_all begun struck =
         subst (λ (s : List Entry). IsBegunOn task kept (record { model = model; stack = s }) left is_all) (sym t.stack_is)
         (begun-struck task model t.entry t.rest kept steps left is_all begun (struck t.rest begun.moves t.below_at begun.steps_are))
 
     -- what is kept for the place
     pub begun-cached : (offer : Offer) (left : List Step) → IsStepsAt task kept place offer
-        → ((entries : List Entry) (moves : List Move) → IsStackAt kept below entries → AreStepsOf kept offer.steps moves → AreStepsOf kept left (unstruck entries moves)) → IsBegunOn task kept the_node left offer.is_all
+        → ((entries : List Entry) (moves : List Move) → IsStackAt kept below entries → AreStepsOf kept offer.steps moves
+        → AreStepsOf kept left (unstruck entries moves)) → IsBegunOn task kept the_node left offer.is_all
     begun-cached offer left (built, entry, built_at, entry_at, begun) struck =
         let models : built ≡ model = one_model kept place.model built model built_at t.model_at in
         let entries : entry ≡ t.entry = one_at kept.entries place.entry entry t.entry entry_at t.entry_at in
         begun-over offer.steps left offer.is_all
         (subst (λ (e : Entry). IsBegunOn task kept (record { model = model; stack = e ∷ [] }) offer.steps offer.is_all) entries
-        (subst (λ (m : List Atom). IsBegunOn task kept (record { model = m; stack = entry ∷ [] }) offer.steps offer.is_all) models begun)) struck
+        (subst (λ (m : List Atom). IsBegunOn task kept (record { model = m; stack = entry ∷ [] }) offer.steps offer.is_all) models begun))
+        struck
 
 -- the node of a pair, by the numbers of its model and of its top
-pub node-top : (kept : Kept) (key : NodeKey) (frame : Frame) (node : Node) (model : List Atom) (stack : List Entry) → IsKeyOf kept key node → IsTopOf kept node.stack (Some frame) → IsModelAt kept key.model model → stack ≡ node.stack
+pub node-top : (kept : Kept) (key : NodeKey) (frame : Frame) (node : Node) (model : List Atom) (stack : List Entry) → IsKeyOf kept key node
+    → IsTopOf kept node.stack (Some frame) → IsModelAt kept key.model model → stack ≡ node.stack
     → IsTopAt kept (record { model = key.model; entry = frame.entry }) frame.below model stack
-node-top kept key frame node model stack stands top model_at is = top_at kept key.model frame model stack model_at (subst (λ (s : List Entry). IsTopOf kept s (Some frame)) (sym is) top)
+node-top kept key frame node model stack stands top model_at is =
+    top_at kept key.model frame model stack model_at (subst (λ (s : List Entry). IsTopOf kept s (Some frame)) (sym is) top)
 
 -- any two nodes of a pair are one, so what is said of one is said of the other
-pub of_node : (kept : Kept) (key : NodeKey) (P : Node → Type 0) (node : Node) (model : List Atom) (stack : List Entry) → IsKeyOf kept key node → IsModelAt kept key.model model → stack ≡ node.stack → P (record { model = model; stack = stack }) → P node
+pub of_node : (kept : Kept) (key : NodeKey) (P : Node → Type 0) (node : Node) (model : List Atom) (stack : List Entry)
+    → IsKeyOf kept key node → IsModelAt kept key.model model → stack ≡ node.stack → P (record { model = model; stack = stack }) → P node
 of_node kept key P node model stack stands model_at is p = subst P (same_node kept key node model stack stands model_at is) p
 
 -- the stack of a pair, where another node of the pair has that stack
-pub stack_of : (kept : Kept) (key : NodeKey) (one other : Node) (stack : List Entry) → IsKeyOf kept key one → IsKeyOf kept key other → one.stack ≡ stack → stack ≡ other.stack
+pub stack_of : (kept : Kept) (key : NodeKey) (one other : Node) (stack : List Entry) → IsKeyOf kept key one → IsKeyOf kept key other
+    → one.stack ≡ stack → stack ≡ other.stack
 stack_of kept key one other stack a b is = sym is ∙ one_stack kept key.stack one.stack other.stack a.stack b.stack
 
-pub goal-answered : {G : Type 0} (task : Task) (model : List Atom) → (¬ HasAnswer task.problem (goal_from task model)) → IsKnownOf task.problem (goal_from task model ∷ []) Applicable → G
+pub goal-answered : {G : Type 0} (task : Task) (model : List Atom) → (¬ HasAnswer task.problem (goal_from task model))
+    → IsKnownOf task.problem (goal_from task model ∷ []) Applicable → G
 goal-answered task model none known = absurd (none (All-head (HasAnswer task.problem) (goal_from task model) [] known.0))
 
 -- what is said of the node with this model and no stack is said of each node of the pair, where one of these has no stack
-pub goal-each : (kept : Kept) (key : NodeKey) (model : List Atom) (one : Node) → IsKeyOf kept key one → one.stack ≡ [] → IsModelAt kept key.model model → (P : Node → Type 0) → P (record { model = model; stack = [] })
+pub goal-each : (kept : Kept) (key : NodeKey) (model : List Atom) (one : Node) → IsKeyOf kept key one → one.stack ≡ []
+    → IsModelAt kept key.model model → (P : Node → Type 0) → P (record { model = model; stack = [] })
     → (node : Node) → IsKeyOf kept key node → P node
-goal-each kept key model one stands empty model_at P p node other = of_node kept key P node model [] other model_at (stack_of kept key one node [] stands other empty) p
+goal-each kept key model one stands empty model_at P p node other =
+    of_node kept key P node model [] other model_at (stack_of kept key one node [] stands other empty) p
 
 -- ---- what is known of a node with an entry on top
 
@@ -224,8 +269,9 @@ pub record Read (task : Task) (kept : Kept) (key : NodeKey) (frame : Frame) (mod
   pub model_at : IsModelAt kept key.model model
   pub stack_is : stack ≡ node.stack
 
-module _ (task : Task) (kept : Kept) (key : NodeKey) (frame : Frame) (model : List Atom) (stack : List Entry) (r : Read task kept key frame model stack) where
-  abbrev pub read-place : Place
+module _ (task : Task) (kept : Kept) (key : NodeKey) (frame : Frame) (model : List Atom) (stack : List Entry)
+    (r : Read task kept key frame model stack) where
+  abbrev pub read-place : EntryPlace
   read-place = record { model = key.model; entry = frame.entry }
 
   abbrev pub read-top : IsTopAt kept read-place frame.below model stack
@@ -233,17 +279,26 @@ module _ (task : Task) (kept : Kept) (key : NodeKey) (frame : Frame) (model : Li
 
   -- what is said of the node with this model and stack is said of each node of the pair
   pub read-each : (P : Node → Type 0) → P (record { model = model; stack = stack }) → (node : Node) → IsKeyOf kept key node → P node
-  read-each P p node stands = of_node kept key P node model stack stands r.model_at (stack_of kept key r.node node stack r.stands stands (sym r.stack_is)) p
+  read-each P p node stands =
+      of_node kept key P node model stack stands r.model_at (stack_of kept key r.node node stack r.stands stands (sym r.stack_is)) p
 
   -- what is known of the top entry is known of what the node needs
-  pub read-known : (entry : Entry) (known given : Known) → slice_get kept.entries frame.entry ≡ Some entry → IsKnownOf task.problem (obligations_of task.problem task.tables model entry) given → given ≡ known
+  pub read-known : (entry : Entry) (known given : Known) → slice_get kept.entries frame.entry ≡ Some entry
+      → IsKnownOf task.problem (obligations_of task.problem task.tables model entry) given → given ≡ known
       → IsKnownOf task.problem (needs_with task model stack) known
-  read-known entry known given at is same = known-top task kept read-place frame.below model stack read-top entry known at (subst (IsKnownOf task.problem (obligations_of task.problem task.tables model entry)) same is)
+  read-known entry known given at is same =
+      known-top task kept read-place frame.below model stack read-top entry known at
+      (subst (IsKnownOf task.problem (obligations_of task.problem task.tables model entry)) same is)
 
 -- the first moves of the node with this frame on top, by what is kept for its place
-pub begun-found : (task : Task) (kept : Kept) (key : NodeKey) (frame : Frame) (offer : Offer) (left : List Step) → IsStepsAt task kept (record { model = key.model; entry = frame.entry }) offer
-    → ((entries : List Entry) (moves : List Move) → IsStackAt kept frame.below entries → AreStepsOf kept offer.steps moves → AreStepsOf kept left (unstruck entries moves))
-    → (one : Node) → IsKeyOf kept key one → IsTopOf kept one.stack (Some frame) → (node : Node) → IsKeyOf kept key node → IsBegunOn task kept node left offer.is_all
+pub begun-found : (task : Task) (kept : Kept) (key : NodeKey) (frame : Frame) (offer : Offer) (left : List Step)
+    → IsStepsAt task kept (record { model = key.model; entry = frame.entry }) offer
+    → ((entries : List Entry) (moves : List Move) → IsStackAt kept frame.below entries → AreStepsOf kept offer.steps moves
+    → AreStepsOf kept left (unstruck entries moves))
+    → (one : Node) → IsKeyOf kept key one → IsTopOf kept one.stack (Some frame) → (node : Node) → IsKeyOf kept key node
+    → IsBegunOn task kept node left offer.is_all
 begun-found task kept key frame offer left kept_steps struck one stands top node other =
-    of_node kept key (λ (n : Node). IsBegunOn task kept n left offer.is_all) node one.model one.stack other stands.model (stack_of kept key one node one.stack stands other refl)
-    (begun-cached task kept (record { model = key.model; entry = frame.entry }) frame.below one.model one.stack (top_at kept key.model frame one.model one.stack stands.model top) offer left kept_steps struck)
+    of_node kept key (λ (n : Node). IsBegunOn task kept n left offer.is_all) node one.model one.stack other stands.model
+    (stack_of kept key one node one.stack stands other refl)
+    (begun-cached task kept (record { model = key.model; entry = frame.entry }) frame.below one.model one.stack
+    (top_at kept key.model frame one.model one.stack stands.model top) offer left kept_steps struck)

@@ -32,24 +32,28 @@ module _ {N M : Type 0} (may : N → M → Type 0) (after : N → M → N) (befo
   module _ (found : List (List M)) (next : ℕ) (tried : List M) (f : Known found next tried)
       (p : List M) (at : slice_get found next ≡ Some p) (m : M) (can : may (goes may after before start order same p) m)
       (untried : ¬ Contains tried m)
-      (least : (n : M) → may (goes may after before start order same p) n → (¬ (Contains (tried ++ m ∷ []) n)) → before (p ++ m ∷ []) (p ++ n ∷ [])) where
+      (least : (n : M) → may (goes may after before start order same p) n → (¬ (Contains (tried ++ m ∷ []) n))
+      → before (p ++ m ∷ []) (p ++ n ∷ [])) where
     beyond : IsBeyond may after before start order same found (p ++ m ∷ [])
-    beyond = leaves_tried may after before start order same found next tried f next p p m at (order.irreflexive p) (omega arith) (λ _ h. untried h) can
+    beyond =
+        leaves_tried may after before start order same found next tried f next p p m at (order.irreflexive p) (omega arith)
+        (λ _ h. untried h) can
 
-    more_tried : (i : ℕ) (n : M) → IsTried may after before start order same next tried i n → IsTried may after before start order same next (tried ++ m ∷ []) i n
+    more_tried : (i : ℕ) (n : M) → IsTried may after before start order same next tried i n
+        → IsTried may after before start order same next (tried ++ m ∷ []) i n
     more_tried i n (inl h) = inl h
     more_tried i n (inr h) = inr (h.0, Contains-append_left tried (m ∷ []) n h.1)
 
-    tried_before : (i : ℕ) (n : M) → IsTried may after before start order same next (tried ++ m ∷ []) i n →
-        IsTried may after before start order same next tried i n ⊎ ((i ≡ next) × (m ≡ n))
+    tried_before : (i : ℕ) (n : M) → IsTried may after before start order same next (tried ++ m ∷ []) i n
+        → IsTried may after before start order same next tried i n ⊎ ((i ≡ next) × (m ≡ n))
     tried_before i n (inl h) = inl (inl h)
     tried_before i n (inr h) = elim (Contains-push_cases tried m n h.1) [
       | inl g ↦ inl (inr (h.0, g))
       | inr g ↦ inr (h.0, g)
     ]
 
-    pending_after : (q : List M) (k n : M) → slice_get found next ≡ Some q → may (goes may after before start order same q) k →
-        (¬ (Contains (tried ++ m ∷ []) k)) → Contains (tried ++ m ∷ []) n → before (q ++ n ∷ []) (q ++ k ∷ [])
+    pending_after : (q : List M) (k n : M) → slice_get found next ≡ Some q → may (goes may after before start order same q) k
+        → (¬ (Contains (tried ++ m ∷ []) k)) → Contains (tried ++ m ∷ []) n → before (q ++ n ∷ []) (q ++ k ∷ [])
     pending_after q k n at_q can_k not_yet has =
         let same_list : p ≡ q = cc (at, at_q) in
         elim (Contains-push_cases tried m n has) [
@@ -60,8 +64,9 @@ module _ {N M : Type 0} (may : N → M → Type 0) (after : N → M → N) (befo
         ]
 
     -- the move leads to a node that was found
-    pub frontier-skip : (q : List M) → Contains found q → goes may after before start order same q ≡ after (goes may after before start order same p) m →
-        Known found next (tried ++ m ∷ [])
+    pub frontier-skip : (q : List M) → Contains found q
+        → goes may after before start order same q ≡ after (goes may after before start order same p) m
+        → Known found next (tried ++ m ∷ [])
     frontier-skip q has e = record {
       root = f.root;
       can = f.can;
@@ -78,25 +83,31 @@ module _ {N M : Type 0} (may : N → M → Type 0) (after : N → M → N) (befo
       pending = pending_after;
     }
       where
-        new_covered : (i : ℕ) (r : List M) (n : M) → slice_get found i ≡ Some r → i ≡ next → m ≡ n →
-            (q' : List M) × Contains found q' × (goes may after before start order same q' ≡ after (goes may after before start order same r) n) × (¬ (before (r ++ n ∷ []) q'))
+        new_covered : (i : ℕ) (r : List M) (n : M) → slice_get found i ≡ Some r → i ≡ next → m ≡ n
+            → (q' : List M) × Contains found q'
+            × (goes may after before start order same q' ≡ after (goes may after before start order same r) n)
+            × (¬ (before (r ++ n ∷ []) q'))
         new_covered i r n at_r number move =
             let same_list : p ≡ r = cc (ap (slice_get found) number, at, at_r) in (
               q,
               has,
-              e ∙ ap (λ (x : List M). after (goes may after before start order same x) m) same_list ∙ ap (λ (x : M). after (goes may after before start order same r) x) move,
+              e ∙ ap (λ (x : List M). after (goes may after before start order same x) m) same_list
+                  ∙ ap (λ (x : M). after (goes may after before start order same r) x) move,
               λ less. order.irreflexive q (order.transitive q (p ++ m ∷ []) q (beyond q has)
-                  (subst (λ (x : M). before (p ++ x ∷ []) q) (sym move) (subst (λ (x : List M). before (x ++ n ∷ []) q) (sym same_list) less))),
+                  (subst (λ (x : M). before (p ++ x ∷ []) q) (sym move)
+                  (subst (λ (x : List M). before (x ++ n ∷ []) q) (sym same_list) less))),
             )
 
     -- the move leads to a new node
-    pub frontier-add : ((q : List M) → Contains found q → ¬ (goes may after before start order same q ≡ after (goes may after before start order same p) m)) →
-        Known (found ++ (p ++ m ∷ []) ∷ []) next (tried ++ m ∷ [])
+    pub frontier-add : ((q : List M) → Contains found q
+        → ¬ (goes may after before start order same q ≡ after (goes may after before start order same p) m))
+        → Known (found ++ (p ++ m ∷ []) ∷ []) next (tried ++ m ∷ [])
     frontier-add new = record {
       root = still_there found _ 0 [] f.root;
       can = λ x has. elim (Contains-push_cases found (p ++ m ∷ []) x has) [
         | inl old ↦ f.can x old
-        | inr e ↦ subst (λ (y : List M). CanMake may after start y) e (CanMake-append may after before start order same start p m (f.can p (contains_place found next p at)) can)
+        | inr e ↦ subst (λ (y : List M). CanMake may after start y) e
+            (CanMake-append may after before start order same start p m (f.can p (contains_place found next p at)) can)
       ];
       tried_from = λ x has. elim (Contains-push_cases found (p ++ m ∷ []) x has) [
         | inl old ↦ elim (f.tried_from x old) [
@@ -118,10 +129,12 @@ module _ {N M : Type 0} (may : N → M → Type 0) (after : N → M → N) (befo
       distinct = λ q r has_q has_r e. elim (Contains-push_cases found (p ++ m ∷ []) q has_q) [
         | inl old_q ↦ elim (Contains-push_cases found (p ++ m ∷ []) r has_r) [
           | inl old_r ↦ f.distinct q r old_q old_r e
-          | inr e_r ↦ absurd (new q old_q (e ∙ ap (goes may after before start order same) (sym e_r) ∙ reached-append may after before start order same start p (m ∷ [])))
+          | inr e_r ↦ absurd (new q old_q (e ∙ ap (goes may after before start order same) (sym e_r)
+              ∙ reached-append may after before start order same start p (m ∷ [])))
         ]
         | inr e_q ↦ elim (Contains-push_cases found (p ++ m ∷ []) r has_r) [
-          | inl old_r ↦ absurd (new r old_r (sym e ∙ ap (goes may after before start order same) (sym e_q) ∙ reached-append may after before start order same start p (m ∷ [])))
+          | inl old_r ↦ absurd (new r old_r (sym e ∙ ap (goes may after before start order same) (sym e_q)
+              ∙ reached-append may after before start order same start p (m ∷ [])))
           | inr e_r ↦ sym e_q ∙ e_r
         ]
       ];
@@ -142,21 +155,26 @@ module _ {N M : Type 0} (may : N → M → Type 0) (after : N → M → N) (befo
         later_untried i n e (inl h) = omega (arith, place-within found next p at)
         later_untried i n e (inr h) = omega (arith, place-within found next p at, h.0)
 
-        new_covered : (i : ℕ) (r : List M) (n : M) → slice_get found i ≡ Some r → i ≡ next → m ≡ n →
-            (q' : List M) × Contains (found ++ (p ++ m ∷ []) ∷ []) q' × (goes may after before start order same q' ≡ after (goes may after before start order same r) n) × (¬ (before (r ++ n ∷ []) q'))
+        new_covered : (i : ℕ) (r : List M) (n : M) → slice_get found i ≡ Some r → i ≡ next → m ≡ n
+            → (q' : List M) × Contains (found ++ (p ++ m ∷ []) ∷ []) q'
+            × (goes may after before start order same q' ≡ after (goes may after before start order same r) n)
+            × (¬ (before (r ++ n ∷ []) q'))
         new_covered i r n at_r number move =
             let same_list : p ≡ r = cc (ap (slice_get found) number, at, at_r) in (
               p ++ m ∷ [],
               Contains-push found (p ++ m ∷ []),
               reached-append may after before start order same start p (m ∷ [])
-                  ∙ ap (λ (x : List M). after (goes may after before start order same x) m) same_list ∙ ap (λ (x : M). after (goes may after before start order same r) x) move,
+                  ∙ ap (λ (x : List M). after (goes may after before start order same x) m) same_list
+                  ∙ ap (λ (x : M). after (goes may after before start order same r) x) move,
               λ less. order.irreflexive (p ++ m ∷ [])
-                  (subst (λ (x : M). before (p ++ x ∷ []) (p ++ m ∷ [])) (sym move) (subst (λ (x : List M). before (x ++ n ∷ []) (p ++ m ∷ [])) (sym same_list) less)),
+                  (subst (λ (x : M). before (p ++ x ∷ []) (p ++ m ∷ [])) (sym move)
+                  (subst (λ (x : List M). before (x ++ n ∷ []) (p ++ m ∷ [])) (sym same_list) less)),
             )
 
   -- all moves of the node were tried
-  pub frontier-next : (found : List (List M)) (next : ℕ) (tried : List M) (p : List M) → Known found next tried → slice_get found next ≡ Some p →
-      ((m : M) → may (goes may after before start order same p) m → Contains tried m) → Known found (suc next) []
+  pub frontier-next : (found : List (List M)) (next : ℕ) (tried : List M) (p : List M) → Known found next tried
+      → slice_get found next ≡ Some p
+      → ((m : M) → may (goes may after before start order same p) m → Contains tried m) → Known found (suc next) []
   frontier-next found next tried p f at all = record {
     root = f.root;
     can = f.can;
@@ -174,8 +192,8 @@ module _ {N M : Type 0} (may : N → M → Type 0) (after : N → M → N) (befo
       earlier i m (inl h) = omega arith
       earlier i m (inr h) = omega (arith, h.0)
 
-      was_tried : (i : ℕ) (r : List M) (m : M) → slice_get found i ≡ Some r → IsTried may after before start order same (suc next) [] i m →
-          may (goes may after before start order same r) m → IsTried may after before start order same next tried i m
+      was_tried : (i : ℕ) (r : List M) (m : M) → slice_get found i ≡ Some r → IsTried may after before start order same (suc next) [] i m
+          → may (goes may after before start order same r) m → IsTried may after before start order same next tried i m
       was_tried i r m at_r (inr h) can_m = absurd (omega (arith, h.1.1))
       was_tried i r m at_r (inl h) can_m = elim (order_of i next) [
         | inl less ↦ inl less

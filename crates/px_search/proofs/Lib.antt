@@ -1,3 +1,4 @@
+-- The files of lemmas.
 pub mod Answering
 pub mod BeginningLaws
 pub mod BegunLaws

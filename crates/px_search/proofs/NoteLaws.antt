@@ -16,11 +16,11 @@ use Rattle.px_numbers.specs.NumberLaws.{model_at-grows}
 use Rattle.px_ends.specs.Tasks.{Task}
 use Rattle.px_search.specs.Notes.{AreRight, HaveGrown, IsResultAt, IsStepsAt, OnAnswer}
 use Rattle.px_search.specs.Offers.{IsOffered, IsOfferAt, IsPartAt}
-use Rattle.px_search.specs.contracts.notes.PlacePartialEq.TheImpl as place_equality
+use Rattle.px_search.specs.contracts.notes.EntryPlacePartialEq.TheImpl as place_equality
 use Rattle.px_search.specs.contracts.notes.WantPartialEq.TheImpl as want_equality
 use Rattle.px_search.specs.declared.notes.Notes.{Notes}
 use Rattle.px_search.specs.declared.notes.Offer.{Offer}
-use Rattle.px_search.specs.declared.notes.Place.{Place}
+use Rattle.px_search.specs.declared.notes.EntryPlace.{EntryPlace}
 use Rattle.px_search.specs.declared.notes.Want.{Want}
 use Rattle.px_search.specs.declared.step.Step.{Step}
 use Rattle.px_search.proofs.Pairs.{each-grows}
@@ -31,10 +31,10 @@ use Rattle.px_search.proofs.StruckLaws.{keeps_all_both}
 
 -- Alike: the other kind of keys below, and Equality.antt of px_numbers: each struct has a derived equality of its own.
 
-abbrev pub place_eq : Place → Place → Bool
+abbrev pub place_eq : EntryPlace → EntryPlace → Bool
 place_eq = (place_equality.ghosts).eq
 
-pub place_eq-decides : (a b : Place) → Decides (place_eq a b) (a ≡ b)
+pub place_eq-decides : (a b : EntryPlace) → Decides (place_eq a b) (a ≡ b)
 place_eq-decides a b =
     Decides-like _ (λ e i. record { model = e.0 i; entry = e.1 i }) (λ e. ((λ i. (e i).model), (λ i. (e i).entry)))
     (Decides-and _ _ (Decides-eqb a.model b.model) (Decides-eqb a.entry b.entry))
@@ -50,28 +50,53 @@ want_eq-decides a b =
 -- ---- where more gets numbers
 
 module _ (task : Task) (old new : Kept) (keeps : KeepsAll old new) where
-  steps_at-grows : (place : Place) (offer : Offer) → IsStepsAt task old place offer → IsStepsAt task new place offer
+  steps_at-grows : (place : EntryPlace) (offer : Offer) → IsStepsAt task old place offer → IsStepsAt task new place offer
   steps_at-grows place offer (model, entry, model_at, entry_at, begun) = (
     model,
     entry,
     model_at-grows old new place.model model keeps model_at,
     keeps.entries place.entry entry entry_at,
-    record { moves = begun.moves; are = begun.are; every = begun.every; steps_are = steps-grow old new offer.steps begun.moves keeps begun.steps_are; unlimited = begun.unlimited },
+    record {
+      moves = begun.moves;
+      are =
+          begun.are;
+      every =
+          begun.every;
+      steps_are = steps-grow old new offer.steps begun.moves keeps begun.steps_are;
+      unlimited = begun.unlimited;
+    },
   )
 
-  offered-grows : (facts wanted : List Atom) (steps : List Step) (is_all : Bool) → IsOffered task old facts wanted steps is_all → IsOffered task new facts wanted steps is_all
-  offered-grows facts wanted steps is_all o = record { entries = o.entries; first = o.first; steps_are = steps-grow old new steps (map Push o.entries) keeps o.steps_are; unlimited = o.unlimited }
+  offered-grows : (facts wanted : List Atom) (steps : List Step) (is_all : Bool) → IsOffered task old facts wanted steps is_all
+      → IsOffered task new facts wanted steps is_all
+  offered-grows facts wanted steps is_all o =
+      record {
+        entries =
+            o.entries;
+        first = o.first;
+        steps_are = steps-grow old new steps (map Push o.entries) keeps o.steps_are;
+        unlimited = o.unlimited;
+      }
 
   offer_at-grows : (want : Want) (offer : Offer) → IsOfferAt task old want offer → IsOfferAt task new want offer
-  offer_at-grows want offer o =
-      (o.0, model_at-grows old new want.part o.0 keeps o.1, λ facts is_set alike. offered-grows facts (want.atom ∷ []) offer.steps offer.is_all (o.2 facts is_set alike))
+  offer_at-grows want offer o = (
+    o.0,
+    model_at-grows old new want.part o.0 keeps o.1,
+    λ facts is_set alike. offered-grows facts (want.atom ∷ []) offer.steps offer.is_all (o.2 facts is_set alike),
+  )
 
-  result_at-grows : (place : Place) (number : ℕ) → IsResultAt task old place number → IsResultAt task new place number
-  result_at-grows place number (model, entry, model_at, entry_at, left) =
-      (model, entry, model_at-grows old new place.model model keeps model_at, keeps.entries place.entry entry entry_at, model_at-grows old new number (results_of task.problem model (effect_of task.tables entry)) keeps left)
+  result_at-grows : (place : EntryPlace) (number : ℕ) → IsResultAt task old place number → IsResultAt task new place number
+  result_at-grows place number (model, entry, model_at, entry_at, left) = (
+    model,
+    entry,
+    model_at-grows old new place.model model keeps model_at,
+    keeps.entries place.entry entry entry_at,
+    model_at-grows old new number (results_of task.problem model (effect_of task.tables entry)) keeps left,
+  )
 
   pub part-grows : (number : ℕ) (facts : List Atom) → IsPartAt task old number facts → IsPartAt task new number facts
-  part-grows number facts p = record { is_set = p.is_set; part = p.part; part_at = model_at-grows old new number p.part keeps p.part_at; alike = p.alike }
+  part-grows number facts p =
+      record { is_set = p.is_set; part = p.part; part_at = model_at-grows old new number p.part keeps p.part_at; alike = p.alike }
 
 pub keeps_all_same : (kept : Kept) → KeepsAll kept kept
 keeps_all_same kept = record { atoms = λ k x e. e; lists = λ k x e. e; entries = λ k x e. e; frames = λ k x e. e }
@@ -82,17 +107,25 @@ module _ (task : Task) where
 
   pub right-grows : (old : Notes) (new : Kept) → KeepsAll old.numbers new → AreRight task old → AreRight task (record old { numbers = new })
   right-grows old new keeps right = record {
-    tops = each-grows (IsStepsAt task old.numbers) (IsStepsAt task new) old.tops.entries (steps_at-grows task old.numbers new keeps) right.tops;
-    wants = each-grows (IsOfferAt task old.numbers) (IsOfferAt task new) old.wants.entries (offer_at-grows task old.numbers new keeps) right.wants;
-    results = each-grows (IsResultAt task old.numbers) (IsResultAt task new) old.results.entries (result_at-grows task old.numbers new keeps) right.results;
+    tops =
+        each-grows (IsStepsAt task old.numbers) (IsStepsAt task new) old.tops.entries
+        (steps_at-grows task old.numbers new keeps) right.tops;
+    wants =
+        each-grows (IsOfferAt task old.numbers) (IsOfferAt task new) old.wants.entries
+        (offer_at-grows task old.numbers new keeps) right.wants;
+    results =
+        each-grows (IsResultAt task old.numbers) (IsResultAt task new) old.results.entries
+        (result_at-grows task old.numbers new keeps) right.results;
     never_limited = right.never_limited;
   }
 
-  pub grown-numbers : (old : Notes) (new : Kept) → KeepsAll old.numbers new → AreRight task old → HaveGrown task old (record old { numbers = new })
+  pub grown-numbers : (old : Notes) (new : Kept) → KeepsAll old.numbers new → AreRight task old
+      → HaveGrown task old (record old { numbers = new })
   grown-numbers old new keeps right = record { keeps = keeps; right = right-grows old new keeps right }
 
   pub grown-both : (old mid new : Notes) → HaveGrown task old mid → HaveGrown task mid new → HaveGrown task old new
-  grown-both old mid new first second = record { keeps = keeps_all_both old.numbers mid.numbers new.numbers first.keeps second.keeps; right = second.right }
+  grown-both old mid new first second =
+      record { keeps = keeps_all_both old.numbers mid.numbers new.numbers first.keeps second.keeps; right = second.right }
 
 -- ---- what results say
 
@@ -116,7 +149,8 @@ any_ok (Err error) p = tt
 
 -- one result more, after what was kept before
 module _ (task : Task) (old mid new : Notes) (before : HaveGrown task old mid) where
-  pub answer-grown : {A : Type 0} (result : Result A AskErr) → OnAnswer result (HaveGrown task mid new) → OnAnswer result (HaveGrown task old new)
+  pub answer-grown : {A : Type 0} (result : Result A AskErr) → OnAnswer result (HaveGrown task mid new)
+      → OnAnswer result (HaveGrown task old new)
   answer-grown result grown = on_answer (HaveGrown task mid new) (HaveGrown task old new) result grown (grown-both task old mid new before)
 
   pub ok-grown : {A E : Type 0} (result : Result A E) → OnOk result (HaveGrown task mid new) → OnOk result (HaveGrown task old new)

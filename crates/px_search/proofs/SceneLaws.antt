@@ -11,9 +11,14 @@ use Rattle.px_search.proofs.FromLaws.{top_at-grows}
 use Rattle.px_search.proofs.NoteLaws.{part-grows}
 
 module _ (task : Task) where
-  pub scene_at-grows : (old new : Kept) (number : ℕ) (scene : Scene) → KeepsAll old new → IsSceneAt task old number scene → IsSceneAt task new number scene
+  pub scene_at-grows : (old new : Kept) (number : ℕ) (scene : Scene) → KeepsAll old new → IsSceneAt task old number scene
+      → IsSceneAt task new number scene
   scene_at-grows old new number scene keeps is =
-      record { model_at = model_at-grows old new number scene.model.atoms keeps is.model_at; part_at = part-grows task old new keeps scene.part scene.model.atoms is.part_at }
+      record {
+        model_at = model_at-grows old new number scene.model.atoms keeps is.model_at;
+        part_at =
+            part-grows task old new keeps scene.part scene.model.atoms is.part_at;
+      }
 
   pub scene-grows : (old new : Kept) (scene : Scene) → KeepsAll old new → IsScene task old scene → IsScene task new scene
   scene-grows old new scene keeps is = by scene.number is
@@ -26,7 +31,8 @@ module _ (task : Task) where
   pub scene-start : (kept : Kept) (scene : Scene) → scene.number ≡ None → IsScene task kept scene
   scene-start kept scene none = subst (λ (number : Option ℕ). IfSome number (λ n. IsSceneAt task kept n scene)) (sym none) tt
 
-  pub scene-of : (kept : Kept) (number : ℕ) (scene : Scene) → scene.number ≡ Some number → IsSceneAt task kept number scene → IsScene task kept scene
+  pub scene-of : (kept : Kept) (number : ℕ) (scene : Scene) → scene.number ≡ Some number → IsSceneAt task kept number scene
+      → IsScene task kept scene
   scene-of kept number scene here is = subst (λ (looked : Option ℕ). IfSome looked (λ n. IsSceneAt task kept n scene)) (sym here) is
 
   pub here-grows : (old new : Kept) (here : Here) → KeepsAll old new → IsHere task old here → IsHere task new here

@@ -21,39 +21,48 @@ use Rattle.px_search.specs.declared.step.Step.TheVariants as step
 use Rattle.px_search.specs.Asking.{IsTriedAt}
 use Rattle.px_search.specs.Going.{IsAskedAt}
 use Rattle.px_search.specs.Notes.{IsEntryAt, IsResultAt}
-use Rattle.px_search.specs.Steps.{IsStepOf, AreStepsOf}
+use Rattle.px_search.specs.Steps.{DescribesMove, AreStepsOf}
 use Rattle.px_ends.specs.Tasks.{Task, applied, after, goal_from}
 
 -- the entry on top is one of the problem's
-pub entry_on_top : (task : Task) (kept : Kept) (key : NodeKey) (frame : Frame) (model : List Atom) (stack : List Entry) → IsModelAt kept key.model model → IsTopOf kept stack (Some frame) → All (IsEntry task.problem task.tables) stack
+pub entry_on_top : (task : Task) (kept : Kept) (key : NodeKey) (frame : Frame) (model : List Atom) (stack : List Entry)
+    → IsModelAt kept key.model model → IsTopOf kept stack (Some frame) → All (IsEntry task.problem task.tables) stack
     → IsEntryAt task kept (record { model = key.model; entry = frame.entry })
 entry_on_top task kept key frame model [] model_at top all = absurd top
-entry_on_top task kept key frame model (e ∷ below) model_at top all = (model, e, model_at, top.0, All-head (IsEntry task.problem task.tables) e below all)
+entry_on_top task kept key frame model (e ∷ below) model_at top all =
+    (model, e, model_at, top.0, All-head (IsEntry task.problem task.tables) e below all)
 
 -- the node after the entry on top was applied
-pub result_stands : (task : Task) (old new : Kept) (key : NodeKey) (frame : Frame) (number : ℕ) (model : List Atom) (stack : List Entry) → KeepsAll old new → IsModelAt old key.model model → IsTopOf old stack (Some frame)
-    → IsResultAt task new (record { model = key.model; entry = frame.entry }) number → IsKeyOf new (record { model = number; stack = frame.below }) (applied task model stack)
+pub result_stands : (task : Task) (old new : Kept) (key : NodeKey) (frame : Frame) (number : ℕ) (model : List Atom) (stack : List Entry)
+    → KeepsAll old new → IsModelAt old key.model model → IsTopOf old stack (Some frame)
+    → IsResultAt task new (record { model = key.model; entry = frame.entry }) number
+    → IsKeyOf new (record { model = number; stack = frame.below }) (applied task model stack)
 result_stands task old new key frame number model [] keeps model_at top result = absurd top
 result_stands task old new key frame number model (e ∷ below) keeps model_at top (built, entry, built_at, entry_at, left) =
     let same_entry : entry ≡ e = one_at new.entries frame.entry entry e entry_at (keeps.entries frame.entry e top.0) in
     let same_model : built ≡ model = one_model new key.model built model built_at (model_at-grows old new key.model model keeps model_at) in
     let is : results_of task.problem built (effect_of task.tables entry) ≡ results_of task.problem model (effect_of task.tables e) =
-    ap (λ (m : List Atom). results_of task.problem m (effect_of task.tables entry)) same_model ∙ ap (λ (x : Entry). results_of task.problem model (effect_of task.tables x)) same_entry in
+    ap (λ (m : List Atom). results_of task.problem m (effect_of task.tables entry)) same_model
+    ∙ ap (λ (x : Entry). results_of task.problem model (effect_of task.tables x)) same_entry in
     record {
       model = subst (IsModelAt new number) is left;
       stack = stack_at-grows old new frame.below below keeps top.1;
     }
 
-pub pushed_stands : (old new : Kept) (key : NodeKey) (stack : ℕ) (node : Node) (top : Entry) → KeepsAll old new → IsKeyOf old key node → IsStackAt new stack (top ∷ node.stack)
+pub pushed_stands : (old new : Kept) (key : NodeKey) (stack : ℕ) (node : Node) (top : Entry) → KeepsAll old new → IsKeyOf old key node
+    → IsStackAt new stack (top ∷ node.stack)
     → IsKeyOf new (record { model = key.model; stack = stack }) (record { model = node.model; stack = top ∷ node.stack })
-pushed_stands old new key stack node top keeps stands is = record { model = model_at-grows old new key.model node.model keeps stands.model; stack = is }
+pushed_stands old new key stack node top keeps stands is =
+    record { model = model_at-grows old new key.model node.model keeps stands.model; stack = is }
 
 -- the node after a push
-pub push_stands : (task : Task) (old new : Kept) (there : NodeKey) (number : ℕ) (given : Step) (node : Node) (m : Move) → given ≡ step.Push number → IsStepOf old given m
-    → ((top : Entry) → slice_get old.entries number ≡ Some top → IsKeyOf new there (record { model = node.model; stack = top ∷ node.stack })) → IsKeyOf new there (after task node m)
-push_stands task old new there number given node m same is stands = by m (subst (λ (s : Step). IsStepOf old s m) same is)
+pub push_stands : (task : Task) (old new : Kept) (there : NodeKey) (number : ℕ) (given : Step) (node : Node) (m : Move)
+    → given ≡ step.Push number → DescribesMove old given m
+    → ((top : Entry) → slice_get old.entries number ≡ Some top
+    → IsKeyOf new there (record { model = node.model; stack = top ∷ node.stack })) → IsKeyOf new there (after task node m)
+push_stands task old new there number given node m same is stands = by m (subst (λ (s : Step). DescribesMove old s m) same is)
   where
-    by : (m : Move) → IsStepOf old (step.Push number) m → IsKeyOf new there (after task node m)
+    by : (m : Move) → DescribesMove old (step.Push number) m → IsKeyOf new there (after task node m)
     by move.Apply wrong = absurd wrong
     by (move.Push e) at = stands e at
 
@@ -61,10 +70,12 @@ pub empty_stack : (kept : Kept) (number : ℕ) (stack : List Entry) → number �
 empty_stack kept number [] none is = refl
 empty_stack kept number (e ∷ below) none is = absurd (omega (arith, none, is.2))
 
-pub tried_at : (task : Task) (kept : Kept) (key : NodeKey) (node : Node) (built : List Atom) (tried : Tried) → IsKeyOf kept key node → key.stack ≡ 0 → IsModelAt kept key.model built
+pub tried_at : (task : Task) (kept : Kept) (key : NodeKey) (node : Node) (built : List Atom) (tried : Tried) → IsKeyOf kept key node
+    → key.stack ≡ 0 → IsModelAt kept key.model built
     → IsTriedOf task.problem (goal_from task built) tried → IsTriedAt task node tried
 tried_at task kept key node built tried stands none built_at is =
-    by tried (subst (λ (m : List Atom). IsTriedOf task.problem (goal_from task m) tried) (one_model kept key.model built node.model built_at stands.model) is)
+    by tried (subst (λ (m : List Atom). IsTriedOf task.problem (goal_from task m) tried)
+    (one_model kept key.model built node.model built_at stands.model) is)
   where
     empty : node.stack ≡ []
     empty = empty_stack kept key.stack node.stack none stands.stack
@@ -75,11 +86,18 @@ tried_at task kept key node built tried stands none built_at is =
     by (Limited formula shapes) h = (empty, h)
 
 pub asked-grows : (task : Task) (old new : Kept) (key : NodeKey) → KeepsAll old new → IsAskedAt task old key → IsAskedAt task new key
-asked-grows task old new key keeps asked = record { node = asked.node; stands = stands-grows old new key asked.node keeps asked.stands; entries = asked.entries; tried = asked.tried }
+asked-grows task old new key keeps asked =
+    record {
+      node =
+          asked.node;
+      stands = stands-grows old new key asked.node keeps asked.stands;
+      entries = asked.entries;
+      tried = asked.tried;
+    }
 
 -- ---- steps that are moves
 
-pub step-grows : (old new : Kept) (s : Step) (m : Move) → KeepsAll old new → IsStepOf old s m → IsStepOf new s m
+pub step-grows : (old new : Kept) (s : Step) (m : Move) → KeepsAll old new → DescribesMove old s m → DescribesMove new s m
 step-grows old new step.Apply move.Apply keeps is = is
 step-grows old new step.Apply (move.Push e) keeps is = is
 step-grows old new (step.Push n) move.Apply keeps is = is

@@ -22,7 +22,7 @@ use Rattle.px_ends.specs.Tasks.{Task, IsRelevantAt, IsAllowed, AsksAt}
 use Rattle.px_search.specs.declared.step.Step.{Step}
 use Rattle.px_search.specs.declared.step.Step.TheVariants as step
 use Rattle.px_search.specs.Going.{IsBegunOn}
-use Rattle.px_search.specs.Steps.{IsStepOf, AreStepsOf, is_push_on, unstruck}
+use Rattle.px_search.specs.Steps.{DescribesMove, AreStepsOf, is_push_on, unstruck}
 
 -- ---- which pushes are struck out
 
@@ -38,7 +38,8 @@ not_true false = (λ h g. cc, λ h. refl)
 
 -- what `is_stacked` answers is whether the push is struck out
 pub says_push : (stack : List Entry) (entry : Entry) (b : Bool) → IsTrue b ↔ Contains stack entry → b ≡ is_push_on stack (Push entry)
-says_push stack entry b decides = same_bools b (is_push_on stack (Push entry)) (λ h. (on_stack stack entry).1 (decides.0 h)) (λ h. decides.1 ((on_stack stack entry).0 h))
+says_push stack entry b decides =
+    same_bools b (is_push_on stack (Push entry)) (λ h. (on_stack stack entry).1 (decides.0 h)) (λ h. decides.1 ((on_stack stack entry).0 h))
   where
     same_bools : (x y : Bool) → (x ≡ true → y ≡ true) → (y ≡ true → x ≡ true) → x ≡ y
     same_bools true y f g = sym (f refl)
@@ -47,18 +48,23 @@ says_push stack entry b decides = same_bools b (is_push_on stack (Push entry)) (
 
 -- ---- step by step
 
-pub steps_push : (kept : Kept) (ss : List Step) (ms : List Move) (s : Step) (m : Move) → AreStepsOf kept ss ms → IsStepOf kept s m → AreStepsOf kept (ss ++ s ∷ []) (ms ++ m ∷ [])
+pub steps_push : (kept : Kept) (ss : List Step) (ms : List Move) (s : Step) (m : Move) → AreStepsOf kept ss ms → DescribesMove kept s m
+    → AreStepsOf kept (ss ++ s ∷ []) (ms ++ m ∷ [])
 steps_push kept [] [] s m are is = (is, tt)
 steps_push kept [] (n ∷ ns) s m are is = absurd are
 steps_push kept (r ∷ rs) [] s m are is = absurd are
 steps_push kept (r ∷ rs) (n ∷ ns) s m are is = (are.0, steps_push kept rs ns s m are.1 is)
 
-unstruck_more : (stack : List Entry) (ms : List Move) (m : Move) → unstruck stack (ms ++ m ∷ []) ≡ unstruck stack ms ++ unstruck stack (m ∷ [])
+unstruck_more : (stack : List Entry) (ms : List Move) (m : Move)
+    → unstruck stack (ms ++ m ∷ []) ≡ unstruck stack ms ++ unstruck stack (m ∷ [])
 unstruck_more stack ms m = filter-append (λ n. not (is_push_on stack n)) ms (m ∷ [])
 
 module _ (kept : Kept) (stack : List Entry) (left : List Step) (ms : List Move) (m : Move) where
-  pub struck_out : AreStepsOf kept left (unstruck stack ms) → is_push_on stack m ≡ true → AreStepsOf kept left (unstruck stack (ms ++ m ∷ []))
-  struck_out are on = subst (AreStepsOf kept left) (sym (unstruck_more stack ms m ∙ ap (λ (l : List Move). unstruck stack ms ++ l) none ∙ end (unstruck stack ms))) are
+  pub struck_out : AreStepsOf kept left (unstruck stack ms) → is_push_on stack m ≡ true
+      → AreStepsOf kept left (unstruck stack (ms ++ m ∷ []))
+  struck_out are on =
+      subst (AreStepsOf kept left) (sym (unstruck_more stack ms m ∙ ap (λ (l : List Move). unstruck stack ms ++ l) none
+      ∙ end (unstruck stack ms))) are
     where
       none : unstruck stack (m ∷ []) ≡ []
       none = rw on refl
@@ -67,43 +73,54 @@ module _ (kept : Kept) (stack : List Entry) (left : List Step) (ms : List Move) 
       end [] = refl
       end (x ∷ xs) = ap (λ (l : List Move). x ∷ l) (end xs)
 
-  pub struck_kept : (s : Step) → AreStepsOf kept left (unstruck stack ms) → is_push_on stack m ≡ false → IsStepOf kept s m → AreStepsOf kept (left ++ s ∷ []) (unstruck stack (ms ++ m ∷ []))
+  pub struck_kept : (s : Step) → AreStepsOf kept left (unstruck stack ms) → is_push_on stack m ≡ false → DescribesMove kept s m
+      → AreStepsOf kept (left ++ s ∷ []) (unstruck stack (ms ++ m ∷ []))
   struck_kept s are off is =
-      subst (AreStepsOf kept (left ++ s ∷ [])) (sym (unstruck_more stack ms m ∙ ap (λ (l : List Move). unstruck stack ms ++ l) one)) (steps_push kept left (unstruck stack ms) s m are is)
+      subst (AreStepsOf kept (left ++ s ∷ [])) (sym (unstruck_more stack ms m ∙ ap (λ (l : List Move). unstruck stack ms ++ l) one))
+      (steps_push kept left (unstruck stack ms) s m are is)
     where
       one : unstruck stack (m ∷ []) ≡ m ∷ []
       one = rw off refl
 
-  pub struck_on : (s : Step) (b : Bool) (new : List Step) → b ≡ is_push_on stack m → MatchBool b (new ≡ left) (new ≡ left ++ s ∷ []) → AreStepsOf kept left (unstruck stack ms) → IsStepOf kept s m
+  pub struck_on : (s : Step) (b : Bool) (new : List Step) → b ≡ is_push_on stack m → MatchBool b (new ≡ left) (new ≡ left ++ s ∷ [])
+      → AreStepsOf kept left (unstruck stack ms) → DescribesMove kept s m
       → AreStepsOf kept new (unstruck stack (ms ++ m ∷ []))
-  struck_on s true new says put are is = subst (λ (l : List Step). AreStepsOf kept l (unstruck stack (ms ++ m ∷ []))) (sym put) (struck_out are (sym says))
-  struck_on s false new says put are is = subst (λ (l : List Step). AreStepsOf kept l (unstruck stack (ms ++ m ∷ []))) (sym put) (struck_kept s are (sym says) is)
+  struck_on s true new says put are is =
+      subst (λ (l : List Step). AreStepsOf kept l (unstruck stack (ms ++ m ∷ []))) (sym put) (struck_out are (sym says))
+  struck_on s false new says put are is =
+      subst (λ (l : List Step). AreStepsOf kept l (unstruck stack (ms ++ m ∷ []))) (sym put) (struck_kept s are (sym says) is)
 
 -- the move of the step at a place
-pub step_here : (kept : Kept) (ss : List Step) (ms : List Move) (i : ℕ) (s : Step) → AreStepsOf kept ss ms → slice_get ss i ≡ Some s → (m : Move) × (slice_get ms i ≡ Some m) × IsStepOf kept s m
+pub step_here : (kept : Kept) (ss : List Step) (ms : List Move) (i : ℕ) (s : Step) → AreStepsOf kept ss ms → slice_get ss i ≡ Some s
+    → (m : Move) × (slice_get ms i ≡ Some m) × DescribesMove kept s m
 step_here kept [] [] i s are at = absurd (cc)
 step_here kept [] (m ∷ ms) i s are at = absurd are
 step_here kept (x ∷ ss) [] i s are at = absurd are
-step_here kept (x ∷ ss) (m ∷ ms) zero s are at = let same : x ≡ s = cc in (m, refl, subst (λ (y : Step). IsStepOf kept y m) same are.0)
+step_here kept (x ∷ ss) (m ∷ ms) zero s are at = let same : x ≡ s = cc in (m, refl, subst (λ (y : Step). DescribesMove kept y m) same are.0)
 step_here kept (x ∷ ss) (m ∷ ms) (suc i) s are at = step_here kept ss ms i s are.1 at
 
-pub apply_says : (kept : Kept) (stack : List Entry) (s : Step) (m : Move) → s ≡ step.Apply → IsStepOf kept s m → false ≡ is_push_on stack m
-apply_says kept stack s m same is = by m (subst (λ (x : Step). IsStepOf kept x m) same is)
+pub apply_says : (kept : Kept) (stack : List Entry) (s : Step) (m : Move) → s ≡ step.Apply → DescribesMove kept s m
+    → false ≡ is_push_on stack m
+apply_says kept stack s m same is = by m (subst (λ (x : Step). DescribesMove kept x m) same is)
   where
-    by : (n : Move) → IsStepOf kept step.Apply n → false ≡ is_push_on stack n
+    by : (n : Move) → DescribesMove kept step.Apply n → false ≡ is_push_on stack n
     by Apply h = refl
     by (Push e) h = absurd h
 
-pub push_says : (kept : Kept) (stack : List Entry) (s : Step) (m : Move) (n : ℕ) (b : Bool) → s ≡ step.Push n → IsStepOf kept s m → ((one : Entry) → slice_get kept.entries n ≡ Some one → IsTrue b ↔ Contains stack one) → b ≡ is_push_on stack m
-push_says kept stack s m n b same is decides = by m (subst (λ (x : Step). IsStepOf kept x m) same is)
+pub push_says : (kept : Kept) (stack : List Entry) (s : Step) (m : Move) (n : ℕ) (b : Bool) → s ≡ step.Push n → DescribesMove kept s m
+    → ((one : Entry) → slice_get kept.entries n ≡ Some one → IsTrue b ↔ Contains stack one) → b ≡ is_push_on stack m
+push_says kept stack s m n b same is decides = by m (subst (λ (x : Step). DescribesMove kept x m) same is)
   where
-    by : (o : Move) → IsStepOf kept (step.Push n) o → b ≡ is_push_on stack o
+    by : (o : Move) → DescribesMove kept (step.Push n) o → b ≡ is_push_on stack o
     by Apply h = absurd h
     by (Push e) h = says_push stack e b (decides e h)
 
 -- the pushes of a list of entries, one by one
-pub pushes_more : (kept : Kept) (ss : List Step) (es : List Entry) (n : ℕ) (e : Entry) → AreStepsOf kept ss (map Push es) → slice_get kept.entries n ≡ Some e → AreStepsOf kept (ss ++ step.Push n ∷ []) (map Push (es ++ e ∷ []))
-pushes_more kept ss es n e are at = subst (AreStepsOf kept (ss ++ step.Push n ∷ [])) (sym (map-append Push es (e ∷ []))) (steps_push kept ss (map Push es) (step.Push n) (Push e) are at)
+pub pushes_more : (kept : Kept) (ss : List Step) (es : List Entry) (n : ℕ) (e : Entry) → AreStepsOf kept ss (map Push es)
+    → slice_get kept.entries n ≡ Some e → AreStepsOf kept (ss ++ step.Push n ∷ []) (map Push (es ++ e ∷ []))
+pushes_more kept ss es n e are at =
+    subst (AreStepsOf kept (ss ++ step.Push n ∷ [])) (sym (map-append Push es (e ∷ [])))
+    (steps_push kept ss (map Push es) (step.Push n) (Push e) are at)
 
 pub keeps_all_both : (old mid new : Kept) → KeepsAll old mid → KeepsAll mid new → KeepsAll old new
 keeps_all_both old mid new f g = record {
@@ -123,7 +140,16 @@ module _ (task : Task) (model : List Atom) (entry : Entry) (below : List Entry) 
   here = record { model = model; stack = entry ∷ below }
 
   relevant_alone : (e : Entry) → IsRelevantAt task here e → IsRelevantAt task alone e
-  relevant_alone e r = record { is_entry = r.is_entry; fresh = λ has. r.fresh (subst (Contains (entry ∷ below)) (Contains-one entry e has) (Contains-first entry below)); gap = r.gap; is_gap = r.is_gap; added = r.added }
+  relevant_alone e r =
+      record {
+        is_entry = r.is_entry;
+        fresh =
+            λ has. r.fresh (subst (Contains (entry ∷ below)) (Contains-one entry e has) (Contains-first entry below));
+        gap =
+            r.gap;
+        is_gap = r.is_gap;
+        added = r.added;
+      }
 
   relevant_here : (e : Entry) → (¬ Contains below e) → IsRelevantAt task alone e → IsRelevantAt task here e
   relevant_here e fresh r = record {
@@ -140,11 +166,15 @@ module _ (task : Task) (model : List Atom) (entry : Entry) (below : List Entry) 
   allowed_here : (m : Move) → IsAllowed task here m ↔ (IsAllowed task alone m × (not (is_push_on below m) ≡ true))
   allowed_here Apply = (λ a. ((λ e. cc, a.1), refl), λ a. (λ e. cc, a.0.1))
   allowed_here (Push e) = (
-    λ a. ((relevant_alone e a.0, a.1), (not_true (is_push_on below (Push e))).1 (λ on. a.0.fresh (Contains-later entry below e ((on_stack below e).0 on)))),
+    λ a. (
+      (relevant_alone e a.0, a.1),
+      (not_true (is_push_on below (Push e))).1 (λ on. a.0.fresh (Contains-later entry below e ((on_stack below e).0 on))),
+    ),
     λ a. (relevant_here e (λ has. (not_true (is_push_on below (Push e))).0 a.1 ((on_stack below e).1 has)) a.0.0, a.0.1),
   )
 
-  pub begun-struck : (kept : Kept) (steps left : List Step) (is_all : Bool) → (begun : IsBegunOn task kept alone steps is_all) → AreStepsOf kept left (unstruck below begun.moves) → IsBegunOn task kept here left is_all
+  pub begun-struck : (kept : Kept) (steps left : List Step) (is_all : Bool) → (begun : IsBegunOn task kept alone steps is_all)
+      → AreStepsOf kept left (unstruck below begun.moves) → IsBegunOn task kept here left is_all
   begun-struck kept steps left is_all begun are = record {
     moves = unstruck below begun.moves;
     are = record {

@@ -25,11 +25,13 @@ use Rattle.px_search.proofs.Endings.{Known, ends-found, ends-node_limit, ends-ex
 
 slice_cmp-last : (p : List Move) (m n : Move) → move_cmp m n ≡ Less → slice_cmp move_cmp (p ++ m ∷ []) (p ++ n ∷ []) ≡ Less
 slice_cmp-last [] m n h = ap (λ r. ordering_then r Equal) h
-slice_cmp-last (x ∷ p) m n h = ap (λ r. ordering_then r (slice_cmp move_cmp (p ++ m ∷ []) (p ++ n ∷ []))) (tied_itself move_cmp-total x) ∙ slice_cmp-last p m n h
+slice_cmp-last (x ∷ p) m n h =
+    ap (λ r. ordering_then r (slice_cmp move_cmp (p ++ m ∷ []) (p ++ n ∷ []))) (tied_itself move_cmp-total x) ∙ slice_cmp-last p m n h
 
 last_before : (p : List Move) (m n : Move) → move_cmp m n ≡ Less → IsBefore (p ++ m ∷ []) (p ++ n ∷ [])
 last_before p m n h =
-    ap (λ r. ordering_then r (slice_cmp move_cmp (p ++ m ∷ []) (p ++ n ∷ []))) (sym (nat_cmp_is _ _ Equal (length-append p (m ∷ []) ∙ sym (length-append p (n ∷ []))))) ∙ slice_cmp-last p m n h
+    ap (λ r. ordering_then r (slice_cmp move_cmp (p ++ m ∷ []) (p ++ n ∷ [])))
+    (sym (nat_cmp_is _ _ Equal (length-append p (m ∷ []) ∙ sym (length-append p (n ∷ []))))) ∙ slice_cmp-last p m n h
 
 get-take : {A : Type 0} (n k : ℕ) (xs : List A) (x : A) → slice_get (take n xs) k ≡ Some x → (slice_get xs k ≡ Some x) × (k < n)
 get-take zero k xs x e = absurd (cc)
@@ -53,13 +55,16 @@ module _ (task : Task) where
   abbrev pub goes : List Move → Node
   goes moves = node_of task moves
 
-  at_map : (found : List (List Move)) (next : ℕ) (node : Node) → slice_get (map goes found) next ≡ Some node → (p : List Move) × (slice_get found next ≡ Some p) × (goes p ≡ node)
+  at_map : (found : List (List Move)) (next : ℕ) (node : Node) → slice_get (map goes found) next ≡ Some node
+      → (p : List Move) × (slice_get found next ≡ Some p) × (goes p ≡ node)
   at_map [] next node e = absurd (cc)
   at_map (p ∷ found) zero node e = (p, refl, cc)
   at_map (p ∷ found) (suc next) node e = at_map found next node e
 
-  from_map : (found : List (List Move)) (node : Node) → Contains (map goes found) node → (q : List Move) × Contains found q × (goes q ≡ node)
-  from_map found node has = let k = place_of (map goes found) node has in let r = at_map found k.0 node k.1 in (r.0, contains_place found k.0 r.0 r.1, r.2)
+  from_map : (found : List (List Move)) (node : Node) → Contains (map goes found) node
+      → (q : List Move) × Contains found q × (goes q ≡ node)
+  from_map found node has =
+      let k = place_of (map goes found) node has in let r = at_map found k.0 node k.1 in (r.0, contains_place found k.0 r.0 r.1, r.2)
 
   to_map : (found : List (List Move)) (q : List Move) → Contains found q → Contains (map goes found) (goes q)
   to_map found q has = let k = place_of found q has in contains_place (map goes found) k.0 (goes q) (there found k.0 q k.1)
@@ -69,22 +74,28 @@ module _ (task : Task) where
       there (p ∷ found) zero q e = cc
       there (p ∷ found) (suc k) q e = there found k q e
 
-  pub here_in : (found : List (List Move)) (nodes : List Node) (next : ℕ) (tried : List Move) (node : Node) → Walking task found nodes next tried → slice_get nodes next ≡ Some node
+  pub here_in : (found : List (List Move)) (nodes : List Node) (next : ℕ) (tried : List Move) (node : Node)
+      → Walking task found nodes next tried → slice_get nodes next ≡ Some node
       → (p : List Move) × (slice_get found next ≡ Some p) × (goes p ≡ node)
   here_in found nodes next tried node w at = at_map found next node (subst (λ (x : List Node). slice_get x next ≡ Some node) w.nodes_are at)
 
-  pub counted : (found : List (List Move)) (nodes : List Node) (next : ℕ) (tried : List Move) → Walking task found nodes next tried → length found ≡ length nodes
+  pub counted : (found : List (List Move)) (nodes : List Node) (next : ℕ) (tried : List Move) → Walking task found nodes next tried
+      → length found ≡ length nodes
   counted found nodes next tried w = sym (length-map found goes) ∙ sym (ap length w.nodes_are)
 
   -- a question of the node that is gone through meets the limit
-  pub walk-shape_limit : (found : List (List Move)) (nodes : List Node) (next : ℕ) (tried : List Move) (node : Node) → Walking task found nodes next tried → slice_get nodes next ≡ Some node
-      → (question : Question) (formula : List Atom) (shapes : List (List Tick)) → AsksAt task node question → MeetsLimit task.problem question formula shapes → IsShapeLimit task node formula shapes
+  pub walk-shape_limit : (found : List (List Move)) (nodes : List Node) (next : ℕ) (tried : List Move) (node : Node)
+      → Walking task found nodes next tried → slice_get nodes next ≡ Some node
+      → (question : Question) (formula : List Atom) (shapes : List (List Tick)) → AsksAt task node question
+      → MeetsLimit task.problem question formula shapes → IsShapeLimit task node formula shapes
   walk-shape_limit found nodes next tried node w at question formula shapes asks met =
       let here = here_in found nodes next tried node w at in
       subst (λ (x : Node). IsShapeLimit task x formula shapes) here.2
-      (ends-shape_limit task found next tried w.searching here.0 question formula shapes here.1 (subst (λ (x : Node). AsksAt task x question) (sym here.2) asks) met)
+      (ends-shape_limit task found next tried w.searching here.0 question formula shapes here.1
+      (subst (λ (x : Node). AsksAt task x question) (sym here.2) asks) met)
 
-  module _ (found : List (List Move)) (nodes : List Node) (next : ℕ) (moves : List Move) (i : ℕ) (node : Node) (m : Move) (w : Walking task found nodes next (take i moves)) (at : slice_get nodes next ≡ Some node)
+  module _ (found : List (List Move)) (nodes : List Node) (next : ℕ) (moves : List Move) (i : ℕ) (node : Node) (m : Move)
+      (w : Walking task found nodes next (take i moves)) (at : slice_get nodes next ≡ Some node)
       (are : AreFirstOf task node moves) (inside : i < length moves) (m_is : m ≡ get_or moves i m) where
     pub here : (p : List Move) × (slice_get found next ≡ Some p) × (goes p ≡ node)
     here = here_in found nodes next (take i moves) node w at
@@ -101,7 +112,8 @@ module _ (task : Task) where
     pair : (k l : ℕ) (a b : Move) → k < l → slice_get moves k ≡ Some a → slice_get moves l ≡ Some b → move_cmp a b ≡ Less
     pair k l a b less at_a at_b =
         let is = are.ordered k l a less (place-within moves l b at_b) in
-        subst (λ (x : Move). move_cmp a x ≡ Less) (index_is moves l b a at_b) (subst (λ (x : Move). move_cmp x (slice_index_or moves l a) ≡ Less) (index_is moves k a a at_a) is)
+        subst (λ (x : Move). move_cmp a x ≡ Less) (index_is moves l b a at_b)
+        (subst (λ (x : Move). move_cmp x (slice_index_or moves l a) ≡ Less) (index_is moves k a a at_a) is)
 
     untried : ¬ Contains (take i moves) m
     untried has =
@@ -109,7 +121,8 @@ module _ (task : Task) where
         let r = get-take i k.0 moves m k.1 in
         never_less m (pair k.0 i m m r.1 r.0 at_m)
 
-    least : (n : Move) → IsAllowed task (goes here.0) n → (¬ (Contains (take i moves ++ m ∷ []) n)) → IsBefore (here.0 ++ m ∷ []) (here.0 ++ n ∷ [])
+    least : (n : Move) → IsAllowed task (goes here.0) n → (¬ (Contains (take i moves ++ m ∷ []) n))
+        → IsBefore (here.0 ++ m ∷ []) (here.0 ++ n ∷ [])
     least n can_n not_yet = last_before here.0 m n (elim (are.others n (subst (λ (x : Node). IsAllowed task x n) here.2 can_n)) [
       | inl has ↦ later (place_of moves n has)
       | inr after_all ↦ after_all m (contains_place moves i m at_m)
@@ -117,7 +130,8 @@ module _ (task : Task) where
       where
         later : (k : ℕ) × (slice_get moves k ≡ Some n) → move_cmp m n ≡ Less
         later (k, at_k) = elim (order_of k i) [
-          | inl less ↦ absurd (not_yet (Contains-append_left (take i moves) (m ∷ []) n (contains_place (take i moves) k n (take-get i k moves n at_k less))))
+          | inl less ↦ absurd (not_yet (Contains-append_left (take i moves) (m ∷ []) n
+              (contains_place (take i moves) k n (take-get i k moves n at_k less))))
           | inr more ↦ elim (order_of i k) [
             | inl above ↦ pair i k m n above at_m at_k
             | inr below ↦
@@ -133,7 +147,9 @@ module _ (task : Task) where
         let q = from_map found (after task node m) (subst (λ (x : List Node). Contains x (after task node m)) w.nodes_are has) in
         record {
           searching = record {
-            known = rw tried_after (frontier-skip (IsAllowed task) (after task) IsBefore (initial_node task) order same_move found next (take i moves) w.searching.known here.0 here.1 m can untried least q.0 q.1
+            known =
+                rw tried_after (frontier-skip (IsAllowed task) (after task) IsBefore (initial_node task) order same_move found next
+                (take i moves) w.searching.known here.0 here.1 m can untried least q.0 q.1
                 (q.2 ∙ ap (λ (x : Node). after task x m) (sym here.2)));
             room = w.searching.room;
             unsolved = w.searching.unsolved;
@@ -148,12 +164,16 @@ module _ (task : Task) where
 
     module _ (not_seen : ¬ Contains nodes (after task node m)) where
       new_known : Known task (found ++ new_list ∷ []) next (take (i + 1) moves)
-      new_known = rw tried_after (frontier-add (IsAllowed task) (after task) IsBefore (initial_node task) order same_move found next (take i moves) w.searching.known here.0 here.1 m can untried least
+      new_known =
+          rw tried_after (frontier-add (IsAllowed task) (after task) IsBefore (initial_node task) order same_move found next
+          (take i moves) w.searching.known here.0 here.1 m can untried least
           (λ q has e. not_seen (subst (λ (x : List Node). Contains x (after task node m)) (sym w.nodes_are)
           (subst (λ (x : Node). Contains (map goes found) x) (e ∙ ap (λ (x : Node). after task x m) here.2) (to_map found q has)))))
 
       new_goes : goes new_list ≡ after task node m
-      new_goes = reached-append (IsAllowed task) (after task) IsBefore (initial_node task) order same_move (initial_node task) here.0 (m ∷ []) ∙ ap (λ (x : Node). after task x m) here.2
+      new_goes =
+          reached-append (IsAllowed task) (after task) IsBefore (initial_node task) order same_move (initial_node task) here.0 (m ∷ [])
+          ∙ ap (λ (x : Node). after task x m) here.2
 
       same_count : length found ≡ length nodes
       same_count = counted found nodes next (take i moves) w
@@ -165,7 +185,8 @@ module _ (task : Task) where
       here_unlimited unlimited = subst (IsUnlimitedAt task) (sym here.2) unlimited
 
       -- it is new and not solved, and may be kept
-      pub walking-new : length nodes < task.problem.nodes → (¬ IsSolved task (after task node m)) → ((after task node m).stack ≡ [] → IsUnmet task (goal_question task (after task node m)))
+      pub walking-new : length nodes < task.problem.nodes → (¬ IsSolved task (after task node m))
+          → ((after task node m).stack ≡ [] → IsUnmet task (goal_question task (after task node m)))
           → Walking task (found ++ new_list ∷ []) (nodes ++ after task node m ∷ []) next (take (i + 1) moves)
       walking-new room unsolved tested = record {
         searching = record {
@@ -184,12 +205,15 @@ module _ (task : Task) where
             | inr wrong ↦ absurd wrong
           ];
         };
-        nodes_are = ap (λ (x : List Node). x ++ after task node m ∷ []) w.nodes_are ∙ ap (λ (y : Node). map goes found ++ y ∷ []) (sym new_goes) ∙ sym (map-append goes found (new_list ∷ []));
+        nodes_are =
+            ap (λ (x : List Node). x ++ after task node m ∷ []) w.nodes_are ∙ ap (λ (y : Node). map goes found ++ y ∷ []) (sym new_goes)
+            ∙ sym (map-append goes found (new_list ∷ []));
       }
         where
           new_tested : (x : List Move) → new_list ≡ x → (goes x).stack ≡ [] → IsUnmet task (goal_question task (goes x))
           new_tested x e empty =
-              subst (λ (y : List Move). IsUnmet task (goal_question task (goes y))) e (goal_unlimited (tested (subst (λ (y : Node). y.stack ≡ []) (ap goes (sym e) ∙ new_goes) empty)))
+              subst (λ (y : List Move). IsUnmet task (goal_question task (goes y))) e
+              (goal_unlimited (tested (subst (λ (y : Node). y.stack ≡ []) (ap goes (sym e) ∙ new_goes) empty)))
 
           last_place : (k : ℕ) (p : List Move) → k < next → slice_get (found ++ new_list ∷ []) k ≡ Some p → (slice_get found k ≡ Some p) ⊎ ⊥
           last_place k p below at_k = elim (push-cases found new_list p k at_k) [
@@ -198,42 +222,55 @@ module _ (task : Task) where
           ]
 
       -- it is the first solved one
-      pub walk-found : length nodes < task.problem.nodes → IsSolved task (after task node m) → IsUnlimitedAt task node → IsUnmet task (goal_question task (after task node m)) → IsFound task new_list
+      pub walk-found : length nodes < task.problem.nodes → IsSolved task (after task node m) → IsUnlimitedAt task node
+          → IsUnmet task (goal_question task (after task node m)) → IsFound task new_list
       walk-found room is_solved unlimited tested =
-          ends-found task found next (take i moves) w.searching here.0 here.1 m (take (i + 1) moves) new_known (omega (arith, same_count, room)) (subst (IsSolved task) (sym new_goes) is_solved)
+          ends-found task found next (take i moves) w.searching here.0 here.1 m (take (i + 1) moves) new_known
+          (omega (arith, same_count, room)) (subst (IsSolved task) (sym new_goes) is_solved)
           (here_unlimited unlimited) (goal_unlimited tested)
 
       -- it is one more than may be kept
-      pub walk-full : (count : ℕ) → length nodes ≡ task.problem.nodes → count ≡ length new_list → IsUnlimitedAt task node → IsNodeLimit task nodes count
+      pub walk-full : (count : ℕ) → length nodes ≡ task.problem.nodes → count ≡ length new_list → IsUnlimitedAt task node
+          → IsNodeLimit task nodes count
       walk-full count full count_is unlimited =
           subst (λ (n : ℕ). IsNodeLimit task nodes n) (sym count_is)
           (subst (λ (l : List Node). IsNodeLimit task l (length new_list)) (sym w.nodes_are)
-          (ends-node_limit task found next (take i moves) w.searching here.0 here.1 m (take (i + 1) moves) new_known (same_count ∙ full) (here_unlimited unlimited)))
+          (ends-node_limit task found next (take i moves) w.searching here.0 here.1 m (take (i + 1) moves) new_known (same_count ∙ full)
+          (here_unlimited unlimited)))
 
       -- trying the goal there meets the limit
-      pub walk-shape_limit_at_goal : length nodes < task.problem.nodes → (after task node m).stack ≡ [] → (formula : List Atom) (shapes : List (List Tick))
-          → MeetsLimit task.problem (goal_question task (after task node m)) formula shapes → IsShapeLimit task (after task node m) formula shapes
+      pub walk-shape_limit_at_goal : length nodes < task.problem.nodes → (after task node m).stack ≡ []
+          → (formula : List Atom) (shapes : List (List Tick))
+          → MeetsLimit task.problem (goal_question task (after task node m)) formula shapes
+          → IsShapeLimit task (after task node m) formula shapes
       walk-shape_limit_at_goal room empty formula shapes met =
           subst (λ (x : Node). IsShapeLimit task x formula shapes) new_goes
-          (ends-shape_limit_at_goal task found next (take i moves) w.searching here.0 here.1 m (take (i + 1) moves) new_known (omega (arith, same_count, room))
-          (subst (λ (x : Node). x.stack ≡ []) (sym new_goes) empty) formula shapes (subst (λ (x : Node). MeetsLimit task.problem (goal_question task x) formula shapes) (sym new_goes) met))
+          (ends-shape_limit_at_goal task found next (take i moves) w.searching here.0 here.1 m (take (i + 1) moves) new_known
+          (omega (arith, same_count, room))
+          (subst (λ (x : Node). x.stack ≡ []) (sym new_goes) empty) formula shapes
+          (subst (λ (x : Node). MeetsLimit task.problem (goal_question task x) formula shapes) (sym new_goes) met))
 
   -- all moves that are allowed at the node were tried
-  pub walking-next : (found : List (List Move)) (nodes : List Node) (next : ℕ) (moves : List Move) (node : Node) → Walking task found nodes next moves → slice_get nodes next ≡ Some node
+  pub walking-next : (found : List (List Move)) (nodes : List Node) (next : ℕ) (moves : List Move) (node : Node)
+      → Walking task found nodes next moves → slice_get nodes next ≡ Some node
       → ((m : Move) → IsAllowed task node m → Contains moves m) → IsUnlimitedAt task node → Walking task found nodes (next + 1) []
   walking-next found nodes next moves node w at every unlimited =
       let here = here_in found nodes next moves node w at in
       let number : suc next ≡ next + 1 = omega arith in
       record {
         searching = record {
-          known = subst (λ (k : ℕ). Known task found k []) number (frontier-next (IsAllowed task) (after task) IsBefore (initial_node task) order same_move found next moves here.0 w.searching.known here.1
+          known =
+              subst (λ (k : ℕ). Known task found k []) number
+              (frontier-next (IsAllowed task) (after task) IsBefore
+              (initial_node task) order same_move found next moves here.0 w.searching.known here.1
               (λ m can. every m (subst (λ (x : Node). IsAllowed task x m) here.2 can)));
           room = w.searching.room;
           unsolved = w.searching.unsolved;
           tested = w.searching.tested;
           gone_through = λ k p question below at_k asks. elim (order_of k next) [
             | inl earlier ↦ w.searching.gone_through k p question earlier at_k asks
-            | inr not_earlier ↦ unlimited question (subst (λ (x : Node). AsksAt task x question) (ap goes (the_same k p (omega (arith, below, not_earlier)) at_k here.0 here.1) ∙ here.2) asks)
+            | inr not_earlier ↦ unlimited question (subst (λ (x : Node). AsksAt task x question)
+                (ap goes (the_same k p (omega (arith, below, not_earlier)) at_k here.0 here.1) ∙ here.2) asks)
           ];
         };
         nodes_are = w.nodes_are;
@@ -242,14 +279,16 @@ module _ (task : Task) where
       the_same : (k : ℕ) (p : List Move) → k ≡ next → slice_get found k ≡ Some p → (q : List Move) → slice_get found next ≡ Some q → p ≡ q
       the_same k p number at_k q at_q = cc (ap (slice_get found) number, at_k, at_q)
 
-  pub walk-exhausted : (found : List (List Move)) (nodes : List Node) (next : ℕ) → Walking task found nodes next [] → length nodes ≤ next → IsExhausted task
+  pub walk-exhausted : (found : List (List Move)) (nodes : List Node) (next : ℕ) → Walking task found nodes next [] → length nodes ≤ next
+      → IsExhausted task
   walk-exhausted found nodes next w all = ends-exhausted task found next [] w.searching (omega (arith, counted found nodes next [] w, all))
 
   only_start : (x : List Move) → Contains ([] ∷ []) x → [] ≡ x
   only_start x (zero, h, e) = e
   only_start x (suc k, h, e) = absurd (omega (arith, h))
 
-  pub walking-start : (¬ IsSolved task (initial_node task)) → IsUnmet task (goal_question task (initial_node task)) → 1 ≤ task.problem.nodes → Walking task ([] ∷ []) (initial_node task ∷ []) 0 []
+  pub walking-start : (¬ IsSolved task (initial_node task)) → IsUnmet task (goal_question task (initial_node task)) → 1 ≤ task.problem.nodes
+      → Walking task ([] ∷ []) (initial_node task ∷ []) 0 []
   walking-start unsolved tested room = record {
     searching = record {
       known = frontier-start (IsAllowed task) (after task) IsBefore (initial_node task) order same_move;

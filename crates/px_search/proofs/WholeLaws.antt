@@ -4,7 +4,7 @@ use Rattle.std.specs.List.Sorted.{IsStrictlySortedBy}
 use Rattle.std.proofs.lemmas.List.Elements.{Contains-append_left, Contains-append_right, Contains-append_cases}
 use Rattle.px_terms.specs.declared.atom.Atom.{Atom}
 use Rattle.px_table.specs.declared.entry.Move.TheVariants.{Push}
-use Rattle.px_table.specs.EntryOrder.{order_of}
+use Rattle.px_table.specs.EntryOrder.{order_of_entries}
 use Rattle.px_numbers.specs.Numbers.{Kept, KeepsAll}
 use Rattle.px_ends.specs.Tasks.{Task}
 use Rattle.px_search.specs.Offers.{AreJoined, ArePushes, AreWhole, IsOfferedWhole}
@@ -12,20 +12,30 @@ use Rattle.px_search.specs.declared.step.Step.{Step}
 use Rattle.px_search.proofs.OfferLaws.{whole-more, whole-none}
 use Rattle.px_search.proofs.StepLaws.{steps-grow}
 
-none-sorted : IsStrictlySortedBy order_of []
+none-sorted : IsStrictlySortedBy order_of_entries []
 unfolding IsStrictlySortedBy
 none-sorted = tt
 
 pub whole-start : (task : Task) (kept : Kept) (facts : List Atom) → IsOfferedWhole task kept facts [] []
 whole-start task kept facts = record { entries = []; whole = whole-none task facts; ordered = none-sorted; steps_are = tt }
 
-pub whole-grows : (task : Task) (old new : Kept) (facts wanted : List Atom) (steps : List Step) → KeepsAll old new → IsOfferedWhole task old facts wanted steps → IsOfferedWhole task new facts wanted steps
-whole-grows task old new facts wanted steps keeps w = record { entries = w.entries; whole = w.whole; ordered = w.ordered; steps_are = steps-grow old new steps (map Push w.entries) keeps w.steps_are }
+pub whole-grows : (task : Task) (old new : Kept) (facts wanted : List Atom) (steps : List Step) → KeepsAll old new
+    → IsOfferedWhole task old facts wanted steps → IsOfferedWhole task new facts wanted steps
+whole-grows task old new facts wanted steps keeps w =
+    record {
+      entries =
+          w.entries;
+      whole = w.whole;
+      ordered = w.ordered;
+      steps_are = steps-grow old new steps (map Push w.entries) keeps w.steps_are;
+    }
 
-pub whole-pushes : (task : Task) (kept : Kept) (facts wanted : List Atom) (steps : List Step) → (w : IsOfferedWhole task kept facts wanted steps) → ArePushes kept w.entries steps
+pub whole-pushes : (task : Task) (kept : Kept) (facts wanted : List Atom) (steps : List Step)
+    → (w : IsOfferedWhole task kept facts wanted steps) → ArePushes kept w.entries steps
 whole-pushes task kept facts wanted steps w = record { ordered = w.ordered; steps_are = w.steps_are }
 
-module _ (task : Task) (kept : Kept) (facts ws : List Atom) (atom : Atom) (ss ts us : List Step) (a : IsOfferedWhole task kept facts ws ss) (b : IsOfferedWhole task kept facts (atom ∷ []) ts) where
+module _ (task : Task) (kept : Kept) (facts ws : List Atom) (atom : Atom) (ss ts us : List Step) (a : IsOfferedWhole task kept facts ws ss)
+    (b : IsOfferedWhole task kept facts (atom ∷ []) ts) where
   both : AreWhole task facts (ws ++ atom ∷ []) (a.entries ++ b.entries)
   both = whole-more task facts ws atom a.entries b.entries (a.entries ++ b.entries) a.whole b.whole refl
 

@@ -1,3 +1,4 @@
+-- The files of definitions and laws.
 pub mod Asking
 pub mod Going
 pub mod Looping

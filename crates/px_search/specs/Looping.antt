@@ -15,8 +15,8 @@ use Rattle.px_ends.proofs.MoveLaws.{order, same_move}
 use Rattle.px_search.specs.declared.breadth_first.Explored.{Explored}
 use Rattle.px_search.specs.declared.ends.SearchErr.{SearchErr}
 use Rattle.px_search.specs.declared.ends.SearchErr.TheVariants.{Exhausted, NodeLimit, ShapeLimit, NoMemory}
-use Rattle.px_search.specs.declared.progress.Outcome.{Outcome}
-use Rattle.px_search.specs.declared.progress.Outcome.TheVariants.{Plan, NoPlan, NoRoom}
+use Rattle.px_search.specs.declared.progress.SearchOutcome.{SearchOutcome}
+use Rattle.px_search.specs.declared.progress.SearchOutcome.TheVariants.{Plan, NoPlan, NoRoom}
 use Rattle.px_search.specs.declared.progress.Progress.{Progress}
 use Rattle.px_search.specs.declared.progress.Progress.TheVariants.{Unsolved, Solved, Full}
 use Rattle.px_search.specs.declared.step.Origin.{Origin}
@@ -30,8 +30,7 @@ use Rattle.px_search.specs.Steps.{AreEarlier, Trace}
 abbrev pub IsUnmet : Task → Question → Type 0
 IsUnmet task question = (formula : List Atom) (shapes : List (List Tick)) → ¬ MeetsLimit task.problem question formula shapes
 
--- What is known where the nodes of the first lists of `found` were gone through, as many as `next`, and of the one after them these
--- moves were tried.
+-- What is known where the nodes of the first `next` lists of `found` were gone through, and these moves of the next one's node were tried.
 pub record Searching (task : Task) (found : List (List Move)) (next : ℕ) (tried : List Move) : Type 0 where
   pub known : Frontier (IsAllowed task) (after task) IsBefore (initial_node task) order same_move found next tried
   pub room : length found ≤ task.problem.nodes
@@ -46,7 +45,7 @@ pub record Walking (task : Task) (found : List (List Move)) (nodes : List Node) 
   pub searching : Searching task found next tried
   pub nodes_are : nodes ≡ map (node_of task) found
 
--- the same by numbers
+-- what is known there, by numbers
 pub record Going (task : Task) (kept : Kept) (keys : List NodeKey) (origins : List Origin) (next : ℕ) (tried : List Move) : Type 0 where
   pub found : List (List Move)
   pub nodes : List Node
@@ -94,16 +93,16 @@ IsProgress task kept keys origins goes (Full moves) = IsFull task kept keys move
 
 -- ---- of all that is found and kept
 
--- what is kept is so
+-- what is kept is right
 pub record IsExploring (task : Task) (explored : Explored) : Type 0 where
   pub notes : AreRight task explored.notes
   pub scene : IsScene task explored.notes.numbers explored.scene
 
--- as many of the nodes as `next` were gone through
+-- the first `next` of the nodes were gone through
 abbrev pub GoesOn : Task → Explored → ℕ → Type 0
 GoesOn task explored next = Going task explored.notes.numbers explored.nodes explored.origins.items next []
 
--- as many as `i` of these steps from the node at the place `next` were tried
+-- the first `i` of these steps from the node at the place `next` were tried
 abbrev pub TriesAt : Task → Explored → ℕ → List Step → Bool → ℕ → Type 0
 TriesAt task explored next steps is_all i = Trying task explored.notes.numbers explored.nodes explored.origins.items next steps is_all i
 
@@ -111,7 +110,7 @@ TriesAt task explored next steps is_all i = Trying task explored.notes.numbers e
 abbrev pub ComesTo : Task → Explored → Type 0 → Progress → Type 0
 ComesTo task explored goes progress = IsProgress task explored.notes.numbers explored.nodes explored.origins.items goes progress
 
--- nothing is found yet, and what is kept is so
+-- nothing is found yet, and what is kept is right
 pub record IsUnexplored (task : Task) (explored : Explored) : Type 0 where
   pub notes : AreRight task explored.notes
   pub scene : explored.scene.number ≡ None
@@ -119,7 +118,7 @@ pub record IsUnexplored (task : Task) (explored : Explored) : Type 0 where
   pub origins : explored.origins.items ≡ []
 
 -- what a search came to
-abbrev pub ComesToEnd : Task → Explored → Outcome → Type 0
+abbrev pub ComesToEnd : Task → Explored → SearchOutcome → Type 0
 ComesToEnd task explored (Plan path) = IsFound task path
 ComesToEnd task explored NoPlan = IsExhausted task
 ComesToEnd task explored (NoRoom moves) = IsFull task explored.notes.numbers explored.nodes moves

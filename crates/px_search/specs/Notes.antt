@@ -13,16 +13,16 @@ use Rattle.px_search.specs.Going.{IsBegunOn}
 use Rattle.px_search.specs.Offers.{IsOfferAt}
 use Rattle.px_search.specs.declared.notes.Notes.{Notes}
 use Rattle.px_search.specs.declared.notes.Offer.{Offer}
-use Rattle.px_search.specs.declared.notes.Place.{Place}
+use Rattle.px_search.specs.declared.notes.EntryPlace.{EntryPlace}
 
--- the steps are the first moves where that entry stands on the stack, alone, in that model
-abbrev pub IsStepsAt : Task → Kept → Place → Offer → Type 0
+-- the steps are the first moves where the entry of the place stands on the stack, alone, in its model
+abbrev pub IsStepsAt : Task → Kept → EntryPlace → Offer → Type 0
 IsStepsAt task kept place offer =
     (model : List Atom) × (entry : Entry) × IsModelAt kept place.model model × (slice_get kept.entries place.entry ≡ Some entry)
     × IsBegunOn task kept (record { model = model; stack = entry ∷ [] }) offer.steps offer.is_all
 
 -- the stack has the entry of the place on top, over the stack of that number, and the model is that of the place
-pub record IsTopAt (kept : Kept) (place : Place) (below : ℕ) (model : List Atom) (stack : List Entry) : Type 0 where
+pub record IsTopAt (kept : Kept) (place : EntryPlace) (below : ℕ) (model : List Atom) (stack : List Entry) : Type 0 where
   pub entry : Entry
   pub rest : List Entry
   pub stack_is : stack ≡ entry ∷ rest
@@ -31,13 +31,13 @@ pub record IsTopAt (kept : Kept) (place : Place) (below : ℕ) (model : List Ato
   pub below_at : IsStackAt kept below rest
 
 -- the entry of the place is one of the problem's, in the model of the place
-abbrev pub IsEntryAt : Task → Kept → Place → Type 0
+abbrev pub IsEntryAt : Task → Kept → EntryPlace → Type 0
 IsEntryAt task kept place =
     (model : List Atom) × (entry : Entry) × IsModelAt kept place.model model × (slice_get kept.entries place.entry ≡ Some entry)
     × IsEntry task.problem task.tables entry
 
 -- applying the entry of the place in its model leaves the model of the number
-abbrev pub IsResultAt : Task → Kept → Place → ℕ → Type 0
+abbrev pub IsResultAt : Task → Kept → EntryPlace → ℕ → Type 0
 IsResultAt task kept place number =
     (model : List Atom) × (entry : Entry) × IsModelAt kept place.model model × (slice_get kept.entries place.entry ≡ Some entry)
     × IsModelAt kept number (results_of task.problem model (effect_of task.tables entry))
@@ -47,14 +47,14 @@ module _ {K V : Type 0} (P : K → V → Type 0) where
   abbrev pub AreEach : List (K × V) → Type 0
   AreEach entries = (key : K) (value : V) → Contains entries (key, value) → P key value
 
--- all that is kept is so
+-- all that is kept is right
 pub record AreRight (task : Task) (notes : Notes) : Type 0 where
   pub tops : AreEach (IsStepsAt task notes.numbers) notes.tops.entries
   pub wants : AreEach (IsOfferAt task notes.numbers) notes.wants.entries
   pub results : AreEach (IsResultAt task notes.numbers) notes.results.entries
   pub never_limited : IsTrue notes.is_never_limited → IsNeverLimited task.problem task.tables
 
--- what had a number has it still, and all that is kept is so
+-- what had a number still has it, and all that is kept is right
 pub record HaveGrown (task : Task) (old new : Notes) : Type 0 where
   pub keeps : KeepsAll old.numbers new.numbers
   pub right : AreRight task new

@@ -8,7 +8,7 @@ use Rattle.px_terms.specs.declared.problem.Problem.{Problem}
 use Rattle.px_table.specs.declared.entry.Entry.{Entry}
 use Rattle.px_table.specs.declared.entry.Move.TheVariants as move
 use Rattle.px_table.specs.declared.table.Table.{Table}
-use Rattle.px_table.specs.EntryOrder.{order_of}
+use Rattle.px_table.specs.EntryOrder.{order_of_entries}
 use Rattle.px_entries.specs.Deciding.{AreDeciding}
 use Rattle.px_entries.specs.Unlimited.{IsNeverLimited}
 use Rattle.px_diff.specs.Pushes.{IsPushable}
@@ -21,13 +21,13 @@ use Rattle.px_search.specs.declared.notes.Want.{Want}
 use Rattle.px_search.specs.declared.step.Step.{Step}
 
 -- The entries are the first, in order, of those that may be pushed for one of the wanted atoms where the stack is empty: each other one
--- comes after all of them. They are all of them where that is said. (`AreFirstOf` is for moves, whose order is by all pairs;
+-- comes after all of them. Where it is said that they are all, they are. (`AreFirstOf` is for moves, whose order is by all pairs;
 -- `AreFirstEntries` of `px_diff` is for its requests.)
 pub record AreFirstOffers (task : Task) (facts wanted : List Atom) (entries : List Entry) (is_all : Bool) : Type 0 where
   pub sound : (entry : Entry) → Contains entries entry → IsPushable task.problem task.tables wanted [] facts entry
-  pub ordered : IsStrictlySortedBy order_of entries
+  pub ordered : IsStrictlySortedBy order_of_entries entries
   pub others : (entry : Entry) → IsPushable task.problem task.tables wanted [] facts entry → Contains entries entry
-      ⊎ ((first : Entry) → Contains entries first → order_of first entry ≡ Less)
+      ⊎ ((first : Entry) → Contains entries first → order_of_entries first entry ≡ Less)
   pub every : is_all ≡ true → (entry : Entry) → IsPushable task.problem task.tables wanted [] facts entry → Contains entries entry
 
 -- the steps are the pushes of such entries, and no question about an entry that is relevant for one of the wanted atoms meets the limit
@@ -47,7 +47,7 @@ pub record AreWhole (task : Task) (facts wanted : List Atom) (entries : List Ent
 pub record IsOfferedWhole (task : Task) (kept : Kept) (facts wanted : List Atom) (steps : List Step) : Type 0 where
   pub entries : List Entry
   pub whole : AreWhole task facts wanted entries
-  pub ordered : IsStrictlySortedBy order_of entries
+  pub ordered : IsStrictlySortedBy order_of_entries entries
   pub steps_are : AreStepsOf kept steps (map move.Push entries)
 
 -- the part is these facts, or the deciding ones among them where no question about an entry ever meets the limit
@@ -61,7 +61,7 @@ pub record IsPartAt (task : Task) (kept : Kept) (number : ℕ) (facts : List Ato
   pub part_at : IsModelAt kept number part
   pub alike : IsAlike task.problem task.tables facts part
 
--- the steps are the pushes for the wanted atom in each model of which that is such a part
+-- the steps are the pushes for the wanted atom in each model of which the place's number is such a part
 abbrev pub IsOfferAt : Task → Kept → Want → Offer → Type 0
 IsOfferAt task kept want offer =
     (part : List Atom) × IsModelAt kept want.part part
@@ -70,7 +70,7 @@ IsOfferAt task kept want offer =
 
 -- the steps are the pushes of these entries, which are in order
 pub record ArePushes (kept : Kept) (entries : List Entry) (steps : List Step) : Type 0 where
-  pub ordered : IsStrictlySortedBy order_of entries
+  pub ordered : IsStrictlySortedBy order_of_entries entries
   pub steps_are : AreStepsOf kept steps (map move.Push entries)
 
 -- the steps are the pushes, in order, of the entries that stand in one of the lists

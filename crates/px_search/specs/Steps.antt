@@ -12,18 +12,18 @@ use Rattle.px_search.specs.declared.step.Step.TheVariants as step
 use Rattle.px_search.specs.declared.step.Origin.{Origin}
 
 -- the step is the move
-abbrev pub IsStepOf : Kept → Step → Move → Type 0
-IsStepOf kept step.Apply move.Apply = Unit {0}
-IsStepOf kept step.Apply (move.Push entry) = ⊥
-IsStepOf kept (step.Push number) move.Apply = ⊥
-IsStepOf kept (step.Push number) (move.Push entry) = slice_get kept.entries number ≡ Some entry
+abbrev pub DescribesMove : Kept → Step → Move → Type 0
+DescribesMove kept step.Apply move.Apply = Unit {0}
+DescribesMove kept step.Apply (move.Push entry) = ⊥
+DescribesMove kept (step.Push number) move.Apply = ⊥
+DescribesMove kept (step.Push number) (move.Push entry) = slice_get kept.entries number ≡ Some entry
 
 -- the steps are the moves, in order
 abbrev pub AreStepsOf : Kept → List Step → List Move → Type 0
 AreStepsOf kept [] [] = Unit {0}
 AreStepsOf kept [] (m ∷ ms) = ⊥
 AreStepsOf kept (s ∷ ss) [] = ⊥
-AreStepsOf kept (s ∷ ss) (m ∷ ms) = IsStepOf kept s m × AreStepsOf kept ss ms
+AreStepsOf kept (s ∷ ss) (m ∷ ms) = DescribesMove kept s m × AreStepsOf kept ss ms
 
 -- it is the push of an entry on the stack
 abbrev pub is_push_on : List Entry → Move → Bool
@@ -42,5 +42,5 @@ AreEarlier origins = (k : ℕ) (origin : Origin) → slice_get origins k ≡ Som
 pub record Trace (kept : Kept) (origins : List Origin) (found : List (List Move)) : Type 0 where
   pub first : slice_get found 0 ≡ Some []
   pub later : (k : ℕ) (origin : Origin) → slice_get origins k ≡ Some origin → (parent : List Move) × (m : Move)
-      × (slice_get found origin.parent ≡ Some parent) × IsStepOf kept origin.last m
+      × (slice_get found origin.parent ≡ Some parent) × DescribesMove kept origin.last m
       × (slice_get found (suc k) ≡ Some (parent ++ m ∷ []))

@@ -8,16 +8,16 @@ ghost use Rattle.px_entries.specs.Entries.{IsEntry};
 ghost use Rattle.px_numbers.specs.Numbers.{IsKeyOf, KeepsAll};
 ghost use Rattle.px_support.specs.Asking.{IsAskable, task_for};
 ghost use Rattle.px_search.specs.Notes.{AreRight, HaveGrown};
-ghost use Rattle.px_search.specs.Steps.{IsStepOf};
+ghost use Rattle.px_search.specs.Steps.{DescribesMove};
 ghost use Rattle.px_ends.specs.Tasks.{after};
 
-use crate::notes::{Notes, Place};
+use crate::notes::{EntryPlace, Notes};
 use crate::step::Step;
 use px_numbers::{NodeKey, Numbers};
 use px_support::Asked;
 use px_terms::NoMemory;
 
-/// The node with the entry on top of its stack.
+/// Returns the node with the entry on top of its stack.
 fn pushed(numbers: &mut Numbers, key: NodeKey, entry: u32) -> Result<NodeKey, NoMemory>
     requires node { (node : Node) × IsKeyOf numbers.old key node }
     ensures keeps { KeepsAll numbers.old numbers.new }
@@ -33,7 +33,7 @@ fn pushed(numbers: &mut Numbers, key: NodeKey, entry: u32) -> Result<NodeKey, No
 }
 
 impl Notes {
-    /// The node whose top entry is applied.
+    /// Returns the node whose top entry is applied.
     fn applied(&mut self, asked: &Asked, key: NodeKey) -> Result<NodeKey, NoMemory>
         requires asked { IsAskable asked.now }
         requires notes { AreRight (task_for asked.now) self.old }
@@ -46,7 +46,7 @@ impl Notes {
         let Some(frame) = self.numbers.top(key.stack) else {
             return Ok(key);
         };
-        let place = Place {
+        let place = EntryPlace {
             model: key.model,
             entry: frame.entry,
         };
@@ -57,7 +57,7 @@ impl Notes {
         })
     }
 
-    /// The node that the move leads to.
+    /// Returns the node that the move leads to.
     pub fn after(&mut self, asked: &Asked, key: NodeKey, step: Step) -> Result<NodeKey, NoMemory>
         requires asked { IsAskable asked.now }
         requires notes { AreRight (task_for asked.now) self.old }
@@ -65,7 +65,7 @@ impl Notes {
             × All (IsEntry asked.now.problem.now asked.now.tables.now) node.stack }
         ensures notes { OnOk result (HaveGrown (task_for asked.now) self.old self.new) }
         ensures there { IfOk result (λ there. (node : Node) (m : Move) → IsKeyOf self.old.numbers key node
-            → IsStepOf self.old.numbers step m → IsKeyOf self.new.numbers there (after (task_for asked.now) node m)) }
+            → DescribesMove self.old.numbers step m → IsKeyOf self.new.numbers there (after (task_for asked.now) node m)) }
     {
         match step {
             Step::Apply => self.applied(asked, key),

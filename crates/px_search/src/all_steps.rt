@@ -24,7 +24,7 @@ use px_table::Entry;
 use px_terms::{Atom, NoMemory};
 use std::alloc::Global;
 
-/// The one move that applies the top entry.
+/// Returns the one move that applies the top entry.
 pub fn only_apply(alloc: Global) -> Result<Vec<Step>, NoMemory>
     ensures { IfOk result (λ steps. steps.items ≡ Step.Apply ∷ []) }
 {
@@ -33,7 +33,7 @@ pub fn only_apply(alloc: Global) -> Result<Vec<Step>, NoMemory>
     Ok(steps)
 }
 
-/// The pushes of the node with these gaps, in order.
+/// Returns the pushes of the node with these gaps, in order.
 pub fn pushes(
     asked: &Asked,
     numbers: &mut Numbers,
@@ -58,7 +58,7 @@ pub fn pushes(
 }
 
 impl Notes {
-    /// What is known of the entry in the model.
+    /// Returns what is known of the entry in the model.
     pub fn known_top(&self, asked: &Asked, entry: &Entry, model: &Model) -> Result<Known, NoMemory>
         requires asked { IsAskable asked.now }
         requires notes { AreRight (task_for asked.now) self.now }
@@ -72,7 +72,7 @@ impl Notes {
         known_entry(asked.alloc, asked.problem, asked.tables, entry, model)
     }
 
-    /// What is known of what the node needs.
+    /// Returns what is known of what the node needs.
     fn known_at(&self, asked: &Asked, model: &Model, key: NodeKey) -> Result<Known, NoMemory>
         requires asked { IsAskable asked.now }
         requires notes { AreRight (task_for asked.now) self.now }
@@ -87,10 +87,10 @@ impl Notes {
         }
     }
 
-    /// The moves that are allowed at the node, in order.
+    /// Returns the moves that are allowed at the node, in order.
     ///
     /// # Errors
-    /// `ShapeLimit` where a question of the node meets the limit. `NoMemory` where there is none.
+    /// `ShapeLimit` where a question of the node meets the limit. `NoMemory` where there is no memory.
     pub fn all_steps_from(&mut self, asked: &Asked, key: NodeKey) -> Result<Vec<Step>, AskErr>
         requires asked { IsAskable asked.now }
         requires notes { AreRight (task_for asked.now) self.old }

@@ -1,4 +1,4 @@
-//! What a node is gone through by.
+//! The first moves of a node.
 
 use crate::step::Step;
 
@@ -6,6 +6,6 @@ use crate::step::Step;
 #[derive(Drop)]
 pub struct Begun {
     pub steps: Vec<Step>,
-    /// Are they all its moves? `false` says nothing.
+    /// Whether they are all its moves. `false` says nothing.
     pub is_all: bool,
 }

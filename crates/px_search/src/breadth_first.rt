@@ -15,7 +15,7 @@ ghost use Rattle.px_search.specs.declared.step.Step.{Step};
 use crate::ends::SearchErr;
 use crate::notes::Notes;
 use crate::origins::moves_to;
-use crate::progress::{Outcome, Progress};
+use crate::progress::{Progress, SearchOutcome};
 use crate::scene::Scene;
 use crate::step::{Origin, Step};
 use crate::tried::try_node;
@@ -27,7 +27,7 @@ use px_table::Move;
 use px_terms::{Atom, NoMemory, Sequence};
 use std::alloc::Global;
 
-/// The end at a node where a question meets the limit.
+/// Returns the end at a node where a question meets the limit.
 fn limit_at(
     asked: &Asked,
     numbers: &Numbers,
@@ -49,7 +49,7 @@ fn limit_at(
     }
 }
 
-/// The node of the initial model.
+/// Returns the node of the initial model.
 fn start_key(asked: &Asked, numbers: &mut Numbers) -> Result<NodeKey, NoMemory>
     ensures keeps { KeepsAll numbers.old numbers.new }
     ensures start { IfOk result (λ key. IsKeyOf numbers.new key (initial_node (task_for asked.now))) }
@@ -58,7 +58,7 @@ fn start_key(asked: &Asked, numbers: &mut Numbers) -> Result<NodeKey, NoMemory>
     Ok(NodeKey { model, stack: 0 })
 }
 
-/// The step at the place.
+/// Returns the step at the place.
 fn step_at(steps: &Vec<Step>, place: usize) -> Step
     requires { place < length steps.now.items }
     ensures { slice_get steps.now.items place ≡ Some result }
@@ -66,7 +66,7 @@ fn step_at(steps: &Vec<Step>, place: usize) -> Step
     steps[place]
 }
 
-/// The moves to the last of the nodes.
+/// Returns the moves to the last of the nodes.
 fn path_to(
     alloc: Global,
     numbers: &Numbers,
@@ -82,7 +82,7 @@ fn path_to(
     Ok(Sequence::from_vec(moves))
 }
 
-/// How many moves reach the last of the nodes.
+/// Returns how many moves reach the last of the nodes.
 fn count_to(alloc: Global, numbers: &Numbers, origins: &Vec<Origin>) -> Result<u32, NoMemory>
     requires earlier { AreEarlier origins.now.items }
     requires traced { (found : List (List Move)) × Trace numbers.now origins.now.items found }
@@ -108,7 +108,7 @@ pub struct Explored {
 }
 
 impl Explored {
-    /// Makes the move from the node at the place `next`, and keeps the node that it leads to where that is new.
+    /// Makes the move from the node at the place `next`, and keeps the node that it leads to, if that is new.
     fn make_move(&mut self, asked: &Asked, next: usize, step: Step) -> Result<Progress, SearchErr>
         requires asked { IsAskable asked.now }
         requires explored { IsExploring (task_for asked.now) self.old }
@@ -259,7 +259,7 @@ impl Explored {
 }
 
 impl Explored {
-    /// Nothing is found yet.
+    /// Returns the nodes of a search that has found nothing yet.
     fn new(alloc: Global, is_never_limited: bool) -> Explored
         ensures { (task : Task) → (IsTrue is_never_limited → IsNeverLimited task.problem task.tables) → IsUnexplored task result }
     {
@@ -276,7 +276,7 @@ impl Explored {
     }
 
     /// Searches from the start, which isn't solved.
-    fn search_from(&mut self, asked: &Asked, start: NodeKey) -> Result<Outcome, SearchErr>
+    fn search_from(&mut self, asked: &Asked, start: NodeKey) -> Result<SearchOutcome, SearchErr>
         requires asked { IsAskable asked.now }
         requires explored { IsUnexplored (task_for asked.now) self.old }
         requires start { IsKeyOf self.old.notes.numbers start (initial_node (task_for asked.now)) }
@@ -287,17 +287,17 @@ impl Explored {
         self.nodes.intern(start)?;
         let progress = self.walk(asked)?;
         match progress {
-            Progress::Unsolved => Ok(Outcome::NoPlan),
+            Progress::Unsolved => Ok(SearchOutcome::NoPlan),
             Progress::Solved => {
                 let path = path_to(asked.alloc, &self.notes.numbers, &self.origins)?;
-                Ok(Outcome::Plan(path))
+                Ok(SearchOutcome::Plan(path))
             }
-            Progress::Full { moves } => Ok(Outcome::NoRoom { moves }),
+            Progress::Full { moves } => Ok(SearchOutcome::NoRoom { moves }),
         }
     }
 
     /// Searches from the initial model.
-    fn search(&mut self, asked: &Asked) -> Result<Outcome, SearchErr>
+    fn search(&mut self, asked: &Asked) -> Result<SearchOutcome, SearchErr>
         requires asked { IsAskable asked.now }
         requires explored { IsUnexplored (task_for asked.now) self.old }
         ensures outcome { IfOk result (ComesToEnd (task_for asked.now) self.new) }
@@ -306,7 +306,7 @@ impl Explored {
         let start = start_key(asked, &mut self.notes.numbers)?;
         let tried = try_node(asked, &self.notes.numbers, start)?;
         match tried {
-            Tried::Answered => Ok(Outcome::Plan(Sequence::from_vec(Vec::new(asked.alloc)))),
+            Tried::Answered => Ok(SearchOutcome::Plan(Sequence::from_vec(Vec::new(asked.alloc)))),
             Tried::Unanswered => self.search_from(asked, start),
             Tried::Limited { formula, shapes } => {
                 Err(limit_at(asked, &self.notes.numbers, start, formula, shapes))
@@ -315,10 +315,10 @@ impl Explored {
     }
 }
 
-/// Lets go of what was found. It stands once, since each way out of a function that holds it is proved.
+/// Drops what was found, in one place, since each way out of a function that holds it has to be proved.
 fn let_go(_explored: Explored) {}
 
-/// The end where there is no room for the last node, which this number of moves reaches.
+/// Returns the end where there is no room for the last node, which this number of moves reaches.
 fn node_limit(asked: &Asked, explored: Explored, moves: u32) -> SearchErr
     requires full { IsFull (task_for asked.now) explored.notes.numbers explored.nodes moves }
     ensures { IsEnd (task_for asked.now) result }
@@ -352,14 +352,14 @@ pub fn found_by_moves(asked: &Asked, is_never_limited: bool) -> Result<Sequence<
         }
     };
     match outcome {
-        Outcome::Plan(path) => {
+        SearchOutcome::Plan(path) => {
             let_go(explored);
             Ok(path)
         }
-        Outcome::NoPlan => {
+        SearchOutcome::NoPlan => {
             let_go(explored);
             Err(SearchErr::Exhausted)
         }
-        Outcome::NoRoom { moves } => Err(node_limit(asked, explored, moves)),
+        SearchOutcome::NoRoom { moves } => Err(node_limit(asked, explored, moves)),
     }
 }

@@ -13,7 +13,7 @@ use px_table::{Entry, instance_with};
 use px_terms::{NoMemory, OpInst, Problem};
 use std::alloc::Global;
 
-/// The steps, with these objects for their parameters.
+/// Returns the steps, with these objects for their parameters.
 fn steps_with(alloc: Global, sigma: &[u32], steps: &[OpInst]) -> Result<Vec<OpInst>, NoMemory>
     requires { All (λ step. All (IsVariableBelow (length sigma.now)) step.args) steps.now }
     ensures { IfOk result (λ made. made.items ≡ map (instance_under sigma.now) steps.now) }
@@ -26,7 +26,7 @@ fn steps_with(alloc: Global, sigma: &[u32], steps: &[OpInst]) -> Result<Vec<OpIn
     Ok(made)
 }
 
-/// The one step of an operator.
+/// Returns the one step of an operator.
 fn only_step(alloc: Global, inst: &OpInst) -> Result<Vec<OpInst>, NoMemory>
     ensures { IfOk result (λ made. made.items ≡ inst.now ∷ []) }
 {
@@ -35,7 +35,7 @@ fn only_step(alloc: Global, inst: &OpInst) -> Result<Vec<OpInst>, NoMemory>
     Ok(made)
 }
 
-/// The steps that applying the entry takes.
+/// Returns the steps that applying the entry takes.
 pub fn effect(asked: &Asked, entry: &Entry) -> Result<Vec<OpInst>, NoMemory>
     requires asked { IsAskable asked.now }
     requires entry { IsEntry asked.now.problem.now asked.now.tables.now entry.now }
@@ -55,7 +55,7 @@ pub fn effect(asked: &Asked, entry: &Entry) -> Result<Vec<OpInst>, NoMemory>
     }
 }
 
-/// The model that the steps leave.
+/// Returns the model that the steps leave.
 fn result_of_steps(
     alloc: Global,
     problem: &Problem,
@@ -73,7 +73,7 @@ fn result_of_steps(
     Ok(next)
 }
 
-/// The model that applying the entry leaves.
+/// Returns the model that applying the entry leaves.
 pub fn result_of(asked: &Asked, model: &Model, entry: &Entry) -> Result<Model, NoMemory>
     requires asked { IsAskable asked.now }
     requires entry { IsEntry asked.now.problem.now asked.now.tables.now entry.now }

@@ -4,15 +4,15 @@
 //! # Calling it
 //!
 //! - [`search`] asks for a valid problem, a goal over at most 12 variables, an object where there is a variable, and learned tables
-//!   (`AreLearned` of `px_entries`). What it answers is said over the task of these (`task_of` of `px_ends`).
+//!   (`AreLearned` of `px_entries`). What it answers is stated over the task of these (`task_of` of `px_ends`).
 //! - It answers a plan: the moves to the first solved node, by the fewest moves (`IsFound`), the steps that they take, and the rows
 //!   of the table of the moves (`MovesRows`). The rows are a support of the steps, which carry the initial model to the goal
 //!   (`Supports`, `Carries`): `build` of `px_table` makes the plan's table of them.
 //! - Or `Exhausted`, where no list of moves reaches a solved node and all nodes fit the limit (`IsExhausted`); `NodeLimit` with the
 //!   first nodes themselves (`IsNodeLimit`); `ShapeLimit` with the node of a question that meets the limit of shapes, the formula
 //!   and its first shapes (`IsShapeLimit`); or `NoMemory`.
-//! - Each of these comes exactly where its definition holds, but for `NoMemory`: where a task has an end of the first three, that is
-//!   the answer, or memory ran out; and where a question that is asked meets the limit, some such question is answered.
+//! - Each of these comes exactly where its definition holds, but for `NoMemory`: where a task has one of the first three ends, this
+//!   is the answer, or memory ran out; and where a question that is asked meets the limit, the answer is some such question.
 //! - Which questions are asked is what the definition says (`IsAsked`): those of each node up to the one from which the stop is
 //!   reached, and the goal at each node with an empty stack before the stop, and at the stop itself if there is room for it.
 //!
@@ -20,14 +20,16 @@
 //!
 //! Models, entries, stacks and nodes are numbers (`px_numbers`). The model that is looked at is kept from one node to the next, with the
 //! number of the part of it that decides what may be pushed (`scene`). All else that is learned is kept in one place (`notes`). What an
-//! entry allows in a model doesn't depend on what is below it on the stack, but for the entries that are there: what is learned of a pair
-//! of entry and model is kept (`moves`), unless a question about it meets the limit of shapes. So is the model that applying the entry
-//! leaves (`results`). What may be pushed for a wanted atom is kept too (`offering`): for all models with the same deciding facts, where
+//! entry allows in a model doesn't depend on what is below it on the stack, apart from which entries are there: what is learned of a pair of
+//! entry and model is kept (`moves`), unless a question about it meets the limit of shapes. So is the model that applying the entry leaves
+//! (`results`). What may be pushed for a wanted atom is kept too (`offering`): for all models with the same deciding facts, where
 //! no question about an entry ever meets the limit, and else for that model. The lists for the wanted atoms of a node are joined by their
 //! order (`merging`).
 //!
 //! Where no question ever meets the limit and a node may push more entries than the node limit has room for, only the first of them are
 //! found, and kept (`begun`). All are asked for (`all_steps`) where the first were gone through and there is room left.
+//!
+//! No public clause cites the files of `specs/`: they serve private functions alone.
 #![tactic(auto)]
 
 mod after;

@@ -2,9 +2,9 @@
 ghost use Rattle.std.specs.Prelude.{◌≡◌, List, IfOk};
 ghost use Rattle.px_table.specs.declared.entry.Entry.{Entry};
 ghost use Rattle.px_table.specs.declared.entry.Move.TheVariants as move;
-ghost use Rattle.px_table.specs.EntryOrder.{order_of};
+ghost use Rattle.px_table.specs.EntryOrder.{order_of_entries};
 ghost use Rattle.px_search.specs.Offers.{AreJoined, ArePushes};
-ghost use Rattle.px_search.specs.Steps.{IsStepOf};
+ghost use Rattle.px_search.specs.Steps.{DescribesMove};
 
 use crate::picks::step_at;
 use crate::step::Step;
@@ -14,10 +14,10 @@ use px_terms::NoMemory;
 use std::alloc::Global;
 use std::cmp::Ordering;
 
-/// The entry that the step pushes.
+/// Returns the entry that the step pushes.
 fn pushed(numbers: &Numbers, step: Step) -> &Entry
-    requires { (entry : Entry) × IsStepOf numbers.now step (move.Push entry) }
-    ensures { (entry : Entry) → IsStepOf numbers.now step (move.Push entry) → result.now ≡ entry }
+    requires { (entry : Entry) × DescribesMove numbers.now step (move.Push entry) }
+    ensures { (entry : Entry) → DescribesMove numbers.now step (move.Push entry) → result.now ≡ entry }
 {
     match step {
         Step::Apply => unreachable!(),
@@ -25,17 +25,17 @@ fn pushed(numbers: &Numbers, step: Step) -> &Entry
     }
 }
 
-/// How the entries that the steps push stand to each other.
+/// Returns how the entries that the steps push compare.
 fn compared(numbers: &Numbers, one: Step, other: Step) -> Ordering
-    requires one { (entry : Entry) × IsStepOf numbers.now one (move.Push entry) }
-    requires other { (entry : Entry) × IsStepOf numbers.now other (move.Push entry) }
-    ensures { (first second : Entry) → IsStepOf numbers.now one (move.Push first) → IsStepOf numbers.now other (move.Push second)
-        → result ≡ order_of first second }
+    requires one { (entry : Entry) × DescribesMove numbers.now one (move.Push entry) }
+    requires other { (entry : Entry) × DescribesMove numbers.now other (move.Push entry) }
+    ensures { (first second : Entry) → DescribesMove numbers.now one (move.Push first) → DescribesMove numbers.now other (move.Push second)
+        → result ≡ order_of_entries first second }
 {
     pushed(numbers, one).cmp(pushed(numbers, other))
 }
 
-/// The pushes that stand in one of the lists, in order, each once.
+/// Returns the pushes that stand in one of the lists, in order, each once.
 pub fn merged(
     alloc: Global,
     numbers: &Numbers,

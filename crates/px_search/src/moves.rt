@@ -17,7 +17,7 @@ ghost use Rattle.px_ends.specs.Tasks.{needs_at, needs_with};
 
 use crate::all_steps::{only_apply, pushes};
 use crate::begun::Begun;
-use crate::notes::{Notes, Offer, Place};
+use crate::notes::{EntryPlace, Notes, Offer};
 use crate::picks::struck;
 use crate::scene::Scene;
 use crate::step::Step;
@@ -28,16 +28,16 @@ use px_support::Asked;
 use px_table::Entry;
 use px_terms::{Atom, NoMemory, Sequence};
 
-/// A node with an entry on top: where it stands, over which stack, and what it stands in.
+/// A node with an entry on top: the entry in its model, the stack below, and the scene.
 #[derive(Clone, Copy)]
 pub struct Here<'a> {
-    pub place: Place,
+    pub place: EntryPlace,
     pub below: u32,
     pub scene: &'a Scene,
     pub stack: &'a [Entry],
 }
 
-/// All pushes of the node with these gaps, found by its own questions.
+/// Returns all pushes of the node with these gaps, found by its own questions.
 fn all_pushes(
     asked: &Asked,
     numbers: &mut Numbers,
@@ -62,10 +62,10 @@ fn all_pushes(
 }
 
 impl Notes {
-    /// The first moves that are allowed at the node, in order.
+    /// Returns the first moves that are allowed at the node, in order.
     ///
     /// # Errors
-    /// `ShapeLimit` where a question of the node meets the limit. `NoMemory` where there is none.
+    /// `ShapeLimit` where a question of the node meets the limit. `NoMemory` where there is no memory.
     pub fn begun_from(
         &mut self,
         asked: &Asked,
@@ -89,7 +89,7 @@ impl Notes {
         self.steps_anew(asked, scene, key)
     }
 
-    /// The first moves of the node, if those are kept where its top entry stands on the stack alone.
+    /// Returns the first moves of the node, if those are kept where its top entry stands on the stack alone.
     fn kept_steps(&self, asked: &Asked, key: NodeKey) -> Result<Option<Begun>, NoMemory>
         requires notes { AreRight (task_for asked.now) self.now }
         requires node { (node : Node) × IsKeyOf self.now.numbers key node }
@@ -98,7 +98,7 @@ impl Notes {
         let Some(frame) = self.numbers.top(key.stack) else {
             return Ok(None);
         };
-        let place = Place {
+        let place = EntryPlace {
             model: key.model,
             entry: frame.entry,
         };
@@ -115,7 +115,7 @@ impl Notes {
         Ok(Some(Begun { steps, is_all }))
     }
 
-    /// The first moves of a node of which nothing is kept, in the scene of its model.
+    /// Returns the first moves of a node of which nothing is kept, in the scene of its model.
     fn steps_anew(&mut self, asked: &Asked, scene: &Scene, key: NodeKey) -> Result<Begun, AskErr>
         requires asked { IsAskable asked.now }
         requires notes { AreRight (task_for asked.now) self.old }
@@ -131,7 +131,7 @@ impl Notes {
         }
     }
 
-    /// The first moves of a node without a stack, whose goal has no answer.
+    /// Returns the first moves of a node without a stack, whose goal has no answer.
     fn goal_steps(&mut self, asked: &Asked, scene: &Scene, key: NodeKey) -> Result<Begun, AskErr>
         requires asked { IsAskable asked.now }
         requires notes { AreRight (task_for asked.now) self.old }
@@ -160,7 +160,7 @@ impl Notes {
         }
     }
 
-    /// The first moves of a node with this frame on top.
+    /// Returns the first moves of a node with this frame on top.
     fn top_steps(
         &mut self,
         asked: &Asked,
@@ -181,7 +181,7 @@ impl Notes {
         let top = self.numbers.entry(frame.entry);
         let known = self.known_top(asked, top, &scene.model)?;
         let here = Here {
-            place: Place {
+            place: EntryPlace {
                 model: key.model,
                 entry: frame.entry,
             },
@@ -205,7 +205,7 @@ impl Notes {
         }
     }
 
-    /// Keeps the first moves over the top entry alone, of which is said whether they are all, and leaves out the pushes of entries that
+    /// Keeps the first moves over the top entry alone, with whether they are all, and returns them without the pushes of entries that
     /// stand below.
     fn kept_over(
         &mut self,
@@ -231,7 +231,7 @@ impl Notes {
         Ok(Begun { steps, is_all })
     }
 
-    /// The first pushes for the gaps of the goal.
+    /// Returns the first pushes for the gaps of the goal.
     fn pushes_to_goal(
         &mut self,
         asked: &Asked,
@@ -256,8 +256,8 @@ impl Notes {
         }
     }
 
-    /// The first pushes for the gaps of the top entry. Those over the entry alone are kept. Where a question about these meets the limit,
-    /// one about the node's may still not: an entry on its stack isn't asked about.
+    /// Returns the first pushes for the gaps of the top entry. Those over the entry alone are kept. Where a question about these meets the
+    /// limit, one about the node's may still not: an entry on its stack isn't asked about.
     fn pushes_over(&mut self, asked: &Asked, here: &Here, gaps: &[Atom]) -> Result<Begun, AskErr>
         requires asked { IsAskable asked.now }
         requires notes { AreRight (task_for asked.now) self.old }

@@ -12,7 +12,7 @@ use std::alloc::Global;
 
 /// An entry in a model, by the numbers of both.
 #[derive(Clone, Copy, PartialEq, Eq, Hash)]
-pub struct Place {
+pub struct EntryPlace {
     pub model: u32,
     pub entry: u32,
 }
@@ -24,11 +24,11 @@ pub struct Want {
     pub atom: Atom,
 }
 
-/// The first steps of those that are allowed, in order.
+/// The first of the steps that are allowed, in order.
 #[derive(Drop)]
 pub struct Offer {
     pub steps: Sequence<Step>,
-    /// Are they all that are allowed? `false` says nothing.
+    /// Whether they are all that are allowed. `false` says nothing.
     pub is_all: bool,
 }
 
@@ -37,17 +37,17 @@ pub struct Offer {
 pub struct Notes {
     pub numbers: Numbers,
     /// For entries in models, the first moves that are allowed where the entry stands on the stack alone.
-    pub tops: IndexMap<Place, Offer>,
+    pub tops: IndexMap<EntryPlace, Offer>,
     /// For wanted atoms, the first pushes that are allowed over the empty stack.
     pub wants: IndexMap<Want, Offer>,
     /// For entries in models, the number of the model that applying the entry leaves.
-    pub results: IndexMap<Place, u32>,
-    /// Is it known that no question about an entry meets the limit of shapes, whatever the facts are?
+    pub results: IndexMap<EntryPlace, u32>,
+    /// Whether it is known that no question about an entry meets the limit of shapes, whatever the facts are.
     pub is_never_limited: bool,
 }
 
 impl Notes {
-    /// Nothing is known but whether questions about entries may meet the limit of shapes.
+    /// Returns empty notes, with whether questions about entries may meet the limit of shapes.
     pub fn new(alloc: Global, is_never_limited: bool) -> Notes
         ensures { (task : Task) → (IsTrue is_never_limited → IsNeverLimited task.problem task.tables) → AreRight task result }
     {

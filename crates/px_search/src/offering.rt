@@ -24,7 +24,7 @@ use px_support::Asked;
 use px_terms::{Atom, NoMemory, Sequence};
 use std::alloc::Global;
 
-/// A copy of what is kept.
+/// Returns a copy of what is kept.
 fn copy_of(alloc: Global, offer: &Offer) -> Result<Begun, NoMemory>
     ensures steps { IfOk result (λ copy. copy.steps.items ≡ offer.now.steps) }
     ensures is_all { IfOk result (λ copy. copy.is_all ≡ offer.now.is_all) }
@@ -37,7 +37,7 @@ fn copy_of(alloc: Global, offer: &Offer) -> Result<Begun, NoMemory>
     })
 }
 
-/// All entries that may be pushed for one of the atoms over the empty stack, in order.
+/// Returns all entries that may be pushed for one of the atoms over the empty stack, in order.
 fn all_entries_for(asked: &Asked, model: &Model, wanted: &[Atom]) -> Result<First, AskErr>
     requires asked { IsAskable asked.now }
     ensures first { IfOk result (λ first. AreFirstOffers (task_for asked.now) model.now.atoms wanted.now first.entries.items first.is_all) }
@@ -53,8 +53,8 @@ fn all_entries_for(asked: &Asked, model: &Model, wanted: &[Atom]) -> Result<Firs
 }
 
 impl Notes {
-    /// The first of the entries that may be pushed for one of the atoms over the empty stack, in order: as many as a node may have room
-    /// for.
+    /// Returns the first of the entries that may be pushed for one of the atoms over the empty stack, in order: as many as a node may have
+    /// room for.
     fn entries_for(&self, asked: &Asked, model: &Model, wanted: &[Atom]) -> Result<First, AskErr>
         requires asked { IsAskable asked.now }
         requires notes { AreRight (task_for asked.now) self.now }
@@ -79,7 +79,7 @@ impl Notes {
         all_entries_for(asked, model, wanted)
     }
 
-    /// The first pushes for one of the atoms over the empty stack, which are found for all atoms at once, and aren't kept.
+    /// Returns the first pushes for one of the atoms over the empty stack, which are found for all atoms at once, and aren't kept.
     fn offered_anew(
         &mut self,
         asked: &Asked,
@@ -103,7 +103,7 @@ impl Notes {
     }
 
     // Alike: `offer` below, which promises the same and finds only what isn't kept.
-    /// The first pushes for the atom, which are found and kept.
+    /// Returns the first pushes for the atom, after finding and keeping them.
     fn offer_anew(&mut self, asked: &Asked, scene: &Scene, want: &Want) -> Result<Begun, AskErr>
         requires asked { IsAskable asked.now }
         requires notes { AreRight (task_for asked.now) self.old }
@@ -128,7 +128,7 @@ impl Notes {
         }
     }
 
-    /// The first pushes for the atom, which are kept.
+    /// Returns the first pushes for the atom, as they are kept, or found and then kept.
     fn offer(&mut self, asked: &Asked, scene: &Scene, want: &Want) -> Result<Begun, AskErr>
         requires asked { IsAskable asked.now }
         requires notes { AreRight (task_for asked.now) self.old }
@@ -146,8 +146,8 @@ impl Notes {
         }
     }
 
-    /// All pushes for one of the atoms over the empty stack, in order, by what is kept for each of them; or None where that isn't all, or
-    /// where they are many.
+    /// Returns all pushes for one of the atoms over the empty stack, in order, by what is kept for each of them; or `None` where that
+    /// isn't all, or where they are many.
     fn offered_each(
         &mut self,
         asked: &Asked,
@@ -178,7 +178,7 @@ impl Notes {
         Ok(Some(steps))
     }
 
-    /// The first pushes for one of the atoms over the empty stack, in order.
+    /// Returns the first pushes for one of the atoms over the empty stack, in order.
     fn offered(&mut self, asked: &Asked, scene: &Scene, gaps: &[Atom]) -> Result<Begun, AskErr>
         requires asked { IsAskable asked.now }
         requires notes { AreRight (task_for asked.now) self.old }
@@ -207,11 +207,11 @@ impl Notes {
         }
     }
 
-    /// The first pushes of the node with the scene's model and the stack of this number, and these gaps, in order.
+    /// Returns the first pushes of the node with the scene's model and the stack of this number, and these gaps, in order.
     ///
     /// # Errors
-    /// `ShapeLimit` where a question meets the limit about an entry that may be relevant over the empty stack: of the node's own questions
-    /// this says nothing. `NoMemory` where there is none.
+    /// `ShapeLimit` where a question meets the limit about an entry that may be relevant over the empty stack: this says nothing of the
+    /// node's own questions. `NoMemory` where there is no memory.
     pub fn pushes_offered(
         &mut self,
         asked: &Asked,

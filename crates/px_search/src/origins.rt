@@ -1,7 +1,7 @@
 //! The moves that lead to a node.
 ghost use Rattle.std.specs.Prelude.{◌≡◌, ◌<◌, ◌≤◌, List, length, slice_get, Some, IfOk};
 ghost use Rattle.px_table.specs.declared.entry.Move.{Move};
-ghost use Rattle.px_search.specs.Steps.{AreEarlier, IsStepOf, Trace};
+ghost use Rattle.px_search.specs.Steps.{AreEarlier, DescribesMove, Trace};
 
 use crate::step::{Origin, Step};
 use px_numbers::Numbers;
@@ -9,10 +9,10 @@ use px_table::Move;
 use px_terms::NoMemory;
 use std::alloc::Global;
 
-/// The move of the step.
+/// Returns the move of the step.
 fn move_of(numbers: &Numbers, step: &Step) -> Result<Move, NoMemory>
-    requires { (m : Move) × IsStepOf numbers.now step.now m }
-    ensures { IfOk result (λ made. (m : Move) → IsStepOf numbers.now step.now m → made ≡ m) }
+    requires { (m : Move) × DescribesMove numbers.now step.now m }
+    ensures { IfOk result (λ made. (m : Move) → DescribesMove numbers.now step.now m → made ≡ m) }
 {
     match step {
         Step::Apply => Ok(Move::Apply),
@@ -20,7 +20,7 @@ fn move_of(numbers: &Numbers, step: &Step) -> Result<Move, NoMemory>
     }
 }
 
-/// The origin at the place.
+/// Returns the origin at the place.
 fn origin_at(origins: &[Origin], place: usize) -> Origin
     requires { place < length origins.now }
     ensures { slice_get origins.now place ≡ Some result }
@@ -28,7 +28,7 @@ fn origin_at(origins: &[Origin], place: usize) -> Origin
     origins[place]
 }
 
-/// The moves to the node at the place, where `origins` has the origins of all nodes but the first.
+/// Returns the moves to the node at the place, where `origins` has the origins of all nodes but the first.
 pub fn moves_to(
     alloc: Global,
     numbers: &Numbers,

@@ -4,7 +4,7 @@ ghost use Rattle.px_table.specs.declared.entry.Entry.{Entry};
 ghost use Rattle.px_table.specs.declared.entry.Move.{Move};
 ghost use Rattle.px_table.specs.declared.entry.Move.TheVariants as move;
 ghost use Rattle.px_numbers.specs.Numbers.{IsStackAt, KeepsAll};
-ghost use Rattle.px_search.specs.Steps.{AreStepsOf, IsStepOf, is_push_on, unstruck};
+ghost use Rattle.px_search.specs.Steps.{AreStepsOf, DescribesMove, is_push_on, unstruck};
 
 use crate::step::Step;
 use px_numbers::Numbers;
@@ -12,7 +12,7 @@ use px_table::Entry;
 use px_terms::NoMemory;
 use std::alloc::Global;
 
-/// The pushes of the entries, in their order.
+/// Returns the pushes of the entries, in their order.
 pub fn numbered(
     alloc: Global,
     numbers: &mut Numbers,
@@ -31,7 +31,7 @@ pub fn numbered(
     Ok(steps)
 }
 
-/// The step at the place.
+/// Returns the step at the place.
 pub fn step_at(steps: &[Step], place: usize) -> Step
     requires { place < length steps.now }
     ensures { slice_get steps.now place ≡ Some result }
@@ -39,10 +39,10 @@ pub fn step_at(steps: &[Step], place: usize) -> Step
     steps[place]
 }
 
-/// Is it the push of an entry on the stack?
+/// Returns whether it is the push of an entry on the stack.
 fn is_struck(numbers: &Numbers, stack: u32, step: Step) -> bool
     requires { (entries : List Entry) × IsStackAt numbers.now stack entries }
-    ensures { (entries : List Entry) (m : Move) → IsStackAt numbers.now stack entries → IsStepOf numbers.now step m
+    ensures { (entries : List Entry) (m : Move) → IsStackAt numbers.now stack entries → DescribesMove numbers.now step m
         → result ≡ is_push_on entries m }
 {
     match step {
@@ -51,7 +51,7 @@ fn is_struck(numbers: &Numbers, stack: u32, step: Step) -> bool
     }
 }
 
-/// Puts the step last, unless it is struck out.
+/// Appends the step, unless it is struck out.
 fn put_unless(left: &mut Vec<Step>, step: Step, is_out: bool) -> Result<(), NoMemory>
     ensures { OnOk result (MatchBool is_out (left.new.items ≡ left.old.items) (left.new.items ≡ left.old.items ++ step ∷ [])) }
 {
@@ -62,7 +62,7 @@ fn put_unless(left: &mut Vec<Step>, step: Step, is_out: bool) -> Result<(), NoMe
     Ok(())
 }
 
-/// The steps but for the pushes of entries on the stack.
+/// Returns the steps but for the pushes of entries on the stack.
 pub fn struck(
     alloc: Global,
     numbers: &Numbers,

@@ -26,7 +26,7 @@ use px_table::{Move, Table};
 use px_terms::{Atom, NoMemory, Problem, Sequence};
 use std::alloc::Global;
 
-/// The plan of the moves that were found: their steps, and the proofs that carry them.
+/// Returns the plan of the moves that were found: their steps, and the proofs that carry them.
 fn plan_of(asked: &Asked, moves: Sequence<Move>) -> Result<Found, NoMemory>
     requires asked { IsAskable asked.now }
     requires found { IsFound (task_for asked.now) moves }
@@ -40,7 +40,7 @@ fn plan_of(asked: &Asked, moves: Sequence<Move>) -> Result<Found, NoMemory>
     })
 }
 
-/// Searches, and makes the plan of what is found.
+/// Searches, and returns the plan of what is found.
 fn found_plan(asked: &Asked, is_never_limited: bool) -> Result<Found, SearchErr>
     requires asked { IsAskable asked.now }
     requires never_limited { IsTrue is_never_limited → IsNeverLimited asked.now.problem.now asked.now.tables.now }

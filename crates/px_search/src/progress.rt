@@ -1,4 +1,4 @@
-//! What making moves comes to, and a search.
+//! What making moves comes to, and what a search comes to.
 
 use px_table::Move;
 use px_terms::Sequence;
@@ -19,7 +19,7 @@ pub enum Progress {
 
 /// What a search came to.
 #[derive(Drop)]
-pub enum Outcome {
+pub enum SearchOutcome {
     /// The moves to the first solved node.
     Plan(Sequence<Move>),
     /// No list of moves reaches a solved node.

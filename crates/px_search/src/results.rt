@@ -5,13 +5,13 @@ ghost use Rattle.px_support.specs.Asking.{IsAskable, task_for};
 ghost use Rattle.px_search.specs.Notes.{AreRight, HaveGrown, IsEntryAt, IsResultAt};
 
 use crate::effects::result_of;
-use crate::notes::{Notes, Place};
+use crate::notes::{EntryPlace, Notes};
 use px_numbers::Numbers;
 use px_support::Asked;
 use px_terms::NoMemory;
 
-/// The number of the model that applying the entry leaves, by applying it.
-fn result_anew(asked: &Asked, numbers: &mut Numbers, place: Place) -> Result<u32, NoMemory>
+/// Returns the number of the model that applying the entry leaves, by applying it.
+fn result_anew(asked: &Asked, numbers: &mut Numbers, place: EntryPlace) -> Result<u32, NoMemory>
     requires asked { IsAskable asked.now }
     requires place { IsEntryAt (task_for asked.now) numbers.old place }
     ensures keeps { KeepsAll numbers.old numbers.new }
@@ -24,8 +24,8 @@ fn result_anew(asked: &Asked, numbers: &mut Numbers, place: Place) -> Result<u32
 }
 
 impl Notes {
-    /// The number of the model that applying the entry leaves. An entry is applied in a model once.
-    pub fn result_at(&mut self, asked: &Asked, place: Place) -> Result<u32, NoMemory>
+    /// Returns the number of the model that applying the entry leaves. An entry is applied in a model once.
+    pub fn result_at(&mut self, asked: &Asked, place: EntryPlace) -> Result<u32, NoMemory>
         requires asked { IsAskable asked.now }
         requires notes { AreRight (task_for asked.now) self.old }
         requires place { IsEntryAt (task_for asked.now) self.old.numbers place }

@@ -18,7 +18,7 @@ use std::alloc::Global;
 /// A model, with its number.
 #[derive(Drop)]
 pub struct Scene {
-    /// None where no model was looked at yet.
+    /// `None` where no model was looked at yet.
     pub number: Option<u32>,
     pub model: Model,
     /// The number of the part of it that decides what may be pushed.
@@ -26,7 +26,7 @@ pub struct Scene {
 }
 
 impl Scene {
-    /// No model was looked at yet.
+    /// Returns the scene in which no model was looked at yet.
     pub fn new(alloc: Global) -> Scene
         ensures { result.number ≡ None }
     {
@@ -39,8 +39,8 @@ impl Scene {
 }
 
 impl Notes {
-    /// The number of the part of the model that decides what may be pushed: of its deciding facts, where no question about an entry ever
-    /// meets the limit of shapes, and else its own.
+    /// Returns the number of the part of the model that decides what may be pushed: its deciding facts, where no question about an entry
+    /// ever meets the limit of shapes, and else the model itself.
     fn part_of(&mut self, asked: &Asked, model: &Model, number: u32) -> Result<u32, NoMemory>
         requires asked { IsAskable asked.now }
         requires notes { AreRight (task_for asked.now) self.old }
@@ -57,7 +57,7 @@ impl Notes {
         Ok(part)
     }
 
-    /// The scene of the model with this number.
+    /// Returns the scene of the model with this number.
     fn scene_of(&mut self, asked: &Asked, number: u32) -> Result<Scene, NoMemory>
         requires asked { IsAskable asked.now }
         requires notes { AreRight (task_for asked.now) self.old }

@@ -10,7 +10,7 @@ use px_numbers::{NodeKey, Numbers};
 use px_support::Asked;
 use px_terms::NoMemory;
 
-/// Is the node solved?
+/// Returns whether the node is solved.
 pub fn try_node(asked: &Asked, numbers: &Numbers, key: NodeKey) -> Result<Tried, NoMemory>
     requires asked { IsAskable asked.now }
     requires node { (node : Node) × IsKeyOf numbers.now key node }

@@ -7,7 +7,7 @@ use px_terms::{Problem, is_valid};
 use std::alloc::Global;
 use std::process::Abort;
 
-/// The rooms, searched within these limits of nodes and of shapes.
+/// Returns the problem of the rooms, searched within these limits of nodes and of shapes.
 pub fn rooms_within(alloc: Global, rt: &impl Abort, limits: (u32, u32)) -> Problem
     ensures { IsValid result }
 {
@@ -17,13 +17,13 @@ pub fn rooms_within(alloc: Global, rt: &impl Abort, limits: (u32, u32)) -> Probl
     problem
 }
 
-/// Going through door 4 into room 2, and pushing the box back.
+/// Returns the table of going through door 4 into room 2, and pushing the box back.
 pub fn there_and_back(alloc: Global, rt: &impl Abort) -> Table {
     moving(alloc, 0, objects()).expect(rt, "memory")
 }
 
-/// The table that is learned of it: going through a door into a room, and pushing a box from there through a door into another room. Its
-/// six parameters are these two doors, three rooms and the box.
+/// Returns the table that is learned from it: going through a door into a room, and pushing a box from there through a door into another
+/// room. Its six parameters are these two doors, three rooms and the box.
 pub fn learned(alloc: Global, rt: &impl Abort) -> Table {
     moving(alloc, 6, parameters()).expect(rt, "memory")
 }

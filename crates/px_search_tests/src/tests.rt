@@ -11,7 +11,7 @@ use std::alloc::Global;
 use std::process::Abort;
 use std::rt::HostRuntime;
 
-/// What is answered from the opening model.
+/// Returns what is answered from the opening model.
 fn answer(
     alloc: Global,
     rt: &impl Abort,
@@ -28,7 +28,7 @@ fn answer(
     search(alloc, problem, &initial, goal, 1, tables)
 }
 
-/// Going there and pushing the box back is planned, with rows that rest on what those of the table rest on.
+/// Returns whether going there and pushing the box back is planned, with rows that rest on what those of the table rest on.
 fn is_there_and_back(alloc: Global, rt: &impl Abort, plan: &Found) -> bool {
     let wanted = there_and_back(alloc, rt);
     assert!(rt; plan.support.len() <= 66);
@@ -36,7 +36,7 @@ fn is_there_and_back(alloc: Global, rt: &impl Abort, plan: &Found) -> bool {
     plan.steps.as_slice() == wanted.steps.as_slice() && found == wanted.marks
 }
 
-/// What is answered in the rooms within these limits, without tables.
+/// Returns what is answered in the rooms within these limits, without tables.
 fn answer_within(
     alloc: Global,
     rt: &impl Abort,
@@ -95,7 +95,7 @@ fn no_moves_have_the_row_of_the_goal(rt: HostRuntime) {
     assert!(&rt; matches!(&found, Ok(plan) if plan.moves.len() == 0 && plan.support.len() == 1));
 }
 
-/// Pushing both steps of the table, with these objects for its parameters.
+/// Returns the push of both steps of the table, with these objects for its parameters.
 fn push_both(alloc: Global, rt: &impl Abort, objects: &[u32]) -> Move {
     Move::Push(Entry::Macro {
         number: 0,

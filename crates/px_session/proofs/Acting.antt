@@ -1,4 +1,4 @@
--- How a turn is told.
+-- How a turn is reported.
 use Rattle.std.specs.Prelude.{◌≡◌, ◌⊎◌, ℕ, true, false, Option, None, List}
 use Rattle.std.proofs.Common.{refl, sym, ap, ◌∙◌, subst, inl, inr}
 use Rattle.px_terms.specs.declared.atom.Atom.{Atom}
@@ -28,7 +28,8 @@ module _ (planex : PlanexValue) (recorded : List (Recorded Edit)) (number : ℕ)
       → Happened (running mid planex.memory) answer (running after memory)
       → Happened (running (after_edits leaves_edit (edits_at recorded number true) atoms) planex.memory) same (running after memory)
   happened-by atoms mid after memory answer same mid_is is happens =
-      subst (λ (o : Outcome). Happened (running (after_edits leaves_edit (edits_at recorded number true) atoms) planex.memory) o (running after memory)) is
+      subst (λ (o : Outcome). Happened (running (after_edits leaves_edit (edits_at recorded number true) atoms) planex.memory) o
+      (running after memory)) is
       (subst (λ (m : List Atom). Happened (running m planex.memory) answer (running after memory)) mid_is happens)
 
   pub act-ends : (kernel : ℕ) (atoms mid after : List Atom) (memory : Memory) (op : Option OpInst) (end : TurnEnd) (answer : Outcome)

@@ -5,7 +5,7 @@ use Rattle.std.proofs.lemmas.List.{get_or-map, length-append, length-map}
 use Rattle.std.proofs.lemmas.List.Elements.{All-nil, All-weaker, Contains-append_cases}
 use Rattle.px_terms.specs.declared.problem.Problem.{Problem}
 use Rattle.px_table.specs.Kernels.{KernelsCarry}
-use Rattle.px_printer.specs.Replies.{IsNamed}
+use Rattle.px_printer.specs.Replies.{IsReplyNamed}
 use Rattle.px_printer.specs.declared.reply.Reply.{Reply}
 use Rattle.px_reader.specs.declared.command.Command as code
 use Rattle.px_reader.specs.CommandViews.{command_view}
@@ -19,7 +19,7 @@ use Rattle.px_rooms.specs.States.{RoomState}
 use Rattle.px_session.specs.KeptSessions.{AreEditsToNote, IsBindingToRun, IsKeptSession, IsRunnable}
 use Rattle.px_session.specs.Lawful.{Lawful, recorded_for}
 use Rattle.px_session.specs.Named.{IsTellable}
-use Rattle.px_session.specs.Opened.{SessionValue, opened, tables_of}
+use Rattle.px_session.specs.Opened.{SessionValue, opened_session, tables_of}
 use Rattle.px_session.specs.OwnStates.{IsOwnEdit, edits_given}
 use Rattle.px_session.specs.Places.{IsPlaced, TakeSame, Takes}
 use Rattle.px_session.specs.Sessions.{SessionState}
@@ -83,7 +83,7 @@ few-commands version count is_one few =
     omega (arith, most)
 
 -- a session keeps what it is to keep before its first command
-pub kept-opened : (script : ScriptValue) → IsInRange script → IsKeptSession (at_first script.building) (opened script)
+pub kept-opened : (script : ScriptValue) → IsInRange script → IsKeptSession (at_first script.building) (opened_session script)
 kept-opened script range = record {
   problem = range.problem.valid;
   names = record { objects = sym range.problem.objects; predicates = sym range.problem.predicates; operators = range.operators };
@@ -168,7 +168,7 @@ kept-after building left session given answer new done kept more below is runs l
 pub named-after : (building : Option RoomState) (session : SessionValue) (given : command.Command) (answer : Reply) (new : SessionState)
     → IsKeptSession building session
     → IsTellable session.problem (length session.names.results) given → Lawful session.problem session.state given answer new
-    → IsNamed session.names answer
+    → IsReplyNamed session.names answer
 named-after building session given answer new kept tellable lawful =
     named-each session.problem session.names session.state given answer new kept.names kept.own.atoms kept.state.plans kept.state.learned
     tellable lawful

@@ -95,7 +95,7 @@ pub built-moves : (task : Task) (moves : List Move) (steps : List OpInst) (suppo
 built-moves task moves steps support taken rows =
     record { params = refl; steps = taken; goal = refl; goal_vars = refl; rows = rows; marks = refl }
 
--- what is told of a plan that is found, where its table is stored
+-- what is reported of a plan that is found, where its table is stored
 pub finds-plan : (task : Task) (name count : ℕ) (old new : SessionState) (plan : Found) (made : Table) → IsFoundPlan task plan
     → made ≡ built plan.steps task.goal task.vars plan.support.items → IsTable task.problem made → count ≡ length plan.moves
     → new ≡ record old { plans = with_table old.plans name made } → FindsPlan task name old count plan.steps new

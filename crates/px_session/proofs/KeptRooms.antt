@@ -14,7 +14,7 @@ use Rattle.px_script.specs.Ranges.{IsBuildingOf, IsInRange}
 use Rattle.px_session.specs.Lawful.{Lawful, TellsRun, turn_told}
 use Rattle.px_session.specs.OwnStates.{edits_given}
 use Rattle.px_session.specs.Places.{IsPlaced, Takes}
-use Rattle.px_session.specs.RoomRuns.{AreAnswersIn, HasTakenEdits, IsAnswered, IsInBuilding, LeavesRooms, RoomsAreKept}
+use Rattle.px_session.specs.RoomRuns.{AreAnswersIn, HasTakenEdits, IsAnsweredInBuilding, IsInBuilding, LeavesRooms, RoomsAreKept}
 use Rattle.px_session.specs.Sessions.{Edit, IsSession, SessionState, opening}
 use Rattle.px_session.specs.Transcripts.{AreAnswers}
 use Rattle.px_session.proofs.Executing.{ready-at}
@@ -29,7 +29,7 @@ use Rattle.px_session.proofs.RoomRuns.{rules-left, run-in, same-left}
 module _ (problem : Problem) (old : SessionState) (building : RoomState) (session : IsSession problem old)
     (inside : IsInBuilding problem building old) where
   abbrev Answered : command.Command → Reply → SessionState → Type 0
-  Answered given answer new = (left : RoomState) × IsAnswered problem old building given answer new left
+  Answered given answer new = (left : RoomState) × IsAnsweredInBuilding problem old building given answer new left
 
   -- where the building is as it was
   as-it-was : (given : command.Command) (answer : Reply) (new : SessionState) → Lawful problem old given answer new

@@ -1,4 +1,4 @@
--- What is told of learning, and that a search may take the tables that are learned.
+-- What is reported of learning, and that a search may take the tables that are learned.
 use Rattle.std.specs.Prelude.{◌≡◌, ◌↔◌, ◌≤◌, ℕ, Some, Ok, Err, length}
 use Rattle.std.proofs.Common.{sym, ap, subst, arith}
 use Rattle.std.proofs.lemmas.List.Elements.{All-weaker}
@@ -49,7 +49,7 @@ general-few problem old session source plan general named short is =
     let alike = general-alike problem plan general right.table right.no_params right.proper is in
     grind (arith, alike.steps, short)
 
--- ---- what is told
+-- ---- what is reported
 
 -- none of the causes
 allowed : (state : SessionState) (plan : Table) → ¬ IsTooLong plan → ¬ IsTooDeep plan → ¬ IsTooWide plan

@@ -1,3 +1,4 @@
+-- The files of lemmas.
 pub mod OneSearch
 pub mod OneLearning
 pub mod OneRunning

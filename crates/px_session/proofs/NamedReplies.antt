@@ -17,14 +17,14 @@ use Rattle.px_planex.specs.Turns.{Recorded, TurnValue}
 use Rattle.px_ends.specs.Tasks.{Task, task_of}
 use Rattle.px_printer.specs.declared.reply.Reply.{Reply}
 use Rattle.px_printer.specs.declared.reply.Reply.TheVariants as reply
-use Rattle.px_printer.specs.Replies.{IsNamed}
+use Rattle.px_printer.specs.Replies.{IsReplyNamed}
 use Rattle.px_printer.specs.Rows.{IsNamedTable}
 use Rattle.px_printer.specs.Texts.{IsNamedAtom, IsNamedInstance, IsNamedTerm}
 use Rattle.px_printer.specs.Turns.{IsNamedStep, IsNamedTurn}
 use Rattle.px_printer.specs.declared.turn.Turn.{Turn}
 use Rattle.px_script.specs.Commands as command
 use Rattle.px_session.specs.Lawful.{FindsPlan, Lawful, Notes, TellsFacts, TellsLearning, TellsRun, TellsSearch, TellsShow, recorded_for, turn_told}
-use Rattle.px_session.specs.Named.{AreNamesOf, IsTellable, RepliesAreNamed}
+use Rattle.px_session.specs.Named.{AreNamesOfProblem, IsTellable, RepliesAreNamed}
 use Rattle.px_session.specs.Sessions.{Edit, IsLearnedTable, IsPlanTable, SessionState, any_table, of_atoms, of_rooms}
 use Rattle.px_session.proofs.OneLearning.{any-right}
 use Rattle.px_session.proofs.OwnRuns.{IsOwnStep, run-steps}
@@ -37,7 +37,7 @@ number_of _ = 0
 same-result : (given name results : ℕ) → given ≡ name → name < results → given < results
 same-result given name results same below = omega (arith, same, below)
 
-module _ (problem : Problem) (names : NameLists) (all : AreNamesOf problem names) where
+module _ (problem : Problem) (names : NameLists) (all : AreNamesOfProblem problem names) where
   -- ---- terms, atoms and steps of the problem
 
   named-term : (vars : ℕ) (t : Term) → IsTermOf problem vars t → IsNamedTerm names t
@@ -102,7 +102,7 @@ module _ (problem : Problem) (names : NameLists) (all : AreNamesOf problem names
       subst (All (IsNamedInstance names)) same (named-steps is.made.params is.made.steps plan.table.in_range.steps)
 
   named-search : (task : Task) → task.problem ≡ problem → (name : ℕ) (old : SessionState) (answer : Reply) (new : SessionState)
-      → name < length names.results → TellsSearch task name old answer new → IsNamed names answer
+      → name < length names.results → TellsSearch task name old answer new → IsReplyNamed names answer
   named-search task of name old (reply.Plan given count steps) new below is =
       (same-result given name (length names.results) is.0 below, named-plan task of name old count steps new is.1)
   named-search task of name old (reply.Exhausted given) new below is = same-result given name (length names.results) is.0 below
@@ -117,14 +117,14 @@ module _ (problem : Problem) (names : NameLists) (all : AreNamesOf problem names
     any-named name table named = named-table table (any-right problem old plans learned name table named)
 
     named-show : (name : ℕ) (answer : Reply) (new : SessionState) → name < length names.results
-        → TellsShow old name answer new → IsNamed names answer
+        → TellsShow old name answer new → IsReplyNamed names answer
     named-show name (reply.Unknown given) new below is = same-result given name (length names.results) is.0 below
     named-show name (reply.Shown given table) new below is =
         (same-result given name (length names.results) is.0 below, any-named name table is.1)
     named-show name answer new below is = absurd is
 
     named-run : (name : ℕ) (bound : List (ℕ × ℕ)) (answer : Reply) (new : SessionState) → name < length names.results
-        → TellsRun problem old name bound answer new → IsNamed names answer
+        → TellsRun problem old name bound answer new → IsReplyNamed names answer
     named-run name bound (reply.Unknown given) new below is = same-result given name (length names.results) is.0 below
     named-run name bound (reply.UnknownParam param) new below is = tt
     named-run name bound (reply.Ran given told) new below is =
@@ -134,20 +134,21 @@ module _ (problem : Problem) (names : NameLists) (all : AreNamesOf problem names
     named-run name bound answer new below is = absurd is
 
     named-facts : (answer : Reply) (new : SessionState) → All (IsAtomOf problem 0) old.atoms
-        → TellsFacts old answer new → IsNamed names answer
+        → TellsFacts old answer new → IsReplyNamed names answer
     named-facts (reply.FactsAre atoms) new of is = subst (All (IsNamedAtom names)) (sym is.0) (named-atoms 0 old.atoms of)
     named-facts answer new of is = absurd is
 
 -- how many disturbances are recorded is no name
 named-noted : (names : NameLists) (old : SessionState) (one : Recorded Edit) (answer : Reply) (new : SessionState)
     → Notes old one answer new
-    → IsNamed names answer
+    → IsReplyNamed names answer
 named-noted names old one (reply.Noted count) new is = tt
 named-noted names old one answer new is = absurd is
 
--- learning tells a name of the two that are given
+-- learning reports a name of the two that are given
 named-learning : (problem : Problem) (names : NameLists) (old : SessionState) (name source : ℕ) (answer : Reply) (new : SessionState)
-    → name < length names.results → source < length names.results → TellsLearning problem old name source answer new → IsNamed names answer
+    → name < length names.results → source < length names.results → TellsLearning problem old name source answer new
+    → IsReplyNamed names answer
 named-learning problem names old name source (reply.Unknown given) new below also is =
     same-result given source (length names.results) is.0 also
 named-learning problem names old name source (reply.LearnRefused given why) new below also is =
@@ -159,9 +160,9 @@ named-learning problem names old name source answer new below also is = absurd i
 -- for each command that is built
 pub named-each : (problem : Problem) (names : NameLists) (old : SessionState) (given : command.Command) (answer : Reply)
     (new : SessionState)
-    → AreNamesOf problem names → All (IsAtomOf problem 0) old.atoms
+    → AreNamesOfProblem problem names → All (IsAtomOf problem 0) old.atoms
     → All (IsPlanTable problem) old.plans.tables → All (IsLearnedTable problem) old.learned.tables
-    → IsTellable problem (length names.results) given → Lawful problem old given answer new → IsNamed names answer
+    → IsTellable problem (length names.results) given → Lawful problem old given answer new → IsReplyNamed names answer
 named-each problem names old (command.Plan name goal vars) answer new all atoms plans learned tellable is =
     named-search problem names all (task_of problem old.learned.tables old.atoms goal vars) refl name old answer new tellable.0 is
 named-each problem names old (command.Show name) answer new all atoms plans learned tellable is =

@@ -2,7 +2,7 @@
 use Rattle.std.specs.Prelude.{◌≡◌, ◌==◌, ℕ, true, false, Bool, cond, Option, Some, None, List, [], ◌∷◌, length, All, Contains}
 use Rattle.std.proofs.Common.{refl, sym, ap, ◌∙◌, subst, inl}
 use Rattle.px_base.specs.ListLaws.{All-at, Contains-first, Contains-later}
-use Rattle.px_proof.specs.PlaceLaws.{some_same}
+use Rattle.px_base.specs.Answers.{some_same}
 use Rattle.px_terms.specs.declared.problem.Problem.{Problem}
 use Rattle.px_terms.specs.Validity.{IsValid}
 use Rattle.px_table.specs.declared.table.Table.{Table}
@@ -16,7 +16,7 @@ use Rattle.px_printer.specs.declared.reply.Why.{Why}
 use Rattle.px_printer.specs.declared.reply.Why.TheVariants.{TooLong, TooDeep, TooWide, Full}
 use Rattle.px_session.specs.Determined.{SameReply}
 use Rattle.px_session.specs.Lawful.{IsLearned, IsNotLearned, RefusesLearning, TellsLearning}
-use Rattle.px_session.specs.Sessions.{IsLearnedTable, IsPlanTable, IsSession, SessionState, any_table, first_of}
+use Rattle.px_session.specs.Sessions.{IsLearnedTable, IsPlanTable, IsSession, SessionState, any_table, first_table}
 
 -- ---- options
 
@@ -24,7 +24,7 @@ pub none_or_some : {A : Type 0} (o : Option A) (a : A) → o ≡ None → ¬ (o 
 none_or_some o a e f = cc
 
 pub one_some : {A : Type 0} (o : Option A) (a b : A) → o ≡ Some a → o ≡ Some b → a ≡ b
-one_some o a b e f = some_same a b (sym e ∙ f)
+one_some o a b e f = some_same (sym e ∙ f)
 
 -- ---- tables by name
 
@@ -37,7 +37,7 @@ table-there (one ∷ names) (first ∷ tables) name table e = by (table-there na
   where
     by : (table_beside names tables name ≡ Some table → Contains tables table) → (b : Bool)
         → cond b (Some first) (table_beside names tables name) ≡ Some table → Contains (first ∷ tables) table
-    by later true e = subst (Contains (first ∷ tables)) (some_same first table e) (Contains-first first tables)
+    by later true e = subst (Contains (first ∷ tables)) (some_same e) (Contains-first first tables)
     by later false e = Contains-later first tables table (later e)
 
 pub plan-right : (problem : Problem) (old : SessionState) → IsSession problem old → (name : ℕ) (plan : Table)
@@ -49,7 +49,7 @@ pub any-right : (problem : Problem) (old : SessionState) → All (IsPlanTable pr
     → All (IsLearnedTable problem) old.learned.tables → (name : ℕ) (table : Table) → any_table old name ≡ Some table → IsTable problem table
 any-right problem old plans learned name table named = by (table_named old.plans name) refl named
   where
-    by : (plan : Option Table) → table_named old.plans name ≡ plan → first_of plan (table_named old.learned name) ≡ Some table
+    by : (plan : Option Table) → table_named old.plans name ≡ plan → first_table plan (table_named old.learned name) ≡ Some table
         → IsTable problem table
     by None at named' =
         let has = table-there old.learned.names old.learned.tables name table named' in

@@ -9,7 +9,7 @@ use Rattle.px_terms.specs.Validity.{IsValid}
 use Rattle.px_planex.specs.Turns.{Recorded}
 use Rattle.px_ends.specs.Tasks.{task_of}
 use Rattle.px_printer.specs.Replies.{reply_text}
-use Rattle.px_printer.specs.Texts.{line, name_text}
+use Rattle.px_printer.specs.Texts.{text_line, name_text}
 use Rattle.px_printer.specs.declared.reply.Reply.{Reply}
 use Rattle.px_printer.specs.declared.reply.Reply.TheVariants as reply
 use Rattle.px_script.specs.Commands as command
@@ -69,7 +69,7 @@ pub text-one : (names : NameLists) (one other : Reply) → SameReply one other �
 text-one names one other same = elim same [
   | inl is ↦ ap (reply_text names) is
   | inr are ↦ ap (reply_text names) are.one_is
-      ∙ ap (λ n. line (codes "shapelimit" ∷ name_text names kind.Result are.name ∷ decimal n ∷ codes "shapes" ∷ [])) are.as_many
+      ∙ ap (λ n. text_line (codes "shapelimit" ∷ name_text names kind.Result are.name ∷ decimal n ∷ codes "shapes" ∷ [])) are.as_many
       ∙ sym (ap (reply_text names) are.other_is)
 ]
 

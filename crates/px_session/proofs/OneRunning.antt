@@ -17,7 +17,7 @@ use Rattle.px_session.specs.Lawful.{HasNoParameter, IsRunOf, TellsRun, first_unk
 use Rattle.px_session.specs.Sessions.{SessionState, any_table, leaves_edit}
 use Rattle.px_session.proofs.OneLearning.{none_or_some, one_some}
 
--- ---- turns that are told are those that were taken
+-- ---- the turns that are reported are those that were taken
 
 abbrev told_end : executed.TurnEnd → TurnEnd
 told_end AtGoal = Goal

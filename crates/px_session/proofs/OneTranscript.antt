@@ -12,7 +12,7 @@ use Rattle.px_terms.specs.Validity.{IsValid}
 use Rattle.px_proof.specs.declared.shape.Tick.{Tick}
 use Rattle.px_table.specs.declared.node.Node.{Node}
 use Rattle.px_demo.specs.Script.{demo_script}
-use Rattle.px_printer.specs.Texts.{line}
+use Rattle.px_printer.specs.Texts.{text_line}
 use Rattle.px_printer.specs.declared.reply.Reply.{Reply}
 use Rattle.px_printer.specs.declared.reply.Reply.TheVariants as reply
 use Rattle.px_script.specs.Commands.{Command}
@@ -98,7 +98,7 @@ summary-line-one rooms seed commands answers others same =
     let plans = counts-one is_plan (alike is_plan false (λ name node formula shapes. refl)) answers others same in
     let steps = sums-one step_count (alike step_count 0 (λ name node formula shapes. refl)) answers others same in
     let goals = counts-one reaches_goal (alike reaches_goal false (λ name node formula shapes. refl)) answers others same in
-    λ i. line (codes "demo" ∷ decimal rooms ∷ decimal seed ∷ decimal commands ∷ codes "commands" ∷ decimal (plans i) ∷ codes "plans"
+    λ i. text_line (codes "demo" ∷ decimal rooms ∷ decimal seed ∷ decimal commands ∷ codes "commands" ∷ decimal (plans i) ∷ codes "plans"
     ∷ decimal (steps i) ∷ codes "steps" ∷ decimal (goals i) ∷ codes "goals" ∷ [])
 
 -- ---- from the bytes

@@ -13,7 +13,7 @@ use Rattle.px_session.specs.declared.place.Place.{Place}
 use Rattle.px_session.specs.declared.place.Place.TheVariants.{Atoms, Rooms}
 use Rattle.px_session.specs.Lawful.{Lawful, recorded_for}
 use Rattle.px_session.specs.OwnStates.{edits_given}
-use Rattle.px_session.specs.Places.{IsPlaceOf, IsPlaced, TakeSame, Takes, TakesAll, building_of, place_atoms, place_rules}
+use Rattle.px_session.specs.Places.{IsPlaceInBuilding, IsPlaced, TakeSame, Takes, TakesAll, building_of, place_atoms, place_rules}
 use Rattle.px_session.specs.RoomRuns.{HasTakenEdits}
 use Rattle.px_session.specs.Sessions.{Edit, SessionState}
 use Rattle.px_session.proofs.Replied.{replied}
@@ -41,7 +41,7 @@ takes-all-later old new recorded same all =
 
 -- a world with the rules of the problem is a place of it
 pub place-left : (problem : Problem) (place : Place) → HaveSameRules (place_rules place) problem
-    → IsPlaceOf problem (place_atoms place) (building_of place)
+    → IsPlaceInBuilding problem (place_atoms place) (building_of place)
 place-left problem (Atoms world) same = tt
 place-left problem (Rooms building) same = (refl, same)
 
@@ -73,8 +73,8 @@ placed-later problem building old placed given no_run taken answer new is =
 
 pub placed-run : (problem : Problem) (building : Option RoomState) (new : SessionState) (atoms : List Atom) → new.atoms ≡ atoms
     → new.recorded ≡ []
-    → IsPlaceOf problem atoms building → IsPlaced problem building new
+    → IsPlaceInBuilding problem atoms building → IsPlaced problem building new
 placed-run problem building new atoms atoms_are none place = record {
-  place = subst (λ (a : List Atom). IsPlaceOf problem a building) (sym atoms_are) place;
+  place = subst (λ (a : List Atom). IsPlaceInBuilding problem a building) (sym atoms_are) place;
   edits = subst (TakesAll building) (sym none) (All-nil (λ (r : Recorded Edit). All (Takes building) r.edits));
 }

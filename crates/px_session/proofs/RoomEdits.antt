@@ -22,7 +22,7 @@ use Rattle.px_rooms.specs.declared.building.Building.{Building}
 use Rattle.px_rooms.specs.declared.standing.Standing.{Standing}
 use Rattle.px_rooms.specs.declared.standing.Standing.TheVariants.{Room as a_room, Door as a_door, Box as a_box}
 use Rattle.px_rooms.specs.Changes.{IsAdmitted, edit_schema}
-use Rattle.px_rooms.specs.Domain.{building_problem, closed, in_room, opened}
+use Rattle.px_rooms.specs.Domain.{building_problem, closed, in_room, opened_door}
 use Rattle.px_rooms.specs.States.{IsBuilding, RoomState, first_state, thing_at}
 use Rattle.px_rooms.proofs.Starting.{objects_are}
 use Rattle.px_script.specs.Limits as limit
@@ -30,7 +30,7 @@ use Rattle.px_script.specs.Limits.{greatest}
 use Rattle.px_script.specs.Ranges.{AreRoomEditsOf, IsBuildingOf, IsEditOf}
 use Rattle.px_session.specs.KeptSessions.{AreEditsToNote}
 use Rattle.px_session.specs.OwnStates.{IsOwnEdit}
-use Rattle.px_session.specs.Places.{IsPlaceOf, Takes}
+use Rattle.px_session.specs.Places.{IsPlaceInBuilding, Takes}
 use Rattle.px_session.specs.Sessions.{of_atoms, of_rooms}
 
 -- the number of a thing is that of an object
@@ -60,7 +60,7 @@ module _ (objects height nodes shapes : ℕ) where
       one Belongs (in_room (Obj b) (Obj r)) (in-room b r (omega (arith, count, box)) (omega (arith, count, room)))
   edit-belongs state count (room_edit.Door d true) is =
       let door = inside state.things d (a_door is.0 is.1 is.2) is.3 in
-      one Belongs (opened (Obj d)) ((omega arith, refl), one IsTerm (Obj d) (omega (arith, count, door)))
+      one Belongs (opened_door (Obj d)) ((omega arith, refl), one IsTerm (Obj d) (omega (arith, count, door)))
   edit-belongs state count (room_edit.Door d false) is =
       let door = inside state.things d (a_door is.0 is.1 is.2) is.3 in
       one Belongs (closed (Obj d)) ((omega arith, refl), one IsTerm (Obj d) (omega (arith, count, door)))
@@ -118,7 +118,7 @@ note-rooms problem (Some things) edits owns of = record {
 -- the facts are the building's, and the problem has its rules
 pub placed-first : (names : NameLists) (problem : Problem) (facts : List Atom) (building : Option (List Thing))
     → IfSome building (IsBuildingOf names problem facts)
-    → IsPlaceOf problem facts (at_first building)
+    → IsPlaceInBuilding problem facts (at_first building)
 placed-first names problem facts None is = tt
 placed-first names problem facts (Some things) is = (
   is.rendered,

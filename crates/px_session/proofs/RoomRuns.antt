@@ -22,7 +22,7 @@ use Rattle.px_rooms.proofs.Instances.{action-of-instance}
 use Rattle.px_match.specs.Matching.{KernelInstance}
 use Rattle.px_planex.specs.declared.event.Outcome.{Outcome}
 use Rattle.px_planex.specs.declared.event.Outcome.TheVariants.{Disturbed, Sensed, Acted, Slipped, Goal, NoKernel, NotSensed}
-use Rattle.px_planex.specs.Execution.{RowHolds, Running, remembered_step, step_of_kernel}
+use Rattle.px_planex.specs.Execution.{KernelRowHolds, Running, remembered_step, step_of_kernel}
 use Rattle.px_planex.specs.Executors.{IsActable}
 use Rattle.px_planex.specs.Turns.{EndsTurn, Recorded, RunsTable, TakesTurn, TakesTurns, TurnValue, after_edits, disturbed_by, edits_at}
 use Rattle.px_planex.proofs.Guarding.{guard_never}
@@ -108,7 +108,7 @@ module _ (problem : Problem) (table : Table) (is_table : IsTable problem table) 
   -- where the marks of a kernel's row are facts, the precondition of its step is met
   row-meets : (building : RoomState) → IsRoomState building → HaveSameRules (building_rules building) problem
       → (kernel : KernelInstance) (inst : OpInst) → IsInstantiation problem table kernel.objects
-      → RowHolds table kernel (rendering building) → step_of_kernel table kernel ≡ Some inst → IsMet building inst
+      → KernelRowHolds table kernel (rendering building) → step_of_kernel table kernel ≡ Some inst → IsMet building inst
   row-meets building is rules kernel inst given row at =
       let own = same_instance (building_rules building) problem inst rules (kernel-own problem table is_table bound kernel inst given at) in
       All-each (Contains (rendering building)) (precondition (building_rules building) inst)
@@ -120,7 +120,7 @@ module _ (problem : Problem) (table : Table) (is_table : IsTable problem table) 
 
   does : (building : RoomState) → IsRoomState building → HaveSameRules (building_rules building) problem
       → (kernel : KernelInstance) (inst : OpInst) → IsInstantiation problem table kernel.objects
-      → RowHolds table kernel (rendering building) → step_of_kernel table kernel ≡ Some inst → Does problem inst building
+      → KernelRowHolds table kernel (rendering building) → step_of_kernel table kernel ≡ Some inst → Does problem inst building
   does building is rules kernel inst given row at =
       let own = same_instance (building_rules building) problem inst rules (kernel-own problem table is_table bound kernel inst given at) in
       let met = row-meets building is rules kernel inst given row at in
@@ -169,7 +169,7 @@ module _ (problem : Problem) (table : Table) (is_table : IsTable problem table) 
         ap (after_edits leaves_edit between) facts ∙ sym first.facts in
         let able : IsActable problem table (Some kernel) = subst (IsActable problem table) remembered can in
         let second = does first.after first.left.state (rules-left problem sensed first.after first.left rules) kernel inst able.2
-        (subst (RowHolds table kernel) seen row) at in
+        (subst (KernelRowHolds table kernel) seen row) at in
         let step : remembered_step table old.memory ≡ Some inst =
         ap (λ (r : Option KernelInstance). remembered_step table (record { remembered = r; instance = old.memory.instance })) remembered
         ∙ at in

@@ -1,4 +1,4 @@
--- What is told of a run, and of what it isn't run for.
+-- What is reported of a run, and where none is run.
 use Rattle.std.specs.Prelude.{◌≡◌, ◌≤◌, ◌&&◌, ℕ, Bool, true, false, not, cond, nat_le, nat_lt, Some, None, List, [], ◌∷◌, map, find, option_map, All}
 use Rattle.std.proofs.Common.{refl, sym, ◌∙◌, arith}
 use Rattle.std.proofs.lemmas.Bool.Decides.{nat_tests}

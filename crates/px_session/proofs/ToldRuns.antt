@@ -1,4 +1,4 @@
--- A run that is told has few turns, and is a trace.
+-- A run that is reported has few turns, and is a trace.
 use Rattle.std.specs.Prelude.{◌≡◌, ◌≤◌, ◌+◌, ◌*◌, ℕ, Some, List, length, map}
 use Rattle.std.proofs.Common.{sym, ap, subst}
 use Rattle.std.proofs.lemmas.List.{length-map}

@@ -37,7 +37,7 @@ use Rattle.px_library.specs.Libraries.{no_tables, with_table}
 use Rattle.px_session.specs.Lawful.{FindsPlan, IsRunOf, recorded_for}
 use Rattle.px_session.specs.Sessions.{Edit, SessionState, of_atoms, opening}
 use Rattle.px_session.specs.Transcripts.{AreAnswersTo}
-use Rattle.px_session.specs.WorkedDemo.{WorkedDemo}
+use Rattle.px_session.specs.WorkedDemo.{WorkedDemoLine}
 use Rattle.px_session.specs.WorkedSession.{WorkedSession, at_goal, at_nothing, idle_answers, idle_script}
 
 -- ---- the table of no steps
@@ -236,6 +236,6 @@ pub worked_session : WorkedSession
 unfolding digits
 worked_session = record { lawful = lawful; text = refl }
 
-pub worked_demo : WorkedDemo
+pub worked_demo : WorkedDemoLine
 unfolding digits
 worked_demo = record { line = refl }

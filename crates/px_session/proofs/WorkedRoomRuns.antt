@@ -12,7 +12,7 @@ use Rattle.px_terms.specs.Order.{atom_eq}
 use Rattle.px_terms.specs.OrderLaws.{atom_eq-decides}
 use Rattle.px_rooms.specs.declared.action.RoomAction.{RoomAction}
 use Rattle.px_rooms.specs.declared.action.RoomAction.TheVariants as act
-use Rattle.px_rooms.specs.Changes.{acted, instance_of}
+use Rattle.px_rooms.specs.Changes.{acted, instance_of_action}
 use Rattle.px_rooms.specs.Domain.{closed}
 use Rattle.px_rooms.specs.States.{RoomState, building_rules, rendering}
 use Rattle.px_rooms.specs.WorkedBuilding.{is_met}
@@ -52,9 +52,10 @@ all-tested atoms (a ∷ needed) is = by (all-tested atoms needed) (list_any (ato
   by rest true found is = All-cons (Contains atoms) a needed (any-tested atoms a found) (rest is)
   by rest false found is = absurd (clash is)
 
-done : (state : RoomState) (action : RoomAction) → is_met state action ≡ true → IsDone (instance_of action) state (acted action state)
+done : (state : RoomState) (action : RoomAction) → is_met state action ≡ true
+    → IsDone (instance_of_action action) state (acted action state)
 done state action met = record {
-  met = all-tested (rendering state) (precondition (building_rules state) (instance_of action)) met;
+  met = all-tested (rendering state) (precondition (building_rules state) (instance_of_action action)) met;
   moved = record { action = action; by_action = refl; left = refl };
 }
 
@@ -73,7 +74,7 @@ at_open = with_robot 1 (Some 3) true
 abbrev through : RoomState
 through = with_robot 2 None true
 
-not-twice : (next : RoomState) → ¬ IsDone (instance_of (act.Open 3)) at_open next
+not-twice : (next : RoomState) → ¬ IsDone (instance_of_action (act.Open 3)) at_open next
 unfolding set_of with_item
 not-twice next is = clash (any-of (rendering at_open) (closed (Obj 3)) (is.met 2 (closed (Obj 3)) (omega arith)))
 
@@ -86,25 +87,25 @@ worked_rooms = record {
     refl,
     (
       at_closed,
-      (instance_of (act.GoToDoor 3 1 2), refl, (at_first, refl, done at_first (act.GoToDoor 3 1 2) refl)),
+      (instance_of_action (act.GoToDoor 3 1 2), refl, (at_first, refl, done at_first (act.GoToDoor 3 1 2) refl)),
       (
         at_closed,
         refl,
         (
           at_open,
-          (instance_of (act.Open 3), refl, (at_closed, refl, done at_closed (act.Open 3) refl)),
+          (instance_of_action (act.Open 3), refl, (at_closed, refl, done at_closed (act.Open 3) refl)),
           (
             at_closed,
             ((1, 2, true, refl), refl),
             (
               at_open,
-              (instance_of (act.Open 3), refl, (at_closed, refl, done at_closed (act.Open 3) refl)),
+              (instance_of_action (act.Open 3), refl, (at_closed, refl, done at_closed (act.Open 3) refl)),
               (
                 at_open,
                 refl,
                 (
                   through,
-                  (instance_of (act.GoThrough 3 1 2), refl, (at_open, refl, done at_open (act.GoThrough 3 1 2) refl)),
+                  (instance_of_action (act.GoThrough 3 1 2), refl, (at_open, refl, done at_open (act.GoThrough 3 1 2) refl)),
                   (through, refl, (through, refl, refl)),
                 ),
               ),

@@ -14,8 +14,8 @@ use Rattle.px_script.specs.Commands as command
 use Rattle.px_session.specs.Lawful.{Lawful, RefusesLearning, first_unknown}
 use Rattle.px_session.specs.Sessions.{SessionState, any_table, opening}
 
--- A name without a table is unknown, whatever is bound, and a plan's name without a plan, whatever is learned. A bound parameter that the
--- table does not have comes before the run. After these answers nothing has changed, what is recorded included.
+-- A name without a table is unknown, whatever is bound, and so is a plan's name without a plan, whatever is learned. A bound parameter
+-- that the table does not have comes before the run. After these answers nothing has changed, what is recorded included.
 pub record CausesInOrder : Type 0 where
   pub no_plan : (problem : Problem) (old : SessionState) (name source : ℕ) (answer : Reply) (new : SessionState)
       → table_named old.plans source ≡ None → Lawful problem old (command.Learn name source) answer new → (answer ≡ reply.Unknown source)
@@ -44,7 +44,7 @@ plan_p = command.Plan 0 (p ∷ []) 0
 abbrev pub one_learned : SessionState
 one_learned = record where_p { learned = with_table no_tables 1 p_at_once }
 
--- Where P is a fact, a plan for it is neither exhausted nor has it a move; and a learned table is no plan.
+-- Where P is a fact, a plan for it is neither exhausted nor has a move; and a learned table is no plan.
 pub record RefusedReplies : Type 0 where
   pub exhausted : (new : SessionState) → ¬ Lawful idle where_p plan_p (reply.Exhausted 0) new
   pub moved : (new : SessionState) → ¬ Lawful idle where_p plan_p (reply.Plan 0 1 []) new

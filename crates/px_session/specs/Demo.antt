@@ -2,7 +2,7 @@
 use Rattle.std.specs.Prelude.{◌≡◌, ℕ, Bool, true, false, List, [], ◌∷◌, codes, count_by, length, sum_by}
 use Rattle.std.specs.Fmt.{decimal}
 use Rattle.px_demo.specs.Script.{demo_script}
-use Rattle.px_printer.specs.Texts.{line}
+use Rattle.px_printer.specs.Texts.{text_line}
 use Rattle.px_printer.specs.declared.reply.Reply.{Reply}
 use Rattle.px_printer.specs.declared.reply.Reply.TheVariants as reply
 use Rattle.px_printer.specs.declared.turn.Turn.{Turn}
@@ -37,7 +37,7 @@ reaches_goal answer = false
 
 abbrev pub summary_line : ℕ → ℕ → ℕ → List Reply → List ℕ
 summary_line rooms seed commands answers =
-    line (codes "demo" ∷ decimal rooms ∷ decimal seed ∷ decimal commands ∷ codes "commands" ∷ decimal (count_by is_plan answers)
+    text_line (codes "demo" ∷ decimal rooms ∷ decimal seed ∷ decimal commands ∷ codes "commands" ∷ decimal (count_by is_plan answers)
     ∷ codes "plans"
     ∷ decimal (sum_by step_count answers) ∷ codes "steps" ∷ decimal (count_by reaches_goal answers) ∷ codes "goals" ∷ [])
 

@@ -22,7 +22,7 @@ use Rattle.px_session.specs.OwnStates.{HasOwnEdits, IsOwnState}
 use Rattle.px_session.specs.Sessions.{IsSession, SessionState, opening}
 use Rattle.px_session.specs.Transcripts.{AreAnswersTo, Transcript, texts}
 
--- both say that the search met the limit of shapes, by as many shapes, perhaps at different questions
+-- both say that the search met the limit of shapes, by equally many shapes, perhaps at different questions
 pub record AreLimits (one other : Reply) : Type 0 where
   pub name : ℕ
   pub node : Node
@@ -35,7 +35,7 @@ pub record AreLimits (one other : Reply) : Type 0 where
   pub other_is : other ≡ reply.ShapeLimit name also_node also_formula also_shapes
   pub as_many : length shapes ≡ length also_shapes
 
--- the same reply, but for the question at which a search met the limit of shapes
+-- the same reply, apart from the question at which a search met the limit of shapes
 abbrev pub SameReply : Reply → Reply → Type 0
 SameReply one other = (one ≡ other) ⊎ AreLimits one other
 
@@ -46,9 +46,9 @@ pub record LawfulIsOne : Type 0 where
       → SameReply one other × (new ≡ later)
   pub texts : (names : NameLists) (one other : Reply) → SameReply one other → reply_text names one ≡ reply_text names other
 
--- The opening state is one of a session, and each lawful reply leaves one. Where the world's atoms and all edits are of a valid problem, so
--- are they after it. Of the tables that a session has, each proper instance of each kernel carries the steps that are left to the goal; and
--- the world's atoms carry the steps of each plan that is told.
+-- The opening state is one of a session, and each lawful reply leaves one. Where the world's atoms and all edits are of a valid problem,
+-- they are so after it. Of the tables that a session has, each proper instance of each kernel carries the steps that are left to the goal;
+-- and the world's atoms carry the steps of each plan that a reply prints.
 pub record SessionsAreKept : Type 0 where
   pub opened : (problem : Problem) (facts : List Atom) → IsAtomSet facts → IsSession problem (opening facts)
   pub kept : (problem : Problem) (old : SessionState) (command : Command) (answer : Reply) (new : SessionState)
@@ -62,7 +62,7 @@ pub record SessionsAreKept : Type 0 where
       (vars given count : ℕ) (steps : List OpInst) (new : SessionState)
       → Lawful problem old (Plan name goal vars) (reply.Plan given count steps) new → Carries problem old.atoms steps vars goal
 
--- A script has one list of lawful replies, but for questions at limits of shapes; the state after them is one, and so is the text.
+-- A script has one list of lawful replies, apart from questions at limits of shapes; the state after them is one, and so is the text.
 pub record AnswersAreOne : Type 0 where
   pub answers : (script : ScriptValue) (answers others : List Reply) → IsValid script.problem → IsAtomSet script.facts
       → (one : AreAnswersTo script answers) (other : AreAnswersTo script others) → AllZip SameReply answers others × (one.last ≡ other.last)

@@ -6,7 +6,7 @@ use Rattle.px_terms.specs.Validity.{IsAtomOf, IsValid}
 use Rattle.px_script.specs.Commands.{Command, Plan, Run}
 use Rattle.px_rooms.specs.States.{RoomState}
 use Rattle.px_script.specs.Ranges.{result_given}
-use Rattle.px_session.specs.Named.{AreNamesOf, IsTellable}
+use Rattle.px_session.specs.Named.{AreNamesOfProblem, IsTellable}
 use Rattle.px_session.specs.Opened.{SessionValue}
 use Rattle.px_session.specs.OwnStates.{IsOwnEdit, IsOwnState, edits_given}
 use Rattle.px_session.specs.Places.{IsPlaced, Takes}
@@ -29,22 +29,22 @@ pub record AreEditsToNote (problem : Problem) (building : Option RoomState) (edi
   pub own : All (IsOwnEdit problem) edits
   pub taken : All (Takes building) edits
 
--- what running a command asks of the problem's numbers that it has
+-- what running a command asks of the problem's numbers in it
 abbrev pub IsAnswerable : Problem → Command → Type 0
 IsAnswerable problem (Plan name goal vars) = IsGoalToPlan problem goal vars
 IsAnswerable problem (Run name bound) = IsBindingToRun problem bound
 IsAnswerable problem _ = Unit {0}
 
--- what running a command asks for, where that is the session's building
+-- what running a command asks for, with the session's building
 abbrev pub IsRunnable : Problem → Option RoomState → Command → Type 0
 IsRunnable problem building command = IsAnswerable problem command × AreEditsToNote problem building (edits_given command)
 
--- The problem is valid, its numbers have names, and what the state has is its own; with a building its atoms are the building's facts. Each
--- command can be run, and its reply told. The commands give each result once, and what is learned has names that commands gave which are
--- done. No more disturbances are recorded than commands are done.
+-- The problem is valid, its numbers have names, and what the state has is its own; with a building its atoms are the building's facts.
+-- Each command can be run, and its reply printed. The commands give each result once, and the names of what is learned were given by
+-- commands that are done. No more disturbances are recorded than commands are done.
 pub record IsKeptSession (building : Option RoomState) (session : SessionValue) : Type 0 where
   pub problem : IsValid session.problem
-  pub names : AreNamesOf session.problem session.names
+  pub names : AreNamesOfProblem session.problem session.names
   pub state : IsSession session.problem session.state
   pub own : IsOwnState session.problem session.state
   pub placed : IsPlaced session.problem building session.state

@@ -27,8 +27,8 @@ use Rattle.px_session.specs.Sessions.{Edit, IsPlanTable, SessionState, any_table
 
 -- ---- plan
 
--- The search found `count` moves, which take these steps. The table of the moves is stored under the name. It is as a plan's table, and
--- the world's atoms carry the steps to the goal.
+-- The search found `count` moves, which take these steps. The table of the moves, which is like each plan's table, is stored under the
+-- name, and the world's atoms carry the steps to the goal.
 pub record FindsPlan (task : Task) (name : ℕ) (old : SessionState) (count : ℕ) (steps : List OpInst) (new : SessionState) : Type 0 where
   pub moves : List Move
   pub found : IsFound task moves
@@ -95,7 +95,7 @@ TellsShow old name answer new = ⊥
 
 -- ---- disturb
 
--- the disturbance is recorded, after the others, and how many are recorded then
+-- the disturbance is recorded, after the others, and the reply says how many are recorded then
 abbrev pub Notes : SessionState → Recorded Edit → Reply → SessionState → Type 0
 Notes old one (reply.Noted count) new = (count ≡ length old.recorded + 1) × (new ≡ record old { recorded = old.recorded ++ one ∷ [] })
 Notes old one answer new = ⊥
@@ -106,26 +106,26 @@ Notes old one answer new = ⊥
 abbrev pub first_unknown : Table → List (ℕ × ℕ) → Option ℕ
 first_unknown table bound = option_map (λ (pair : ℕ × ℕ). pair.0) (find (λ (pair : ℕ × ℕ). nat_lt table.params pair.0) bound)
 
--- how a turn that is told ended
+-- how a turn that a reply prints ended
 abbrev pub end_told : TurnEnd → executed.TurnEnd
 end_told Goal = AtGoal
 end_told NoKernel = AtNoKernel
 end_told Acted = ByActing
 end_told Slipped = BySlipping
 
--- the turn that is told so
+-- the turn that is printed like this
 abbrev pub turn_told : Turn → TurnValue
 turn_told turn = record { kernel = turn.kernel; op = turn.op; end = end_told turn.end }
 
--- the name's table does not have this parameter, the first of those that are bound; nothing changes, so what is recorded stays so
+-- the name's table does not have this parameter, the first of those that are bound; nothing changes, so what is recorded stays
 pub record HasNoParameter (name : ℕ) (bound : List (ℕ × ℕ)) (old : SessionState) (param : ℕ) (new : SessionState) : Type 0 where
   pub table : Table
   pub named : any_table old name ≡ Some table
   pub unknown : first_unknown table bound ≡ Some param
   pub same : new ≡ old
 
--- The name's table has each bound parameter, and is run with all that is recorded, in the turns that are told. The world is then the one
--- after the run, and nothing is recorded.
+-- The name's table has each bound parameter, and is run with all that is recorded, in the turns that the reply prints. The world is then
+-- the one after the run, and nothing is recorded.
 pub record IsRunOf (problem : Problem) (name : ℕ) (bound : List (ℕ × ℕ))
     (old : SessionState) (told : List Turn) (new : SessionState) : Type 0 where
   pub table : Table
@@ -155,8 +155,7 @@ TellsFacts old answer new = ⊥
 abbrev pub recorded_for : ℕ → Bool → List Edit → Recorded Edit
 recorded_for turn between edits = record { turn = turn; between = between; edits = edits }
 
--- In this state the command may be answered so, and then leaves that state. A search starts from the world's atoms, with the learned
--- tables.
+-- In this state the command may have this reply, which leaves that state. A search starts from the world's atoms, with the learned tables.
 abbrev pub Lawful : Problem → SessionState → command.Command → Reply → SessionState → Type 0
 Lawful problem old (command.Plan name goal vars) answer new =
     TellsSearch (task_of problem old.learned.tables old.atoms goal vars) name old answer new

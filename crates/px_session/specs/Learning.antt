@@ -1,4 +1,4 @@
--- What putting a table into the library tells.
+-- What putting a table into the library says.
 use Rattle.std.specs.Prelude.{◌≡◌, ◌≤◌, ℕ, length}
 use Rattle.px_table.specs.declared.table.Table.{Table}
 use Rattle.px_library.specs.Libraries.{LibraryValue, with_table}
@@ -6,7 +6,7 @@ use Rattle.px_printer.specs.declared.reply.Reply.{Reply}
 use Rattle.px_printer.specs.declared.reply.Reply.TheVariants as reply
 use Rattle.px_printer.specs.declared.reply.Why.TheVariants.{Full}
 
--- The table is put last, and its parameters and steps are told; or the library has its 32 tables, and is as it was.
+-- The table is put last, and the reply has the numbers of its parameters and steps; or the library has its 32 tables, and is as it was.
 abbrev pub IsPut : LibraryValue → ℕ → Table → Reply → LibraryValue → Type 0
 IsPut old name table (reply.Learned given params steps) new =
     (given ≡ name) × (params ≡ table.params) × (steps ≡ length table.steps) × (¬ (32 ≤ length old.tables))

@@ -1,3 +1,4 @@
+-- The files of definitions and laws.
 pub mod Sessions
 pub mod Lawful
 pub mod Transcripts

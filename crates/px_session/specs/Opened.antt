@@ -16,8 +16,8 @@ pub record SessionValue : Type 0 where
   pub state : SessionState
 
 -- before the first command of the script
-abbrev pub opened : ScriptValue → SessionValue
-opened script = record {
+abbrev pub opened_session : ScriptValue → SessionValue
+opened_session script = record {
   problem = script.problem;
   names = script.names;
   commands = script.commands;

@@ -13,7 +13,7 @@ abbrev pub IsOwnEdit : Problem → Edit → Type 0
 IsOwnEdit problem (of_atoms one) = IsEditOf problem one
 IsOwnEdit problem (of_rooms one) = All (IsAtomOf problem 0) (edit_schema one).add
 
--- all edits that are recorded are so
+-- all edits that are recorded are of the problem
 abbrev pub AreOwnEdits : Problem → List (Recorded Edit) → Type 0
 AreOwnEdits problem recorded = All (λ one. All (IsOwnEdit problem) one.edits) recorded
 
@@ -23,7 +23,7 @@ edits_given (DisturbAtoms turn between edits) = map of_atoms edits
 edits_given (DisturbRooms turn between edits) = map of_rooms edits
 edits_given _ = []
 
--- they are so
+-- the edits that a command gives to record are of the problem
 abbrev pub HasOwnEdits : Problem → Command → Type 0
 HasOwnEdits problem command = All (IsOwnEdit problem) (edits_given command)
 

@@ -23,7 +23,7 @@ Takes (Some building) (of_rooms one) = IsAdmitted building one
 abbrev pub TakesAll : Option RoomState → List (Recorded Edit) → Type 0
 TakesAll building recorded = All (λ one. All (Takes building) one.edits) recorded
 
--- the same edits are taken
+-- both take the same edits
 pub record TakeSame (old new : Option RoomState) : Type 0 where
   pub same : (edit : Edit) → Takes new edit ↔ Takes old edit
 
@@ -51,11 +51,11 @@ PlaceTakes place edit = Takes (building_of place) edit
 -- ---- a session's building
 
 -- with a building the atoms are its facts, and the problem has its rules
-abbrev pub IsPlaceOf : Problem → List Atom → Option RoomState → Type 0
-IsPlaceOf problem atoms None = Unit {0}
-IsPlaceOf problem atoms (Some building) = (atoms ≡ rendering building) × HaveSameRules (building_rules building) problem
+abbrev pub IsPlaceInBuilding : Problem → List Atom → Option RoomState → Type 0
+IsPlaceInBuilding problem atoms None = Unit {0}
+IsPlaceInBuilding problem atoms (Some building) = (atoms ≡ rendering building) × HaveSameRules (building_rules building) problem
 
--- that is so of the state's atoms, and all edits that are recorded are taken
+-- with a building the state's atoms are its facts, and the problem has its rules; and all edits that are recorded are taken
 pub record IsPlaced (problem : Problem) (building : Option RoomState) (state : SessionState) : Type 0 where
-  pub place : IsPlaceOf problem state.atoms building
+  pub place : IsPlaceInBuilding problem state.atoms building
   pub edits : TakesAll building state.recorded

@@ -62,27 +62,27 @@ pub record IsInBuilding (problem : Problem) (building : RoomState) (state : Sess
 abbrev pub HasTakenEdits : Option RoomState → Command → Type 0
 HasTakenEdits building command = All (Takes building) (edits_given command)
 
--- what a reply leaves of the building: a run that is told leaves what its turns leave, and any other reply the building as it was
+-- what a reply leaves of the building: a run that a reply prints leaves what its turns leave, and any other reply the building as it was
 abbrev pub LeavesRooms : SessionState → Command → Reply → RoomState → RoomState → Type 0
 LeavesRooms old (Run name bound) (reply.Ran given told) building left =
     AreTurnsInRooms old.recorded 1 (map turn_told told) building left
 LeavesRooms old command answer building left = left ≡ building
 
 -- a lawful reply in a building leaves a state of it, in which the session is then, and which takes the same edits
-pub record IsAnswered (problem : Problem) (old : SessionState) (building : RoomState)
+pub record IsAnsweredInBuilding (problem : Problem) (old : SessionState) (building : RoomState)
     (command : Command) (answer : Reply) (new : SessionState) (left : RoomState) : Type 0 where
   pub lawful : Lawful problem old command answer new
   pub leaves : LeavesRooms old command answer building left
   pub inside : IsInBuilding problem left new
   pub same : TakeSame (Some building) (Some left)
 
--- each command is answered so, in the states that the one before left
+-- each command has such a reply, in the states that the one before left
 abbrev pub AreAnswersIn : Problem → SessionState → RoomState → List Command → List Reply → SessionState → RoomState → Type 0
 AreAnswersIn problem old building [] [] last end = (last ≡ old) × (end ≡ building)
 AreAnswersIn problem old building [] (answer ∷ answers) last end = ⊥
 AreAnswersIn problem old building (first ∷ commands) [] last end = ⊥
 AreAnswersIn problem old building (first ∷ commands) (answer ∷ answers) last end =
-    (next : SessionState) × ((left : RoomState) × IsAnswered problem old building first answer next left
+    (next : SessionState) × ((left : RoomState) × IsAnsweredInBuilding problem old building first answer next left
     × AreAnswersIn problem next left commands answers last end)
 
 -- A script with a building begins in the building's first state. In a building each lawful reply leaves a state of it; so do the lawful
@@ -92,7 +92,7 @@ pub record RoomsAreKept : Type 0 where
       → IsInBuilding script.problem (first_state things) (opening script.facts)
   pub kept : (problem : Problem) (old : SessionState) (building : RoomState) (command : Command) (answer : Reply) (new : SessionState)
       → IsSession problem old → IsInBuilding problem building old → HasTakenEdits (Some building) command
-      → Lawful problem old command answer new → (left : RoomState) × IsAnswered problem old building command answer new left
+      → Lawful problem old command answer new → (left : RoomState) × IsAnsweredInBuilding problem old building command answer new left
   pub answers : (script : ScriptValue) (things : List Thing) (count : ℕ) (answers : List Reply) (last : SessionState)
       → IsInRange script → script.building ≡ Some things
       → AreAnswers script.problem (opening script.facts) (take count script.commands) answers last

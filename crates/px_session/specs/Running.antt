@@ -41,7 +41,7 @@ pub record IsDisturbed (edits : List Edit) (old new : Place) : Type 0 where
 
 -- ---- places
 
--- The world has the executor's rules, and at least this many places. With as many atoms more there is room for its atoms.
+-- The world has the executor's rules, and at least this many places. With this many more atoms there is room for its atoms.
 pub record HasPlaces (planex : PlanexValue) (places : ℕ) (world : Place) : Type 0 where
   pub rules : HaveSameRules (place_rules world) planex.problem
   pub spare : places ≤ place_spare world
@@ -64,11 +64,11 @@ places_from problem recorded turns number = edits_from number recorded + turns *
 abbrev pub places_of_turn : Problem → List (Recorded Edit) → ℕ → ℕ
 places_of_turn problem recorded number = edits_for recorded number + adds_most problem.schemas
 
--- how many places its action may take, and the edits before that
+-- how many places its action may take, together with the edits before it
 abbrev pub places_of_action : Problem → List (Recorded Edit) → ℕ → ℕ
 places_of_action problem recorded number = length (edits_at recorded number true) + adds_most problem.schemas
 
--- the world has at most `places` atoms more, and `places` places fewer
+-- the world has at most `places` more atoms, and at most `places` fewer places
 pub record HasTaken (places : ℕ) (old new : Place) : Type 0 where
   pub number : length (place_atoms new) ≤ length (place_atoms old) + places
   pub spare : place_spare old ≤ place_spare new + places

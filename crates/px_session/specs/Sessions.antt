@@ -33,29 +33,29 @@ pub record SessionState : Type 0 where
 abbrev pub opening : List Atom → SessionState
 opening facts = record { atoms = facts; plans = no_tables; learned = no_tables; recorded = [] }
 
-abbrev pub first_of : Option Table → Option Table → Option Table
-first_of None other = other
-first_of (Some table) other = Some table
+abbrev pub first_table : Option Table → Option Table → Option Table
+first_table None other = other
+first_table (Some table) other = Some table
 
 -- the table of the stored plan of that name, or the learned table
 abbrev pub any_table : SessionState → ℕ → Option Table
-any_table state name = first_of (table_named state.plans name) (table_named state.learned name)
+any_table state name = first_table (table_named state.plans name) (table_named state.learned name)
 
 -- ---- what it keeps
 
--- a table as that of each stored plan: it has no parameters, and its own steps delete nothing that its later rows rest on
+-- a table like that of each stored plan: it has no parameters, and its own steps delete nothing that its later rows rest on
 pub record IsPlanTable (problem : Problem) (plan : Table) : Type 0 where
   pub table : IsTable problem plan
   pub no_params : plan.params ≡ 0
   pub proper : IsProper problem plan [] 1
 
--- a table as each learned one: neither too long nor with a proof that is too high
+-- a table like each learned one: it is not too long, and has no proof that is too high
 pub record IsLearnedTable (problem : Problem) (learned : Table) : Type 0 where
   pub table : IsTable problem learned
   pub short : ¬ IsTooLong learned
   pub low : ¬ IsTooDeep learned
 
--- the world's atoms are a set, and the tables are as those of plans and learned ones, of which there are at most 32
+-- the world's atoms are a set, and the tables are like those of plans and learned ones, of which there are at most 32
 pub record IsSession (problem : Problem) (state : SessionState) : Type 0 where
   pub atoms : IsAtomSet state.atoms
   pub plans : All (IsPlanTable problem) state.plans.tables

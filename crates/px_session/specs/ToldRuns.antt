@@ -1,4 +1,4 @@
--- What follows of a lawful reply that tells a run.
+-- What follows from a lawful reply that prints a run.
 use Rattle.std.specs.Prelude.{◌≡◌, ◌≤◌, ◌+◌, ◌*◌, ℕ, Some, List, length, map}
 use Rattle.px_terms.specs.declared.problem.Problem.{Problem}
 use Rattle.px_terms.specs.Validity.{IsValid}
@@ -13,8 +13,8 @@ use Rattle.px_session.specs.Lawful.{Lawful, turn_told}
 use Rattle.px_session.specs.Sessions.{IsSession, SessionState, any_table, leaves_edit}
 
 -- With D recorded disturbances and a table of n steps a run has at most (D + 1) * (n + 1) turns. Its events, turn by turn the edits that
--- are recorded for before the sensing, the sensing, those for between, and the action, have the outcomes that the turns tell, and lead
--- from the world's atoms before to those after.
+-- are recorded for before the sensing, the sensing, those for between, and the action, have the outcomes that the turns say, and lead from
+-- the world's atoms before to those after.
 pub record ToldRuns : Type 0 where
   pub few : (problem : Problem) (old : SessionState) (name given : ℕ) (bound : List (ℕ × ℕ))
       (table : Table) (told : List Turn) (new : SessionState)

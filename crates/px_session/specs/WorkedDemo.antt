@@ -6,7 +6,7 @@ use Rattle.px_printer.specs.declared.reply.Reply.TheVariants as reply
 use Rattle.px_session.specs.Demo.{summary_line}
 use Rattle.px_session.specs.WorkedSession.{at_goal, at_nothing}
 
--- a step, whichever
+-- any step
 abbrev pub any_step : OpInst
 any_step = record { op = 0; args = [] }
 
@@ -16,5 +16,5 @@ five_answers =
     reply.Plan 0 4 (any_step ∷ any_step ∷ []) ∷ reply.Learned 1 2 2 ∷ reply.Ran 0 (at_nothing ∷ at_goal ∷ []) ∷ reply.Exhausted 2
     ∷ reply.Ran 1 (at_goal ∷ at_nothing ∷ []) ∷ []
 
-pub record WorkedDemo : Type 0 where
+pub record WorkedDemoLine : Type 0 where
   pub line : summary_line 3 0 9 five_answers ≡ codes "demo 3 0 9 commands 1 plans 2 steps 1 goals\n"

@@ -6,7 +6,7 @@ use Rattle.px_world.specs.declared.thing.Thing.TheVariants as thing
 use Rattle.px_rooms.specs.declared.action.RoomAction.{RoomAction}
 use Rattle.px_rooms.specs.declared.action.RoomAction.TheVariants as act
 use Rattle.px_rooms.specs.declared.standing.Standing.TheVariants.{Room as a_room, Door as a_door, Box as a_box}
-use Rattle.px_rooms.specs.Changes.{instance_of}
+use Rattle.px_rooms.specs.Changes.{instance_of_action}
 use Rattle.px_rooms.specs.States.{RoomState, first_state}
 use Rattle.px_planex.specs.Turns.{AtGoal, ByActing, Recorded, TurnValue}
 use Rattle.px_session.specs.RoomRuns.{AreTurnsInRooms, IsDone}
@@ -26,7 +26,7 @@ abbrev pub someone_closes : Recorded Edit
 someone_closes = record { turn = 3; between = false; edits = of_rooms (edit.Door 3 false) ∷ [] }
 
 abbrev pub acting : ℕ → RoomAction → TurnValue
-acting kernel action = record { kernel = kernel; op = Some (instance_of action); end = ByActing }
+acting kernel action = record { kernel = kernel; op = Some (instance_of_action action); end = ByActing }
 
 -- to the door, which is opened; after it was closed it is opened again, and gone through to the goal
 abbrev pub five_turns : List TurnValue
@@ -38,4 +38,4 @@ five_turns =
 pub record WorkedRooms : Type 0 where
   pub first : first_state closed_door ≡ with_robot 1 None false
   pub turned : AreTurnsInRooms (someone_closes ∷ []) 1 five_turns (first_state closed_door) (with_robot 2 None true)
-  pub not_twice : (next : RoomState) → ¬ IsDone (instance_of (act.Open 3)) (with_robot 1 (Some 3) true) next
+  pub not_twice : (next : RoomState) → ¬ IsDone (instance_of_action (act.Open 3)) (with_robot 1 (Some 3) true) next

@@ -92,7 +92,7 @@ idle_lines =
     ∷ codes "unknown O"
     ∷ []
 
--- These are lawful replies. Where P is gone nothing fits; a run of a name without a table leaves what is recorded; and the second
+-- These are lawful replies. Where P is gone nothing fits; a run of a name without a table keeps what is recorded; and the second
 -- disturbance is for a turn that isn't reached.
 pub record WorkedSession : Type 0 where
   pub lawful : AreAnswersTo idle_script idle_answers

@@ -18,7 +18,7 @@ use px_terms::Problem;
 use px_world::{AtomEdit, RoomEdit};
 use std::alloc::Global;
 
-/// Runs a command in the state, of which that is the building, if there is one.
+/// Runs a command in the state, with the building, if there is one, that belongs to it.
 ///
 /// # Errors
 /// `NoMemory` where there is no memory for the command or its reply. The state and the building are then as they were.
@@ -83,7 +83,7 @@ fn pairs(alloc: Global, bindings: &[Binding]) -> Result<Vec<(u32, u32)>, NoMemor
     Ok(bound)
 }
 
-/// Edits of atoms, and then edits of a building, as a session records them.
+/// Returns edits of atoms, and then edits of a building, as a session records them.
 fn edits_of(
     alloc: Global,
     atoms: &[AtomEdit],

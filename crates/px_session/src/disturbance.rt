@@ -7,7 +7,7 @@ use px_base::Sequence;
 pub(crate) struct Disturbance {
     /// The number of the turn, from 1.
     pub(crate) turn: u32,
-    /// Do they come between the sensing and the action?
+    /// Whether they come between the sensing and the action.
     pub(crate) between: bool,
     /// The edits, in the order in which they come.
     pub(crate) edits: Sequence<Edit>,

@@ -5,18 +5,18 @@ ghost use Rattle.px_session.specs.Named.{RepliesAreNamed};
 ghost use Rattle.px_session.specs.RoomRuns.{RoomsAreKept};
 ghost use Rattle.px_session.specs.Runs.{OneKindRuns};
 ghost use Rattle.px_session.specs.ToldRuns.{ToldRuns};
-ghost use Rattle.px_session.specs.WorkedDemo.{WorkedDemo};
+ghost use Rattle.px_session.specs.WorkedDemo.{WorkedDemoLine};
 ghost use Rattle.px_session.specs.WorkedRooms.{WorkedRooms};
 ghost use Rattle.px_session.specs.WorkedSession.{WorkedSession};
 
 /// A session's state and a command have at most one lawful reply and leave one state. Where a search met the limit of shapes, one
-/// of several questions may be told, and the text is the same.
+/// of several questions may be reported, and the text is the same.
 pub fn lawful_is_one()
     ensures { LawfulIsOne }
 {}
 
 /// The opening state is one of a session, and each lawful reply leaves one. Of the tables of a session, each proper instance of
-/// each kernel carries the steps that are left to the goal; and the world's atoms carry the steps of each plan that is told.
+/// each kernel carries the steps that are left to the goal; and the world's atoms carry the steps of each plan that a reply prints.
 pub fn sessions_are_kept()
     ensures { SessionsAreKept }
 {}
@@ -26,8 +26,8 @@ pub fn replies_are_named()
     ensures { RepliesAreNamed }
 {}
 
-/// A script with a valid problem, whose facts are a set, has at most one list of lawful replies, but for questions at limits of shapes, and
-/// one text.
+/// A script with a valid problem, whose facts are a set, has at most one list of lawful replies, apart from questions at limits of shapes,
+/// and one text.
 pub fn answers_are_one()
     ensures { AnswersAreOne }
 {}
@@ -37,7 +37,7 @@ pub fn transcripts_are_one()
     ensures { TranscriptsAreOne }
 {}
 
-/// Which of some causes of a refusal comes first, and that nothing has changed after a name or a parameter is told as unknown.
+/// Which of some causes of a refusal comes first, and that nothing has changed after a name or a parameter is reported as unknown.
 pub fn causes_in_order()
     ensures { CausesInOrder }
 {}
@@ -52,8 +52,8 @@ pub fn one_kind_runs()
     ensures { OneKindRuns }
 {}
 
-/// A run that is told of a table of `n` steps, with `D` recorded disturbances, has at most `(D + 1) * (n + 1)` turns, and is a trace: its
-/// events have the outcomes that its turns tell.
+/// A run that a reply prints of a table of `n` steps, with `D` recorded disturbances, has at most `(D + 1) * (n + 1)` turns, and is a
+/// trace: its events have the outcomes that its turns say.
 pub fn told_runs()
     ensures { ToldRuns }
 {}
@@ -71,7 +71,7 @@ pub fn worked_session()
 
 /// The line of the demo for five replies.
 pub fn worked_demo()
-    ensures { WorkedDemo }
+    ensures { WorkedDemoLine }
 {}
 
 /// The turns of a run in which someone closes the door that the robot has opened: the states of the building that they leave.

@@ -14,7 +14,7 @@ use px_table::Table;
 use px_terms::Problem;
 use std::alloc::Global;
 
-/// Puts a table into the library under a new name, and tells how many parameters and steps it has, or that the library is full.
+/// Puts a table into the library under a new name, and returns how many parameters and steps it has, or that the library is full.
 ///
 /// # Errors
 /// `NoMemory` where there is no memory for one table more. The library is then as it was.
@@ -46,7 +46,7 @@ impl State {
     /// Learns the general table of the plan of the second name, under the first name.
     ///
     /// # Errors
-    /// `NoMemory` where there is none to generalise the plan, or for the place of its table. Nothing is learned then.
+    /// `NoMemory` where there is no memory to generalise the plan or to store its table. Nothing is learned then.
     pub(crate) fn learn(
         &mut self,
         alloc: Global,

@@ -8,9 +8,9 @@
 //!   order: `plan`, `learn`, `show`, `disturb`, `run` and `facts`. Its reply is lawful, each number that it prints as a name has
 //!   one, and after a refusal for memory the session is as it was. Contracts see a session as a `SessionValue` (`specs/Opened`); what it
 //!   keeps is in `specs/KeptSessions`.
-//! - With a building the world's atoms are the facts of a state of it, from the opening on and after each lawful reply, and each
-//!   recorded edit is one that it takes. A run leaves the state that the edits and steps of its turns leave, one after the other, and
-//!   any other command leaves the state as it was (`specs/RoomRuns`, [`rooms_are_kept`]).
+//! - With a building the world's atoms are the facts of a state of it, from the opening on and after each lawful reply, and the building
+//!   takes each recorded edit. A run leaves the state that the edits and steps of its turns leave, one after the other, and any other
+//!   command leaves the state as it was (`specs/RoomRuns`, [`rooms_are_kept`]).
 //! - A `SessionState` in `specs/Sessions` has the world's atoms, the tables of the stored plans by name, the learned tables by
 //!   name in the order of learning, and the disturbances that are recorded for the next run. `opening` is the one before the
 //!   first command. An `Edit` is one of atoms or one of a building.
@@ -19,11 +19,11 @@
 //!   executor's runs (`px_planex`) and tables by name (`px_library`).
 //! - `IsSession` is what a session keeps: the world's atoms are a set; the table of each stored plan has no parameters, and its
 //!   own steps delete nothing that its later rows rest on; there are at most 32 learned tables, none of them too long or with a
-//!   proof that is too high. The opening state is such where the facts are a set, and each lawful reply leaves such a state
-//!   ([`sessions_are_kept`], which also says that these tables' kernels carry, and that atoms and edits of the problem stay such,
+//!   proof that is too high. The opening state is like this where the facts are a set, and each lawful reply leaves such a state
+//!   ([`sessions_are_kept`], which also says that these tables' kernels carry, and that atoms and edits of the problem stay so,
 //!   `IsOwnState` in `specs/OwnStates`).
 //! - A session's state and a command have at most one lawful reply ([`lawful_is_one`]; where a search met the limit of shapes, one
-//!   of several questions may be told, and the text is one).
+//!   of several questions may be reported, and the text is one).
 //! - `Transcript` in `specs/Transcripts` is what is to be written for the bytes of a script: the texts of lawful replies to its
 //!   commands, one after the other. `Summary` in `specs/Demo` is the line of the demo, whose script
 //!   `px_demo` makes. Both are determined ([`answers_are_one`], [`transcripts_are_one`]).
@@ -32,11 +32,11 @@
 //! - Each lawful reply has a name for each number that it prints as one (`specs/Named`,
 //!   [`replies_are_named`]).
 //! - A run by edits of atoms alone, or of rooms alone, is a session's run with the same disturbances (`specs/Runs`,
-//!   [`one_kind_runs`]). A run that is told has few turns, and is a trace of its events (`specs/ToldRuns`,
+//!   [`one_kind_runs`]). A run that a reply prints has few turns, and is a trace of its events (`specs/ToldRuns`,
 //!   [`told_runs`]).
 //! - A small script is worked out with its text ([`worked_session`]), and so are the demo's line for five replies ([`worked_demo`]),
 //!   and the states that the turns of a run in a building leave ([`worked_rooms`]).
-//! - The laws are calls that do nothing.
+//! - The laws are calls that do nothing. No public clause cites `specs/Learning`, `specs/Planning` and `specs/Running`.
 //!
 //! # How a run takes memory
 //!
@@ -58,7 +58,6 @@ mod session;
 mod state;
 mod stored_runs;
 mod turns;
-mod within;
 
 pub use laws::{
     answers_are_one, causes_in_order, lawful_is_one, one_kind_runs, refused_replies,

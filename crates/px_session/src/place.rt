@@ -2,7 +2,7 @@
 ghost use Rattle.std.specs.Prelude.{◌≡◌, ◌↔◌, ◌≤◌, Option, IfOk, OnErr};
 ghost use Rattle.px_terms.specs.Validity.{IsValid};
 ghost use Rattle.px_world.specs.Worlds.{HaveSameRules};
-ghost use Rattle.px_session.specs.Places.{IsPlaceOf, PlaceTakes, TakeSame, building_of, place_atoms, place_rules, place_spare};
+ghost use Rattle.px_session.specs.Places.{IsPlaceInBuilding, PlaceTakes, TakeSame, building_of, place_atoms, place_rules, place_spare};
 ghost use Rattle.px_session.specs.Sessions.{leaves_edit};
 
 use crate::edit::Edit;
@@ -34,7 +34,7 @@ pub(crate) fn enter<'a>(
     building: &mut Option<RoomWorld>,
 ) -> Result<Place<'a>, NoMemory>
     requires problem { IsValid problem.now }
-    requires place { IsPlaceOf problem.now facts.now.atoms building.old }
+    requires place { IsPlaceInBuilding problem.now facts.now.atoms building.old }
     ensures building { IfOk result (λ place. building_of place ≡ building.old) }
     ensures atoms { IfOk result (λ place. place_atoms place ≡ facts.now.atoms) }
     ensures rules { IfOk result (λ place. HaveSameRules (place_rules place) problem.now) }

@@ -66,7 +66,7 @@ impl State {
         }
     }
 
-    /// Stores the table of a plan that was found, and tells the plan.
+    /// Stores the table of a plan that was found, and returns the plan.
     fn store_plan(
         &mut self,
         alloc: Global,

@@ -2,8 +2,7 @@
 ghost use Rattle.std.specs.Prelude.{◌≡◌, OnOk, OnErr, option_map};
 ghost use Rattle.px_library.specs.Libraries.{no_tables, table_named, with_table};
 
-use crate::within::push_within;
-use px_base::NoMemory;
+use px_base::{NoMemory, push_within};
 use px_table::Table;
 use std::alloc::Global;
 
@@ -30,7 +29,7 @@ impl std::marker::Model for Plans {
 }
 
 impl Plans {
-    /// No plan. Does not allocate.
+    /// Returns a store of no plans. Does not allocate.
     pub(crate) fn new(alloc: Global) -> Plans
         ensures { result ≡ no_tables }
     {
@@ -40,7 +39,7 @@ impl Plans {
         }
     }
 
-    /// Puts a table last, under its name.
+    /// Appends a table, under its name.
     ///
     /// # Errors
     /// `NoMemory` where there is no memory for one table more. The table is then dropped, and the plans are as they were.
@@ -56,6 +55,7 @@ impl Plans {
         Ok(())
     }
 
+    // Alike: `find` of `px_library`, a list that is bounded and refuses a second table of a name.
     /// Returns the table of that name, or `None` where the name has none. Does not allocate.
     pub(crate) fn find(&self, name: u32) -> Option<&Table>
         ensures { option_map (λ table. table.now) result ≡ table_named self.now name }

@@ -4,7 +4,7 @@ ghost use Rattle.px_terms.specs.Validity.{IsValid};
 ghost use Rattle.px_table.specs.Tables.{IsTable};
 ghost use Rattle.px_match.specs.Matching.{first_bad};
 ghost use Rattle.px_planex.specs.Turns.{RunsTable};
-ghost use Rattle.px_session.specs.Places.{IsPlaceOf, TakeSame, TakesAll};
+ghost use Rattle.px_session.specs.Places.{IsPlaceInBuilding, TakeSame, TakesAll};
 ghost use Rattle.px_session.specs.Running.{adds_most, edits_in, most_turns, places_from, turn_told};
 ghost use Rattle.px_session.specs.Sessions.{leaves_edit};
 ghost use Rattle.px_session.specs.declared.running.RunErr.TheVariants.{NoMemory as OutOfMemory};
@@ -26,7 +26,7 @@ use std::alloc::Global;
 /// Why a table isn't run.
 #[derive(Drop)]
 pub(crate) enum RunErr {
-    /// A bound parameter isn't one of the table; the first such, counted from 1.
+    /// A bound parameter isn't one of the table: the first such one, counted from 1.
     UnknownParam(u32),
     /// There is no memory for the run.
     NoMemory,
@@ -92,7 +92,7 @@ fn count_places(problem: &Problem, recorded: &[Disturbance], turns: usize) -> Op
     Some(places)
 }
 
-/// Returns a list without a turn, with room for as many.
+/// Returns a list without turns, with room for that many.
 fn reserve_turns(alloc: Global, most: usize) -> Result<Vec<Turn>, NoMemory>
     ensures none { IfOk result (λ turns. turns.items ≡ []) }
     ensures room { IfOk result (λ turns. most ≤ vec_capacity turns) }
@@ -121,13 +121,13 @@ pub(crate) fn run_table(
     requires table { IsTable problem.now table.now }
     requires objects { All (λ pair. pair.1 < problem.now.objects) bound.now }
     requires once { AllPairs (λ one other. one.0 ≢ other.0) bound.now }
-    requires place { IsPlaceOf problem.now facts.now.atoms building.old }
+    requires place { IsPlaceInBuilding problem.now facts.now.atoms building.old }
     requires taken { TakesAll building.old recorded.now }
     ensures runs { IfOk result (λ run. RunsTable leaves_edit problem.now table.now bound.now recorded.now facts.now.atoms
         (map turn_told run.turns) run.facts.atoms) }
     ensures known { OnOk result (first_bad table.now bound.now ≡ None) }
     ensures unknown { (n : ℕ) → IsErrOf result (RunErr.UnknownParam n) → first_bad table.now bound.now ≡ Some n }
-    ensures place { IfOk result (λ run. IsPlaceOf problem.now run.facts.atoms building.new) }
+    ensures place { IfOk result (λ run. IsPlaceInBuilding problem.now run.facts.atoms building.new) }
     ensures takes { TakeSame building.old building.new }
     ensures kept { OnErr result (building.new ≡ building.old) }
 {

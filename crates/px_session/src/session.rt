@@ -1,13 +1,13 @@
 //! A session: the commands of a script, and the state that those which are done have left.
 ghost use Rattle.std.specs.Prelude.{◌≡◌, ◌+◌, ◌<◌, All, IfOk, IfSome, OnOk, OnErr, length, slice_index_or};
 ghost use Rattle.std.specs.Option.{option_map};
-ghost use Rattle.px_printer.specs.Replies.{IsNamed};
+ghost use Rattle.px_printer.specs.Replies.{IsReplyNamed};
 ghost use Rattle.px_reader.specs.LineReads.{content};
 ghost use Rattle.px_script.specs.Commands.{Facts};
 ghost use Rattle.px_rooms.specs.States.{IsBuilding, first_state};
 ghost use Rattle.px_table.specs.Kernels.{KernelsCarry};
 ghost use Rattle.px_session.specs.Lawful.{Lawful};
-ghost use Rattle.px_session.specs.Opened.{opened, tables_of};
+ghost use Rattle.px_session.specs.Opened.{opened_session, tables_of};
 
 use crate::commands::run_command;
 use crate::state::State;
@@ -20,7 +20,7 @@ use px_rooms::{Building, RoomErr, RoomWorld};
 use px_terms::Problem;
 use std::alloc::Global;
 
-/// What a script asks, and how far it is answered.
+/// What a script asks, and how much of it is answered.
 #[derive(Drop)]
 pub struct Session {
     alloc: Global,
@@ -67,7 +67,7 @@ impl Session {
     /// # Errors
     /// `NoMemory` where there is no memory for it.
     pub fn new(alloc: Global, script: Script) -> Result<Session, NoMemory>
-        ensures opened { IfOk result (λ session. session ≡ opened (content script)) }
+        ensures opened { IfOk result (λ session. session ≡ opened_session (content script)) }
     {
         let building = world_of(alloc, &script.building)?;
         Ok(Session {
@@ -120,7 +120,7 @@ impl Session {
             (slice_index_or self.old.commands k Facts) reply self.new.state) }
         ensures frame { OnOk result (self.new ≡ record self.old { done = k + 1; state = self.new.state }) }
         ensures kept { OnErr result (self.new ≡ self.old) }
-        ensures named { IfOk result (IsNamed self.old.names) }
+        ensures named { IfOk result (IsReplyNamed self.old.names) }
         ensures kernels { OnOk result (All (KernelsCarry self.new.problem) (tables_of self.new.state)) }
     {
         let command = &self.commands.as_slice()[k];
@@ -136,7 +136,7 @@ impl Session {
     }
 }
 
-/// Returns the world of a building as it stands at first, if there is one.
+/// Returns the world of a building as it stands at first, if there is a building.
 fn world_of(alloc: Global, building: &Option<Building>) -> Result<Option<RoomWorld>, NoMemory>
     requires buildings { IfSome building.now (λ building. IsBuilding building.things) }
     requires short { IfSome building.now (λ building. length building.things < 4294967295) }

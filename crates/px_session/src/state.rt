@@ -1,4 +1,4 @@
-//! What a session holds, and the commands that tell of it or record something.
+//! What a session holds, and the commands that show some of it or record something.
 ghost use Rattle.std.specs.Prelude.{◌≡◌, ◌<◌, IfOk, OnErr, length, option_map};
 ghost use Rattle.px_session.specs.Lawful.{Notes, TellsFacts, TellsShow, recorded_for};
 ghost use Rattle.px_session.specs.Sessions.{any_table, opening};
@@ -78,7 +78,7 @@ impl State {
         }
     }
 
-    /// Tells the world's atoms.
+    /// Returns the world's atoms as a reply.
     ///
     /// # Errors
     /// `NoMemory` where there is no memory for a copy of them.

@@ -10,13 +10,13 @@ ghost use Rattle.px_session.specs.Running.{EndsSensed, HasPlaces, HasTaken, IsDi
 use crate::disturbance::Disturbance;
 use crate::edit::Edit;
 use crate::place::Place;
-use crate::within::push_within;
+use px_base::push_within;
 use px_planex::{Event, Outcome, Planex};
 use px_printer::{Turn, TurnEnd};
 use px_table::Table;
 use px_world::World;
 
-/// Is it for that turn and point?
+/// Returns whether it is for that turn and point.
 fn is_for(one: &Disturbance, number: usize, between: bool) -> bool
     ensures { result ≡ is_at number between one.now }
 {
@@ -48,7 +48,7 @@ fn disturb_at(world: &mut Place<'_>, recorded: &[Disturbance], number: usize, be
     }
 }
 
-/// Ends a turn in which this kernel was sensed: the edits come that are recorded for between, and the executor acts.
+/// Ends a turn in which this kernel was sensed: the edits that are recorded for between come, and the executor acts.
 fn act_in_turn(
     planex: &mut Planex<'_>,
     world: &mut Place<'_>,
@@ -108,7 +108,7 @@ fn take_turn(
     }
 }
 
-/// Is a turn that ends so the last one of its run?
+/// Returns whether a turn with this end is the last one of its run.
 fn ends_run(end: TurnEnd) -> bool
     ensures { MatchBool result (IsLastTurn (end_told end)) (¬ IsLastTurn (end_told end)) }
 {
@@ -118,7 +118,7 @@ fn ends_run(end: TurnEnd) -> bool
     }
 }
 
-/// Takes turns, from the first on, up to the goal or to a sensing that finds no kernel, and puts them into the list, which has room for
+/// Takes turns, from the first on, up to the goal or to a sensing that finds no kernel, and appends them to the list, which has room for
 /// all of them. Does not allocate.
 pub(crate) fn take_turns(
     planex: &mut Planex<'_>,

@@ -32,7 +32,8 @@ module _ (task : Task) where
   Least moves = IsLeast may next IsBefore start moves
 
   -- moves that can be made, without the last one
-  pub can-front : (node : Node) (ms : List Move) (m : Move) → CanMake may next node (ms ++ m ∷ []) → CanMake may next node ms × may (reached may next node ms) m
+  pub can-front : (node : Node) (ms : List Move) (m : Move) → CanMake may next node (ms ++ m ∷ [])
+      → CanMake may next node ms × may (reached may next node ms) m
   can-front node [] m can = (tt, can.0)
   can-front node (k ∷ ms) m can = let rest = can-front (next node k) ms m can.1 in ((can.0, rest.0), rest.1)
 
@@ -45,12 +46,15 @@ module _ (task : Task) where
         least = λ others made same before.
             let may_go : may (reached may next start others) m = subst (λ (n : Node). may n m) (sym same) can.1 in
             let there : reached may next start (others ++ m ∷ []) ≡ reached may next start (ms ++ m ∷ []) =
-            reached-append may next IsBefore start order same_move start others (m ∷ []) ∙ ap (λ (n : Node). next n m) same ∙ sym (reached-append may next IsBefore start order same_move start ms (m ∷ [])) in
-            least.least (others ++ m ∷ []) (CanMake-append may next IsBefore start order same_move start others m made may_go) there (order.goes_on others ms m m before);
+            reached-append may next IsBefore start order same_move start others (m ∷ []) ∙ ap (λ (n : Node). next n m) same
+            ∙ sym (reached-append may next IsBefore start order same_move start ms (m ∷ [])) in
+            least.least (others ++ m ∷ []) (CanMake-append may next IsBefore start order same_move start others m made may_go) there
+            (order.goes_on others ms m m before);
       }
 
   -- a list of moves stands at no earlier place than its length
-  place-long : (lists : List (List Move)) → BeginsWith task lists → (n : ℕ) (moves : List Move) (i : ℕ) → length moves ≡ n → slice_get lists i ≡ Some moves → n ≤ i
+  place-long : (lists : List (List Move)) → BeginsWith task lists → (n : ℕ) (moves : List Move) (i : ℕ) → length moves ≡ n
+      → slice_get lists i ≡ Some moves → n ≤ i
   place-long lists begins zero moves i long at = omega arith
   place-long lists begins (suc n) moves i long at = elim (ends-in moves) [
     | inl e ↦ absurd (omega (arith, long, ap length e))
@@ -68,9 +72,11 @@ module _ (task : Task) where
         ]
   ]
     where
-      not-behind : (lists : List (List Move)) → BeginsWith task lists → (p q : List Move) (j i : ℕ) → slice_get lists j ≡ Some p → slice_get lists i ≡ Some q → IsBefore p q → ¬ (i ≤ j)
+      not-behind : (lists : List (List Move)) → BeginsWith task lists → (p q : List Move) (j i : ℕ) → slice_get lists j ≡ Some p
+          → slice_get lists i ≡ Some q → IsBefore p q → ¬ (i ≤ j)
       not-behind lists begins p q j i at_j at_i before behind = elim (order_of i j) [
-        | inl less ↦ order.irreflexive p (order.transitive p q p before (places_ascend may next IsBefore start order lists begins i j q p less at_i at_j))
+        | inl less ↦ order.irreflexive p (order.transitive p q p before
+            (places_ascend may next IsBefore start order lists begins i j q p less at_i at_j))
         | inr not_less ↦
             let same : i ≡ j = omega (arith, behind, not_less) in
             let e : q ≡ p = let f : Some q ≡ Some p = sym at_i ∙ ap (slice_get lists) same ∙ at_j in cc in
@@ -80,5 +86,7 @@ module _ (task : Task) where
   -- so a plan has few moves
   pub few-moves : (moves : List Move) → IsFound task moves → length moves < task.problem.nodes
   few-moves moves found =
-      let long = place-long (found.earlier ++ moves ∷ []) found.stop.beginning (length moves) moves (length found.earlier) refl (at_end found.earlier moves) in
+      let long =
+      place-long (found.earlier ++ moves ∷ []) found.stop.beginning (length moves) moves (length found.earlier) refl
+      (at_end found.earlier moves) in
       omega (arith, long, found.room)

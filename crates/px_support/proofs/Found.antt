@@ -28,11 +28,13 @@ split-last m (k ∷ rest) = let r = split-last k rest in (m ∷ r.0, r.1, ap (λ
 front-first : (p more q : List Move) → IsBefore (p ++ more) q → IsBefore p q
 front-first p [] q less = subst (λ (l : List Move). IsBefore l q) (append-nil p) less
 front-first p (m ∷ more) q less =
-    order.transitive p (p ++ m ∷ []) q (order.longer p m) (front-first (p ++ m ∷ []) more q (subst (λ (l : List Move). IsBefore l q) (sym (append_assoc p (m ∷ []) more)) less))
+    order.transitive p (p ++ m ∷ []) q (order.longer p m)
+    (front-first (p ++ m ∷ []) more q (subst (λ (l : List Move). IsBefore l q) (sym (append_assoc p (m ∷ []) more)) less))
 
 module _ (task : Task) where
   -- the last move is allowed where it is made
-  allowed-last : (node : Node) (ms : List Move) (m : Move) → CanMake (IsAllowed task) (after task) node (ms ++ m ∷ []) → IsAllowed task (reached (IsAllowed task) (after task) node ms) m
+  allowed-last : (node : Node) (ms : List Move) (m : Move) → CanMake (IsAllowed task) (after task) node (ms ++ m ∷ [])
+      → IsAllowed task (reached (IsAllowed task) (after task) node ms) m
   allowed-last node [] m can = can.0
   allowed-last node (k ∷ ms) m can = allowed-last (after task node k) ms m can.1
 
@@ -57,7 +59,9 @@ module _ (task : Task) where
         (p ++ s.0, s.1, whole, λ less. order.irreflexive p (front-first p s.0 p less))
 
     gone : (p : List Move) (m : Move) (rest : List Move) → moves ≡ p ++ m ∷ rest → IsGoneThrough task p
-    gone p m rest is = (asked_by_stop.gone_through task found.earlier moves p found.stop).1 (front-least p (m ∷ rest) (subst (IsLeastList task) is found-least), made-from p m rest is)
+    gone p m rest is =
+        (asked_by_stop.gone_through task found.earlier moves p found.stop).1
+        (front-least p (m ∷ rest) (subst (IsLeastList task) is found-least), made-from p m rest is)
 
     solved : IsSolved task (node_of task moves)
     solved = elim found.stop.stops [
@@ -71,29 +75,37 @@ module _ (task : Task) where
     goal-findable : IsFindable task.problem (goal_from task (node_of task moves).model)
     goal-findable = record {
       answer = solved.1;
-      below = λ shapes limited. found.unlimited moves (Proving (goal_from task (node_of task moves).model)) task.goal shapes (inr (goal-tested, refl)) (refl, limited);
+      below =
+          λ shapes limited. found.unlimited moves (Proving (goal_from task (node_of task moves).model)) task.goal shapes
+          (inr (goal-tested, refl)) (refl, limited);
     }
 
-    asks : (needs : List Obligation) (k : ℕ) (d : Obligation) → k < length needs → AsksOf task.problem needs (Proving (slice_index_or needs k d))
+    asks : (needs : List Obligation) (k : ℕ) (d : Obligation) → k < length needs
+        → AsksOf task.problem needs (Proving (slice_index_or needs k d))
     asks needs k d below =
         let has = All-contains_itself needs k d below in
         (has.0, slice_index_or needs k d, has.1, has.2, inl refl)
 
-    needs-findable : (p : List Move) (m : Move) (rest : List Move) → moves ≡ p ++ m ∷ rest → IsApplicable task.problem (needs_at task (node_of task p)) → All (IsFindable task.problem) (needs_at task (node_of task p))
+    needs-findable : (p : List Move) (m : Move) (rest : List Move) → moves ≡ p ++ m ∷ rest
+        → IsApplicable task.problem (needs_at task (node_of task p)) → All (IsFindable task.problem) (needs_at task (node_of task p))
     needs-findable p m rest is applicable k d below =
         let needs = needs_at task (node_of task p) in
         let needed : Obligation = slice_index_or needs k d in
         record {
           answer = applicable k d below;
-          below = λ shapes limited. found.unlimited p (Proving needed) needed.formula shapes (inl (gone p m rest is, inl (asks needs k d below))) (refl, limited);
+          below =
+              λ shapes limited. found.unlimited p (Proving needed) needed.formula shapes
+              (inl (gone p m rest is, inl (asks needs k d below))) (refl, limited);
         }
 
-    takeable-at : (p : List Move) (m : Move) (rest : List Move) → moves ≡ p ++ m ∷ rest → IsAllowed task (node_of task p) m → IsTakeable task (node_of task p) m
+    takeable-at : (p : List Move) (m : Move) (rest : List Move) → moves ≡ p ++ m ∷ rest → IsAllowed task (node_of task p) m
+        → IsTakeable task (node_of task p) m
     takeable-at p Apply rest is allowed = (allowed.0, needs-findable p Apply rest is allowed.1)
     takeable-at p (Push entry) rest is allowed = allowed.0.is_entry
 
     takeable-from : (p rest : List Move) → moves ≡ p ++ rest → AreTakeable task (node_of task p) rest
-    takeable-from p [] is = subst (λ (ms : List Move). IsFindable task.problem (goal_from task (node_of task ms).model)) (is ∙ append-nil p) goal-findable
+    takeable-from p [] is =
+        subst (λ (ms : List Move). IsFindable task.problem (goal_from task (node_of task ms).model)) (is ∙ append-nil p) goal-findable
     takeable-from p (m ∷ rest) is =
         let onward : moves ≡ (p ++ m ∷ []) ++ rest = is ∙ sym (append_assoc p (m ∷ []) rest) in
         let least : IsLeastList task (p ++ m ∷ []) = front-least (p ++ m ∷ []) rest (subst (IsLeastList task) onward found-least) in (

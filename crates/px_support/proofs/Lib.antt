@@ -1,3 +1,4 @@
+-- The files of lemmas.
 pub mod Lists
 pub mod Staying
 pub mod Marking

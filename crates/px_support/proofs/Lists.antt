@@ -34,14 +34,17 @@ step-behind (x ∷ xs) ys j zero some is = absurd (omega (arith, some, is))
 step-behind (x ∷ xs) ys j (suc zero) some is = absurd (omega (arith, some, is))
 step-behind (x ∷ xs) ys j (suc (suc k)) some is = step-behind xs ys j (suc k) some (omega (arith, is))
 
-pub step-found : (xs ys : List OpInst) (k : ℕ) (inst : OpInst) → length xs < k → step_at (xs ++ ys) k ≡ Some inst → (j : ℕ) × (k ≡ j + length xs) × (step_at ys j ≡ Some inst)
+pub step-found : (xs ys : List OpInst) (k : ℕ) (inst : OpInst) → length xs < k → step_at (xs ++ ys) k ≡ Some inst
+    → (j : ℕ) × (k ≡ j + length xs) × (step_at ys j ≡ Some inst)
 step-found [] ys k inst after at = (k, omega arith, at)
 step-found (x ∷ xs) ys zero inst after at = absurd (omega (arith, after))
 step-found (x ∷ xs) ys (suc zero) inst after at = absurd (omega (arith, after))
-step-found (x ∷ xs) ys (suc (suc k)) inst after at = let r = step-found xs ys (suc k) inst (omega (arith, after)) at in (r.0, omega (arith, r.1), r.2)
+step-found (x ∷ xs) ys (suc (suc k)) inst after at =
+    let r = step-found xs ys (suc k) inst (omega (arith, after)) at in (r.0, omega (arith, r.1), r.2)
 
 -- what is said of each item under a function is said of the items of the mapped list
-pub each-mapped : {A B : Type 0} (P : B → Type 0) (f : A → B) (xs : List A) → ((x : A) → Contains xs x → P (f x)) → (y : B) → Contains (map f xs) y → P y
+pub each-mapped : {A B : Type 0} (P : B → Type 0) (f : A → B) (xs : List A) → ((x : A) → Contains xs x → P (f x)) → (y : B)
+    → Contains (map f xs) y → P y
 each-mapped P f [] each y has = absurd (Contains-none y has)
 each-mapped P f (x ∷ xs) each y has = elim (Contains-cases (f x) (map f xs) y has) [
   | inl is ↦ subst P is (each x (Contains-first x xs))
@@ -54,11 +57,13 @@ each-number P [] each = All-nil P
 each-number P (x ∷ xs) each = All-cons P x xs (each 0 (omega arith)) (each-number P xs (λ v below. each (suc v) (omega (arith, below))))
 
 -- one pair more
-pub zip-grown : {A B : Type 0} (R : A → B → Type 0) (xs more : List A) (ys grown : List B) (x : A) (y : B) → more ≡ xs ++ x ∷ [] → grown ≡ ys ++ y ∷ [] → AllZip R xs ys → R x y → AllZip R more grown
+pub zip-grown : {A B : Type 0} (R : A → B → Type 0) (xs more : List A) (ys grown : List B) (x : A) (y : B) → more ≡ xs ++ x ∷ []
+    → grown ≡ ys ++ y ∷ [] → AllZip R xs ys → R x y → AllZip R more grown
 zip-grown R xs more ys grown x y more_is grown_is all is =
     rw (more_is, grown_is) (zip-push R xs ys x y all is)
   where
-    zip-push : {A B : Type 0} (R : A → B → Type 0) (xs : List A) (ys : List B) (x : A) (y : B) → AllZip R xs ys → R x y → AllZip R (xs ++ x ∷ []) (ys ++ y ∷ [])
+    zip-push : {A B : Type 0} (R : A → B → Type 0) (xs : List A) (ys : List B) (x : A) (y : B) → AllZip R xs ys → R x y
+        → AllZip R (xs ++ x ∷ []) (ys ++ y ∷ [])
     zip-push R [] [] x y all is = (is, tt)
     zip-push R [] (z ∷ ys) x y all is = absurd all
     zip-push R (w ∷ xs) [] x y all is = absurd all

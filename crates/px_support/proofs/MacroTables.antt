@@ -21,28 +21,39 @@ use Rattle.px_entries.specs.Entries.{IsEntry, table_at}
 use Rattle.px_entries.specs.Learned.{AreLearned}
 
 -- the table of the number, of which the entry takes first steps
-module _ (problem : Problem) (tables : List Table) (learned : AreLearned problem tables) (number prefix : ℕ) (sigma : List ℕ) (entry : IsEntry problem tables (Macro number prefix sigma)) where
+module _ (problem : Problem) (tables : List Table) (learned : AreLearned problem tables) (number prefix : ℕ) (sigma : List ℕ)
+    (entry : IsEntry problem tables (Macro number prefix sigma)) where
   pub table-same : table_at tables number ≡ entry.0
-  table-same = ap (λ (o : Option Table). unwrap_or o (record { params = 0; steps = []; goal = []; goal_vars = 0; marks = []; proofs = [] })) entry.1
+  table-same =
+      ap (λ (o : Option Table). unwrap_or o (record { params = 0; steps = []; goal = []; goal_vars = 0; marks = []; proofs = [] })) entry.1
 
-  pub macro-table : IsTable problem (table_at tables number) × IsMacro problem (table_at tables number) prefix sigma × (length (table_at tables number).steps ≤ 64)
+  pub macro-table : IsTable problem (table_at tables number) × IsMacro problem (table_at tables number) prefix sigma
+      × (length (table_at tables number).steps ≤ 64)
   macro-table =
       let has = has_at tables number entry.0 entry.1 in
-      subst (λ (t : Table). IsTable problem t × IsMacro problem t prefix sigma × (length t.steps ≤ 64)) (sym table-same)
-      (All-at (IsTable problem) tables entry.0 learned.each has, entry.2, All-at (λ (t : Table). length t.steps ≤ 64) tables entry.0 learned.short has)
+      subst (λ (t : Table). IsTable problem t × IsMacro problem t prefix sigma × (length t.steps ≤ 64)) (sym table-same) (
+        All-at (IsTable problem) tables entry.0 learned.each has,
+        entry.2,
+        All-at (λ (t : Table). length t.steps ≤ 64) tables entry.0 learned.short has,
+      )
 
-module _ (problem : Problem) (table : Table) (prefix : ℕ) (sigma : List ℕ) (is : IsTable problem table) (m : IsMacro problem table prefix sigma) where
-  term-in : (inst : OpInst) → Contains (take prefix table.steps) inst → (t : Term) → Contains inst.args t → IsTermOf problem table.params t → IsTermOf problem 0 (substitute (map Obj sigma) t)
+module _ (problem : Problem) (table : Table) (prefix : ℕ) (sigma : List ℕ) (is : IsTable problem table)
+    (m : IsMacro problem table prefix sigma) where
+  term-in : (inst : OpInst) → Contains (take prefix table.steps) inst → (t : Term) → Contains inst.args t → IsTermOf problem table.params t
+      → IsTermOf problem 0 (substitute (map Obj sigma) t)
   term-in inst has (Obj n) there h = h
-  term-in inst has (Var v) there h = object-of problem sigma v (omega (arith, h, m.count)) (m.used v h (inl (has.0, inst, has.1, has.2, there)))
+  term-in inst has (Var v) there h =
+      object-of problem sigma v (omega (arith, h, m.count)) (m.used v h (inl (has.0, inst, has.1, has.2, there)))
   term-in inst has Any there h = h
 
-  step-in : (inst : OpInst) → Contains (take prefix table.steps) inst → IsStepOf problem table.params inst → IsInstanceOf problem (instance_under sigma inst)
+  step-in : (inst : OpInst) → Contains (take prefix table.steps) inst → IsStepOf problem table.params inst
+      → IsInstanceOf problem (instance_under sigma inst)
   step-in inst has of = record {
     op = of.op;
     count = length-map inst.args (substitute (map Obj sigma)) ∙ of.count;
     objects = All-map (IsTermOf problem 0) (substitute (map Obj sigma)) inst.args
-        (All-each (λ t. IsTermOf problem 0 (substitute (map Obj sigma) t)) inst.args (λ t there. term-in inst has t there (All-at (IsTermOf problem table.params) inst.args t of.terms there)));
+        (All-each (λ t. IsTermOf problem 0 (substitute (map Obj sigma) t)) inst.args
+        (λ t there. term-in inst has t there (All-at (IsTermOf problem table.params) inst.args t of.terms there)));
   }
 
   take-map : (n : ℕ) (steps : List OpInst) → take n (map (instance_under sigma) steps) ≡ map (instance_under sigma) (take n steps)
@@ -56,4 +67,5 @@ module _ (problem : Problem) (table : Table) (prefix : ℕ) (sigma : List ℕ) (
       subst (All (IsInstanceOf problem)) (sym (take-map prefix table.steps))
       (All-map (IsInstanceOf problem) (instance_under sigma) (take prefix table.steps)
       (All-each (λ inst. IsInstanceOf problem (instance_under sigma inst)) (take prefix table.steps) (λ inst has.
-      step-in inst has (All-at (IsStepOf problem table.params) (take prefix table.steps) inst (All-take (IsStepOf problem table.params) prefix table.steps is.in_range.steps) has))))
+      step-in inst has (All-at (IsStepOf problem table.params) (take prefix table.steps) inst
+      (All-take (IsStepOf problem table.params) prefix table.steps is.in_range.steps) has))))

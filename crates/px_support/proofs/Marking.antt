@@ -19,7 +19,8 @@ module _ (problem : Problem) (initial : List Atom) where
   pub record IsSupported (made : List OpInst) (leaf : Leaf) : Type 0 where
     pub earlier : leaf.column ≤ length made
     pub first : leaf.column ≡ 0 → leaf.index ≡ 0
-    pub added : 0 < leaf.column → (inst : OpInst) × (step_at made leaf.column ≡ Some inst) × (slice_get (adds problem inst) leaf.index ≡ Some leaf.atom)
+    pub added : 0 < leaf.column → (inst : OpInst) × (step_at made leaf.column ≡ Some inst)
+        × (slice_get (adds problem inst) leaf.index ≡ Some leaf.atom)
     pub given : leaf.column ≡ 0 → Contains initial leaf.atom
     pub kept : (k : ℕ) (inst : OpInst) → leaf.column < k → step_at made k ≡ Some inst → ¬ IsDeleted (schema_of problem inst) inst leaf.atom
 
@@ -38,7 +39,8 @@ module _ (problem : Problem) (initial : List Atom) where
     pub given : mark.column ≡ 0 → Contains initial mark.atom
     pub kept : IsKept problem steps 1 mark
 
-  supported-mark : (made rest : List OpInst) (leaf : Leaf) → IsSupported made leaf → IsSupportMark (made ++ rest) (mark_of (suc (length made)) leaf)
+  supported-mark : (made rest : List OpInst) (leaf : Leaf) → IsSupported made leaf
+      → IsSupportMark (made ++ rest) (mark_of (suc (length made)) leaf)
   supported-mark made rest leaf is = record {
     named = record {
       earlier = omega (arith, is.earlier);
@@ -51,22 +53,29 @@ module _ (problem : Problem) (initial : List Atom) where
 
   -- ---- from leaves to marks
 
-  row-marked : (made rest : List OpInst) (row : List Derivation) → IsSupportedRow made row → All (IsSupportMark (made ++ rest)) (row_marks (suc (length made)) row)
+  row-marked : (made rest : List OpInst) (row : List Derivation) → IsSupportedRow made row
+      → All (IsSupportMark (made ++ rest)) (row_marks (suc (length made)) row)
   row-marked made rest row is =
       All-each (IsSupportMark (made ++ rest)) (row_marks (suc (length made)) row) (λ mark has.
-      each-mapped (IsSupportMark (made ++ rest)) (mark_of (suc (length made))) (row_leaves row) (λ leaf inside. supported-mark made rest leaf (is leaf inside)) mark
+      each-mapped (IsSupportMark (made ++ rest)) (mark_of (suc (length made))) (row_leaves row)
+      (λ leaf inside. supported-mark made rest leaf (is leaf inside)) mark
       (Contains-from_each_once mark_eq (map (mark_of (suc (length made))) (row_leaves row)) mark has))
 
   length-push : (made : List OpInst) (step : OpInst) → length (made ++ step ∷ []) ≡ suc (length made)
   length-push [] step = refl
   length-push (m ∷ made) step = ap suc (length-push made step)
 
-  pub rows-marked : (made steps : List OpInst) (rows : List (List Derivation)) → AreSupportedRows made steps rows → All (IsSupportMark (made ++ steps)) (marks_from (suc (length made)) rows)
+  pub rows-marked : (made steps : List OpInst) (rows : List (List Derivation)) → AreSupportedRows made steps rows
+      → All (IsSupportMark (made ++ steps)) (marks_from (suc (length made)) rows)
   rows-marked made steps [] are = All-nil (IsSupportMark (made ++ steps))
   rows-marked made [] (row ∷ rows) are =
-      All-append (IsSupportMark (made ++ [])) (row_marks (suc (length made)) row) (marks_from (suc (suc (length made))) rows) (row-marked made [] row are.0)
-      (subst (λ (rs : List (List Derivation)). All (IsSupportMark (made ++ [])) (marks_from (suc (suc (length made))) rs)) (sym are.1) (All-nil (IsSupportMark (made ++ []))))
+      All-append (IsSupportMark (made ++ [])) (row_marks (suc (length made)) row) (marks_from (suc (suc (length made))) rows)
+      (row-marked made [] row are.0)
+      (subst (λ (rs : List (List Derivation)). All (IsSupportMark (made ++ [])) (marks_from (suc (suc (length made))) rs)) (sym are.1)
+      (All-nil (IsSupportMark (made ++ []))))
   rows-marked made (step ∷ steps) (row ∷ rows) are =
-      All-append (IsSupportMark (made ++ step ∷ steps)) (row_marks (suc (length made)) row) (marks_from (suc (suc (length made))) rows) (row-marked made (step ∷ steps) row are.0)
+      All-append (IsSupportMark (made ++ step ∷ steps)) (row_marks (suc (length made)) row) (marks_from (suc (suc (length made))) rows)
+      (row-marked made (step ∷ steps) row are.0)
       (subst (λ (n : ℕ). All (IsSupportMark (made ++ step ∷ steps)) (marks_from (suc n) rows)) (length-push made step)
-      (subst (λ (all : List OpInst). All (IsSupportMark all) (marks_from (suc (length (made ++ step ∷ []))) rows)) (append_assoc made (step ∷ []) steps) (rows-marked (made ++ step ∷ []) steps rows are.1)))
+      (subst (λ (all : List OpInst). All (IsSupportMark all) (marks_from (suc (length (made ++ step ∷ []))) rows))
+      (append_assoc made (step ∷ []) steps) (rows-marked (made ++ step ∷ []) steps rows are.1)))

@@ -27,31 +27,47 @@ pub record IsSupport (task : Task) (support : Support) : Type 0 where
   pub carries : Carries task.problem task.initial support.steps task.vars task.goal
   pub instances : All (IsInstanceOf task.problem) support.steps
 
-by-steps : (task : Task) (moves : List Move) (support : Support) → support.steps ≡ steps_of task.tables [] moves → AreSupport task moves (rows_of support.rows.items) → IsSupport task support
+by-steps : (task : Task) (moves : List Move) (support : Support) → support.steps ≡ steps_of task.tables [] moves
+    → AreSupport task moves (rows_of support.rows.items) → IsSupport task support
 by-steps task moves support steps is = record {
-  supports = subst (λ (s : List OpInst). Supports task.problem task.initial s task.goal task.vars (rows_of support.rows.items)) (sym steps) is.supports;
+  supports =
+      subst (λ (s : List OpInst). Supports task.problem task.initial s task.goal task.vars (rows_of support.rows.items))
+      (sym steps) is.supports;
   of_problem = is.of_problem;
   carries = subst (λ (s : List OpInst). Carries task.problem task.initial s task.vars task.goal) (sym steps) is.carries;
   instances = subst (All (IsInstanceOf task.problem)) (sym steps) is.instances;
 }
 
-module _ (law : MovesSupport) (task : Task) (moves : List Move) (result : Result Support NoMemory) (valid : IsValid task.problem) (goal_of : All (IsAtomOf task.problem task.vars) task.goal) (learned : AreLearned task.problem task.tables) (found : IsFound task moves)
-    (steps : IfOk result (λ support. support.steps ≡ steps_of task.tables [] moves)) (rows : IfOk result (λ support. MovesRows task (initial_node task) [] moves (rows_of support.rows.items))) where
+module _ (law : MovesSupport) (task : Task) (moves : List Move) (result : Result Support NoMemory) (valid : IsValid task.problem)
+    (goal_of : All (IsAtomOf task.problem task.vars) task.goal) (learned : AreLearned task.problem task.tables) (found : IsFound task moves)
+    (steps : IfOk result (λ support. support.steps ≡ steps_of task.tables [] moves))
+    (rows : IfOk result (λ support. MovesRows task (initial_node task) [] moves (rows_of support.rows.items))) where
   if_support : IfOk result (IsSupport task)
   if_support = by result steps rows where
-    by : (result : Result Support NoMemory) → IfOk result (λ support. support.steps ≡ steps_of task.tables [] moves) → IfOk result (λ support. MovesRows task (initial_node task) [] moves (rows_of support.rows.items))
+    by : (result : Result Support NoMemory) → IfOk result (λ support. support.steps ≡ steps_of task.tables [] moves)
+        → IfOk result (λ support. MovesRows task (initial_node task) [] moves (rows_of support.rows.items))
         → IfOk result (IsSupport task)
-    by (Ok support) steps rows = by-steps task moves support steps (law task moves (rows_of support.rows.items) valid goal_of learned (found-moves task moves found) rows)
+    by (Ok support) steps rows =
+        by-steps task moves support steps (law task moves (rows_of support.rows.items) valid goal_of learned
+        (found-moves task moves found) rows)
     by (Err e) steps rows = tt
 
-  pub if_supports : IfOk result (λ support. Supports task.problem task.initial support.steps task.goal task.vars (rows_of support.rows.items))
-  if_supports = ok_map (IsSupport task) (λ support. Supports task.problem task.initial support.steps task.goal task.vars (rows_of support.rows.items)) (λ support is. is.supports) result if_support
+  pub if_supports : IfOk result (λ support. Supports task.problem task.initial support.steps task.goal task.vars
+      (rows_of support.rows.items))
+  if_supports =
+      ok_map (IsSupport task) (λ support. Supports task.problem task.initial support.steps task.goal task.vars (rows_of support.rows.items))
+      (λ support is. is.supports) result if_support
 
   pub if_of_problem : IfOk result (λ support. AreOfProblem task.problem (rows_of support.rows.items))
-  if_of_problem = ok_map (IsSupport task) (λ support. AreOfProblem task.problem (rows_of support.rows.items)) (λ support is. is.of_problem) result if_support
+  if_of_problem =
+      ok_map (IsSupport task) (λ support. AreOfProblem task.problem (rows_of support.rows.items))
+      (λ support is. is.of_problem) result if_support
 
   pub if_instances : IfOk result (λ support. All (IsInstanceOf task.problem) support.steps)
-  if_instances = ok_map (IsSupport task) (λ support. All (IsInstanceOf task.problem) support.steps) (λ support is. is.instances) result if_support
+  if_instances =
+      ok_map (IsSupport task) (λ support. All (IsInstanceOf task.problem) support.steps) (λ support is. is.instances) result if_support
 
   pub if_carries : IfOk result (λ support. Carries task.problem task.initial support.steps task.vars task.goal)
-  if_carries = ok_map (IsSupport task) (λ support. Carries task.problem task.initial support.steps task.vars task.goal) (λ support is. is.carries) result if_support
+  if_carries =
+      ok_map (IsSupport task) (λ support. Carries task.problem task.initial support.steps task.vars task.goal)
+      (λ support is. is.carries) result if_support

@@ -26,7 +26,7 @@ pub record HasRoom (problem : Problem) (walk : Walk) : Type 0 where
 abbrev pub node_in : Walk → Node
 node_in walk = record { model = walk.model.atoms; stack = reverse walk.stack.items }
 
--- the entry is applied: its steps are taken, and their rows are put last
+-- the entry is applied: its steps are taken, and their rows are appended
 pub record IsEntryApplied (problem : Problem) (tables : List Table) (entry : Entry) (old new : Walk) : Type 0 where
   pub model : new.model.atoms ≡ results_of problem old.model.atoms (effect_of tables entry)
   pub stack : new.stack.items ≡ old.stack.items
@@ -45,7 +45,7 @@ RowsBy task node made Apply rows = TopRows task.problem task.tables node.model m
 RowsBy task node made (Push entry) rows = rows ≡ []
 
 -- the move is taken
-pub record IsTaken (task : Task) (m : Move) (old new : Walk) : Type 0 where
+pub record IsMoveTaken (task : Task) (m : Move) (old new : Walk) : Type 0 where
   pub node : node_in new ≡ after task (node_in old) m
   pub steps : new.steps.items ≡ old.steps.items ++ steps_by task (node_in old) m
   pub first : List (List Derivation)
@@ -53,7 +53,7 @@ pub record IsTaken (task : Task) (m : Move) (old new : Walk) : Type 0 where
   pub rows : rows_of new.rows.items ≡ rows_of old.rows.items ++ first
 
 -- all moves are taken: the goal's row is all that is left
-pub record AreTaken (task : Task) (moves : List Move) (walk : Walk) : Type 0 where
+pub record AreMovesTaken (task : Task) (moves : List Move) (walk : Walk) : Type 0 where
   pub goal : IsFindable task.problem (goal_from task walk.model.atoms)
   pub steps : walk.steps.items ≡ steps_of task.tables [] moves
   pub rows : (row : List Derivation) → IsFirstRow task.problem walk.steps.items walk.model.atoms task.goal task.vars row

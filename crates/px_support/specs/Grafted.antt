@@ -15,7 +15,7 @@ use Rattle.px_ends.specs.Made.{IsSourced}
 use Rattle.px_support.specs.declared.grafts.Graft.{Graft}
 use Rattle.px_support.specs.Sources.{HasFirstLeaves}
 
--- rows may be put onto proofs so
+-- rows may be put onto proofs like this
 pub record IsReady (graft : Graft) : Type 0 where
   pub valid : IsValid graft.problem.now
   pub all_ground : All (IsGroundInstanceOf graft.problem.now) graft.steps.now

@@ -22,7 +22,7 @@ use Rattle.px_support.specs.declared.walk.Walk.{Walk}
 abbrev pub steps_in : Learned → List OpInst
 steps_in learned = take learned.prefix (steps_under learned.table.now learned.sigma.now)
 
--- they are the first steps of a table, which a search may take as one, and the columns rise within the numbers that there are
+-- they are the first steps of a table, which a search may take as one operator, and the columns rise within the range of numbers
 pub record IsLearnedOf (problem : Problem) (learned : Learned) : Type 0 where
   pub table : IsTable problem learned.table.now
   pub is_macro : IsMacro problem learned.table.now learned.prefix learned.sigma.now
@@ -48,7 +48,7 @@ pub record IsStepTaken (problem : Problem) (learned : Learned) (place : ℕ) (ol
   pub facts : new.facts.atoms ≡ filter (λ atom. not (deletes problem inst atom)) old.facts.atoms
   pub stack : new.walk.stack.items ≡ old.walk.stack.items
 
--- all its steps are taken, and their rows are put last
+-- all its steps are taken, and their rows are appended
 pub record IsMacroApplied (problem : Problem) (learned : Learned) (old new : Walk) : Type 0 where
   pub model : new.model.atoms ≡ results_of problem old.model.atoms (steps_in learned)
   pub stack : new.stack.items ≡ old.stack.items

@@ -7,7 +7,7 @@ use Rattle.px_proof.specs.declared.proof.Leaf.{Leaf}
 use Rattle.px_proof.specs.Derivation.{Derivation, fact, leaf_atoms, leaves_of}
 use Rattle.px_ends.specs.Made.{IsSource}
 
--- the atom stands at the place, and at none before
+-- the atom stands at the place, and at no place before
 pub record IsFirstPlace (atoms : List Atom) (atom : Atom) (place : ℕ) : Type 0 where
   pub here : slice_get atoms place ≡ Some atom
   pub first : (i : ℕ) → i < place → slice_get atoms i ≢ Some atom

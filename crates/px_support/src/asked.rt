@@ -5,7 +5,7 @@ use px_table::Table;
 use px_terms::{Atom, Problem};
 use std::alloc::Global;
 
-/// To reach the goal from the initial model, by the problem's operators and the learned tables.
+/// What is to be done: reaching the goal from the initial model, by the problem's operators and the learned tables.
 #[derive(Clone, Copy)]
 pub struct Asked<'a> {
     pub alloc: Global,

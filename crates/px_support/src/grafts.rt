@@ -28,11 +28,11 @@ pub struct Graft<'a> {
     pub formula: &'a [Atom],
     /// The objects for the table's parameters.
     pub terms: &'a [Term],
-    /// How many columns the row's other facts rise.
+    /// By how many columns the row's other facts rise.
     pub shift: u32,
 }
 
-/// The number at the place.
+/// Returns the number at the place.
 fn number_at(sigma: &[u32], place: usize) -> u32
     requires { place < length sigma.now }
     ensures { slice_get sigma.now place ≡ Some result }
@@ -40,7 +40,7 @@ fn number_at(sigma: &[u32], place: usize) -> u32
     sigma[place]
 }
 
-/// The objects as terms.
+/// Returns the objects as terms.
 pub fn object_terms(alloc: Global, sigma: &[u32]) -> Result<Vec<Term>, NoMemory>
     ensures { IfOk result (λ terms. terms.items ≡ map Obj sigma.now) }
 {
@@ -52,7 +52,7 @@ pub fn object_terms(alloc: Global, sigma: &[u32]) -> Result<Vec<Term>, NoMemory>
     Ok(terms)
 }
 
-/// The place of the atom in the formula.
+/// Returns the place of the atom in the formula.
 fn place_of(formula: &[Atom], atom: &Atom) -> usize
     requires { Contains formula.now atom.now }
     ensures { slice_get formula.now result ≡ Some atom.now }
@@ -65,7 +65,7 @@ fn place_of(formula: &[Atom], atom: &Atom) -> usize
     unreachable!()
 }
 
-/// The first proof of the initial fact, where each leaf names where its atom comes from.
+/// Returns the first proof of the initial fact, where each leaf names where its atom comes from.
 fn part_for(graft: &Graft, firsts: &[Proof], atom: &Atom) -> Result<Proof, NoMemory>
     requires graft { IsReady graft.now }
     requires firsts { AreFirsts graft.now firsts.now }
@@ -76,7 +76,7 @@ fn part_for(graft: &Graft, firsts: &[Proof], atom: &Atom) -> Result<Proof, NoMem
     sourced(graft.alloc, graft.problem, graft.steps, &firsts[place])
 }
 
-/// Such a proof for each of the leaves.
+/// Returns for each of the leaves the first proof of its atom, where each leaf names where its atom comes from.
 fn parts_for(graft: &Graft, firsts: &[Proof], leaves: &[Leaf]) -> Result<Vec<Proof>, NoMemory>
     requires graft { IsReady graft.now }
     requires firsts { AreFirsts graft.now firsts.now }
@@ -91,7 +91,7 @@ fn parts_for(graft: &Graft, firsts: &[Proof], leaves: &[Leaf]) -> Result<Vec<Pro
     Ok(parts)
 }
 
-/// The learned proof, put onto the first proofs.
+/// Returns the learned proof, put onto the first proofs.
 fn grafted_proof(graft: &Graft, firsts: &[Proof], proof: &Proof) -> Result<Proof, NoMemory>
     requires graft { IsReady graft.now }
     requires firsts { AreFirsts graft.now firsts.now }
@@ -106,7 +106,7 @@ fn grafted_proof(graft: &Graft, firsts: &[Proof], proof: &Proof) -> Result<Proof
     px_proof::graft(graft.alloc, &under, &parts, graft.shift)
 }
 
-/// The learned proofs, put onto the first proofs.
+/// Returns the learned proofs, put onto the first proofs.
 fn grafted_row(graft: &Graft, firsts: &[Proof], proofs: &[Proof]) -> Result<Row, NoMemory>
     requires graft { IsReady graft.now }
     requires firsts { AreFirsts graft.now firsts.now }
@@ -122,7 +122,7 @@ fn grafted_row(graft: &Graft, firsts: &[Proof], proofs: &[Proof]) -> Result<Row,
     Ok(Row::from_proofs(made))
 }
 
-/// The learned proofs, put onto the first proofs of the initial facts from these facts.
+/// Returns the learned proofs, put onto the first proofs of the initial facts from these facts.
 pub fn learned_row(graft: &Graft, facts: &Model, proofs: &[Proof]) -> Result<Row, NoMemory>
     requires graft { IsReady graft.now }
     requires proofs { All (IsGraftableBy graft.now) (map derivation_of proofs.now) }

@@ -38,7 +38,7 @@ pub struct Within {
     pub facts: Model,
 }
 
-/// The proofs of the table's row at the place.
+/// Returns the proofs of the table's row at the place.
 fn proofs_at(table: &Table, place: u32) -> &[Proof]
     requires { place < length table.now.proofs }
     ensures { slice_get table.now.proofs place ≡ Some result.now }

@@ -16,7 +16,7 @@ use px_table::Row;
 use px_terms::{Atom, OpInst, Problem};
 use std::alloc::Global;
 
-/// The proofs, where each leaf names where its atom comes from after the steps.
+/// Returns the proofs, where each leaf names where its atom comes from after the steps.
 fn sourced_row(
     alloc: Global,
     problem: &Problem,
@@ -37,7 +37,7 @@ fn sourced_row(
     Ok(Row::from_proofs(made))
 }
 
-/// The first proofs of the formula from the model that the steps led to, where each leaf names where its atom comes from.
+/// Returns the first proofs of the formula from the model that the steps led to, where each leaf names where its atom comes from.
 pub fn first_row(
     alloc: Global,
     problem: &Problem,

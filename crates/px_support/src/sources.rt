@@ -12,7 +12,7 @@ use px_proof::{Leaf, Proof, graft, leaves};
 use px_terms::{Atom, OpInst, Problem};
 use std::alloc::Global;
 
-/// The first place of the atom in what the instance adds.
+/// Returns the first place of the atom in what the instance adds.
 fn first_place(problem: &Problem, inst: &OpInst, atom: &Atom) -> Option<u32>
     requires problem { IsValid problem.now }
     requires inst { IsGroundInstanceOf problem.now inst.now }
@@ -29,8 +29,8 @@ fn first_place(problem: &Problem, inst: &OpInst, atom: &Atom) -> Option<u32>
     None
 }
 
-/// Where the atom comes from after the steps: a leaf that names the last of them that adds it, by its first place there, or
-/// the initial model if none does.
+/// Returns where the atom comes from after the steps: a leaf that names the last of them that adds it, by its first place there, or the
+/// initial model if none does.
 fn source_of(problem: &Problem, steps: &[OpInst], atom: &Atom) -> Leaf
     requires problem { IsValid problem.now }
     requires steps { All (IsGroundInstanceOf problem.now) steps.now }
@@ -57,7 +57,7 @@ fn source_of(problem: &Problem, steps: &[OpInst], atom: &Atom) -> Leaf
     }
 }
 
-/// A proof for each leaf that is a leaf of the same atom, and names where it comes from.
+/// Returns a proof for each leaf that is a leaf of the same atom, and names where it comes from.
 fn source_each(
     alloc: Global,
     problem: &Problem,
@@ -77,7 +77,7 @@ fn source_each(
     Ok(parts)
 }
 
-/// The proof, where each leaf names where its atom comes from after the steps.
+/// Returns the proof, where each leaf names where its atom comes from after the steps.
 pub fn sourced(
     alloc: Global,
     problem: &Problem,

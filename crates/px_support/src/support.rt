@@ -8,7 +8,7 @@ ghost use Rattle.px_ends.specs.Ends.{IsFound};
 ghost use Rattle.px_ends.specs.Made.{MovesRows};
 ghost use Rattle.px_ends.specs.Tasks.{initial_node, steps_of};
 ghost use Rattle.px_support.specs.Asking.{IsAskable, task_for};
-ghost use Rattle.px_support.specs.Going.{AreTaken};
+ghost use Rattle.px_support.specs.Going.{AreMovesTaken};
 
 use crate::asked::Asked;
 use crate::laws::moves_have_supports;
@@ -27,10 +27,10 @@ pub struct Support {
     pub rows: Vec<Row>,
 }
 
-/// Puts the goal's row last.
+/// Appends the goal's row.
 fn with_goal(asked: &Asked, walk: Walk, moves: &[Move]) -> Result<Support, NoMemory>
     requires asked { IsAskable asked.now }
-    requires taken { AreTaken (task_for asked.now) moves.now walk }
+    requires taken { AreMovesTaken (task_for asked.now) moves.now walk }
     requires short { 64 * length moves.now < 4294967295 }
     ensures steps { IfOk result (λ support. support.steps ≡ steps_of asked.now.tables.now [] moves.now) }
     ensures rows { IfOk result (λ support. MovesRows (task_for asked.now) (initial_node (task_for asked.now)) [] moves.now
@@ -58,13 +58,12 @@ fn with_goal(asked: &Asked, walk: Walk, moves: &[Move]) -> Result<Support, NoMem
     })
 }
 
-/// The support of the moves that a search found: the steps that the moves take, and the first proofs of what each step needs
-/// and of the goal, where each fact names the last step before that adds it, or the initial model. The steps of a MACROP have
-/// the rows of its table, with such proofs in the places of their initial facts. Steps and rows are what `build` of `px_table`
-/// makes a table of.
+/// Returns the support of the moves that a search found: the steps that the moves take, and the first proofs of what each step needs and
+/// of the goal, where each fact names the last step before that adds it, or the initial model. The steps of a MACROP have the rows of its
+/// table, with such proofs in the places of their initial facts. Steps and rows are what `build` of `px_table` makes a table of.
 ///
 /// # Errors
-/// `NoMemory` where there is none.
+/// `NoMemory` where there is no memory.
 pub fn support_of(asked: &Asked, moves: &[Move]) -> Result<Support, NoMemory>
     requires asked { IsAskable asked.now }
     requires found { IsFound (task_for asked.now) moves.now }

@@ -6,7 +6,7 @@ ghost use Rattle.px_entries.specs.Entries.{IsEntry, obligations_of};
 ghost use Rattle.px_ends.specs.Tasks.{initial_node};
 ghost use Rattle.px_table.specs.declared.entry.Entry.{Entry};
 ghost use Rattle.px_support.specs.Asking.{AreTakeable, IsAskable, IsFindable, IsTakeable, task_for};
-ghost use Rattle.px_support.specs.Going.{AreTaken, HasRoom, IsEntryApplied, IsTaken, node_in};
+ghost use Rattle.px_support.specs.Going.{AreMovesTaken, HasRoom, IsEntryApplied, IsMoveTaken, node_in};
 
 use crate::asked::Asked;
 use crate::macros::apply_macro;
@@ -31,7 +31,7 @@ pub struct Walk {
 }
 
 impl Walk {
-    /// Nothing is done yet. Does not allocate.
+    /// Returns the walk on which nothing is done yet. Does not allocate.
     fn new(alloc: Global, model: Model) -> Walk
         ensures stack { result.stack.items ≡ [] }
         ensures model { result.model.atoms ≡ model.atoms }
@@ -97,7 +97,7 @@ fn apply_top(asked: &Asked, mut walk: Walk) -> Result<Walk, NoMemory>
     requires takeable { IsTakeable (task_for asked.now) (node_in walk) Move.Apply }
     requires stack { All (IsEntry asked.now.problem.now asked.now.tables.now) (node_in walk).stack }
     requires room { HasRoom asked.now.problem.now walk }
-    ensures { IfOk result (IsTaken (task_for asked.now) Move.Apply walk) }
+    ensures { IfOk result (IsMoveTaken (task_for asked.now) Move.Apply walk) }
 {
     match walk.stack.pop() {
         Some(entry) => apply_entry(asked, walk, &entry),
@@ -107,7 +107,7 @@ fn apply_top(asked: &Asked, mut walk: Walk) -> Result<Walk, NoMemory>
 
 /// Puts the entry on the stack.
 fn push_entry(asked: &Asked, mut walk: Walk, entry: &Entry) -> Result<Walk, NoMemory>
-    ensures { IfOk result (IsTaken (task_for asked.now) (Move.Push entry.now) walk) }
+    ensures { IfOk result (IsMoveTaken (task_for asked.now) (Move.Push entry.now) walk) }
 {
     let copy = entry.try_copy()?;
     push(&mut walk.stack, copy)?;
@@ -120,7 +120,7 @@ fn take(asked: &Asked, walk: Walk, m: &Move) -> Result<Walk, NoMemory>
     requires takeable { IsTakeable (task_for asked.now) (node_in walk) m.now }
     requires stack { All (IsEntry asked.now.problem.now asked.now.tables.now) (node_in walk).stack }
     requires room { HasRoom asked.now.problem.now walk }
-    ensures { IfOk result (IsTaken (task_for asked.now) m.now walk) }
+    ensures { IfOk result (IsMoveTaken (task_for asked.now) m.now walk) }
 {
     match m {
         Move::Push(entry) => push_entry(asked, walk, entry),
@@ -133,7 +133,7 @@ pub fn take_all(asked: &Asked, moves: &[Move]) -> Result<Walk, NoMemory>
     requires asked { IsAskable asked.now }
     requires takeable { AreTakeable (task_for asked.now) (initial_node (task_for asked.now)) moves.now }
     requires short { 64 * length moves.now ≤ 4294967295 }
-    ensures { IfOk result (AreTaken (task_for asked.now) moves.now) }
+    ensures { IfOk result (AreMovesTaken (task_for asked.now) moves.now) }
 {
     let model = asked.initial.try_copy()?;
     let mut walk = Walk::new(asked.alloc, model);

@@ -18,13 +18,15 @@ module _ (problem : Problem) (steps : List OpInst) (sigma : List ℕ) (first : �
 
   -- none of the first steps deletes the mark's instance, where it stands between
   pub record KeptBelow (i : ℕ) : Type 0 where
-    pub kept : (j : ℕ) (inst : OpInst) → j < i → first ≤ suc j → mark.column < suc j → suc j < mark.row → slice_get (map (instance_under sigma) steps) j ≡ Some inst → ¬ Deletes inst
+    pub kept : (j : ℕ) (inst : OpInst) → j < i → first ≤ suc j → mark.column < suc j → suc j < mark.row
+        → slice_get (map (instance_under sigma) steps) j ≡ Some inst → ¬ Deletes inst
 
   pub kept-start : KeptBelow 0
   kept-start = record { kept = λ j inst below. absurd (omega (arith, below)) }
 
   -- the instance of the step at the place
-  instance_at : (i : ℕ) (step inst : OpInst) → i < length steps → step ≡ get_or steps i step → slice_get (map (instance_under sigma) steps) i ≡ Some inst → instance_under sigma step ≡ inst
+  instance_at : (i : ℕ) (step inst : OpInst) → i < length steps → step ≡ get_or steps i step
+      → slice_get (map (instance_under sigma) steps) i ≡ Some inst → instance_under sigma step ≡ inst
   instance_at i step inst below is at =
       some_same (sym (slice_get-map (instance_under sigma) steps i step (slice_get-read steps i step below ∙ ap Some (sym is))) ∙ at)
 
@@ -46,7 +48,9 @@ module _ (problem : Problem) (steps : List OpInst) (sigma : List ℕ) (first : �
       let within = slice_get-within (map (instance_under sigma) steps) j inst at in
       all.kept j inst (omega (arith, within, length-map steps (instance_under sigma))) low column row at deleted
 
-  pub kept-fails : (i : ℕ) (step : OpInst) → i < length steps → step ≡ get_or steps i step → first ≤ suc i → mark.column < suc i → suc i < mark.row → Deletes (instance_under sigma step)
+  pub kept-fails : (i : ℕ) (step : OpInst) → i < length steps → step ≡ get_or steps i step → first ≤ suc i → mark.column < suc i
+      → suc i < mark.row → Deletes (instance_under sigma step)
       → ¬ IsKept problem (map (instance_under sigma) steps) first (mark_under sigma mark)
   kept-fails i step below is low column row deleted kept =
-      kept (suc i) (instance_under sigma step) low column row (slice_get-map (instance_under sigma) steps i step (slice_get-read steps i step below ∙ ap Some (sym is))) deleted
+      kept (suc i) (instance_under sigma step) low column row
+      (slice_get-map (instance_under sigma) steps i step (slice_get-read steps i step below ∙ ap Some (sym is))) deleted

@@ -23,25 +23,34 @@ module _ (marks : List Mark) (i k : ℕ) (mark : Mark) (is : mark ≡ get_or mar
   abbrev so_far : List Atom
   so_far = map (λ (m : Mark). m.atom) (filter test (take k marks))
 
-  pub kernel-more : each_once atom_eq (map (λ (m : Mark). m.atom) (filter test (take (k + 1) marks))) ≡ cond (test mark) (put_once atom_eq (each_once atom_eq so_far) mark.atom) (each_once atom_eq so_far)
+  pub kernel-more : each_once atom_eq (map (λ (m : Mark). m.atom) (filter test (take (k + 1) marks)))
+      ≡ cond (test mark) (put_once atom_eq (each_once atom_eq so_far) mark.atom) (each_once atom_eq so_far)
   kernel-more =
-      ap (λ ms. each_once atom_eq (map (λ (m : Mark). m.atom) (filter test ms))) (take_more marks k mark below ∙ ap (λ m. take k marks ++ m ∷ []) (sym is))
+      ap (λ ms. each_once atom_eq (map (λ (m : Mark). m.atom) (filter test ms)))
+      (take_more marks k mark below ∙ ap (λ m. take k marks ++ m ∷ []) (sym is))
       ∙ ap (λ ms. each_once atom_eq (map (λ (m : Mark). m.atom) ms)) (filter-append test (take k marks) (mark ∷ []))
       ∙ by_test (test mark)
     where
-      by_test : (b : Bool) → each_once atom_eq (map (λ (m : Mark). m.atom) (filter test (take k marks) ++ cond b (mark ∷ []) [])) ≡ cond b (put_once atom_eq (each_once atom_eq so_far) mark.atom) (each_once atom_eq so_far)
-      by_test true = ap (each_once atom_eq) (map-append (λ (m : Mark). m.atom) (filter test (take k marks)) (mark ∷ [])) ∙ each_once-push atom_eq atom_eq-decides so_far mark.atom
+      by_test : (b : Bool) → each_once atom_eq (map (λ (m : Mark). m.atom) (filter test (take k marks) ++ cond b (mark ∷ []) []))
+          ≡ cond b (put_once atom_eq (each_once atom_eq so_far) mark.atom) (each_once atom_eq so_far)
+      by_test true =
+          ap (each_once atom_eq) (map-append (λ (m : Mark). m.atom) (filter test (take k marks)) (mark ∷ []))
+          ∙ each_once-push atom_eq atom_eq-decides so_far mark.atom
       by_test false = ap (λ ms. each_once atom_eq (map (λ (m : Mark). m.atom) ms)) (append-nil (filter test (take k marks)))
 
 -- the marks of one proof more
 pub leaves-more : (number : ℕ) (proofs : List Proof) (k : ℕ) (proof : Proof) → proof ≡ get_or proofs k proof → k < length proofs
-    → put_each mark_eq (put_each mark_eq [] (map (mark_of number) (row_leaves (map derivation_of (take k proofs))))) (map (mark_of number) (leaves_of (derivation_of proof)))
+    → put_each mark_eq (put_each mark_eq [] (map (mark_of number) (row_leaves (map derivation_of (take k proofs)))))
+    (map (mark_of number) (leaves_of (derivation_of proof)))
     ≡ put_each mark_eq [] (map (mark_of number) (row_leaves (map derivation_of (take (k + 1) proofs))))
 leaves-more number proofs k proof is below =
     let before = row_leaves (map derivation_of (take k proofs)) in
-    sym (ap (λ ps. put_each mark_eq [] (map (mark_of number) (row_leaves (map derivation_of ps)))) (take_more proofs k proof below ∙ ap (λ p. take k proofs ++ p ∷ []) (sym is))
+    sym (ap (λ ps. put_each mark_eq [] (map (mark_of number) (row_leaves (map derivation_of ps))))
+    (take_more proofs k proof below ∙ ap (λ p. take k proofs ++ p ∷ []) (sym is))
     ∙ ap (λ ds. put_each mark_eq [] (map (mark_of number) (row_leaves ds))) (map-append derivation_of (take k proofs) (proof ∷ []))
-    ∙ ap (λ ls. put_each mark_eq [] (map (mark_of number) ls)) (row_leaves-append (map derivation_of (take k proofs)) (derivation_of proof ∷ []) ∙ ap (λ l. before ++ l) (append-nil (leaves_of (derivation_of proof))))
+    ∙ ap (λ ls. put_each mark_eq [] (map (mark_of number) ls))
+    (row_leaves-append (map derivation_of (take k proofs)) (derivation_of proof ∷ [])
+    ∙ ap (λ l. before ++ l) (append-nil (leaves_of (derivation_of proof))))
     ∙ ap (put_each mark_eq []) (map-append (mark_of number) before (leaves_of (derivation_of proof)))
     ∙ put_each-append mark_eq [] (map (mark_of number) before) (map (mark_of number) (leaves_of (derivation_of proof))))
 

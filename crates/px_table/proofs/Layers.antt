@@ -22,14 +22,18 @@ plain_variable vars (Var v) h = h
 plain_variable vars Any h = tt
 
 -- the literals of an arena's clause are plain below its variables
-pub plain_lits : (axioms : List Clause) (number : ℕ) (theta : List Term) (lits : List Lit) → IsArena axioms → number < length axioms → length theta ≡ (get_or axioms number no_clause).vars
+pub plain_lits : (axioms : List Clause) (number : ℕ) (theta : List Term) (lits : List Lit) → IsArena axioms → number < length axioms
+    → length theta ≡ (get_or axioms number no_clause).vars
     → lits ≡ (get_or axioms number no_clause).lits → ArePlainBelow (length theta) lits
 plain_lits axioms number theta lits arena below same is =
-    subst (λ n. ArePlainBelow n lits) (sym same) (subst (λ ls. ArePlainBelow (get_or axioms number no_clause).vars ls) (sym is) (arena.each number no_clause below).plain)
+    subst (λ n. ArePlainBelow n lits) (sym same) (subst (λ ls. ArePlainBelow (get_or axioms number no_clause).vars ls) (sym is)
+    (arena.each number no_clause below).plain)
 
 -- the literal at the place is the one that a step proves
-pub concluded : (axioms : List Clause) (number : ℕ) (theta : List Term) (place : ℕ) (lits : List Lit) (atom : Atom) (used : Clause) (item : Lit) → number < length axioms
-    → lits ≡ (get_or axioms number no_clause).lits → place < length lits → slice_get axioms number ≡ Some used → slice_get (instance_of used.lits theta) place ≡ Some (positive_of atom)
+pub concluded : (axioms : List Clause) (number : ℕ) (theta : List Term) (place : ℕ) (lits : List Lit) (atom : Atom) (used : Clause)
+    (item : Lit) → number < length axioms
+    → lits ≡ (get_or axioms number no_clause).lits → place < length lits → slice_get axioms number ≡ Some used
+    → slice_get (instance_of used.lits theta) place ≡ Some (positive_of atom)
     → substitute_atom theta (get_or lits place item).atom ≡ atom
 concluded axioms number theta place lits atom used item below is within at_clause at_literal =
     let same : used ≡ get_or axioms number no_clause = some_same (sym at_clause ∙ slice_get-read axioms number no_clause below) in

@@ -1,3 +1,4 @@
+-- The files of lemmas.
 pub mod Choosing
 pub mod DecidingLaws
 pub mod Fronts

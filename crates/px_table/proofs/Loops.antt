@@ -9,12 +9,15 @@ use Rattle.std.proofs.lemmas.List.Elements.{All-cons}
 pub map_next : {X Y : Type 0} (f : X → Y) (xs : List X) (ys : List Y) (i : ℕ) (d : X) (e : Y) → i < length xs → i < length ys
     → map f (take i xs) ≡ take i ys → f (get_or xs i d) ≡ get_or ys i e → map f (take (i + 1) xs) ≡ take (i + 1) ys
 map_next f xs ys i d e below below' so_far here =
-    ap (map f) (take_more xs i d below) ∙ map-append f (take i xs) (get_or xs i d ∷ []) ∙ ap (λ l. l ++ f (get_or xs i d) ∷ []) so_far ∙ ap (λ y. take i ys ++ y ∷ []) here ∙ sym (take_more ys i e below')
+    ap (map f) (take_more xs i d below) ∙ map-append f (take i xs) (get_or xs i d ∷ []) ∙ ap (λ l. l ++ f (get_or xs i d) ∷ []) so_far
+    ∙ ap (λ y. take i ys ++ y ∷ []) here ∙ sym (take_more ys i e below')
 
-pub map_all : {X Y : Type 0} (f : X → Y) (xs : List X) (ys : List Y) (i : ℕ) → length xs ≤ i → length ys ≤ i → map f (take i xs) ≡ take i ys → map f xs ≡ ys
+pub map_all : {X Y : Type 0} (f : X → Y) (xs : List X) (ys : List Y) (i : ℕ) → length xs ≤ i → length ys ≤ i → map f (take i xs) ≡ take i ys
+    → map f xs ≡ ys
 map_all f xs ys i long long' so_far = ap (map f) (sym (take_all i xs long)) ∙ so_far ∙ take_all i ys long'
 
-pub map_at : {X Y : Type 0} (f : X → Y) (xs : List X) (ys : List Y) (i : ℕ) (d : X) (e : Y) → i < length xs → map f xs ≡ ys → f (get_or xs i d) ≡ get_or ys i e
+pub map_at : {X Y : Type 0} (f : X → Y) (xs : List X) (ys : List Y) (i : ℕ) (d : X) (e : Y) → i < length xs → map f xs ≡ ys
+    → f (get_or xs i d) ≡ get_or ys i e
 map_at f xs ys i d e below same = sym (get_or-map f xs i d e below) ∙ ap (λ l. get_or l i e) same
 
 -- ---- two lists, item by item
@@ -39,7 +42,8 @@ module _ {A B : Type 0} (R : A → B → Type 0) where
   zip_onto [] ys i d e below below' here rest = absurd (omega (arith, below))
   zip_onto (x ∷ xs) [] i d e below below' here rest = absurd (omega (arith, below'))
   zip_onto (x ∷ xs) (y ∷ ys) zero d e below below' here rest = (here, rest)
-  zip_onto (x ∷ xs) (y ∷ ys) (suc i) d e below below' here rest = zip_onto xs ys i d e (omega (arith, below)) (omega (arith, below')) here rest
+  zip_onto (x ∷ xs) (y ∷ ys) (suc i) d e below below' here rest =
+      zip_onto xs ys i d e (omega (arith, below)) (omega (arith, below')) here rest
 
 -- a partner for each item
 pub zip_partners : {A B : Type 0} (R : A → B → Type 0) (ys : List B) → All (λ y. (x : A) × R x y) ys → (xs : List A) × AllZip R xs ys
@@ -57,19 +61,22 @@ zip_each R (x ∷ xs) [] h = absurd h
 zip_each R (x ∷ xs) (y ∷ ys) h = All-cons (λ y. (x : _) × R x y) y ys (x, h.0) (zip_each R xs ys h.1)
 
 -- the second list under a map
-pub zip_to_map : {A B C : Type 0} (R : A → C → Type 0) (g : B → C) (xs : List A) (ys : List B) → AllZip (λ x y. R x (g y)) xs ys → AllZip R xs (map g ys)
+pub zip_to_map : {A B C : Type 0} (R : A → C → Type 0) (g : B → C) (xs : List A) (ys : List B) → AllZip (λ x y. R x (g y)) xs ys
+    → AllZip R xs (map g ys)
 zip_to_map R g [] [] h = h
 zip_to_map R g [] (y ∷ ys) h = absurd h
 zip_to_map R g (x ∷ xs) [] h = absurd h
 zip_to_map R g (x ∷ xs) (y ∷ ys) h = (h.0, zip_to_map R g xs ys h.1)
 
-pub zip_from_map : {A B C : Type 0} (R : A → C → Type 0) (g : B → C) (xs : List A) (ys : List B) → AllZip R xs (map g ys) → AllZip (λ x y. R x (g y)) xs ys
+pub zip_from_map : {A B C : Type 0} (R : A → C → Type 0) (g : B → C) (xs : List A) (ys : List B) → AllZip R xs (map g ys)
+    → AllZip (λ x y. R x (g y)) xs ys
 zip_from_map R g [] [] h = h
 zip_from_map R g [] (y ∷ ys) h = absurd h
 zip_from_map R g (x ∷ xs) [] h = absurd h
 zip_from_map R g (x ∷ xs) (y ∷ ys) h = (h.0, zip_from_map R g xs ys h.1)
 
-pub zip_weaker : {A B : Type 0} (R S : A → B → Type 0) → ((x : A) (y : B) → R x y → S x y) → (xs : List A) (ys : List B) → AllZip R xs ys → AllZip S xs ys
+pub zip_weaker : {A B : Type 0} (R S : A → B → Type 0) → ((x : A) (y : B) → R x y → S x y) → (xs : List A) (ys : List B) → AllZip R xs ys
+    → AllZip S xs ys
 zip_weaker R S f [] [] h = tt
 zip_weaker R S f [] (y ∷ ys) h = absurd h
 zip_weaker R S f (x ∷ xs) [] h = absurd h

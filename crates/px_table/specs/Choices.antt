@@ -10,7 +10,7 @@ term_if v (Obj n) term = None
 term_if v (Var w) term = cond (w == v) (Some term) None
 term_if v Any term = None
 
--- the first of two answers that is one
+-- the first answer, or the second where there is no first
 abbrev pub first_answer : Option Term → Option Term → Option Term
 first_answer (Some term) later = Some term
 first_answer None later = later
@@ -21,7 +21,7 @@ term_beside v [] terms = None
 term_beside v (pattern ∷ patterns) [] = None
 term_beside v (pattern ∷ patterns) (term ∷ terms) = first_answer (term_if v pattern term) (term_beside v patterns terms)
 
--- the same of atoms, from the left
+-- the term that stands among the second atoms where the variable stands first among the first, from the left
 abbrev pub choice_of : ℕ → List Atom → List Atom → Option Term
 choice_of v [] atoms = None
 choice_of v (pattern ∷ patterns) [] = None

@@ -5,12 +5,12 @@ use Rattle.px_terms.specs.declared.atom.Atom.{Atom}
 use Rattle.px_terms.specs.declared.clause.Clause.{Clause}
 use Rattle.px_proof.specs.declared.proof.Proof.{Proof}
 use Rattle.px_proof.specs.ProofTerm.{derivation_of}
-use Rattle.px_proof.specs.Proves.{IsName}
+use Rattle.px_proof.specs.Proves.{IsObjectOrParameter}
 use Rattle.px_table.specs.Supports.{IsProofOf}
 
 -- the proof proves the atom, over these numbers of objects and parameters
 abbrev pub ProvesOver : List Clause → ℕ → ℕ → Atom → Proof → Type 0
-ProvesOver axioms objects params atom proof = IsProofOf (IsName objects params) axioms atom (derivation_of proof)
+ProvesOver axioms objects params atom proof = IsProofOf (IsObjectOrParameter objects params) axioms atom (derivation_of proof)
 
 -- it proves some atom over them
 abbrev pub ProvesSome : List Clause → ℕ → ℕ → Proof → Type 0

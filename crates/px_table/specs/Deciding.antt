@@ -1,4 +1,4 @@
--- A test that tells by computing whether a table is one, for definitions that have to compute.
+-- A test that decides by computing whether a table is one, for definitions that have to compute.
 use Rattle.std.specs.Prelude.{ℕ, ◌+◌, ◌==◌, ◌&&◌, Bool, true, false, cond, not, nat_lt, Option, Some, None, List, [], ◌∷◌, length, map, slice_get, slice_index, slice_index_or}
 use Rattle.std.proofs.Common.{zero, suc}
 use Rattle.std.specs.Bool.{Decides}
@@ -49,10 +49,10 @@ is_in_range problem table =
 
 -- ---- proofs
 
-abbrev pub is_name : ℕ → ℕ → Term → Bool
-is_name objects params (Obj n) = nat_lt n objects
-is_name objects params (Var v) = nat_lt v params
-is_name objects params Any = false
+abbrev pub is_object_or_parameter : ℕ → ℕ → Term → Bool
+is_object_or_parameter objects params (Obj n) = nat_lt n objects
+is_object_or_parameter objects params (Var v) = nat_lt v params
+is_object_or_parameter objects params Any = false
 
 abbrev pub lit_eq : Lit → Lit → Bool
 lit_eq first second = cond first.positive second.positive (not second.positive) && atom_eq first.atom second.atom
@@ -62,15 +62,15 @@ abbrev pub clause_at : List Clause → ℕ → Clause
 clause_at axioms number = slice_index_or axioms number (record { vars = 0; lits = [] })
 
 -- the literal's atom, if there is a literal
-abbrev pub atom_of : Option Lit → Atom
-atom_of None = no_atom
-atom_of (Some lit) = lit.atom
+abbrev pub atom_or_no_atom : Option Lit → Atom
+atom_or_no_atom None = no_atom
+atom_or_no_atom (Some lit) = lit.atom
 
 -- the atom that a derivation proves, if it proves one
 abbrev pub conclusion_of : List Clause → Derivation → Atom
 conclusion_of axioms (fact leaf) = leaf.atom
 conclusion_of axioms (ancestor i) = no_atom
-conclusion_of axioms (step number theta place parts) = atom_of (slice_get (instance_of (clause_at axioms number).lits theta) place)
+conclusion_of axioms (step number theta place parts) = atom_or_no_atom (slice_get (instance_of (clause_at axioms number).lits theta) place)
 conclusion_of axioms (gap atom) = no_atom
 conclusion_of axioms open_place = no_atom
 
@@ -79,10 +79,11 @@ module _ (objects params : ℕ) (axioms : List Clause) where
   abbrev mutual
     pub proves : List Atom → List Lit → Lit → Derivation → Bool
     proves atoms path lit (fact leaf) = lit_eq lit (positive_of leaf.atom) &&
-        (list_any (atom_eq leaf.atom) atoms && list_all (is_name objects params) leaf.atom.args)
+        (list_any (atom_eq leaf.atom) atoms && list_all (is_object_or_parameter objects params) leaf.atom.args)
     proves atoms path lit (ancestor i) = is_there lit_eq (slice_get path i) (complement_of lit)
     proves atoms path lit (step number theta place parts) =
-        nat_lt number (length axioms) && ((length theta == (clause_at axioms number).vars) && (list_all (is_name objects params) theta
+        nat_lt number (length axioms) && ((length theta == (clause_at axioms number).vars) &&
+        (list_all (is_object_or_parameter objects params) theta
         && (is_there lit_eq (slice_get (instance_of (clause_at axioms number).lits theta) place) lit && proves_all atoms (lit ∷ path)
         (parts_of (clause_at axioms number).lits theta place) parts)))
     proves atoms path lit (gap atom) = false
@@ -97,7 +98,8 @@ module _ (objects params : ℕ) (axioms : List Clause) where
 
   -- it proves the atom from the atoms of its leaves
   abbrev pub is_proof_of : Atom → Derivation → Bool
-  is_proof_of atom d = proves (leaf_atoms (leaves_of d)) [] (positive_of atom) d && list_all (is_name objects params) atom.args
+  is_proof_of atom d =
+      proves (leaf_atoms (leaves_of d)) [] (positive_of atom) d && list_all (is_object_or_parameter objects params) atom.args
 
   -- each proves its atom
   abbrev pub proves_each_of : List Atom → List Derivation → Bool

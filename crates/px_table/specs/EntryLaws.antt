@@ -12,9 +12,9 @@ use Rattle.px_table.specs.contracts.entry.EntryOrd.TheImpl.Laws as entry_order
 use Rattle.px_table.specs.declared.entry.Entry.{Entry}
 use Rattle.px_table.specs.declared.entry.Entry.TheVariants.{Op, Macro}
 use Rattle.px_table.specs.declared.entry.Move.TheVariants.{Push, Apply}
-use Rattle.px_table.specs.EntryOrder.{entry_eq, entry_cmp, order_of, EntriesAreOrdered, MovesAreCompared}
+use Rattle.px_table.specs.EntryOrder.{entry_eq, entry_cmp, order_of_entries, EntriesAreOrdered, MovesAreCompared}
 
-pub entry_cmp-is : (first second : Entry) → entry_cmp first second ≡ order_of first second
+pub entry_cmp-is : (first second : Entry) → entry_cmp first second ≡ order_of_entries first second
 entry_cmp-is (Op a) (Op b) = refl
 entry_cmp-is (Op a) (Macro n p s) = refl
 entry_cmp-is (Macro n p s) (Op b) = refl
@@ -32,16 +32,16 @@ pub entries_are_ordered : EntriesAreOrdered
 entries_are_ordered = record { order = entry_cmp-is; equality = entry_eq-decides }
 
 -- the order is total
-pub order_of-total : IsTotalOrder order_of
-order_of-total = record {
+pub order_of_entries-total : IsTotalOrder order_of_entries
+order_of_entries-total = record {
   antisymm = λ x y. sym (entry_cmp-is x y) ∙ entry_order.total-law.antisymm x y ∙ ap ordering_reverse (entry_cmp-is y x);
   trans = λ x y z h k. sym (entry_cmp-is x z) ∙ entry_order.total-law.trans x y z (entry_cmp-is x y ∙ h) (entry_cmp-is y z ∙ k);
   congr = λ x y z h. sym (entry_cmp-is x z) ∙ entry_order.total-law.congr x y z (entry_cmp-is x y ∙ h) ∙ entry_cmp-is y z;
 }
 
--- two that the order doesn't tell apart are the same
-pub order_of-same : (first second : Entry) → order_of first second ≡ Equal → first ≡ second
-order_of-same first second e = (entry_eq-decides first second).0
+-- two that compare as equal are the same
+pub order_of_entries-same : (first second : Entry) → order_of_entries first second ≡ Equal → first ≡ second
+order_of_entries-same first second e = (entry_eq-decides first second).0
     (entry_order.matches_eq-law first second ∙ (Equal-is (entry_cmp first second)).1 (entry_cmp-is first second ∙ e))
 
 pub moves_are_compared : MovesAreCompared

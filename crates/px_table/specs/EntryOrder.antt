@@ -27,16 +27,16 @@ entry_hash_input = (entry_hash.ghosts).hash_input
 
 -- Operators come before tables. Operators are ordered by number and then by arguments, tables by number, then by how
 -- many steps are taken, then by objects.
-abbrev pub order_of : Entry → Entry → Ordering
-order_of (Op first) (Op second) = instance_cmp first second
-order_of (Op first) (Macro number prefix sigma) = Less
-order_of (Macro number prefix sigma) (Op second) = Greater
-order_of (Macro number prefix sigma) (Macro number' prefix' sigma') =
+abbrev pub order_of_entries : Entry → Entry → Ordering
+order_of_entries (Op first) (Op second) = instance_cmp first second
+order_of_entries (Op first) (Macro number prefix sigma) = Less
+order_of_entries (Macro number prefix sigma) (Op second) = Greater
+order_of_entries (Macro number prefix sigma) (Macro number' prefix' sigma') =
     ordering_then (nat_cmp number number') (ordering_then (nat_cmp prefix prefix') (slice_cmp nat_cmp sigma sigma'))
 
 -- `cmp` is this order, and `==` is equality
 pub record EntriesAreOrdered : Type 0 where
-  pub order : (first second : Entry) → entry_cmp first second ≡ order_of first second
+  pub order : (first second : Entry) → entry_cmp first second ≡ order_of_entries first second
   pub equality : (first second : Entry) → Decides (entry_eq first second) (first ≡ second)
 
 -- what `==` of moves computes

@@ -21,7 +21,7 @@ use Rattle.px_proof.specs.declared.proof.Leaf.{Leaf}
 use Rattle.px_proof.specs.Derivation.{Derivation, leaves_of, leaf_atoms}
 use Rattle.px_proof.specs.Literals.{positive_of}
 use Rattle.px_proof.specs.PlaceLaws.{Contains-mapped}
-use Rattle.px_proof.specs.Proves.{IsName}
+use Rattle.px_proof.specs.Proves.{IsObjectOrParameter}
 use Rattle.px_proof.specs.Soundness.{tree_follows}
 use Rattle.px_table.specs.declared.mark.Mark.{Mark}
 use Rattle.px_table.specs.declared.table.Table.{Table}
@@ -34,7 +34,7 @@ use Rattle.px_table.specs.Supports.{IsProofOf, ProvesEachOf, variables}
 use Rattle.px_table.specs.Tables.{IsTable, rows_of}
 use Rattle.px_table.specs.UnderLaws.{IsNamed-under, atom_under-is_of, elements-are_values, elements_under, from_map, term-within, goal_holds-under, holds-under, precondition-under}
 
--- what has the fact has it under a map
+-- an item of the list under a map comes from one of the list
 pub Contains-from_map : {A B : Type 0} (f : A → B) (xs : List A) (y : B) → Contains (map f xs) y → (x : A) × Contains xs x × (f x ≡ y)
 Contains-from_map f [] y has = absurd (omega (arith, has.1))
 Contains-from_map f (x ∷ xs) y (zero, below, is) = (x, (0, omega arith, refl), is)
@@ -82,7 +82,7 @@ module _ (problem : Problem) (table : Table) (is_table : IsTable problem table) 
 
   -- what a proof over names proves is true with the elements of the objects
   sound_here : (state : State) → IsState state → AxiomsHold problem state → (atom : Atom) (d : Derivation)
-      → IsProofOf (IsName problem.objects table.params) problem.axioms atom d
+      → IsProofOf (IsObjectOrParameter problem.objects table.params) problem.axioms atom d
       → All (HoldsUnder state (elements_under state sigma)) (leaf_atoms (leaves_of d)) → HoldsUnder state (elements_under state sigma) atom
   sound_here state is axioms atom d proof leaves =
       tree_follows problem.axioms problem.objects table.params (positive_of atom) d (record { proves = proof.proves; terms = proof.terms })
@@ -100,10 +100,10 @@ module _ (problem : Problem) (table : Table) (is_table : IsTable problem table) 
 
   atoms_true : (state : State) → IsState state → AxiomsHold problem state → (r : ℕ) (atoms : List Atom) (row : List Derivation)
       → ((leaf : Leaf) → Contains (row_leaves row) leaf → Contains table.marks (mark_of r leaf)) → RowHolds Instances state r
-      → ProvesEachOf (IsName problem.objects table.params) problem.axioms atoms row
+      → ProvesEachOf (IsObjectOrParameter problem.objects table.params) problem.axioms atoms row
       → All (HoldsUnder state (elements_under state sigma)) atoms
   atoms_true state is axioms r atoms row marked holds each =
-      row_true (HoldsUnder state (elements_under state sigma)) (IsName problem.objects table.params) problem.axioms
+      row_true (HoldsUnder state (elements_under state sigma)) (IsObjectOrParameter problem.objects table.params) problem.axioms
       (sound_here state is axioms) atoms row (leaves_true state r row marked holds) each
 
   -- where the instances of a row's marks hold, so does the precondition of its step
@@ -112,7 +112,8 @@ module _ (problem : Problem) (table : Table) (is_table : IsTable problem table) 
   rows_here zero inst state at is axioms holds = absurd (cc)
   rows_here (suc k) inst state at is axioms holds =
       let from = from_map (instance_under sigma) table.steps k inst at in
-      let row = row_of_step (IsName problem.objects table.params) problem table.params table.goal table.goal_vars 1 k (suc k) from.0
+      let row =
+      row_of_step (IsObjectOrParameter problem.objects table.params) problem table.params table.goal table.goal_vars 1 k (suc k) from.0
       table.steps (rows_of table.proofs) (omega arith) from.1 is_table.prove in
       let true_here = atoms_true state is axioms (suc k) (precondition problem from.0) row.row
       (λ leaf has. subst (λ ms. Contains ms (mark_of (suc k) leaf)) (sym is_table.marks) (row.marked leaf has)) holds row.fact_of in
@@ -127,7 +128,7 @@ module _ (problem : Problem) (table : Table) (is_table : IsTable problem table) 
   goal_here : (state : State) → IsState state → AxiomsHold problem state → RowHolds Instances state (suc (length (steps_under table sigma)))
       → GoalHolds state table.goal_vars (goal_under table sigma)
   goal_here state is axioms holds =
-      let row = row_of_goal (IsName problem.objects table.params) problem table.params table.goal table.goal_vars 1
+      let row = row_of_goal (IsObjectOrParameter problem.objects table.params) problem table.params table.goal table.goal_vars 1
       (suc (length table.steps)) table.steps (rows_of table.proofs) (omega arith) is_table.prove in
       let chosen = row.fact_of.0 in
       let elements = elements_under state sigma in
@@ -190,7 +191,7 @@ module _ (problem : Problem) (table : Table) (is_table : IsTable problem table) 
           (omega (arith, length-map table.steps (instance_under sigma))) refl (kernel_holds state facts) kept_here run long;
     }
 
--- the tail from any step on
+-- the steps from any one on
 pub tail_carries : (problem : Problem) (table : Table) (sigma : List ℕ) (i : ℕ) → IsTable problem table
     → IsInstantiation problem table sigma → 1 ≤ i → i ≤ length table.steps + 1
     → IsProper problem table sigma i → TailCarries problem table sigma i

@@ -69,7 +69,7 @@ pub record KernelsCarry (problem : Problem) (table : Table) : Type 0 where
   pub carry : (sigma : List ℕ) → IsInstantiation problem table sigma → (i : ℕ) → 1 ≤ i → i ≤ length table.steps + 1
       → IsProper problem table sigma i → TailCarries problem table sigma i
 
--- the atom is in kernel `i` just where some mark of row `i` or later, with column before `i`, has it
+-- the atom is in kernel `i` exactly where some mark of row `i` or later, with column before `i`, has it
 abbrev pub KernelsAreMarks : Type 0
 KernelsAreMarks = (table : Table) (i : ℕ) (atom : Atom)
     → Contains (kernel_of table i) atom ↔ ((mark : Mark) × Contains table.marks mark × (mark.atom ≡ atom) × (i ≤ mark.row)

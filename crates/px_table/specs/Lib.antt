@@ -1,3 +1,4 @@
+-- The files of definitions and laws.
 pub mod Carrying
 pub mod Choices
 pub mod Conclusions

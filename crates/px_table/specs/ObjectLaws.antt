@@ -15,7 +15,7 @@ use Rattle.px_terms.specs.Substitution.{substitute_atom}
 use Rattle.px_terms.specs.Validity.{IsTermOf}
 use Rattle.px_proof.specs.Derivation.{Derivation, Derivations, fact, ancestor, step, gap, open_place, none, also, terms_of, all_terms_of}
 use Rattle.px_proof.specs.Proves.{Proves, ProvesEach, from_atoms, parts_of}
-use Rattle.px_table.specs.SupportClaims.{with_objects}
+use Rattle.px_table.specs.SupportClaims.{with_object_count}
 use Rattle.px_table.specs.Supports.{ProvesEachOf, RowsProve}
 
 -- ---- ground proofs name objects alone
@@ -81,13 +81,13 @@ from_each P (x ∷ xs) all =
     let rest = from_each P xs (λ k d below. all (suc k) d (omega (arith, below))) in
     (here.0 + rest.0, λ count enough. All-cons (P count) x xs (here.1 count (omega (arith, enough))) (rest.1 count (omega (arith, enough))))
 
-term_from : (problem : Problem) (t : Term) → IsObject t → FromSome (λ count. IsTermOf (with_objects problem count) 0 t)
+term_from : (problem : Problem) (t : Term) → IsObject t → FromSome (λ count. IsTermOf (with_object_count problem count) 0 t)
 term_from problem (Obj n) is = (suc n, λ count enough. omega (arith, enough))
 term_from problem (Var v) is = absurd is
 term_from problem Any is = absurd is
 
 -- the terms of such a derivation are the problem's, with enough objects
-pub terms_from : (problem : Problem) (d : Derivation) → NamesObjects d
-    → FromSome (λ count. All (IsTermOf (with_objects problem count) 0) (terms_of d))
-terms_from problem d objects =
-    from_each (λ count. IsTermOf (with_objects problem count) 0) (terms_of d) (λ k t below. term_from problem _ (objects k t below))
+pub terms_name_objects : (problem : Problem) (d : Derivation) → NamesObjects d
+    → FromSome (λ count. All (IsTermOf (with_object_count problem count) 0) (terms_of d))
+terms_name_objects problem d objects =
+    from_each (λ count. IsTermOf (with_object_count problem count) 0) (terms_of d) (λ k t below. term_from problem _ (objects k t below))

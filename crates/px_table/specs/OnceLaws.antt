@@ -36,7 +36,7 @@ put_each-more same xs f ys k d below =
     put_each-append same xs (map f (take k ys)) (f (get_or ys k d) ∷ [])
 
 module _ {A : Type 0} (same : A → A → Bool) (decides : (x y : A) → Decides (same x y) (x ≡ y)) where
-  -- leaving out what is another item doesn't change whether the item is there
+  -- leaving out another item doesn't change whether the item is there
   still_there : (x y : A) (xs : List A) → same x y ≡ false → list_any (λ z. same z y) (filter (λ z. not (same x z)) xs) ≡ list_any
       (λ z. same z y) xs
   still_there x y [] other = refl

@@ -21,8 +21,8 @@ IsProperPrefix problem table prefix sigma = All (λ mark. mark.row ≤ prefix
     → IsKept problem (steps_under table sigma) 1 (mark_under sigma mark)) table.marks
 
 -- the number is the object of a parameter: one of the problem's where the first steps use the parameter, and 0 where they don't
-abbrev pub IsPlaced : Problem → Table → ℕ → ℕ → ℕ → Type 0
-IsPlaced problem table prefix v number = (IsUsed table prefix v → number < problem.objects) × (¬ IsUsed table prefix v → number ≡ 0)
+abbrev pub IsAllowedNumber : Problem → Table → ℕ → ℕ → ℕ → Type 0
+IsAllowedNumber problem table prefix v number = (IsUsed table prefix v → number < problem.objects) × (¬ IsUsed table prefix v → number ≡ 0)
 
 -- Two or more of the table's first steps, with an object of the problem for each parameter that they use and object 0 for each
 -- other one, where no step deletes a mark of their rows that it stands between.

@@ -13,9 +13,9 @@ use Rattle.px_proof.specs.declared.proof.Leaf.{Leaf}
 use Rattle.px_proof.specs.Derivation.{Derivation, leaves_of, leaf_atoms, terms_of}
 use Rattle.px_table.specs.declared.mark.Mark.{Mark}
 use Rattle.px_table.specs.Marks.{IsKept, IsNamed, mark_of, marks_from, step_at}
-use Rattle.px_table.specs.ObjectLaws.{FromSome, from_each, rows_objects, terms_from}
+use Rattle.px_table.specs.ObjectLaws.{FromSome, from_each, rows_objects, terms_name_objects}
 use Rattle.px_table.specs.RowLaws.{leaf_marked}
-use Rattle.px_table.specs.SupportClaims.{HaveArities, IsLeafOf, SupportsCarry, SupportsRefuse, with_objects}
+use Rattle.px_table.specs.SupportClaims.{HaveArities, IsLeafOf, SupportsCarry, SupportsRefuse, with_object_count}
 use Rattle.px_table.specs.SupportLaws.{support_carries}
 use Rattle.px_table.specs.Supports.{RowsProve, Supports}
 use Rattle.px_table.specs.Tables.{AreOfProblem}
@@ -26,7 +26,7 @@ module _ (problem : Problem) (count : ℕ) where
   rows_wider : (IsTerm : Term → Type 0) (params : ℕ) (goal : List Atom) (goal_vars : ℕ) (steps : List OpInst)
       (rows : List (List Derivation))
       → RowsProve IsTerm problem params steps goal goal_vars rows
-      → RowsProve IsTerm (with_objects problem count) params steps goal goal_vars rows
+      → RowsProve IsTerm (with_object_count problem count) params steps goal goal_vars rows
   rows_wider IsTerm params goal goal_vars [] [] h = h
   rows_wider IsTerm params goal goal_vars [] (row ∷ []) h = h
   rows_wider IsTerm params goal goal_vars [] (row ∷ second ∷ rows) h = h
@@ -35,7 +35,7 @@ module _ (problem : Problem) (count : ℕ) where
 
   -- the number of the problem's objects doesn't count
   pub support_wider : (atoms : List Atom) (steps : List OpInst) (goal : List Atom) (goal_vars : ℕ) (rows : List (List Derivation))
-      → Supports problem atoms steps goal goal_vars rows → Supports (with_objects problem count) atoms steps goal goal_vars rows
+      → Supports problem atoms steps goal goal_vars rows → Supports (with_object_count problem count) atoms steps goal goal_vars rows
   support_wider atoms steps goal goal_vars rows s = record {
     instances = λ k d below. let i = s.instances k d below in record { op = i.op; count = i.count; all_objects = i.all_objects };
     prove = rows_wider _ 0 goal goal_vars steps rows s.prove;
@@ -46,26 +46,26 @@ module _ (problem : Problem) (count : ℕ) where
 
 module _ (problem : Problem) (atoms : List Atom) (steps : List OpInst) (goal : List Atom) (goal_vars : ℕ) (rows : List (List Derivation))
     (supports : Supports problem atoms steps goal goal_vars rows) where
-  over_objects : (count : ℕ) → AreOfProblem (with_objects problem count) rows
-      → Carries (with_objects problem count) atoms steps goal_vars goal
-  over_objects count are = support_carries (with_objects problem count) atoms steps goal goal_vars rows are
+  over_objects : (count : ℕ) → AreOfProblem (with_object_count problem count) rows
+      → Carries (with_object_count problem count) atoms steps goal_vars goal
+  over_objects count are = support_carries (with_object_count problem count) atoms steps goal goal_vars rows are
       (support_wider problem count atoms steps goal goal_vars rows supports)
 
   -- the rows are the problem's, with enough objects
-  rows_from : HaveArities problem rows → FromSome (λ count. AreOfProblem (with_objects problem count) rows)
+  rows_from : HaveArities problem rows → FromSome (λ count. AreOfProblem (with_object_count problem count) rows)
   rows_from arities =
       from_each (λ count (row : List Derivation). All (IsDerivationOf count) row) rows (λ k row below.
       from_each IsDerivationOf _ (λ j d inner.
-      (let from = terms_from problem (slice_index_or (slice_index_or rows k row) j d)
+      (let from = terms_name_objects problem (slice_index_or (slice_index_or rows k row) j d)
       (rows_objects problem goal goal_vars steps rows supports.prove k row below j d inner) in
       (from.0, λ count enough. (from.1 count enough, arities k row below j d inner)))))
     where
       IsDerivationOf : ℕ → Derivation → Type 0
-      IsDerivationOf count d = All (IsTermOf (with_objects problem count) 0) (terms_of d)
+      IsDerivationOf count d = All (IsTermOf (with_object_count problem count) 0) (terms_of d)
           × All (HasArity problem) (leaf_atoms (leaves_of d))
 
   enough_objects : HaveArities problem rows → (least : ℕ) × ((count : ℕ) → least ≤ count
-      → Carries (with_objects problem count) atoms steps goal_vars goal)
+      → Carries (with_object_count problem count) atoms steps goal_vars goal)
   enough_objects arities = let from = rows_from arities in (from.0, λ count enough. over_objects count (from.1 count enough))
 
 pub supports_carry : SupportsCarry

@@ -13,8 +13,8 @@ use Rattle.px_table.specs.Supports.{Supports}
 use Rattle.px_table.specs.Tables.{AreOfProblem}
 
 -- the problem, with another number of objects
-abbrev pub with_objects : Problem → ℕ → Problem
-with_objects problem count = record problem { objects = count }
+abbrev pub with_object_count : Problem → ℕ → Problem
+with_object_count problem count = record problem { objects = count }
 
 -- each predicate in the leaves of the rows is the problem's, with its number of arguments
 abbrev pub HaveArities : Problem → List (List Derivation) → Type 0
@@ -25,12 +25,12 @@ HaveArities problem rows = All (All (λ d. All (HasArity problem) (leaf_atoms (l
 pub record SupportsCarry : Type 0 where
   pub over : (problem : Problem) (count : ℕ) (atoms : List Atom) (steps : List OpInst) (goal : List Atom) (goal_vars : ℕ)
       (rows : List (List Derivation))
-      → Supports problem atoms steps goal goal_vars rows → AreOfProblem (with_objects problem count) rows
-      → Carries (with_objects problem count) atoms steps goal_vars goal
+      → Supports problem atoms steps goal goal_vars rows → AreOfProblem (with_object_count problem count) rows
+      → Carries (with_object_count problem count) atoms steps goal_vars goal
   pub enough : (problem : Problem) (atoms : List Atom) (steps : List OpInst) (goal : List Atom) (goal_vars : ℕ)
       (rows : List (List Derivation))
       → Supports problem atoms steps goal goal_vars rows → HaveArities problem rows
-      → (least : ℕ) × ((count : ℕ) → least ≤ count → Carries (with_objects problem count) atoms steps goal_vars goal)
+      → (least : ℕ) × ((count : ℕ) → least ≤ count → Carries (with_object_count problem count) atoms steps goal_vars goal)
 
 -- the leaf is one of the proofs in the row of that number, counted from 1
 pub record IsLeafOf (rows : List (List Derivation)) (row : ℕ) (leaf : Leaf) : Type 0 where

@@ -21,7 +21,7 @@ use Rattle.px_proof.specs.declared.proof.Proof.{Proof}
 use Rattle.px_proof.specs.Derivation.{Derivation, Derivations, fact, ancestor, step, gap, open_place, none, also, leaves_of, all_leaves_of, leaf_atoms, terms_of, all_terms_of}
 use Rattle.px_proof.specs.Literals.{positive_of, substitute_literal}
 use Rattle.px_proof.specs.PlaceLaws.{All-back, All-front, All-got, Contains-mapped}
-use Rattle.px_proof.specs.Proves.{Proves, ProvesEach, IsName, from_atoms, parts_of}
+use Rattle.px_proof.specs.Proves.{Proves, ProvesEach, IsObjectOrParameter, from_atoms, parts_of}
 use Rattle.px_proof.specs.Soundness.{follows}
 use Rattle.px_proof.specs.TruthLaws.{literal-under}
 use Rattle.px_proof.specs.ProvesLaws.{name_of_term}
@@ -169,15 +169,15 @@ support_carries problem atoms steps goal goal_vars rows are support =
 
 -- ---- proofs over objects are proofs over the problem's objects
 
-names_of : (problem : Problem) (ts : List Term) → All (IsTermOf problem 0) ts → All (IsName problem.objects 0) ts
-names_of problem ts all k d below = name_of_term problem 0 _ (all k d below)
+terms-are_names : (problem : Problem) (ts : List Term) → All (IsTermOf problem 0) ts → All (IsObjectOrParameter problem.objects 0) ts
+terms-are_names problem ts all k d below = name_of_term problem 0 _ (all k d below)
 
 module _ (problem : Problem) (atoms : List Atom) where
   mutual
     over_problem : (path : List Lit) (lit : Lit) (d : Derivation) → All (IsTermOf problem 0) (terms_of d)
         → Proves (from_atoms IsObject atoms) problem.axioms path lit d
-        → Proves (from_atoms (IsName problem.objects 0) atoms) problem.axioms path lit d
-    over_problem path lit (fact leaf) all proved = (proved.0, (proved.1.0, names_of problem leaf.atom.args all))
+        → Proves (from_atoms (IsObjectOrParameter problem.objects 0) atoms) problem.axioms path lit d
+    over_problem path lit (fact leaf) all proved = (proved.0, (proved.1.0, terms-are_names problem leaf.atom.args all))
     over_problem path lit (ancestor i) all proved = proved
     over_problem path lit (step number theta place parts) all proved = (
       proved.0,
@@ -185,7 +185,7 @@ module _ (problem : Problem) (atoms : List Atom) where
         axiom_at = proved.1.axiom_at;
         terms = proved.1.terms;
         choices =
-            names_of problem theta (All-front (IsTermOf problem 0) theta (all_terms_of parts) all);
+            terms-are_names problem theta (All-front (IsTermOf problem 0) theta (all_terms_of parts) all);
         literal_at = proved.1.literal_at;
       },
       each_over_problem (lit ∷ path) (parts_of proved.0.lits theta place) parts
@@ -196,7 +196,7 @@ module _ (problem : Problem) (atoms : List Atom) where
 
     each_over_problem : (path lits : List Lit) (ds : Derivations) → All (IsTermOf problem 0) (all_terms_of ds)
         → ProvesEach (from_atoms IsObject atoms) problem.axioms path lits ds
-        → ProvesEach (from_atoms (IsName problem.objects 0) atoms) problem.axioms path lits ds
+        → ProvesEach (from_atoms (IsObjectOrParameter problem.objects 0) atoms) problem.axioms path lits ds
     each_over_problem path [] none all each = tt
     each_over_problem path (lit ∷ lits) (also d ds) all each = (
       over_problem path lit d (All-front (IsTermOf problem 0) (terms_of d) (all_terms_of ds) all) each.0,
@@ -226,15 +226,15 @@ module _ (problem : Problem) (atoms : List Atom) where
   conclusion_terms valid atom open_place all proved = absurd proved
 
 proof_over_problem : (problem : Problem) → IsValid problem → (atom : Atom) (d : Derivation) → All (IsTermOf problem 0) (terms_of d)
-    → IsProofOf IsObject problem.axioms atom d → IsProofOf (IsName problem.objects 0) problem.axioms atom d
+    → IsProofOf IsObject problem.axioms atom d → IsProofOf (IsObjectOrParameter problem.objects 0) problem.axioms atom d
 proof_over_problem problem valid atom d all proof = record {
   proves = over_problem problem (leaf_atoms (leaves_of d)) [] (positive_of atom) d all proof.proves;
-  terms = names_of problem atom.args (conclusion_terms problem (leaf_atoms (leaves_of d)) valid atom d all proof.proves);
+  terms = terms-are_names problem atom.args (conclusion_terms problem (leaf_atoms (leaves_of d)) valid atom d all proof.proves);
 }
 
 row_over_problem : (problem : Problem) → IsValid problem → (atoms : List Atom) (row : List Derivation)
     → All (λ d. All (IsTermOf problem 0) (terms_of d) × All (HasArity problem) (leaf_atoms (leaves_of d))) row
-    → ProvesEachOf IsObject problem.axioms atoms row → ProvesEachOf (IsName problem.objects 0) problem.axioms atoms row
+    → ProvesEachOf IsObject problem.axioms atoms row → ProvesEachOf (IsObjectOrParameter problem.objects 0) problem.axioms atoms row
 row_over_problem problem valid [] [] all each = tt
 row_over_problem problem valid [] (d ∷ row) all each = absurd each
 row_over_problem problem valid (atom ∷ atoms) [] all each = absurd each
@@ -245,7 +245,8 @@ row_over_problem problem valid (atom ∷ atoms) (d ∷ row) all each = (
 
 rows_over_problem : (problem : Problem) → IsValid problem → (goal : List Atom) (goal_vars : ℕ) (steps : List OpInst)
     (rows : List (List Derivation)) → AreOfProblem problem rows
-    → RowsProve IsObject problem 0 steps goal goal_vars rows → RowsProve (IsName problem.objects 0) problem 0 steps goal goal_vars rows
+    → RowsProve IsObject problem 0 steps goal goal_vars rows
+    → RowsProve (IsObjectOrParameter problem.objects 0) problem 0 steps goal goal_vars rows
 rows_over_problem problem valid goal goal_vars [] [] are h = absurd h
 rows_over_problem problem valid goal goal_vars [] (row ∷ []) are h =
     (h.0, h.1, row_over_problem problem valid (map (substitute_atom h.0) goal) row (are 0 row (omega arith)) h.2)

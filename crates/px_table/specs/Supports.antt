@@ -1,26 +1,19 @@
 -- Supports: proofs that carry the steps of a plan to its goal, from the atoms of a model and from what the steps add.
 use Rattle.std.specs.Prelude.{◌≡◌, ℕ, List, [], ◌∷◌, ◌++◌, length, map, All, Contains}
-use Rattle.std.proofs.Common.{zero, suc}
 use Rattle.std.specs.List.{AllZip}
 use Rattle.px_terms.specs.declared.atom.Atom.{Atom}
 use Rattle.px_terms.specs.declared.clause.Clause.{Clause}
 use Rattle.px_terms.specs.declared.instance.OpInst.{OpInst}
 use Rattle.px_terms.specs.declared.problem.Problem.{Problem}
 use Rattle.px_terms.specs.declared.term.Term.{Term}
-use Rattle.px_terms.specs.declared.term.Term.TheVariants.{Var}
 use Rattle.px_terms.specs.Language.{IsObject}
 use Rattle.px_terms.specs.Operators.{precondition}
-use Rattle.px_terms.specs.Substitution.{substitute_atom}
+use Rattle.px_terms.specs.Substitution.{substitute_atom, variables_from}
 use Rattle.px_terms.specs.Validity.{IsGroundInstanceOf}
 use Rattle.px_proof.specs.Derivation.{Derivation, leaves_of, leaf_atoms}
 use Rattle.px_proof.specs.Literals.{positive_of}
 use Rattle.px_proof.specs.Proves.{Proves, from_atoms}
 use Rattle.px_table.specs.Marks.{IsNamed, IsKept, marks_from}
-
--- the variables from number `first` on, of the given count
-abbrev pub variables_from : ℕ → ℕ → List Term
-variables_from first zero = []
-variables_from first (suc count) = Var first ∷ variables_from (suc first) count
 
 -- the first variables
 abbrev pub variables : ℕ → List Term

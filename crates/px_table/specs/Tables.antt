@@ -7,7 +7,7 @@ use Rattle.px_terms.specs.Validity.{IsTermOf, IsAtomOf, HasArity}
 use Rattle.px_proof.specs.declared.proof.Proof.{Proof}
 use Rattle.px_proof.specs.Derivation.{Derivation, leaves_of, leaf_atoms, terms_of}
 use Rattle.px_proof.specs.ProofTerm.{derivation_of}
-use Rattle.px_proof.specs.Proves.{IsName}
+use Rattle.px_proof.specs.Proves.{IsObjectOrParameter}
 use Rattle.px_table.specs.declared.table.Table.{Table}
 use Rattle.px_table.specs.Marks.{IsNamed, marks_from}
 use Rattle.px_table.specs.Supports.{RowsProve}
@@ -23,7 +23,7 @@ pub record IsStepOf (problem : Problem) (params : ℕ) (inst : OpInst) : Type 0 
   pub terms : All (IsTermOf problem params) inst.args
 
 -- the table has fewer than 4,294,967,295 steps, each is one over its parameters, and its goal has further variables of its own
-pub record IsInRange (problem : Problem) (table : Table) : Type 0 where
+pub record IsTableInRange (problem : Problem) (table : Table) : Type 0 where
   pub short : length table.steps < 4294967295
   pub steps : All (IsStepOf problem table.params) table.steps
   pub goal : All (IsAtomOf problem (table.params + table.goal_vars)) table.goal
@@ -32,8 +32,8 @@ pub record IsInRange (problem : Problem) (table : Table) : Type 0 where
 -- goal, over the problem's objects and the parameters, its marks are the leaves of the rows, and each mark is an atom of
 -- the problem that names where it comes from.
 pub record IsTable (problem : Problem) (table : Table) : Type 0 where
-  pub in_range : IsInRange problem table
-  pub prove : RowsProve (IsName problem.objects table.params) problem table.params table.steps table.goal table.goal_vars
+  pub in_range : IsTableInRange problem table
+  pub prove : RowsProve (IsObjectOrParameter problem.objects table.params) problem table.params table.steps table.goal table.goal_vars
       (rows_of table.proofs)
   pub marks : table.marks ≡ marks_from 1 (rows_of table.proofs)
   pub atoms : All (λ mark. IsAtomOf problem table.params mark.atom) table.marks

@@ -11,26 +11,22 @@ use Rattle.px_terms.specs.declared.term.Term.TheVariants.{Obj, Var, Any}
 use Rattle.px_terms.specs.Instances.{IsGround}
 use Rattle.px_terms.specs.Operators.{precondition, adds, schema_of}
 use Rattle.px_terms.specs.States.{State, IsState, Holds, HoldsUnder, AreValues, element_of}
-use Rattle.px_terms.specs.Substitution.{substitute_atom, substitute_instance}
+use Rattle.px_terms.specs.Substitution.{substitute_atom, substitute_instance, variables_from}
 use Rattle.px_terms.specs.Validity.{IsAtomOf, IsTermOf, IsInstanceOf}
 use Rattle.px_terms.specs.ValidityLaws.{atom-is_of}
 use Rattle.px_proof.specs.Literals.{positive_of}
 use Rattle.px_proof.specs.PlaceLaws.{slice_get-map}
-use Rattle.px_proof.specs.SubstitutionLaws.{literal_twice}
+use Rattle.px_proof.specs.SubstitutionLaws.{atom_twice}
 use Rattle.px_proof.specs.TruthLaws.{elements_of, literal-under, object-within, element_within}
 use Rattle.px_terms.specs.Language.{IsObject, substitute}
 use Rattle.px_table.specs.declared.mark.Mark.{Mark}
 use Rattle.px_table.specs.declared.table.Table.{Table}
 use Rattle.px_table.specs.Kernels.{IsInstantiation, atom_under, mark_under, instance_under}
 use Rattle.px_table.specs.Marks.{IsNamed, step_at}
-use Rattle.px_table.specs.Supports.{variables, variables_from}
+use Rattle.px_table.specs.Supports.{variables}
 use Rattle.px_table.specs.Tables.{IsStepOf}
 
 -- ---- lists of an instance are those of the schema's instance under the terms
-
-pub atom_twice : (outer inner : List Term) (atom : Atom) → substitute_atom outer (substitute_atom inner atom) ≡ substitute_atom
-    (map (substitute outer) inner) atom
-atom_twice outer inner atom = ap (λ l. l.atom) (literal_twice outer inner (positive_of atom))
 
 atoms_twice : (outer inner : List Term) (atoms : List Atom) → map (substitute_atom (map (substitute outer) inner)) atoms ≡ map
     (substitute_atom outer) (map (substitute_atom inner) atoms)
@@ -74,20 +70,22 @@ IsNamed-under problem steps sigma mark named = record {
 
 -- ---- objects of the problem for the parameters
 
-object_terms : (problem : Problem) (sigma : List ℕ) → All (λ n. n < problem.objects) sigma → All (IsTermOf problem 0) (map Obj sigma)
-object_terms problem sigma objects = All-map (IsTermOf problem 0) Obj sigma objects
+object_terms-are_terms : (problem : Problem) (sigma : List ℕ) → All (λ n. n < problem.objects) sigma
+    → All (IsTermOf problem 0) (map Obj sigma)
+object_terms-are_terms problem sigma objects = All-map (IsTermOf problem 0) Obj sigma objects
 
 -- an atom over the parameters becomes an atom of the problem
 pub atom_under-is_of : (problem : Problem) (table : Table) (sigma : List ℕ) (atom : Atom) → IsInstantiation problem table sigma
     → IsAtomOf problem table.params atom → IsAtomOf problem 0 (atom_under sigma atom)
 atom_under-is_of problem table sigma atom given is =
-    atom-is_of problem (map Obj sigma) (object_terms problem sigma given.objects) atom
+    atom-is_of problem (map Obj sigma) (object_terms-are_terms problem sigma given.objects) atom
     (subst (λ n. IsAtomOf problem n atom) (sym (length-map sigma Obj ∙ given.count)) is)
 
 term_with : (problem : Problem) (params : ℕ) (sigma : List ℕ) → All (λ n. n < problem.objects) sigma → length sigma ≡ params → (t : Term)
     → IsTermOf problem params t → IsTermOf problem 0 (substitute (map Obj sigma) t)
 term_with problem params sigma objects count (Obj n) h = h
-term_with problem params sigma objects count (Var v) h = object_terms problem sigma objects v Any (rw length-map (omega (arith, h)))
+term_with problem params sigma objects count (Var v) h =
+    object_terms-are_terms problem sigma objects v Any (rw length-map (omega (arith, h)))
 term_with problem params sigma objects count Any h = h
 
 -- a step becomes an instance of an operator of the problem
@@ -172,8 +170,8 @@ objects_alike : (state : State) (values : List ℕ) (sigma : List ℕ)
 objects_alike state values [] = refl
 objects_alike state values (n ∷ sigma) = ap (λ l. slice_index state.elements n ∷ l) (objects_alike state values sigma)
 
--- The goal's atom with terms for its own variables behind the parameters holds with the elements of the objects just where
--- the atom with objects for the parameters holds with the elements of these terms.
+-- The goal's atom with terms for its own variables after the parameters holds with the elements of the objects exactly where the atom with
+-- objects for the parameters holds with the elements of these terms.
 pub goal_holds-under : (state : State) (sigma : List ℕ) (chosen : List Term) (params count : ℕ) → length sigma ≡ params
     → length chosen ≡ count → (atom : Atom)
     → HoldsUnder state (elements_under state sigma) (substitute_atom (variables params ++ chosen) atom)

@@ -16,7 +16,7 @@ use px_proof::{Proof, leaves};
 use px_terms::{Atom, OpInst, Problem};
 use std::alloc::Global;
 
-/// The table of a support: of steps and a goal with the proofs that carry them, over the problem's numbers. It has no parameters.
+/// Returns the table of a support: of steps and a goal with the proofs that carry them, over the problem's numbers. It has no parameters.
 /// In each run that begins in a state in which the atoms hold, in which the axioms hold throughout, and each step of which
 /// leaves what its operator describes, each precondition is met, and a run of all steps ends in the goal (Lifschitz 1987).
 ///
@@ -63,7 +63,7 @@ pub fn build(
     })
 }
 
-/// The marks of the rows, the first of which has number 1: their leaves in order, each once in its row. The proofs may have
+/// Returns the marks of the rows, the first of which has number 1: their leaves in order, each once in its row. The proofs may have
 /// parameters.
 ///
 /// # Errors
@@ -80,7 +80,7 @@ pub fn marks(alloc: Global, rows: &[Row]) -> Result<Sequence<Mark>, NoMemory>
     Ok(Sequence::from_vec(made))
 }
 
-/// The marks of one row.
+/// Returns the marks of one row.
 fn marks_of_row(alloc: Global, number: u32, proofs: &[Proof]) -> Result<Vec<Mark>, NoMemory>
     ensures { IfOk result (λ marks. marks.items ≡ row_marks number (map derivation_of proofs.now)) }
 {

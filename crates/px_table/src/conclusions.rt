@@ -3,13 +3,13 @@ ghost use Rattle.std.specs.Prelude.{◌≡◌, ◌↔◌, ℕ, Some, All, IsTrue
 ghost use Rattle.px_terms.specs.declared.atom.Atom.{Atom};
 ghost use Rattle.px_terms.specs.declared.clause.Clause.{Clause};
 ghost use Rattle.px_proof.specs.Literals.{positive_of};
-ghost use Rattle.px_proof.specs.Proves.{IsName, UsesClause};
+ghost use Rattle.px_proof.specs.Proves.{IsObjectOrParameter, UsesClause};
 ghost use Rattle.px_table.specs.Conclusions.{IsConclusion, ProvesSome};
 
 use px_proof::{Proof, is_tree};
 use px_terms::{Atom, ClauseArena, Lit, Term, apply};
 
-/// The literal that is the atom itself.
+/// Returns the literal that is the atom itself.
 pub fn positive(atom: Atom) -> Lit
     ensures { result ≡ positive_of atom }
 {
@@ -19,7 +19,7 @@ pub fn positive(atom: Atom) -> Lit
     }
 }
 
-/// The one atom that the proof may prove, where it proves any.
+/// Returns the one atom that the proof may prove, where it proves any.
 pub fn conclusion(axioms: &ClauseArena, proof: &Proof) -> Option<Atom>
     ensures { (atom : Atom) → IsConclusion axioms.now atom proof.now → result ≡ Some atom }
 {
@@ -35,10 +35,10 @@ pub fn conclusion(axioms: &ClauseArena, proof: &Proof) -> Option<Atom>
     }
 }
 
-/// The atom of the clause's literal at that place under `theta`.
+/// Returns the atom of the clause's literal at that place under `theta`.
 fn atom_at(axioms: &ClauseArena, clause: u32, theta: &[Term], place: u32) -> Option<Atom>
     ensures { (objects params : ℕ) (atom : Atom) (used : Clause)
-        → UsesClause (IsName objects params) axioms.now (positive_of atom) clause theta.now place used → result ≡ Some atom }
+        → UsesClause (IsObjectOrParameter objects params) axioms.now (positive_of atom) clause theta.now place used → result ≡ Some atom }
 {
     if clause >= axioms.count() || theta.len() != axioms.vars(clause) as usize {
         return None;
@@ -50,7 +50,7 @@ fn atom_at(axioms: &ClauseArena, clause: u32, theta: &[Term], place: u32) -> Opt
     Some(apply(theta, &lits[place as usize].atom))
 }
 
-/// Does the proof prove an atom over these numbers of objects and parameters?
+/// Returns whether the proof proves an atom over these numbers of objects and parameters.
 fn proves_some(axioms: &ClauseArena, objects: u32, params: u32, proof: &Proof) -> bool
     ensures { IsTrue result ↔ ProvesSome axioms.now objects params proof.now }
 {
@@ -60,7 +60,7 @@ fn proves_some(axioms: &ClauseArena, objects: u32, params: u32, proof: &Proof) -
     }
 }
 
-/// Does each of the proofs?
+/// Returns whether each of the proofs proves an atom over these numbers of objects and parameters.
 pub fn each_proves_some(axioms: &ClauseArena, objects: u32, params: u32, row: &[Proof]) -> bool
     ensures { IsTrue result ↔ All (ProvesSome axioms.now objects params) row.now }
 {

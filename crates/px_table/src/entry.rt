@@ -22,7 +22,7 @@ pub enum Entry {
 }
 
 impl Entry {
-    /// An equal entry, in memory of the same allocator.
+    /// Returns an equal entry, in memory of the same allocator.
     ///
     /// # Errors
     /// `NoMemory` where there is no memory for the copy.
@@ -57,7 +57,7 @@ pub enum Move {
 }
 
 impl Move {
-    /// An equal move, in memory of the same allocator.
+    /// Returns an equal move, in memory of the same allocator.
     ///
     /// # Errors
     /// `NoMemory` where there is no memory for the copy.

@@ -3,7 +3,7 @@ ghost use Rattle.std.specs.Prelude.{◌≡◌, ◌↔◌, ◌+◌, List, All, Is
 ghost use Rattle.px_terms.specs.declared.atom.Atom.{Atom};
 ghost use Rattle.px_terms.specs.Validity.{IsAtomOf};
 ghost use Rattle.px_proof.specs.ProofTerm.{derivation_of};
-ghost use Rattle.px_proof.specs.Proves.{IsName};
+ghost use Rattle.px_proof.specs.Proves.{IsObjectOrParameter};
 ghost use Rattle.px_table.specs.Choices.{term_if, term_beside, choice_of, chosen_or_any, term_by, atom_by};
 ghost use Rattle.px_table.specs.Conclusions.{AreConclusions, IsConclusion};
 ghost use Rattle.px_table.specs.Supports.{ProvesGoal};
@@ -12,7 +12,7 @@ use crate::conclusions::{conclusion, each_proves_some};
 use px_proof::Proof;
 use px_terms::{Atom, ClauseArena, Problem, Term};
 
-/// The term, if `pattern` is the variable.
+/// Returns the term, if `pattern` is the variable.
 fn beside(variable: u32, pattern: Term, term: Term) -> Option<Term>
     ensures { result ≡ term_if variable pattern term }
 {
@@ -22,7 +22,7 @@ fn beside(variable: u32, pattern: Term, term: Term) -> Option<Term>
     }
 }
 
-/// The term that stands where the variable stands first among the patterns.
+/// Returns the term that stands where the variable stands first among the patterns.
 fn first_beside(variable: u32, patterns: &[Term], terms: &[Term]) -> Option<Term>
     ensures { result ≡ term_beside variable patterns.now terms.now }
 {
@@ -37,7 +37,7 @@ fn first_beside(variable: u32, patterns: &[Term], terms: &[Term]) -> Option<Term
     None
 }
 
-/// The term that the conclusion of the proof has where the variable stands first in the pattern.
+/// Returns the term that the conclusion of the proof has where the variable stands first in the pattern.
 fn term_of_proof(axioms: &ClauseArena, variable: u32, pattern: &Atom, proof: &Proof) -> Option<Term>
     ensures { (atom : Atom) → IsConclusion axioms.now atom proof.now → result ≡ term_beside variable pattern.now.args atom.args }
 {
@@ -47,7 +47,7 @@ fn term_of_proof(axioms: &ClauseArena, variable: u32, pattern: &Atom, proof: &Pr
     }
 }
 
-/// The term that the conclusions of the row have where the variable stands first in the goal.
+/// Returns the term that the conclusions of the row have where the variable stands first in the goal.
 fn choice(axioms: &ClauseArena, goal: &[Atom], row: &[Proof], variable: u32) -> Term
     ensures { (atoms : List Atom) → AreConclusions axioms.now atoms row.now → result ≡ chosen_or_any (choice_of variable goal.now atoms) }
 {
@@ -62,7 +62,7 @@ fn choice(axioms: &ClauseArena, goal: &[Atom], row: &[Proof], variable: u32) -> 
     Term::Any
 }
 
-/// The term of the goal, with the choice for a variable that is no parameter.
+/// Returns the term of the goal, with the choice for a variable that is no parameter.
 fn chosen(axioms: &ClauseArena, params: u32, goal: &[Atom], row: &[Proof], term: Term) -> Term
     ensures { (atoms : List Atom) → AreConclusions axioms.now atoms row.now → result ≡ term_by params goal.now atoms term }
 {
@@ -78,7 +78,7 @@ fn chosen(axioms: &ClauseArena, params: u32, goal: &[Atom], row: &[Proof], term:
     }
 }
 
-/// Are the terms those of the pattern with the choices?
+/// Returns whether the terms are those of the pattern with the choices.
 fn are_chosen(
     axioms: &ClauseArena,
     params: u32,
@@ -101,7 +101,7 @@ fn are_chosen(
     true
 }
 
-/// Is the conclusion of the proof the pattern with the choices?
+/// Returns whether the conclusion of the proof is the pattern with the choices.
 fn concludes(
     axioms: &ClauseArena,
     params: u32,
@@ -122,7 +122,7 @@ fn concludes(
     }
 }
 
-/// Are the conclusions of the row the goal with the choices?
+/// Returns whether the conclusions of the row are the goal with the choices.
 fn row_concludes(axioms: &ClauseArena, params: u32, goal: &[Atom], row: &[Proof]) -> bool
     ensures { (atoms : List Atom) → AreConclusions axioms.now atoms row.now → IsTrue result
         ↔ (map (atom_by params goal.now atoms) goal.now ≡ atoms) }
@@ -138,7 +138,7 @@ fn row_concludes(axioms: &ClauseArena, params: u32, goal: &[Atom], row: &[Proof]
     true
 }
 
-/// Do the proofs prove the goal under some terms for its own variables, which follow the parameters?
+/// Returns whether the proofs prove the goal under some terms for its own variables, which follow the parameters.
 pub fn goal_is_proved(
     problem: &Problem,
     params: u32,
@@ -147,7 +147,7 @@ pub fn goal_is_proved(
     row: &[Proof],
 ) -> bool
     requires { All (IsAtomOf problem.now (params + goal_vars)) goal.now }
-    ensures { IsTrue result ↔ ProvesGoal (IsName problem.now.objects params) problem.now.axioms params goal.now goal_vars
+    ensures { IsTrue result ↔ ProvesGoal (IsObjectOrParameter problem.now.objects params) problem.now.axioms params goal.now goal_vars
         (map derivation_of row.now) }
 {
     each_proves_some(&problem.axioms, problem.objects, params, row)

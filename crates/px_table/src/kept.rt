@@ -10,7 +10,7 @@ use px_base::{NoMemory, push};
 use px_proof::Leaf;
 use px_terms::Atom;
 
-/// The mark that a leaf makes in the row of that number.
+/// Returns the mark that a leaf makes in the row of that number.
 pub fn leaf_mark(row: u32, leaf: &Leaf) -> Mark
     ensures { result ≡ mark_of row leaf.now }
 {
@@ -22,14 +22,14 @@ pub fn leaf_mark(row: u32, leaf: &Leaf) -> Mark
     }
 }
 
-/// Is the mark among the marks?
+/// Returns whether the mark is among the marks.
 pub fn has_mark(marks: &[Mark], mark: &Mark) -> bool
     ensures { result ≡ list_any (λ other. mark_eq other mark.now) marks.now }
 {
     marks.contains(mark)
 }
 
-/// Puts the atom last, unless it is there.
+/// Appends the atom, unless it is there.
 pub fn put_atom(atoms: &mut Vec<Atom>, atom: Atom) -> Result<(), NoMemory>
     ensures { IfOk result (λ _. atoms.new.items ≡ put_once atom_eq atoms.old.items atom) }
 {
@@ -39,7 +39,7 @@ pub fn put_atom(atoms: &mut Vec<Atom>, atom: Atom) -> Result<(), NoMemory>
     push(atoms, atom)
 }
 
-/// Puts the mark last, unless it is there.
+/// Appends the mark, unless it is there.
 fn put_mark(marks: &mut Vec<Mark>, mark: Mark) -> Result<(), NoMemory>
     ensures { IfOk result (λ _. marks.new.items ≡ put_once mark_eq marks.old.items mark) }
 {
@@ -49,7 +49,7 @@ fn put_mark(marks: &mut Vec<Mark>, mark: Mark) -> Result<(), NoMemory>
     push(marks, mark)
 }
 
-/// Puts the marks of the leaves last, but for those that are there.
+/// Appends the marks of the leaves, but for those that are there.
 pub fn put_leaves(marks: &mut Vec<Mark>, row: u32, leaves: &[Leaf]) -> Result<(), NoMemory>
     ensures { IfOk result (λ _. marks.new.items ≡ put_each mark_eq marks.old.items (map (mark_of row) leaves.now)) }
 {

@@ -11,7 +11,7 @@ use px_base::NoMemory;
 use px_terms::Atom;
 use std::alloc::Global;
 
-/// Kernel `i` (Fikes, Hart and Nilsson 1972): the atoms of the marks of row `i` and later with column before `i`, in order,
+/// Returns kernel `i` (Fikes, Hart and Nilsson 1972): the atoms of the marks of row `i` and later with column before `i`, in order,
 /// each once. In a table, where a proper instance of them holds, the steps from `i` on lead to the goal
 /// (`proper`). Kernel 1 is what the whole plan rests on, and the one after the last step is the goal's
 /// row. Numbers past the goal's row give no atom.
@@ -28,7 +28,7 @@ pub fn kernel(alloc: Global, table: &Table, i: u32) -> Result<Vec<Atom>, NoMemor
     Ok(atoms)
 }
 
-/// Puts the mark's atom last, where kernel `i` rests on the mark, and unless the atom is there.
+/// Appends the mark's atom, if kernel `i` rests on the mark and the atom isn't there.
 fn put_atom_of(atoms: &mut Vec<Atom>, mark: &Mark, i: u32) -> Result<(), NoMemory>
     ensures { IfOk result (λ _. atoms.new.items ≡ cond (nat_le i mark.now.row && nat_lt mark.now.column i)
         (put_once atom_eq atoms.old.items mark.now.atom) atoms.old.items) }

@@ -6,7 +6,7 @@ ghost use Rattle.px_table.specs.Marks.{MarksAreCompared};
 ghost use Rattle.px_table.specs.Nodes.{NodesAreCompared};
 ghost use Rattle.px_table.specs.SupportClaims.{SupportsCarry, SupportsRefuse};
 
-/// Entries are ordered as a search tries them: operators before learned tables, and so on by `order_of`. `==` of
+/// Entries are ordered as a search tries them: operators before learned tables, and then by `order_of_entries`. `==` of
 /// entries is equality.
 pub fn entries_are_ordered()
     ensures { EntriesAreOrdered }
@@ -51,7 +51,7 @@ pub fn supports_refuse()
     ensures { SupportsRefuse }
 {}
 
-/// What isn't a table can be told by computing: the test `is_table` of `specs/Deciding.antt` is true exactly of tables.
+/// The test `is_table` of `specs/Deciding.antt` is true exactly of tables, so computing it also shows that something isn't a table.
 pub fn tables_are_decided()
     ensures { TablesAreDecided }
 {}

@@ -11,17 +11,17 @@
 //! - [`build`] makes the table of a support. A support is steps, a goal and rows of proofs over objects, where each fact
 //!   is given at first or added by a step before its row, and no step in between deletes it (`Supports` of
 //!   `specs/Supports.antt`). The call also says that a support carries its steps, whatever becomes of the memory.
-//! - [`check_table`] tells whether a table is one (`IsTable` of `specs/Tables.antt`). Its yes implies that each proper
-//!   instance of each kernel carries the steps that are left to the goal (`KernelsCarry` of `specs/Kernels.antt`).
-//! - [`marks`] makes the marks of rows, also of rows over parameters, for who makes a table otherwise.
+//! - [`check_table`] says whether a table is a triangle table for the problem (`IsTable` of `specs/Tables.antt`). Where it says yes,
+//!   each proper instance of each kernel carries the steps that are left to the goal (`KernelsCarry` of `specs/Kernels.antt`).
+//! - [`marks`] makes the marks of rows, also of rows over parameters, for a caller that makes a table in another way.
 //! - [`kernel`] lists what has to hold so that the steps from one on lead to the goal: the atoms of the marks whose row
-//!   is at least `i` and whose column is below `i`. Any `i` will do; kernel 1 is column 0, and the one after the last
+//!   is at least `i` and whose column is below `i`. Any `i` is allowed; kernel 1 is column 0, and the one after the last
 //!   step is the goal's row.
-//! - [`proper`] tells whether, with objects for the parameters, no step from `i` on deletes what it stands between. Two
-//!   parameters may have one object. Its yes implies that this instance carries. It asks for a table, for an object of
+//! - [`proper`] says whether, with objects for the parameters, no step from `i` on deletes a mark that it stands between. Two
+//!   parameters may have one object. Where it says yes, this instance carries. It asks for a table, for an object of
 //!   the problem for each parameter, and for a number from 1 to one more than there are steps.
-//! - [`is_macro`] tells whether a number of a table's first steps, with these objects, may be taken as one operator
-//!   (`IsMacro` of `specs/Prefixes.antt`). [`proper_prefix`] is the part of it about deletions, and [`is_used`] tells
+//! - [`is_macro`] says whether a number of a table's first steps, with these objects, may be taken as one operator
+//!   (`IsMacro` of `specs/Prefixes.antt`). [`proper_prefix`] is the part of it about deletions, and [`is_used`] says
 //!   which parameters the steps use; a parameter that they don't use has object 0.
 //! - [`atom_with`] and [`instance_with`] put objects into an atom or a step, and do not allocate.
 //! - "Carries" is `Carries` of `px_terms`: in each run of the steps that begins where the facts hold, each precondition
@@ -31,19 +31,19 @@
 //!   ([`rows_meet_preconditions`]); a support carries over whatever objects ([`supports_carry`]); and no support names a
 //!   step that doesn't add the atom, one after which the atom is deleted, or its own row ([`supports_refuse`]). Further
 //!   laws for callers are in `specs/KernelLaws`, `SupportLaws`, `SupportClaimLaws`, `Carrying`, `RowLaws`, `UnderLaws`,
-//!   `MarkLaws` and `OnceLaws`.
+//!   `MarkLaws` and `OnceLaws`. No public clause cites these, nor `Conclusions` and `ObjectLaws`.
 //! - For definitions that have to compute, `is_table` of `specs/Deciding.antt` is a test of tables, which is true exactly of
 //!   what `IsTable` says ([`tables_are_decided`]).
 //! - [`Entry`] is what a search pushes: an operator instance, or the first steps of a learned table with an object for
 //!   each of the table's parameters. Its order is the one in which entries are tried: operators before tables, then by
-//!   number and arguments, or by number, prefix and objects (`order_of` in `specs/EntryOrder.antt`;
+//!   number and arguments, or by number, prefix and objects (`order_of_entries` in `specs/EntryOrder.antt`;
 //!   `specs/EntryLaws.antt` has the laws). It can be a key of a map or a member of a set.
 //! - [`Move`] is a step of the search: an entry is pushed, or the top entry is applied. `==` is equality
 //!   ([`moves_are_compared`]); moves have no order.
 //! - [`Node`] is a world model with a stack of entries, the top one first. Contracts see it as these two lists
 //!   (`NodeValue` in `specs/NodeValue.antt`); how much room is left in its model doesn't count. Two nodes are equal, and
 //!   are hashed alike, where these are the same (`specs/Nodes.antt`, with the laws in `specs/NodeLaws.antt`).
-//! - `try_copy` of each answers an equal value, or `NoMemory`. `check_table`, `proper` and `is_macro` do not allocate.
+//! - `try_copy` of each returns an equal value, or `NoMemory`. `check_table`, `proper` and `is_macro` do not allocate.
 #![tactic(auto)]
 
 mod building;

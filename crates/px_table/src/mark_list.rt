@@ -1,4 +1,4 @@
-//! Are the marks of a table the leaves of its rows, each once in its row?
+//! Whether the marks of a table are the leaves of its rows, each once in its row.
 ghost use Rattle.std.specs.Prelude.{◌≡◌, ◌↔◌, ◌<◌, ◌≤◌, [], ◌∷◌, IsTrue, length, map, take, drop};
 ghost use Rattle.px_proof.specs.Derivation.{derivations, leaves_of, all_leaves_of};
 ghost use Rattle.px_proof.specs.ProofTerm.{derivation_of};
@@ -11,7 +11,7 @@ use crate::mark::Mark;
 use crate::table::Table;
 use px_proof::{Leaf, Proof};
 
-/// Where the first marks and the leaf make a beginning of the list, how many marks this has.
+/// Returns how many marks the first `count` ones and the leaf's make, where the list begins with these.
 fn after_leaf(marks: &[Mark], count: usize, row: u32, leaf: &Leaf) -> Option<usize>
     requires { count ≤ length marks.now }
     ensures { IsFront marks.now (put_each mark_eq (take count marks.now) (map (mark_of row) (leaf.now ∷ []))) result }
@@ -26,7 +26,7 @@ fn after_leaf(marks: &[Mark], count: usize, row: u32, leaf: &Leaf) -> Option<usi
     None
 }
 
-/// The same for the leaves of a proof.
+/// Returns how many marks the first `count` ones and those of the proof's leaves make, where the list begins with these.
 #[cycle(walks)]
 fn after_proof(marks: &[Mark], count: usize, row: u32, proof: &Proof) -> Option<usize>
     requires { count ≤ length marks.now }
@@ -39,7 +39,7 @@ fn after_proof(marks: &[Mark], count: usize, row: u32, proof: &Proof) -> Option<
     }
 }
 
-/// The same for the leaves of several proofs.
+/// Returns how many marks the first `count` ones and those of the leaves of the proofs make, where the list begins with these.
 #[cycle(walks)]
 fn after_proofs(marks: &[Mark], count: usize, row: u32, proofs: &[Proof]) -> Option<usize>
     requires { count ≤ length marks.now }
@@ -56,14 +56,14 @@ fn after_proofs(marks: &[Mark], count: usize, row: u32, proofs: &[Proof]) -> Opt
     Some(at)
 }
 
-/// Where the list begins with the marks of the row, how many these are.
+/// Returns how many marks the row has, where the list begins with these.
 fn after_row(marks: &[Mark], row: u32, proofs: &[Proof]) -> Option<usize>
     ensures { IsFront marks.now (row_marks row (map derivation_of proofs.now)) result }
 {
     after_proofs(marks, 0, row, proofs)
 }
 
-/// Are the marks the leaves of the rows, each once in its row?
+/// Returns whether the marks are the leaves of the rows, each once in its row.
 pub fn marks_are_leaves(table: &Table) -> bool
     requires { length table.now.proofs ≤ 4294967295 }
     ensures { IsTrue result ↔ (table.now.marks ≡ marks_from 1 (rows_of table.now.proofs)) }

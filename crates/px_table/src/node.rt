@@ -28,28 +28,28 @@ impl std::marker::Model for Node {
 }
 
 impl Node {
-    /// The node of a model and a stack. Does not allocate.
+    /// Returns the node of a model and a stack. Does not allocate.
     pub fn new(model: Model, stack: Sequence<Entry>) -> Node
         ensures { result ≡ record { model = model.atoms; stack = stack } }
     {
         Node { model, stack }
     }
 
-    /// What holds.
+    /// Returns the model: what holds.
     pub fn model(&self) -> &Model
         ensures { result.now.atoms ≡ self.now.model }
     {
         &self.model
     }
 
-    /// The entries, the top one first.
+    /// Returns the entries, the top one first.
     pub fn stack(&self) -> &[Entry]
         ensures { result.now ≡ self.now.stack }
     {
         self.stack.as_slice()
     }
 
-    /// An equal node, each part in memory of its own allocator.
+    /// Returns an equal node, each part in memory of its own allocator.
     ///
     /// # Errors
     /// `NoMemory` where there is no memory for the copy.
@@ -87,7 +87,7 @@ impl Hash for Node {
     }
 }
 
-/// A copy of the entries, in the same order.
+/// Returns a copy of the entries, in the same order.
 fn copy_entries(entries: &Sequence<Entry>) -> Result<Sequence<Entry>, NoMemory>
     ensures { IfOk result (λ copy. copy ≡ entries.now) }
 {

@@ -4,7 +4,7 @@ ghost use Rattle.px_terms.specs.declared.term.Term.TheVariants.{Var};
 ghost use Rattle.px_terms.specs.Validity.{IsAtomOf, IsValid};
 ghost use Rattle.px_table.specs.Kernels.{mark_under, steps_under};
 ghost use Rattle.px_table.specs.Marks.{IsKept};
-ghost use Rattle.px_table.specs.Prefixes.{IsMacro, IsPlaced, IsProperPrefix, IsUsed};
+ghost use Rattle.px_table.specs.Prefixes.{IsMacro, IsAllowedNumber, IsProperPrefix, IsUsed};
 ghost use Rattle.px_table.specs.Tables.{IsStepOf, IsTable};
 
 use crate::mark::Mark;
@@ -12,10 +12,9 @@ use crate::proper_instance::is_kept;
 use crate::table::Table;
 use px_terms::{OpInst, Problem, Term};
 
-/// Are they two or more of the table's first steps with objects for its parameters that a search may take as one operator
-/// (Fikes, Hart and Nilsson 1972)? They are where there is an object of the problem for each parameter that these steps or
-/// the marks of their rows use, and object 0 for each other one, and where no step deletes a mark of their rows that it
-/// stands between (`proper_prefix`). Does not allocate.
+/// Returns whether a search may take these first steps of the table, with the objects, as one operator (Fikes, Hart and Nilsson 1972):
+/// whether they are two or more, there is an object of the problem for each parameter that these steps or the marks of their rows use, and
+/// object 0 for each other one, and no step deletes a mark of their rows that it stands between (`proper_prefix`). Does not allocate.
 pub fn is_macro(problem: &Problem, table: &Table, prefix: u32, sigma: &[u32]) -> bool
     requires problem { IsValid problem.now }
     requires table { IsTable problem.now table.now }
@@ -24,11 +23,11 @@ pub fn is_macro(problem: &Problem, table: &Table, prefix: u32, sigma: &[u32]) ->
     if prefix < 2 || prefix as usize > table.steps.len() || sigma.len() != table.params as usize {
         return false;
     }
-    are_placed(problem, table, prefix, sigma) && proper_prefix(problem, table, prefix, sigma)
+    are_allowed(problem, table, prefix, sigma) && proper_prefix(problem, table, prefix, sigma)
 }
 
-/// Does no step, with the objects of `sigma` for the parameters, delete a mark of the first rows between whose column and row
-/// it stands? Marks of later rows don't count, and objects that the problem does not have may stand in `sigma`. Does not allocate.
+/// Returns whether no step, with the objects of `sigma` for the parameters, deletes a mark of the first rows between whose column and row
+/// it stands. Marks of later rows don't count, and objects that the problem does not have may stand in `sigma`. Does not allocate.
 pub fn proper_prefix(problem: &Problem, table: &Table, prefix: u32, sigma: &[u32]) -> bool
     requires problem { IsValid problem.now }
     requires table { IsTable problem.now table.now }
@@ -43,7 +42,7 @@ pub fn proper_prefix(problem: &Problem, table: &Table, prefix: u32, sigma: &[u32
     true
 }
 
-/// Is the mark one of a later row, or kept by the steps?
+/// Returns whether the mark is one of a later row, or kept by the steps.
 fn is_kept_within(problem: &Problem, table: &Table, prefix: u32, sigma: &[u32], mark: &Mark) -> bool
     requires problem { IsValid problem.now }
     requires steps { All (IsStepOf problem.now table.now.params) table.now.steps }
@@ -58,7 +57,7 @@ fn is_kept_within(problem: &Problem, table: &Table, prefix: u32, sigma: &[u32], 
     is_kept(problem, table, sigma, 1, mark)
 }
 
-/// Does the parameter occur in the first steps, or in the marks of their rows? Does not allocate.
+/// Returns whether the parameter occurs in the first steps, or in the marks of their rows. Does not allocate.
 pub fn is_used(table: &Table, prefix: u32, parameter: u32) -> bool
     ensures { IsTrue result ↔ IsUsed table.now prefix parameter }
 {
@@ -67,14 +66,14 @@ pub fn is_used(table: &Table, prefix: u32, parameter: u32) -> bool
     steps_use(&steps[..taken], parameter) || marks_use(table.marks.as_slice(), prefix, parameter)
 }
 
-/// Is the variable of that number among the terms?
+/// Returns whether the variable of that number is among the terms.
 fn has_variable(terms: &[Term], number: u32) -> bool
     ensures { IsTrue result ↔ Contains terms.now (Var number) }
 {
     terms.contains(&Term::Var(number))
 }
 
-/// Does the parameter occur in the steps?
+/// Returns whether the parameter occurs in the steps.
 fn steps_use(steps: &[OpInst], parameter: u32) -> bool
     ensures { IsTrue result ↔ Any (λ inst. Contains inst.args (Var parameter)) steps.now }
 {
@@ -83,16 +82,16 @@ fn steps_use(steps: &[OpInst], parameter: u32) -> bool
         .any(|inst| has_variable(inst.args(), parameter))
 }
 
-/// Does it occur in the marks of the first rows?
+/// Returns whether the parameter occurs in the marks of the first rows.
 fn marks_use(marks: &[Mark], prefix: u32, parameter: u32) -> bool
     ensures { IsTrue result ↔ Any (λ mark. (mark.row ≤ prefix) × Contains mark.atom.args (Var parameter)) marks.now }
 {
     marks.iter().any(|mark| mark.row <= prefix && has_variable(mark.atom.args(), parameter))
 }
 
-/// Is the number one that the parameter may have?
-fn is_placed(problem: &Problem, table: &Table, prefix: u32, parameter: u32, number: u32) -> bool
-    ensures { IsTrue result ↔ IsPlaced problem.now table.now prefix parameter number }
+/// Returns whether the number is one that the parameter may have.
+fn is_allowed(problem: &Problem, table: &Table, prefix: u32, parameter: u32, number: u32) -> bool
+    ensures { IsTrue result ↔ IsAllowedNumber problem.now table.now prefix parameter number }
 {
     if is_used(table, prefix, parameter) {
         return number < problem.objects;
@@ -100,13 +99,13 @@ fn is_placed(problem: &Problem, table: &Table, prefix: u32, parameter: u32, numb
     number == 0
 }
 
-/// Has each parameter such a number?
-fn are_placed(problem: &Problem, table: &Table, prefix: u32, sigma: &[u32]) -> bool
+/// Returns whether each parameter has a number that it may have.
+fn are_allowed(problem: &Problem, table: &Table, prefix: u32, sigma: &[u32]) -> bool
     requires { length sigma.now ≡ table.now.params }
-    ensures { IsTrue result ↔ EachIndex sigma.now (λ v. IsPlaced problem.now table.now prefix v (slice_index sigma.now v)) }
+    ensures { IsTrue result ↔ EachIndex sigma.now (λ v. IsAllowedNumber problem.now table.now prefix v (slice_index sigma.now v)) }
 {
     for (parameter, number) in sigma.iter().enumerate() {
-        if !is_placed(problem, table, prefix, parameter as u32, *number) {
+        if !is_allowed(problem, table, prefix, parameter as u32, *number) {
             return false;
         }
     }

@@ -13,9 +13,8 @@ use crate::under_objects::{atom_with, instance_with};
 use px_ops::{deletes, schema_of};
 use px_terms::{Atom, OpInst, Problem, Schema};
 
-/// Is the instance of kernel `i` under the objects of `sigma` proper? It is where no step from `i` on deletes the instance of
-/// a mark between whose column and row it stands: two parameters may have one object, and a step may then delete what a
-/// later one needs.
+/// Returns whether the instance of kernel `i` under the objects of `sigma` is proper: whether no step from `i` on deletes the instance of
+/// a mark between whose column and row it stands. Two parameters may have one object, and a step may then delete what a later one needs.
 ///
 /// A proper instance carries the steps from `i` on: in each run of them that begins in a state in which the instance holds,
 /// in which the axioms hold throughout, and each step of which leaves what its operator describes, each precondition is
@@ -31,7 +30,7 @@ pub fn proper(problem: &Problem, table: &Table, sigma: &[u32], i: u32) -> bool
     are_kept(problem, table, sigma, i)
 }
 
-/// Is the instance of each mark kept by the steps from `first` on?
+/// Returns whether the instance of each mark is kept by the steps from `first` on.
 fn are_kept(problem: &Problem, table: &Table, sigma: &[u32], first: u32) -> bool
     requires problem { IsValid problem.now }
     requires table { IsTable problem.now table.now }
@@ -46,14 +45,14 @@ fn are_kept(problem: &Problem, table: &Table, sigma: &[u32], first: u32) -> bool
     true
 }
 
-/// Does step `k` come no earlier than `first`, after the mark's column and before its row?
+/// Returns whether step `k` comes no earlier than `first`, after the mark's column and before its row.
 fn stands_between(first: u32, mark: &Mark, k: usize) -> bool
     ensures { IsTrue result ↔ ((first ≤ k) × (mark.now.column < k) × (k < mark.now.row)) }
 {
     first as usize <= k && (mark.column as usize) < k && k < mark.row as usize
 }
 
-/// Is the mark's instance kept by the steps from `first` on?
+/// Returns whether the mark's instance is kept by the steps from `first` on.
 pub fn is_kept(problem: &Problem, table: &Table, sigma: &[u32], first: u32, mark: &Mark) -> bool
     requires problem { IsValid problem.now }
     requires steps { All (IsStepOf problem.now table.now.params) table.now.steps }
@@ -72,7 +71,7 @@ pub fn is_kept(problem: &Problem, table: &Table, sigma: &[u32], first: u32, mark
     true
 }
 
-/// Is one of the operator's delete patterns about the predicate?
+/// Returns whether one of the operator's delete patterns is about the predicate.
 fn may_delete(schema: &Schema, pred: u32) -> bool
     ensures { IsTrue result ↔ Any (λ pattern. pattern.pred ≡ pred) schema.now.del }
 {
@@ -80,7 +79,7 @@ fn may_delete(schema: &Schema, pred: u32) -> bool
     patterns.iter().any(|pattern| pattern.pred() == pred)
 }
 
-/// Does the step's instance delete the atom?
+/// Returns whether the step's instance deletes the atom.
 fn step_deletes(problem: &Problem, table: &Table, sigma: &[u32], step: &OpInst, atom: &Atom) -> bool
     requires problem { IsValid problem.now }
     requires step { IsStepOf problem.now table.now.params step.now }

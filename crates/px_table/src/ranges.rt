@@ -1,11 +1,11 @@
-//! Are the numbers of a table in range?
+//! Whether the numbers of a table are in range.
 ghost use Rattle.std.specs.Prelude.{◌≡◌, ◌↔◌, ◌+◌, ◌<◌, All, IsTrue};
-ghost use Rattle.px_table.specs.Tables.{IsInRange, IsStepOf};
+ghost use Rattle.px_table.specs.Tables.{IsTableInRange, IsStepOf};
 
 use crate::table::Table;
 use px_terms::{OpInst, Problem, are_atoms_of, is_term_of};
 
-/// Is it an instance of an operator of the problem over its objects and the first `params` parameters?
+/// Returns whether it is an instance of an operator of the problem over its objects and the first `params` parameters.
 // Alike: `is_instance_of` of `px_terms`, which is the test of an instance without parameters by a definition of its own.
 pub fn is_step_of(problem: &Problem, params: u32, inst: &OpInst) -> bool
     ensures { IsTrue result ↔ IsStepOf problem.now params inst.now }
@@ -21,16 +21,16 @@ pub fn is_step_of(problem: &Problem, params: u32, inst: &OpInst) -> bool
             .all(|term| is_term_of(problem, vars, term))
 }
 
-/// Is each step one?
+/// Returns whether each step is an instance of an operator of the problem over its objects and the first `params` parameters.
 fn are_steps_of(problem: &Problem, params: u32, steps: &[OpInst]) -> bool
     ensures { IsTrue result ↔ All (IsStepOf problem.now params) steps.now }
 {
     steps.iter().all(|inst| is_step_of(problem, params, inst))
 }
 
-/// Are the numbers of the table's steps and goal in range?
+/// Returns whether the numbers of the table's steps and goal are in range.
 pub fn is_in_range(problem: &Problem, table: &Table) -> bool
-    ensures { IsTrue result ↔ IsInRange problem.now table.now }
+    ensures { IsTrue result ↔ IsTableInRange problem.now table.now }
 {
     let vars = u64::from(table.params) + u64::from(table.goal_vars);
     table.steps.len() < 4294967295

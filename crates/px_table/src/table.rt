@@ -28,7 +28,7 @@ impl Model for Row {
 }
 
 impl Row {
-    /// The row of these proofs. Does not allocate.
+    /// Returns the row of these proofs. Does not allocate.
     pub fn from_proofs(proofs: Vec<Proof>) -> Row
         ensures { result ≡ proofs.items }
     {
@@ -37,21 +37,21 @@ impl Row {
         }
     }
 
-    /// The proofs, in the order of the atoms that they prove.
+    /// Returns the proofs, in the order of the atoms that they prove.
     pub fn proofs(&self) -> &[Proof]
         ensures { result.now ≡ self.now }
     {
         self.proofs.as_slice()
     }
 
-    /// The proofs, for the caller to keep. Does not allocate.
+    /// Returns the proofs, for the caller to keep. Does not allocate.
     pub fn into_proofs(self) -> Vec<Proof>
         ensures { result.items ≡ self }
     {
         self.proofs.into_vec()
     }
 
-    /// An equal row.
+    /// Returns an equal row.
     ///
     /// # Errors
     /// `NoMemory` where there is no memory for the copy.
@@ -69,7 +69,7 @@ impl Row {
 
 /// A triangle table (Fikes, Hart and Nilsson 1972): a plan's steps and goal with the proofs that carry them, and the
 /// facts that these rest on. In what `check_table` accepts, `Var(v)` with `v` below `params` is a
-/// parameter, and in the goal alone the goal's own variables follow.
+/// parameter, and only in the goal the goal's own variables follow.
 #[derive(Drop)]
 pub struct Table {
     /// How many parameters it has.
@@ -86,7 +86,7 @@ pub struct Table {
 }
 
 impl Table {
-    /// An equal table.
+    /// Returns an equal table.
     ///
     /// # Errors
     /// `NoMemory` where there is no memory for the copy.
@@ -108,7 +108,7 @@ impl Table {
     }
 }
 
-/// A copy of the rows, in the same order.
+/// Returns a copy of the rows, in the same order.
 fn copy_rows(rows: &Sequence<Row>) -> Result<Sequence<Row>, NoMemory>
     ensures { IfOk result (λ copy. copy ≡ rows.now) }
 {

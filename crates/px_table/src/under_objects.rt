@@ -7,7 +7,7 @@ ghost use Rattle.px_table.specs.Kernels.{atom_under, instance_under};
 
 use px_terms::{Atom, OpInst, Term};
 
-/// The term, with the object of its number for a parameter.
+/// Returns the term, with the object of its number for a parameter.
 fn term_under(sigma: &[u32], term: Term) -> Term
     requires { IsVariableBelow (length sigma.now) term }
     ensures { result ≡ substitute (map Obj sigma.now) term }
@@ -29,7 +29,7 @@ fn write_under(sigma: &[u32], terms: &[Term], into: &mut [Term])
     }
 }
 
-/// The atom with the objects of `sigma` for the parameters.
+/// Returns the atom with the objects of `sigma` for the parameters.
 pub fn atom_with(sigma: &[u32], atom: &Atom) -> Atom
     requires { All (IsVariableBelow (length sigma.now)) atom.now.args }
     ensures { result ≡ atom_under sigma.now atom.now }
@@ -43,7 +43,7 @@ pub fn atom_with(sigma: &[u32], atom: &Atom) -> Atom
     }
 }
 
-/// The operator instance with the objects of `sigma` for the parameters.
+/// Returns the operator instance with the objects of `sigma` for the parameters.
 pub fn instance_with(sigma: &[u32], inst: &OpInst) -> OpInst
     requires { All (IsVariableBelow (length sigma.now)) inst.now.args }
     ensures { result ≡ instance_under sigma.now inst.now }

@@ -40,10 +40,13 @@ stays (Any ∷ ts) all = absurd (all 0 Any (omega arith))
 pub one : {A : Type 0} (P : A → Type 0) (x : A) → P x → All P (x ∷ [])
 one P x h = All-cons P x [] h (λ k d below. absurd (omega (arith, below)))
 
-given_proof : (problem : Problem) (atom : Atom) → All IsObject atom.args → IsProofOf IsObject problem.axioms (substitute_atom [] atom) (fact (given_leaf atom))
+given_proof : (problem : Problem) (atom : Atom) → All IsObject atom.args
+    → IsProofOf IsObject problem.axioms (substitute_atom [] atom) (fact (given_leaf atom))
 given_proof problem atom objects =
-    let same : substitute_atom [] atom ≡ atom = ap (λ (args : List Term). record { pred = atom.pred; args = args }) (stays atom.args objects) in
-    subst (λ a. IsProofOf IsObject problem.axioms a (fact (given_leaf atom))) (sym same) (record { proves = (refl, (Contains-first atom [], objects)); terms = objects })
+    let same : substitute_atom [] atom ≡ atom =
+    ap (λ (args : List Term). record { pred = atom.pred; args = args }) (stays atom.args objects) in
+    subst (λ a. IsProofOf IsObject problem.axioms a (fact (given_leaf atom))) (sym same)
+    (record { proves = (refl, (Contains-first atom [], objects)); terms = objects })
 
 abbrev given_mark : Atom → Mark
 given_mark atom = record { atom = atom; row = 1; column = 0; index = 0 }
@@ -52,17 +55,26 @@ no_step : (k : ℕ) (inst : OpInst) → ¬ (step_at [] k ≡ Some inst)
 no_step zero inst at = absurd (cc)
 no_step (suc k) inst at = absurd (cc)
 
-given_derivations : (problem : Problem) (atom : Atom) → IsAtomOf problem 0 atom → Supports problem (atom ∷ []) [] (atom ∷ []) 0 ((fact (given_leaf atom) ∷ []) ∷ [])
+given_derivations : (problem : Problem) (atom : Atom) → IsAtomOf problem 0 atom
+    → Supports problem (atom ∷ []) [] (atom ∷ []) 0 ((fact (given_leaf atom) ∷ []) ∷ [])
 given_derivations problem atom is = record {
   instances = λ k d below. absurd (omega (arith, below));
   prove = ([], refl, (given_proof problem atom (atom_of-is_ground problem atom is), tt));
-  named = one (IsNamed problem []) (given_mark atom) (record { earlier = omega arith; initial = λ _. refl; added = λ later. absurd (omega (arith, later)) });
+  named =
+      one (IsNamed problem []) (given_mark atom) (record {
+        earlier =
+            omega arith;
+        initial = λ _. refl;
+        added = λ later. absurd (omega (arith, later));
+      });
   given = one (λ (m : Mark). m.column ≡ 0 → Contains (atom ∷ []) m.atom) (given_mark atom) (λ _. Contains-first atom []);
   kept = one (IsKept problem [] 1) (given_mark atom) (λ k inst first column row at deleted. no_step k inst at);
 }
 
-pub given_support : (problem : Problem) (atom : Atom) → IsAtomOf problem 0 atom → Supports problem (atom ∷ []) [] (atom ∷ []) 0 (rows_of (given_rows atom))
-given_support problem atom is = subst (λ rows. Supports problem (atom ∷ []) [] (atom ∷ []) 0 rows) (sym (rows-given atom)) (given_derivations problem atom is)
+pub given_support : (problem : Problem) (atom : Atom) → IsAtomOf problem 0 atom
+    → Supports problem (atom ∷ []) [] (atom ∷ []) 0 (rows_of (given_rows atom))
+given_support problem atom is =
+    subst (λ rows. Supports problem (atom ∷ []) [] (atom ∷ []) 0 rows) (sym (rows-given atom)) (given_derivations problem atom is)
 
 abbrev pub IsGivenOf : Problem → Derivation → Type 0
 IsGivenOf problem d = All (IsTermOf problem 0) (terms_of d) × All (HasArity problem) (leaf_atoms (leaves_of d))
@@ -70,4 +82,5 @@ IsGivenOf problem d = All (IsTermOf problem 0) (terms_of d) × All (HasArity pro
 pub given_numbers : (problem : Problem) (atom : Atom) → IsAtomOf problem 0 atom → AreOfProblem problem (rows_of (given_rows atom))
 given_numbers problem atom is =
     subst (AreOfProblem problem) (sym (rows-given atom))
-    (one (All (IsGivenOf problem)) (fact (given_leaf atom) ∷ []) (one (IsGivenOf problem) (fact (given_leaf atom)) (is.1, one (HasArity problem) atom is.0)))
+    (one (All (IsGivenOf problem)) (fact (given_leaf atom) ∷ [])
+    (one (IsGivenOf problem) (fact (given_leaf atom)) (is.1, one (HasArity problem) atom is.0)))

@@ -1,4 +1,4 @@
-//! Tests of `px_table`, `px_match`, `px_general` and `px_planex`: they stand apart from the crates that they try, since a crate with
+//! Tests of `px_table`, `px_match`, `px_general` and `px_planex`: they stand apart from the crates that they test, since a crate with
 //! tests is proved twice.
 #![tactic(auto)]
 

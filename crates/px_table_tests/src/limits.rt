@@ -13,7 +13,7 @@ use std::alloc::Global;
 use std::process::Abort;
 use std::rt::HostRuntime;
 
-/// One object, one predicate of that many arguments, these axioms, and TICK, which needs nothing and adds the atom of that object.
+/// Returns one object, one predicate of that many arguments, these axioms, and TICK, which needs nothing and adds the atom of that object.
 fn ticking(alloc: Global, rt: &impl Abort, arity: u8, axioms: ClauseArena) -> Problem
     ensures { IsValid result }
 {
@@ -23,7 +23,7 @@ fn ticking(alloc: Global, rt: &impl Abort, arity: u8, axioms: ClauseArena) -> Pr
     valid(rt, problem_of(alloc, 1, &[arity], axioms, [tick]))
 }
 
-/// The axiom that has the atom once and its complement that many times.
+/// Returns the axiom that has the atom once and its complement that many times.
 fn repeating(alloc: Global, rt: &impl Abort, atom: Atom, times: u32) -> ClauseArena {
     let mut lits = Vec::new(alloc);
     lits.push(yes(atom)).expect(rt, "memory");
@@ -36,7 +36,7 @@ fn repeating(alloc: Global, rt: &impl Abort, atom: Atom, times: u32) -> ClauseAr
     axioms
 }
 
-/// The table of these steps, this goal and these rows, without parameters.
+/// Returns the table of these steps, this goal and these rows, without parameters.
 fn plan(
     alloc: Global,
     rt: &impl Abort,
@@ -54,7 +54,7 @@ fn plan(
     table
 }
 
-/// That many ticks, the last of which adds the goal.
+/// Returns the table of that many ticks, the last of which adds the goal.
 fn ticks(alloc: Global, rt: &impl Abort, problem: &Problem, count: u32) -> Table
     requires { IsValid problem.now }
     ensures table { IsTable problem.now result }
@@ -71,7 +71,7 @@ fn ticks(alloc: Global, rt: &impl Abort, problem: &Problem, count: u32) -> Table
     plan(alloc, rt, problem, &steps, &[goal], rows)
 }
 
-/// The plan of no steps whose goal has that proof.
+/// Returns the plan of no steps whose goal has that proof.
 fn proved(alloc: Global, rt: &impl Abort, problem: &Problem, goal: Atom, proof: Proof) -> Table
     requires { IsValid problem.now }
     ensures table { IsTable problem.now result }
@@ -82,7 +82,7 @@ fn proved(alloc: Global, rt: &impl Abort, problem: &Problem, goal: Atom, proof: 
     plan(alloc, rt, problem, &[], &[goal], rows)
 }
 
-/// That many steps of the axiom, one below the other, over a fact.
+/// Returns that many steps of the axiom, one below the other, over a fact.
 fn chain(alloc: Global, rt: &impl Abort, steps: u32) -> Proof {
     let mut proof = fact(0, 0, atom(0, &[]));
     for _ in 0..steps {
@@ -95,7 +95,7 @@ const THING: Term = Term::Obj(0);
 
 const THINGS: [Term; 6] = [THING, THING, THING, THING, THING, THING];
 
-/// A tree of that height: steps of the axiom, each over two proofs, and facts.
+/// Returns a tree of that height: steps of the axiom, each over two proofs, and facts.
 fn tree(alloc: Global, rt: &impl Abort, height: u32) -> Proof {
     let mut proof = fact(0, 0, atom(0, &THINGS));
     for _ in 1..height {

@@ -37,7 +37,7 @@ fn a_box_is_where_it_shall_be(rt: HostRuntime) {
     assert!(&rt; matcher.best(&whole) == Some(3));
 }
 
-/// N(0,1) to N(254,255).
+/// Returns the facts N(0,1) to N(254,255).
 fn chain(alloc: Global, rt: &impl Abort) -> Model {
     let mut model = Model::new(alloc);
     for at in 0..255u32 {

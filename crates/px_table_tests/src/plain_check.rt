@@ -12,7 +12,7 @@ use std::alloc::Global;
 use std::process::Abort;
 use std::rt::HostRuntime;
 
-/// Are the rows of the table, which has no parameters, a support from its first kernel?
+/// Returns whether the rows of the table, which has no parameters, are a support from its first kernel.
 fn is_support(problem: &Problem, table: &Table) -> bool
     requires { IsValid problem.now }
 {
@@ -21,7 +21,7 @@ fn is_support(problem: &Problem, table: &Table) -> bool
         && proper(problem, table, &[], 1)
 }
 
-/// The terms of its steps, its goal and its proofs.
+/// Returns the terms of its steps, its goal and its proofs.
 fn terms(alloc: Global, rt: &impl Abort, table: &Table) -> Vec<Term> {
     let mut terms = Vec::new(alloc);
     for step in table.steps.as_slice() {
@@ -38,7 +38,7 @@ fn terms(alloc: Global, rt: &impl Abort, table: &Table) -> Vec<Term> {
     terms
 }
 
-/// Puts the terms of a proof last. The proofs here are steps over leaves, and leaves.
+/// Appends the terms of a proof. The proofs here are steps over leaves, and leaves.
 fn add_terms(rt: &impl Abort, terms: &mut Vec<Term>, proof: &Proof) {
     if let Proof::Step { theta, subs, .. } = proof {
         terms
@@ -51,7 +51,7 @@ fn add_terms(rt: &impl Abort, terms: &mut Vec<Term>, proof: &Proof) {
     add_leaf(rt, terms, proof);
 }
 
-/// Puts the arguments of a leaf last.
+/// Appends the arguments of a leaf.
 fn add_leaf(rt: &impl Abort, terms: &mut Vec<Term>, proof: &Proof) {
     if let Proof::Fact(leaf) = proof {
         terms
@@ -60,7 +60,7 @@ fn add_leaf(rt: &impl Abort, terms: &mut Vec<Term>, proof: &Proof) {
     }
 }
 
-/// Is the term the other with these objects for parameters? The goal's own variables come after those.
+/// Returns whether the term is the other with these objects for parameters. The goal's own variables come after those.
 fn is_under(sigma: &[u32], general: Term, term: Term) -> bool {
     match general {
         Term::Var(v) => match sigma.get(v as usize) {
@@ -71,7 +71,7 @@ fn is_under(sigma: &[u32], general: Term, term: Term) -> bool {
     }
 }
 
-/// Is the term the variable of that number?
+/// Returns whether the term is the variable of that number.
 fn is_own(term: Term, number: usize) -> bool {
     match term {
         Term::Var(v) => v as usize == number,
@@ -79,7 +79,7 @@ fn is_own(term: Term, number: usize) -> bool {
     }
 }
 
-/// Are the terms the others with these objects for parameters?
+/// Returns whether the terms are the others with these objects for parameters.
 fn are_under(sigma: &[u32], general: &[Term], terms: &[Term]) -> bool {
     if general.len() != terms.len() {
         return false;
@@ -92,7 +92,7 @@ fn are_under(sigma: &[u32], general: &[Term], terms: &[Term]) -> bool {
     true
 }
 
-/// Is some proper instance of the general table made of these terms?
+/// Returns whether some proper instance of the general table is made of these terms.
 fn has_instance(
     alloc: Global,
     rt: &impl Abort,
@@ -116,7 +116,7 @@ fn has_instance(
     false
 }
 
-/// The eight digits to the base three of that number, the last one first.
+/// Returns the eight digits to the base three of that number, the last one first.
 fn digits(number: u32) -> [u32; 8] {
     [
         number % 3,
@@ -130,12 +130,12 @@ fn digits(number: u32) -> [u32; 8] {
     ]
 }
 
-/// The objects of these numbers.
+/// Returns the objects of these numbers.
 fn objects_of(numbers: [u32; 8]) -> [Term; 8] {
     numbers.map(|number| Term::Obj(number))
 }
 
-/// How many of the first tables of the form are supports: just those that are proper instances of what generalises the plan.
+/// Returns how many of the first tables of the form are supports: exactly those that are proper instances of what generalises the plan.
 fn supports(alloc: Global, rt: &impl Abort, form: Form, plan: [u32; 8], tables: u32) -> u32 {
     let problem = small_problem(alloc, rt);
     let plan = candidate(alloc, rt, form, &objects_of(plan));

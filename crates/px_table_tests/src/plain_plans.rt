@@ -29,7 +29,7 @@ fn r(from: Term, to: Term) -> Atom {
     atom(2, &[from, to])
 }
 
-/// R(y,x) where R(x,y); A(x) where R(x,y) of the kept object y; A(x) or A(y).
+/// Returns the axioms: R(y,x) where R(x,y); A(x) where R(x,y) of the kept object y; A(x) or A(y).
 fn axioms(alloc: Global, rt: &impl Abort) -> ClauseArena {
     let mut axioms = ClauseArena::new(alloc);
     add_axiom(&mut axioms, 2, &[no(r(X, Y)), yes(r(Y, X))]).expect(rt, "an axiom");
@@ -38,8 +38,8 @@ fn axioms(alloc: Global, rt: &impl Abort) -> ClauseArena {
     axioms
 }
 
-/// Three objects, the predicates A, B and R, three axioms and four operators: MAKE(x) adds A(x); PUT(x) deletes A(x) and adds B(x);
-/// USE(x) needs A(x) and adds B(x); LINK(x,y) adds R(x,y).
+/// Returns three objects, the predicates A, B and R, three axioms and four operators: MAKE(x) adds A(x); PUT(x) deletes A(x) and adds
+/// B(x); USE(x) needs A(x) and adds B(x); LINK(x,y) adds R(x,y).
 pub fn small_problem(alloc: Global, rt: &impl Abort) -> Problem
     ensures { IsValid result }
 {
@@ -75,7 +75,7 @@ pub enum Form {
     ByAncestor,
 }
 
-/// The table of that form with these objects, in the order of the steps, the goal and the proofs.
+/// Returns the table of that form with these objects, in the order of the steps, the goal and the proofs.
 pub fn candidate(alloc: Global, rt: &impl Abort, form: Form, objects: &[Term; 8]) -> Table
     ensures { result.params ≡ 0 }
 {
@@ -163,12 +163,12 @@ fn by_ancestor(alloc: Global, rt: &impl Abort, objects: &[Term; 8]) -> Table
     plan_of(alloc, rt, &[], &[a(goal)], 0, rows)
 }
 
-/// The literal at that place of an axiom of two literals, by that proof of the other's complement.
+/// Returns the literal at that place of an axiom of two literals, by that proof of the other's complement.
 fn over(alloc: Global, rt: &impl Abort, place: (u32, u32), theta: &[Term], proof: Proof) -> Proof {
     by_axiom(alloc, place, theta, [proof]).expect(rt, "memory")
 }
 
-/// That many rows without proofs.
+/// Returns that many rows without proofs.
 fn empty_rows(alloc: Global, rt: &impl Abort, count: u32) -> Vec<Row> {
     let mut rows = Vec::new(alloc);
     for _ in 0..count {
@@ -177,7 +177,7 @@ fn empty_rows(alloc: Global, rt: &impl Abort, count: u32) -> Vec<Row> {
     rows
 }
 
-/// That many rows without proofs, then one of that proof.
+/// Returns that many rows without proofs, then one of that proof.
 fn last_row(alloc: Global, rt: &impl Abort, count: u32, proof: Proof) -> Vec<Row> {
     let mut rows = empty_rows(alloc, rt, count);
     put_row(alloc, rt, &mut rows, [proof]);

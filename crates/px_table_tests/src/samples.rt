@@ -11,7 +11,7 @@ use px_terms::{Atom, OpInst, Problem, is_valid};
 use std::alloc::Global;
 use std::process::Abort;
 
-/// The sample problem, which has to be valid.
+/// Returns the sample problem, which has to be valid.
 pub fn valid(rt: &impl Abort, problem: Option<Problem>) -> Problem
     ensures { IsValid result }
 {
@@ -20,7 +20,7 @@ pub fn valid(rt: &impl Abort, problem: Option<Problem>) -> Problem
     problem
 }
 
-/// Puts the row of these proofs last.
+/// Appends the row of these proofs.
 pub fn put_row<const N: usize>(
     alloc: Global,
     rt: &impl Abort,
@@ -31,7 +31,7 @@ pub fn put_row<const N: usize>(
     rows.push(row).expect(rt, "memory");
 }
 
-/// The table without parameters of these steps, this goal of that many variables, and these rows.
+/// Returns the table without parameters of these steps, this goal of that many variables, and these rows.
 pub fn plan_of(
     alloc: Global,
     rt: &impl Abort,
@@ -53,7 +53,7 @@ pub fn plan_of(
     }
 }
 
-/// The table of no steps that proves these atoms by facts.
+/// Returns the table of no steps that proves these atoms by facts.
 pub fn table_of_facts(alloc: Global, rt: &impl Abort, params: u32, atoms: &[Atom]) -> Table {
     let mut marks = Vec::new(alloc);
     let mut proofs = Vec::new(alloc);
@@ -73,7 +73,7 @@ pub fn table_of_facts(alloc: Global, rt: &impl Abort, params: u32, atoms: &[Atom
     }
 }
 
-/// Is there an object of the problem for each parameter?
+/// Returns whether there is an object of the problem for each parameter.
 pub fn is_instantiation(problem: &Problem, table: &Table, sigma: &[u32]) -> bool
     ensures { IsTrue result → IsInstantiation problem.now table.now sigma.now }
 {

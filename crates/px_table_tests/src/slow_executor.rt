@@ -20,7 +20,7 @@ use std::rt::HostRuntime;
 /// The four facts that there may be, by their bits.
 const BITS: [u8; 4] = [1, 2, 4, 8];
 
-/// The event of that number: a fact that holds goes or another one comes, or the executor senses or acts.
+/// Returns the event of that number: a fact that holds goes or another one comes, or the executor senses or acts.
 fn event_of(number: u32) -> Event<usize> {
     match number % 6 {
         4 => Event::Sense,
@@ -41,7 +41,7 @@ struct Instance {
     added: u8,
 }
 
-/// The kernel of that number, all of whose facts but `later` are those of its row.
+/// Returns the kernel of that number, all of whose facts but `later` are those of its row.
 fn fitting(number: u32, object: Option<u32>, row: u8, later: u8, added: u8) -> Instance {
     Instance {
         number,
@@ -73,7 +73,7 @@ struct Plain {
 }
 
 impl Plain {
-    /// What comes of the event.
+    /// Returns what comes of the event.
     fn step(&mut self, instances: &[Instance], event: Event<usize>) -> Outcome {
         match event {
             Event::Disturb(fact) => {
@@ -113,7 +113,7 @@ impl Plain {
     }
 }
 
-/// Is the world as the plain executor's, and is the same remembered?
+/// Returns whether the world is like the plain executor's, and the same is remembered.
 fn is_like(planex: &Planex<'_>, world: &AtomWorld<'_>, plain: &Plain, facts: &[Atom; 4]) -> bool {
     for (number, fact) in facts.iter().enumerate() {
         if world.holds(fact) != (plain.holds & BITS[number % 4] != 0) {
@@ -124,8 +124,8 @@ fn is_like(planex: &Planex<'_>, world: &AtomWorld<'_>, plain: &Plain, facts: &[A
         && planex.instance().first().copied() == plain.object
 }
 
-/// The event for the executor itself: a fact that holds goes, and another one comes. None where the fact isn't ground, or the step adds
-/// more than one atom.
+/// Returns the event for the executor itself: a fact that holds goes, and another one comes. `None` where the fact isn't ground, or the
+/// step adds more than one atom.
 fn real_event(
     planex: &Planex<'_>,
     world: &AtomWorld<'_>,
@@ -153,7 +153,7 @@ fn real_event(
     }
 }
 
-/// An action, if the step adds at most one atom.
+/// Returns an action, if the step adds at most one atom.
 fn adding_one(planex: &Planex<'_>, problem: &Problem) -> Option<Event<AtomEdit>>
     requires { planex.now.problem ≡ problem.now }
     ensures admitted { IfSome result (λ real. (edit : AtomEdit) → real ≡ Event.Disturb edit → IsGroundEdit edit) }
@@ -170,7 +170,7 @@ fn adding_one(planex: &Planex<'_>, problem: &Problem) -> Option<Event<AtomEdit>>
     Some(Event::Act)
 }
 
-/// Do both say the same of the event, and leave the same?
+/// Returns whether both say the same of the event, and leave the same.
 fn agrees_on(
     planex: &mut Planex<'_>,
     world: &mut AtomWorld<'_>,
@@ -196,7 +196,7 @@ fn agrees_on(
     outcome == plain.step(&case.instances, event) && is_like(planex, world, plain, &case.facts)
 }
 
-/// Do they agree on `count` events, whose numbers are the digits of the list to the base six?
+/// Returns whether they agree on `count` events, whose numbers are the digits of the list to the base six.
 fn agree(
     planex: &mut Planex<'_>,
     world: &mut AtomWorld<'_>,
@@ -218,7 +218,7 @@ fn agree(
         && agree(planex, world, plain, problem, case, list / 6, count - 1)
 }
 
-/// The executor of the table, the parameter of which may be bound.
+/// Returns the executor of the table, the parameter of which may be bound.
 fn begun<'a>(
     alloc: Global,
     rt: &impl Abort,
@@ -238,7 +238,7 @@ fn begun<'a>(
     Planex::begin(alloc, problem, table, &[(1u32, object)], 8).expect(rt, "a parameter")
 }
 
-/// The facts whose bits are set.
+/// Returns the facts whose bits are set.
 fn model_of(alloc: Global, rt: &impl Abort, facts: &[Atom; 4], holds: u8) -> Model {
     let mut model = Model::new(alloc);
     for (number, fact) in facts.iter().enumerate() {
@@ -250,7 +250,7 @@ fn model_of(alloc: Global, rt: &impl Abort, facts: &[Atom; 4], holds: u8) -> Mod
     model
 }
 
-/// Do they agree on the four events of the list, in a world that begins with the case's facts?
+/// Returns whether they agree on the four events of the list, in a world that begins with the case's facts.
 fn agrees_on_list(
     alloc: Global,
     rt: &impl Abort,
@@ -277,7 +277,7 @@ fn agrees_on_list(
     agree(&mut planex, &mut world, &mut plain, problem, case, list, 4)
 }
 
-/// Do they agree on all lists of four events?
+/// Returns whether they agree on all lists of four events.
 fn agrees_on_all(
     alloc: Global,
     rt: &impl Abort,

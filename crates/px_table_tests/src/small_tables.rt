@@ -17,7 +17,7 @@ fn prove(rt: &impl Abort, marks: &mut Vec<Mark>, row: &mut Vec<Proof>, mark: Mar
     marks.push(mark).expect(rt, "memory");
 }
 
-/// The table of these steps, each of whose proofs is by one fact.
+/// Returns the table of these steps, each of whose proofs is by one fact.
 fn table_of(
     alloc: Global,
     rt: &impl Abort,
@@ -47,7 +47,7 @@ fn table_of(
     }
 }
 
-/// The operator of that number and that many parameters that turns one fact into another, where it finds all these.
+/// Returns the operator of that number and that many parameters that turns one fact into another, where it finds all these.
 fn turning(
     alloc: Global,
     rt: &impl Abort,
@@ -59,7 +59,7 @@ fn turning(
     schema(alloc, number, needed, &[from], &[to]).expect(rt, "memory")
 }
 
-/// A turns P into Q. B turns Q into R, and needs S.
+/// Returns the problem in which A turns P into Q, and B turns Q into R and needs S.
 pub fn chain_problem(alloc: Global, rt: &impl Abort) -> Problem
     ensures { IsValid result }
 {
@@ -76,7 +76,7 @@ pub fn chain_problem(alloc: Global, rt: &impl Abort) -> Problem
     )
 }
 
-/// A, then B, to R.
+/// Returns the table of A, then B, to R.
 pub fn chain_table(alloc: Global, rt: &impl Abort) -> Table {
     let goal = atom(2, &[]);
     let steps = [instance(0, &[]), instance(1, &[])];
@@ -89,7 +89,7 @@ pub fn chain_table(alloc: Global, rt: &impl Abort) -> Table {
     table_of(alloc, rt, 0, &steps, goal, &facts)
 }
 
-/// A(x) turns P(x) into Q(x). There are two objects.
+/// Returns the problem in which A(x) turns P(x) into Q(x). There are two objects.
 pub fn choice_problem(alloc: Global, rt: &impl Abort) -> Problem
     ensures { IsValid result }
 {
@@ -100,7 +100,7 @@ pub fn choice_problem(alloc: Global, rt: &impl Abort) -> Problem
     valid(rt, problem_of(alloc, 2, &[1, 1], axioms, operators))
 }
 
-/// A(p1), to Q(p1).
+/// Returns the table of A(p1), to Q(p1).
 pub fn choice_table(alloc: Global, rt: &impl Abort) -> Table {
     let goal = atom(1, &[v(0)]);
     let step = instance(0, &[v(0)]);

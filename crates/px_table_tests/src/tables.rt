@@ -76,7 +76,7 @@ fn given_proof(atom: Atom) -> Proof
     })
 }
 
-/// The support of no steps, whose goal is given at first.
+/// Returns the support of no steps, whose goal is given at first.
 fn given_row(alloc: Global, rt: &impl Abort, atom: Atom) -> Vec<Row>
     ensures { result.items ≡ (Proof.Fact (record { column = 0; index = 0; atom = atom }) ∷ []) ∷ [] }
 {
@@ -87,7 +87,7 @@ fn given_row(alloc: Global, rt: &impl Abort, atom: Atom) -> Vec<Row>
     rows
 }
 
-/// The table of no steps, whose goal is given at first.
+/// Returns the table of no steps, whose goal is given at first.
 fn given_table(alloc: Global, rt: &impl Abort, problem: &Problem, atom: Atom) -> Table
     requires problem { IsValid problem.now }
     requires atom { IsAtomOf problem.now 0 atom }

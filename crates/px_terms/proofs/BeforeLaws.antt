@@ -28,7 +28,8 @@ then-less Equal s = (λ h. inr (refl, h), λ h. elim h [ inl e ↦ absurd (cc) |
 then-less Greater s = (λ h. absurd (cc), λ h. elim h [ inl e ↦ absurd (cc) | inr both ↦ absurd (let e = both.0 in cc) ])
 
 -- first by one comparison, and where that ties by another
-first_then : {A B C : Type 0} (r s : Ordering) → (r ≡ Less) ↔ A → (r ≡ Equal) ↔ B → (s ≡ Less) ↔ C → (ordering_then r s ≡ Less) ↔ (A ⊎ (B × C))
+first_then : {A B C : Type 0} (r s : Ordering) → (r ≡ Less) ↔ A → (r ≡ Equal) ↔ B → (s ≡ Less) ↔ C → (ordering_then r s ≡ Less)
+    ↔ (A ⊎ (B × C))
 first_then r s less same later = (
   λ h. elim ((then-less r s).0 h) [ inl e ↦ inl (less.0 e) | inr both ↦ inr (same.0 both.0, later.0 both.1) ],
   λ h. (then-less r s).1 (elim h [ inl a ↦ inl (less.1 a) | inr both ↦ inr (same.1 both.0, later.1 both.1) ]),
@@ -40,7 +41,8 @@ reversed Equal = (λ h. cc, λ h. cc)
 reversed Greater = (λ h. cc, λ h. cc)
 
 -- what comes before, and that equal ones tie, make an order of a total comparison
-order : {K : Type 0} (compared : K → K → Ordering) (IsBefore : K → K → Type 0) → IsTotalOrder compared → ((x y : K) → (compared x y ≡ Less) ↔ IsBefore x y)
+order : {K : Type 0} (compared : K → K → Ordering) (IsBefore : K → K → Type 0) → IsTotalOrder compared
+    → ((x y : K) → (compared x y ≡ Less) ↔ IsBefore x y)
     → ((x y : K) → (compared x y ≡ Equal) ↔ (x ≡ y)) → IsOrder compared IsBefore
 order compared IsBefore total less same = record {
   less = less;
@@ -52,7 +54,8 @@ order compared IsBefore total less same = record {
 }
 
 -- where `==` is equality, those that tie are the same
-ties : {K : Type 0} (equal : K → K → Bool) (compared : K → K → Ordering) → ((x y : K) → Decides (equal x y) (x ≡ y)) → ((x y : K) → equal x y ≡ eq_by_cmp compared x y)
+ties : {K : Type 0} (equal : K → K → Bool) (compared : K → K → Ordering) → ((x y : K) → Decides (equal x y) (x ≡ y))
+    → ((x y : K) → equal x y ≡ eq_by_cmp compared x y)
     → (x y : K) → (compared x y ≡ Equal) ↔ (x ≡ y)
 ties equal compared decides tied x y =
     (λ e. (decides x y).0 (tied x y ∙ (Equal-is (compared x y)).1 e), λ e. (Equal-is (compared x y)).0 (sym (tied x y) ∙ (decides x y).1 e))
@@ -75,19 +78,26 @@ terms_cmp-less : (ss ts : List Term) → (slice_cmp term_cmp ss ts ≡ Less) ↔
 terms_cmp-less [] [] = (λ e. cc, λ h. absurd h)
 terms_cmp-less [] (t ∷ ts) = (λ _. tt, λ _. refl)
 terms_cmp-less (s ∷ ss) [] = (λ e. cc, λ h. absurd h)
-terms_cmp-less (s ∷ ss) (t ∷ ts) = first_then (term_cmp s t) (slice_cmp term_cmp ss ts) (term_cmp-less s t) (term_cmp-same s t) (terms_cmp-less ss ts)
+terms_cmp-less (s ∷ ss) (t ∷ ts) =
+    first_then (term_cmp s t) (slice_cmp term_cmp ss ts) (term_cmp-less s t) (term_cmp-same s t) (terms_cmp-less ss ts)
 
 atom_cmp-less : (a b : AtomValue) → (atom_cmp a b ≡ Less) ↔ IsAtomBefore a b
-atom_cmp-less a b = first_then (nat_cmp a.pred b.pred) (slice_cmp term_cmp a.args b.args) (nat_cmp-less a.pred b.pred) (nat_cmp-same a.pred b.pred) (terms_cmp-less a.args b.args)
+atom_cmp-less a b =
+    first_then (nat_cmp a.pred b.pred) (slice_cmp term_cmp a.args b.args) (nat_cmp-less a.pred b.pred) (nat_cmp-same a.pred b.pred)
+    (terms_cmp-less a.args b.args)
 
 instance_cmp-less : (a b : InstanceValue) → (instance_cmp a b ≡ Less) ↔ IsInstanceBefore a b
-instance_cmp-less a b = first_then (nat_cmp a.op b.op) (slice_cmp term_cmp a.args b.args) (nat_cmp-less a.op b.op) (nat_cmp-same a.op b.op) (terms_cmp-less a.args b.args)
+instance_cmp-less a b =
+    first_then (nat_cmp a.op b.op) (slice_cmp term_cmp a.args b.args) (nat_cmp-less a.op b.op) (nat_cmp-same a.op b.op)
+    (terms_cmp-less a.args b.args)
 
 pub atoms_are_ordered : AtomsAreOrdered
 atoms_are_ordered = record {
   terms = order term_cmp IsTermBefore term_order.total-law term_cmp-less term_cmp-same;
   atoms = order atom_cmp IsAtomBefore atom_cmp-total atom_cmp-less (ties _ atom_cmp atom_eq-decides atom_cmp-matches_eq);
-  instances = order instance_cmp IsInstanceBefore instance_cmp-total instance_cmp-less (ties _ instance_cmp instance_eq-decides instance_cmp-matches_eq);
+  instances =
+      order instance_cmp IsInstanceBefore instance_cmp-total instance_cmp-less
+      (ties _ instance_cmp instance_eq-decides instance_cmp-matches_eq);
   term_equality = term_eq-decides;
   atom_equality = atom_eq-decides;
   instance_equality = instance_eq-decides;

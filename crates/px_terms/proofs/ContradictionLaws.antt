@@ -8,7 +8,7 @@ use Rattle.px_terms.specs.declared.instance.OpInst.{OpInst}
 use Rattle.px_terms.specs.Clauses.{IsClause}
 use Rattle.px_terms.specs.Lamps.{claim, denial, contradiction, ContradictionFact}
 use Rattle.px_terms.specs.Language.{IsPlainBelow}
-use Rattle.px_terms.specs.MergedNamesLaws.{nothing, one}
+use Rattle.px_terms.specs.MergedNamesLaws.{All-nothing, one}
 use Rattle.px_terms.specs.Plans.{IsRun, Carries}
 use Rattle.px_terms.specs.States.{State, AreValues, AxiomsHold, LiteralHoldsUnder}
 use Rattle.px_terms.specs.Validity.{IsAtomOf, IsAxiomOf, IsTermOf, IsValid}
@@ -22,26 +22,30 @@ valid : IsValid contradiction
 valid =
     let is_of : Lit → Type 0 = λ lit. IsAtomOf contradiction 0 lit.atom in
     let plain : Lit → Type 0 = λ lit. All (IsPlainBelow 0) lit.atom.args in
-    let atom : IsAtomOf contradiction 0 (record { pred = 0; args = [] }) = ((omega arith, refl), nothing (IsTermOf contradiction 0)) in record {
+    let atom : IsAtomOf contradiction 0 (record { pred = 0; args = [] }) =
+    ((omega arith, refl), All-nothing (IsTermOf contradiction 0)) in record {
       schemas = λ k below. absurd (omega (arith, below));
-      axioms = two (IsAxiomOf contradiction) claim denial (record { vars = omega arith; lits = one is_of _ atom }) (record { vars = omega arith; lits = one is_of _ atom });
+      axioms =
+          two (IsAxiomOf contradiction) claim denial (record { vars = omega arith; lits = one is_of _ atom })
+          (record { vars = omega arith; lits = one is_of _ atom });
       arena = record {
         each = two IsClause claim denial
-            (record { size = (omega arith, omega arith); plain = one plain _ (nothing (IsPlainBelow 0)) })
-            (record { size = (omega arith, omega arith); plain = one plain _ (nothing (IsPlainBelow 0)) });
+            (record { size = (omega arith, omega arith); plain = one plain _ (All-nothing (IsPlainBelow 0)) })
+            (record { size = (omega arith, omega arith); plain = one plain _ (All-nothing (IsPlainBelow 0)) });
         most = omega arith;
       };
       short = (omega arith, omega arith);
       height = (omega arith, omega arith);
       nodes = (omega arith, omega arith);
       shapes = (omega arith, omega arith);
-      no_objects = λ _. (nothing _, two (λ (clause : Clause). clause.vars ≡ 0) claim denial refl refl);
+      no_objects = λ _. (All-nothing _, two (λ (clause : Clause). clause.vars ≡ 0) claim denial refl refl);
     }
 
 unmet : (state : State) → ¬ AxiomsHold contradiction state
 unmet state holds =
-    let values : AreValues state 0 [] = (refl, nothing (λ e. e < state.size)) in
-    only (LiteralHoldsUnder state []) _ (holds 1 denial (omega arith) [] values) (only (LiteralHoldsUnder state []) _ (holds 0 claim (omega arith) [] values))
+    let values : AreValues state 0 [] = (refl, All-nothing (λ e. e < state.size)) in
+    only (LiteralHoldsUnder state []) _ (holds 1 denial (omega arith) [] values)
+    (only (LiteralHoldsUnder state []) _ (holds 0 claim (omega arith) [] values))
 
 no_run : (state : State) (later : List State) (steps : List OpInst) → ¬ IsRun contradiction (state ∷ later) steps
 no_run state [] steps run = unmet state run.1

@@ -11,7 +11,7 @@ use Rattle.px_terms.specs.declared.term.Term.TheVariants.{Obj, Var, Any as WildC
 use Rattle.px_terms.specs.Clauses.{IsArena, IsClause}
 use Rattle.px_terms.specs.Lamps.{on, off, shines, on_or_off, on_shines, switch_schema, lamp_with, lamp, switch_on, lamp_state, it, dark, shining, broken, missing, LampFact}
 use Rattle.px_terms.specs.Language.{IsPlainBelow}
-use Rattle.px_terms.specs.MergedNamesLaws.{nothing, one}
+use Rattle.px_terms.specs.MergedNamesLaws.{All-nothing, one}
 use Rattle.px_terms.specs.Operators.{IsDeleted, deletes, no_schema}
 use Rattle.px_terms.specs.Plans.{IsRun, MeetsEach, Carries, GoalHolds, last_of}
 use Rattle.px_terms.specs.States.{State, IsState, Holds, HoldsUnder, AreValues, AxiomsHold, Described, LiteralHoldsUnder}
@@ -99,9 +99,10 @@ it_below : All (All (λ e. e < 1)) it
 it_below = one (All (λ e. e < 1)) (0 ∷ []) (one (λ e. e < 1) 0 (omega arith))
 
 none_below : All (All (λ e. e < 1)) []
-none_below = nothing (All (λ e. e < 1))
+none_below = All-nothing (All (λ e. e < 1))
 
-state_with : (is_on is_off is_shining : List (List ℕ)) → All (All (λ e. e < 1)) is_on → All (All (λ e. e < 1)) is_off → All (All (λ e. e < 1)) is_shining
+state_with : (is_on is_off is_shining : List (List ℕ)) → All (All (λ e. e < 1)) is_on → All (All (λ e. e < 1)) is_off
+    → All (All (λ e. e < 1)) is_shining
     → IsState (lamp_state is_on is_off is_shining)
 state_with is_on is_off is_shining h k l = record {
   not_empty = omega arith;
@@ -146,16 +147,18 @@ values_of_one : (state : State) → state.size ≡ 1 → AreValues state 1 (0 �
 values_of_one state size = (refl, one (λ e. e < state.size) 0 (omega (arith, size)))
 
 broken_fails : ¬ AxiomsHold lamp broken
-broken_fails holds = elim (either (LiteralHoldsUnder broken (0 ∷ [])) _ _ (holds 1 on_shines (omega arith) (0 ∷ []) (values_of_one broken refl))) [
-  | inl denied ↦ denied (0, omega arith, refl)
-  | inr is_shining ↦ Contains-none (0 ∷ []) is_shining
-]
+broken_fails holds =
+    elim (either (LiteralHoldsUnder broken (0 ∷ [])) _ _ (holds 1 on_shines (omega arith) (0 ∷ []) (values_of_one broken refl))) [
+      | inl denied ↦ denied (0, omega arith, refl)
+      | inr is_shining ↦ Contains-none (0 ∷ []) is_shining
+    ]
 
 missing_fails : ¬ AxiomsHold lamp missing
-missing_fails holds = elim (either (LiteralHoldsUnder missing (0 ∷ [])) _ _ (holds 0 on_or_off (omega arith) (0 ∷ []) (values_of_one missing refl))) [
-  | inl is_on ↦ Contains-none (0 ∷ []) is_on
-  | inr is_off ↦ Contains-none (0 ∷ []) is_off
-]
+missing_fails holds =
+    elim (either (LiteralHoldsUnder missing (0 ∷ [])) _ _ (holds 0 on_or_off (omega arith) (0 ∷ []) (values_of_one missing refl))) [
+      | inl is_on ↦ Contains-none (0 ∷ []) is_on
+      | inr is_off ↦ Contains-none (0 ∷ []) is_off
+    ]
 
 -- ---- what is carried
 
@@ -167,7 +170,8 @@ element_below state is = first_below state.elements is.elements
     first_below (e ∷ es) all = All-head (λ e. e < state.size) e es all
 
 -- where the lamp is on, something shines
-on_then_shines : (state : State) → IsState state → AxiomsHold lamp state → Holds state (on (Obj 0)) → GoalHolds state 1 (shines (Var 0) ∷ [])
+on_then_shines : (state : State) → IsState state → AxiomsHold lamp state → Holds state (on (Obj 0))
+    → GoalHolds state 1 (shines (Var 0) ∷ [])
 on_then_shines state is axioms_hold is_on =
     let e = slice_index state.elements 0 in
     let values : AreValues state 1 (e ∷ []) = (refl, one (λ n. n < state.size) e (element_below state is)) in
@@ -176,11 +180,13 @@ on_then_shines state is axioms_hold is_on =
       | inr is_shining ↦ (e ∷ [], values, one (HoldsUnder state (e ∷ [])) (shines (Var 0)) is_shining)
     ]
 
-meets : (state : State) (later : List State) → IsRun lamp (state ∷ later) (switch_on ∷ []) → All (Holds state) (off (Obj 0) ∷ []) → MeetsEach lamp (state ∷ later) (switch_on ∷ [])
+meets : (state : State) (later : List State) → IsRun lamp (state ∷ later) (switch_on ∷ []) → All (Holds state) (off (Obj 0) ∷ [])
+    → MeetsEach lamp (state ∷ later) (switch_on ∷ [])
 meets state [] run is_off = (is_off, tt)
 meets state (next ∷ later) run is_off = (is_off, tt)
 
-ends : (state : State) (later : List State) → IsRun lamp (state ∷ later) (switch_on ∷ []) → All (Holds state) (off (Obj 0) ∷ []) → length later ≡ 1
+ends : (state : State) (later : List State) → IsRun lamp (state ∷ later) (switch_on ∷ []) → All (Holds state) (off (Obj 0) ∷ [])
+    → length later ≡ 1
     → GoalHolds (last_of state later) 1 (shines (Var 0) ∷ [])
 ends state [] run is_off count = absurd (omega (arith, count))
 ends state (next ∷ []) run is_off count = on_then_shines next run.2.0 run.2.1 (All-head (Holds next) (on (Obj 0)) [] (run.1.added is_off))
@@ -192,7 +198,8 @@ is_dark : All (Holds dark) (off (Obj 0) ∷ [])
 is_dark = one (Holds dark) (off (Obj 0)) (0, omega arith, refl)
 
 -- an atom of the problem that is true in the dark is OFF(lamp)
-is_off_alone : (pred : ℕ) (args : List Term) → IsAtomOf (lamp_with []) 0 (record { pred = pred; args = args }) → Holds dark (record { pred = pred; args = args })
+is_off_alone : (pred : ℕ) (args : List Term) → IsAtomOf (lamp_with []) 0 (record { pred = pred; args = args })
+    → Holds dark (record { pred = pred; args = args })
     → deletes (lamp_with []) switch_on (record { pred = pred; args = args }) ≡ true
 is_off_alone zero args of holds = absurd (Contains-none _ holds)
 is_off_alone (suc zero) [] of holds = absurd (omega (arith, of.0.1))
@@ -205,23 +212,31 @@ is_off_alone (suc (suc zero)) args of holds = absurd (Contains-none _ holds)
 is_off_alone (suc (suc (suc k))) args of holds = absurd (omega (arith, of.0.0))
 
 bare_valid : IsValid (lamp_with [])
-bare_valid = valid_with [] (nothing _) (record { each = nothing IsClause; most = omega arith })
+bare_valid = valid_with [] (All-nothing _) (record { each = All-nothing IsClause; most = omega arith })
 
 deleted : (atom : Atom) → IsAtomOf (lamp_with []) 0 atom → Holds dark atom → IsDeleted switch_schema switch_on atom
 deleted atom of holds =
-    deletes-true (lamp_with []) switch_on atom bare_valid (instance-is_ground (lamp_with []) switch_on (instance_with [])) (atom_of-is_ground (lamp_with []) atom of)
+    deletes-true (lamp_with []) switch_on atom bare_valid (instance-is_ground (lamp_with []) switch_on (instance_with []))
+    (atom_of-is_ground (lamp_with []) atom of)
     (is_off_alone atom.pred atom.args of holds)
 
 breaks : Described (lamp_with []) switch_on dark broken
-breaks = record { kept = λ _ atom of holds stays. absurd (stays (deleted atom of holds)); added = λ _. one (Holds broken) (on (Obj 0)) (0, omega arith, refl) }
+breaks =
+    record {
+      kept =
+          λ _ atom of holds stays. absurd (stays (deleted atom of holds));
+      added = λ _. one (Holds broken) (on (Obj 0)) (0, omega arith, refl);
+    }
 
 nothing_shines : (state : State) → slice_index_or state.tuples 2 [] ≡ [] → ¬ GoalHolds state 1 (shines (Var 0) ∷ [])
 nothing_shines state is_empty goal =
-    Contains-none _ (subst (λ (tuples : List (List ℕ)). Contains tuples (slice_index goal.0 0 ∷ [])) is_empty (All-head (HoldsUnder state goal.0) (shines (Var 0)) [] goal.2))
+    Contains-none _ (subst (λ (tuples : List (List ℕ)). Contains tuples (slice_index goal.0 0 ∷ [])) is_empty
+    (All-head (HoldsUnder state goal.0) (shines (Var 0)) [] goal.2))
 
 no_axioms : ¬ Carries (lamp_with []) (off (Obj 0) ∷ []) (switch_on ∷ []) 1 (shines (Var 0) ∷ [])
 no_axioms carries =
-    let run : IsRun (lamp_with []) (dark ∷ broken ∷ []) (switch_on ∷ []) = ((dark_state, nothing _), breaks, (state_with it [] [] it_below none_below none_below, nothing _)) in
+    let run : IsRun (lamp_with []) (dark ∷ broken ∷ []) (switch_on ∷ []) =
+    ((dark_state, All-nothing _), breaks, (state_with it [] [] it_below none_below none_below, All-nothing _)) in
     nothing_shines broken refl (carries.ends dark (broken ∷ []) run is_dark refl)
 
 no_steps : ¬ Carries lamp (off (Obj 0) ∷ []) [] 1 (shines (Var 0) ∷ [])
@@ -231,7 +246,12 @@ pub lamp_shines : LampFact
 lamp_shines = record {
   valid = valid;
   instance = instance_with (on_or_off ∷ on_shines ∷ []);
-  states = (dark_state, state_with it [] it it_below none_below it_below, state_with it [] [] it_below none_below none_below, state_with [] [] [] none_below none_below none_below);
+  states = (
+    dark_state,
+    state_with it [] it it_below none_below it_below,
+    state_with it [] [] it_below none_below none_below,
+    state_with [] [] [] none_below none_below none_below,
+  );
   holding = (dark_holds, shining_holds);
   failing = (broken_fails, missing_fails);
   carried = record { meets = meets; ends = ends };

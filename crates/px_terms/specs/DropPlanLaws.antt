@@ -1,4 +1,4 @@
--- What the plan that drops the first of two objects is said to carry, it carries, and no more.
+-- The plan that drops the first of two objects carries what it is said to carry, and no more.
 use Rattle.std.specs.Prelude.{List, [], ◌∷◌, All, Contains}
 use Rattle.std.proofs.Common.{refl, inl}
 use Rattle.std.proofs.lemmas.List.Elements.{All-head}
@@ -7,7 +7,7 @@ use Rattle.px_terms.specs.declared.atom.Atom.{Atom}
 use Rattle.px_terms.specs.declared.term.Term.TheVariants.{Obj}
 use Rattle.px_terms.specs.DropPlan.{DropPlanFact}
 use Rattle.px_terms.specs.MergedNames.{at, drop_schema, two_names, drop_first, apart, apart_after}
-use Rattle.px_terms.specs.MergedNamesLaws.{nothing, one, valid, instance, apart_state, apart_after_state, met_apart, natural, second}
+use Rattle.px_terms.specs.MergedNamesLaws.{All-nothing, one, valid, instance, apart_state, apart_after_state, met_apart, natural, second}
 use Rattle.px_terms.specs.OperatorLaws.{result_by-members}
 use Rattle.px_terms.specs.Operators.{result_of}
 use Rattle.px_terms.specs.Plans.{IsRun, Carries, GoalHolds}
@@ -16,12 +16,12 @@ use Rattle.px_terms.specs.States.{Holds, HoldsUnder, element_of}
 use Rattle.px_terms.specs.Validity.{IsAtomOf, IsInstanceOf}
 
 run : IsRun two_names (apart ∷ apart_after ∷ []) (drop_first ∷ [])
-run = ((apart_state, nothing _), natural, (apart_after_state, nothing _))
+run = ((apart_state, All-nothing _), natural, (apart_after_state, All-nothing _))
 
 -- where AT is true of nothing, the precondition isn't met
 unmet : ¬ Carries two_names [] (drop_first ∷ []) 0 []
 unmet carries =
-    let met = carries.meets apart_after [] (apart_after_state, nothing _) (nothing (Holds apart_after)) in
+    let met = carries.meets apart_after [] (apart_after_state, All-nothing _) (All-nothing (Holds apart_after)) in
     Contains-none (element_of apart_after [] (Obj 0) ∷ []) (All-head (Holds apart_after) (at (Obj 0)) [] met.0)
 
 lost : ¬ Carries two_names (at (Obj 0) ∷ []) (drop_first ∷ []) 0 (at (Obj 0) ∷ [])
@@ -35,8 +35,8 @@ steps = one (IsInstanceOf two_names) drop_first instance
 carried : Carries two_names (at (Obj 0) ∷ []) (drop_first ∷ []) 0 []
 carried =
     let needed = one (Contains (at (Obj 0) ∷ [])) (at (Obj 0)) (Contains-first (at (Obj 0)) []) in
-    achieves_carries two_names (at (Obj 0) ∷ []) (drop_first ∷ []) [] valid steps (nothing (IsAtomOf two_names 0))
-    (needed, nothing (Contains (result_of two_names (at (Obj 0) ∷ []) drop_first)))
+    achieves_carries two_names (at (Obj 0) ∷ []) (drop_first ∷ []) [] valid steps (All-nothing (IsAtomOf two_names 0))
+    (needed, All-nothing (Contains (result_of two_names (at (Obj 0) ∷ []) drop_first)))
 
 -- AT is true of both objects
 abbrev both : List Atom

@@ -1,3 +1,4 @@
+-- The files of definitions and laws.
 pub mod AtomSets
 pub mod Before
 pub mod Clauses

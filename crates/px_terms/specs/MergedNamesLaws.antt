@@ -1,4 +1,4 @@
--- What the worked example of two names says is so.
+-- What the worked example of two names says is proved.
 use Rattle.std.specs.Prelude.{◌≡◌, ◌<◌, true, ℕ, List, [], ◌∷◌, All, Contains, slice_index_or}
 use Rattle.std.proofs.Common.{refl, subst, arith, zero, suc, inl, inr, ap}
 use Rattle.std.proofs.lemmas.List.Elements.{All-cons, All-head}
@@ -13,11 +13,11 @@ use Rattle.px_terms.specs.States.{State, IsState, Holds, Described, element_of}
 use Rattle.px_terms.specs.Validity.{IsAtomOf, IsInstanceOf, IsPatternOf, IsPatternTermOf, IsSchemaOf, IsTermOf, IsValid}
 use Rattle.px_terms.specs.ValidityLaws.{atom_of-is_ground, deletes-false, deletes-true, instance-is_ground}
 
-pub nothing : {X : Type 0} (P : X → Type 0) → All P []
-nothing P k d below = absurd (omega (arith, below))
+pub All-nothing : {X : Type 0} (P : X → Type 0) → All P []
+All-nothing P k d below = absurd (omega (arith, below))
 
 pub one : {X : Type 0} (P : X → Type 0) (x : X) → P x → All P (x ∷ [])
-one P x is = All-cons P x [] is (nothing P)
+one P x is = All-cons P x [] is (All-nothing P)
 
 -- ---- the problem is valid, and the step is its instance
 
@@ -33,7 +33,7 @@ drop_is_schema = record {
   params = omega arith;
   pre = one (IsAtomOf two_names 1) (at (Var 0)) at_parameter;
   del = one (IsPatternOf two_names 1) (at (Var 0)) at_pattern;
-  add = nothing (IsAtomOf two_names 1);
+  add = All-nothing (IsAtomOf two_names 1);
   short = (omega arith, omega arith, omega arith);
 }
 
@@ -44,8 +44,8 @@ each_schema (suc k) below = absurd (omega (arith, below))
 pub valid : IsValid two_names
 valid = record {
   schemas = each_schema;
-  axioms = nothing _;
-  arena = record { each = nothing IsClause; most = omega arith };
+  axioms = All-nothing _;
+  arena = record { each = All-nothing IsClause; most = omega arith };
   short = (omega arith, omega arith);
   height = (omega arith, omega arith);
   nodes = (omega arith, omega arith);
@@ -79,7 +79,7 @@ pub apart_after_state : IsState apart_after
 apart_after_state = record {
   not_empty = omega arith;
   elements = All-cons (λ e. e < 2) 0 (1 ∷ []) (omega arith) (below_size 2 1 (omega arith));
-  tuples = one (All (All (λ e. e < 2))) [] (nothing (All (λ e. e < 2)));
+  tuples = one (All (All (λ e. e < 2))) [] (All-nothing (All (λ e. e < 2)));
 }
 
 met_merged : All (Holds merged) (at (Obj 0) ∷ [])

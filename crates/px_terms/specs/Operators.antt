@@ -25,7 +25,7 @@ is_deleted schema inst atom = list_any (λ pattern. is_instance atom (substitute
 abbrev pub result_by : Schema → List Atom → OpInst → List Atom
 result_by schema atoms inst = atom_set (filter (λ atom. not (is_deleted schema inst atom)) atoms ++ atoms_of schema.add inst)
 
--- in place of an operator, where there is none
+-- stands for the operator where there is none
 abbrev pub no_schema : Schema
 no_schema = record { op = 0; params = 0; pre = []; del = []; add = [] }
 

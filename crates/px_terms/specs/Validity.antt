@@ -17,7 +17,7 @@ IsTermOf problem vars (Obj n) = n < problem.objects
 IsTermOf problem vars (Var v) = v < vars
 IsTermOf problem vars Any = ⊥
 
--- the same, or the wild card
+-- the term is one of the problem's objects, one of `vars` variables, or the wild card
 abbrev pub IsPatternTermOf : Problem → ℕ → Term → Type 0
 IsPatternTermOf problem vars (Obj n) = n < problem.objects
 IsPatternTermOf problem vars (Var v) = v < vars
@@ -31,7 +31,7 @@ HasArity problem atom = (atom.pred < length problem.arities) × (length atom.arg
 abbrev pub IsAtomOf : Problem → ℕ → Atom → Type 0
 IsAtomOf problem vars atom = HasArity problem atom × All (IsTermOf problem vars) atom.args
 
--- the same of a delete pattern, in which the wild card may stand
+-- the pattern is such an atom, in which the wild card may stand, too
 abbrev pub IsPatternOf : Problem → ℕ → Atom → Type 0
 IsPatternOf problem vars atom = HasArity problem atom × All (IsPatternTermOf problem vars) atom.args
 

@@ -55,17 +55,18 @@ pub instance_schema : (problem : Problem) (inst : OpInst) → IsValid problem �
     → IsSchemaWellFormed (schema_of problem inst)
 instance_schema problem inst valid is = well_formed_schema problem inst.op (schema_of problem inst) (valid.schemas inst.op is.op)
 
-object_at : (args : List Term) → All IsObject args → (term : Term) → IsPlainBelow (length args) term → IsObject (substitute args term)
-object_at args objects (Obj n) h = tt
-object_at args objects (Var v) h = objects v WildCard h
-object_at args objects WildCard h = h
+object_at-is_object : (args : List Term) → All IsObject args → (term : Term) → IsPlainBelow (length args) term
+    → IsObject (substitute args term)
+object_at-is_object args objects (Obj n) h = tt
+object_at-is_object args objects (Var v) h = objects v WildCard h
+object_at-is_object args objects WildCard h = h
 
 objects_at : (args : List Term) → All IsObject args → (terms : List Term) → All (IsPlainBelow (length args)) terms
     → All IsObject (map (substitute args) terms)
 objects_at args objects [] h = λ k d below. absurd (omega (arith, below))
 objects_at args objects (t ∷ ts) h =
     All-cons IsObject (substitute args t) (map (substitute args) ts)
-    (object_at args objects t (All-head (IsPlainBelow (length args)) t ts h))
+    (object_at-is_object args objects t (All-head (IsPlainBelow (length args)) t ts h))
     (objects_at args objects ts (All-tail (IsPlainBelow (length args)) t ts h))
 
 -- an atom under objects for all its variables is ground

@@ -58,6 +58,17 @@ impl Atom {
         })
     }
 
+    /// Returns the atom of a predicate with these arguments, which are at most six. Does not allocate.
+    pub fn of(pred: u32, args: &[Term]) -> Atom
+        requires { length args.now ≤ 6 }
+        ensures { result ≡ record { pred = pred; args = args.now } }
+    {
+        match Atom::new(pred, args) {
+            Some(atom) => atom,
+            None => unreachable!(),
+        }
+    }
+
     /// Returns the number of the predicate.
     pub fn pred(&self) -> u32
         ensures { result ≡ self.now.pred }
@@ -126,7 +137,7 @@ impl Hash for Atom {
 }
 
 // Alike: `OpInst` in instance.rt, a list of at most 8 terms in place of 6. With one type for both an instance would pass for an atom.
-/// Are the two atoms the same?
+/// Returns whether the two atoms are the same.
 pub fn equal(a: &Atom, b: &Atom) -> bool
     ensures { IsTrue result ↔ (a.now ≡ b.now) }
 {
@@ -148,7 +159,7 @@ pub fn apply(map: &[Term], atom: &Atom) -> Atom
     }
 }
 
-/// Does `atom` come from `pattern` by putting an object in the place of each `Any`?
+/// Returns whether `atom` comes from `pattern` by putting an object in the place of each `Any`.
 pub fn instance_of(atom: &Atom, pattern: &Atom) -> bool
     requires is_ground { IsGround atom.now }
     requires no_variable { All (IsVariableBelow 0) pattern.now.args }
@@ -158,21 +169,21 @@ pub fn instance_of(atom: &Atom, pattern: &Atom) -> bool
     fills(atom, pattern)
 }
 
-/// Does `pattern` become `atom` by putting terms in the place of each `Any`? The two may be any atoms.
+/// Returns whether `pattern` becomes `atom` by putting terms in the place of each `Any`. The two may be any atoms.
 pub fn fills(atom: &Atom, pattern: &Atom) -> bool
     ensures { result ≡ is_instance atom.now pattern.now }
 {
     atom.pred() == pattern.pred() && is_filled(pattern.args(), atom.args())
 }
 
-/// Is `pattern` the wild card or `atom` itself?
+/// Returns whether `pattern` is the wild card or `term` itself.
 fn is_filled_by(pattern: Term, term: Term) -> bool
     ensures { result ≡ is_filled_place pattern term }
 {
     pattern == Term::Any || pattern == term
 }
 
-/// Are the lists as long, and is each term of `pattern` the wild card or the term of `atom`?
+/// Returns whether the lists are equally long, and each term of `pattern` is the wild card or the term of `atom` at its place.
 fn is_filled(pattern: &[Term], terms: &[Term]) -> bool
     ensures { result ≡ pointwise is_filled_place pattern.now terms.now }
 {

@@ -23,7 +23,7 @@ pub enum ArenaErr {
     /// There is no literal, or more than six.
     #[error("a clause has one to six literals")]
     BadLength,
-    /// The arena holds 64 clauses.
+    /// The arena has its 64 clauses.
     #[error("there are 64 clauses")]
     Full,
     /// There is no memory for the clause.

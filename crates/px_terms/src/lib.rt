@@ -2,24 +2,27 @@
 //!
 //! # Calling it
 //!
-//! - A [`Term`] is an object, a variable (of an axiom or a goal) or parameter (of an operator), or the wild card.
+//! - A [`Term`] is an object, a variable (of an axiom or a goal) or parameter (of an operator), or the wild card. [`object_of`]
+//!   returns the number of the object, and 0 for any other term.
 //! - An [`Atom`] is a predicate with at most six terms, an [`OpInst`] an operator with at most eight. Both are `Copy`,
 //!   contracts see them as a number with the list of the terms, and they are ordered by number, then by terms from
-//!   the left. `new` answers `None` exactly where there are too many terms.
-//! - [`substituted`], [`apply`] and [`apply_inst`] replace variables. [`instance_of`] tests an atom without variables against a
+//!   the left. `new` answers `None` exactly where there are too many terms; `Atom::of` asks for at most six terms.
+//! - [`apply_term`], [`apply`] and [`apply_inst`] replace variables. [`instance_of`] tests an atom without variables against a
 //!   pattern with wild cards, [`fills`] any atom.
 //! - A [`ClauseArena`] keeps the axioms by number. `push` refuses a clause of no literal or more than six, then a
 //!   sixty-fifth clause; a refused clause leaves it as it was.
 //! - A [`Schema`] is an operator, a [`Problem`] all that a search is about. Fields that are lists are [`Sequence`]s.
-//!   Calls of other crates that are lent a problem ask that it is valid: `IsValid` in `specs/Validity.antt`. [`is_valid`] tests
+//!   Calls of other crates that borrow a problem ask that it is valid: `IsValid` in `specs/Validity.antt`. [`is_valid`] tests
 //!   it; [`is_atom_of`], [`are_atoms_of`], [`is_instance_of`] and [`is_term_of`] test what belongs to a problem; [`is_ground`],
-//!   [`are_variables_below`] and [`are_plain_below`] test the conditions of other calls. Each answers exactly.
+//!   [`are_objects_below`], [`are_variables_below`] and [`are_plain_below`] test the conditions of other calls. Each answers exactly.
 //! - What a plan is worth stands in `specs/`: finite interpretations (`States`), the states that an operator describes,
 //!   runs, and `Carries` (`Plans`), after Lifschitz 1987.
 //! - Laws about the definitions are calls that do nothing: [`merged_names`], the worked example that two objects may be
 //!   one thing; [`drop_plan`], what a plan over them carries and what it doesn't; [`lit_lamp`], axioms that hold in some
 //!   states and fail in others, and a goal with a variable that a plan reaches only by them; [`contradiction`], axioms that
 //!   no state meets; [`atoms_are_ordered`], the order in words.
+//! - No public clause cites `specs/Soundness` and the files of laws (`DropPlanLaws`, `InstanceLaws`, `MergedNamesLaws`, `OperatorLaws`,
+//!   `SchemaLaws`, `ValidityLaws`).
 #![tactic(auto)]
 
 mod atom;
@@ -39,9 +42,9 @@ pub use instance::{OpInst, apply_inst};
 pub use laws::{atoms_are_ordered, contradiction, drop_plan, lit_lamp, merged_names};
 pub use problem::{Problem, Schema};
 pub use px_base::{NoMemory, Sequence};
-pub use substitution::substituted;
-pub use term::Term;
+pub use substitution::apply_term;
+pub use term::{Term, object_of};
 pub use validity::{
-    are_atoms_of, are_plain_below, are_variables_below, is_atom_of, is_ground, is_instance_of,
-    is_term_of, is_valid,
+    are_atoms_of, are_objects_below, are_plain_below, are_variables_below, is_atom_of, is_ground,
+    is_instance_of, is_term_of, is_valid,
 };

@@ -12,7 +12,7 @@ pub struct Schema {
     pub params: u32,
     /// The precondition: what has to be so before.
     pub pre: Sequence<Atom>,
-    /// The delete list: patterns of what may no longer be so afterwards. The wild card stands here alone.
+    /// The delete list: patterns of what may no longer be so afterwards. The wild card may stand only here.
     pub del: Sequence<Atom>,
     /// The add list: what is so afterwards.
     pub add: Sequence<Atom>,

@@ -75,7 +75,7 @@ fn a_clause_is_kept_as_it_was_pushed(rt: HostRuntime) -> Result<(), ArenaErr> {
     Ok(())
 }
 
-/// `DROP(x)` needs `AT(x)` and deletes it; there are two objects and no axiom.
+/// Returns the problem of two objects without axioms in which `DROP(x)` needs `AT(x)` and deletes it.
 fn dropping(alloc: Global, at: Atom) -> Result<Problem, NoMemory> {
     let schema = Schema {
         op: 0,

@@ -2,7 +2,7 @@
 ghost use Rattle.std.specs.Prelude.{◌≡◌, ◌<◌, ◌≤◌, ◌↔◌, length, slice_index_or, All, EachIndex, IsTrue};
 ghost use Rattle.px_terms.specs.Clauses.{ArePlainBelow, IsArena};
 ghost use Rattle.px_terms.specs.Instances.{IsGround};
-ghost use Rattle.px_terms.specs.Language.{IsObject, IsPlainBelow, IsVariableBelow};
+ghost use Rattle.px_terms.specs.Language.{IsObject, IsObjectBelow, IsPlainBelow, IsVariableBelow};
 ghost use Rattle.px_terms.specs.Operators.{no_schema};
 ghost use Rattle.px_terms.specs.Validity.{HasArity, IsAtomOf, IsAxiomOf, IsInstanceOf, IsPatternOf, IsPatternTermOf, IsSchemaOf, IsShort, IsTermOf, IsValid};
 
@@ -12,7 +12,7 @@ use crate::instance::OpInst;
 use crate::problem::{Problem, Schema};
 use crate::term::Term;
 
-/// Is the term an object?
+/// Returns whether the term is an object.
 fn is_object(term: &Term) -> bool
     ensures { IsTrue result ↔ IsObject term.now }
 {
@@ -29,7 +29,24 @@ pub fn is_ground(atom: &Atom) -> bool
     atom.args().iter().all(|term| is_object(term))
 }
 
-/// If the term is a variable, is its number below the count?
+/// Returns whether the term is an object below the limit.
+fn is_object_below(limit: u32, term: &Term) -> bool
+    ensures { IsTrue result ↔ IsObjectBelow limit term.now }
+{
+    match *term {
+        Term::Obj(number) => number < limit,
+        Term::Var(_) | Term::Any => false,
+    }
+}
+
+/// Returns whether the terms are objects below the limit.
+pub fn are_objects_below(limit: u32, terms: &[Term]) -> bool
+    ensures { IsTrue result ↔ All (IsObjectBelow limit) terms.now }
+{
+    terms.iter().all(|term| is_object_below(limit, term))
+}
+
+/// Returns whether the term, if it is a variable, has a number below the count.
 fn is_variable_below(count: usize, term: &Term) -> bool
     ensures { IsTrue result ↔ IsVariableBelow count term.now }
 {
@@ -46,7 +63,7 @@ pub fn are_variables_below(count: usize, terms: &[Term]) -> bool
     terms.iter().all(|term| is_variable_below(count, term))
 }
 
-/// Is the term an object, or a variable whose number is below the count?
+/// Returns whether the term is an object, or a variable whose number is below the count.
 fn is_plain_below(count: u32, term: &Term) -> bool
     ensures { IsTrue result ↔ IsPlainBelow count term.now }
 {
@@ -57,7 +74,7 @@ fn is_plain_below(count: u32, term: &Term) -> bool
     }
 }
 
-/// Has the literal no wild card, and variables below the count alone?
+/// Returns whether the literal has no wild card, and only variables below the count.
 fn is_plain_literal(count: u32, lit: &Lit) -> bool
     ensures { IsTrue result ↔ All (IsPlainBelow count) lit.now.atom.args }
 {
@@ -85,7 +102,7 @@ pub fn is_term_of(problem: &Problem, vars: u64, term: &Term) -> bool
     }
 }
 
-/// Is the term such a one, or the wild card?
+/// Returns whether the term is an object of the problem, one of the first `vars` variables, or the wild card.
 fn is_pattern_term_of(problem: &Problem, vars: u64, term: &Term) -> bool
     ensures { IsTrue result ↔ IsPatternTermOf problem.now vars term.now }
 {
@@ -95,7 +112,7 @@ fn is_pattern_term_of(problem: &Problem, vars: u64, term: &Term) -> bool
     }
 }
 
-/// Is the predicate the problem's, and has the atom its number of arguments?
+/// Returns whether the predicate is the problem's, and the atom has its number of arguments.
 fn has_arity(problem: &Problem, atom: &Atom) -> bool
     ensures { IsTrue result ↔ HasArity problem.now atom.now }
 {
@@ -123,8 +140,8 @@ pub fn are_atoms_of(problem: &Problem, vars: u64, atoms: &[Atom]) -> bool
     atoms.iter().all(|atom| is_atom_of(problem, vars, atom))
 }
 
-// Alike: `is_atom_of`. One function over a test of terms would hide what each asks for.
-/// Is the atom such a one, where the wild card may stand, too?
+// Alike: `is_atom_of`. One function with a test of terms as a parameter would hide what each asks for.
+/// Returns whether the atom is one of the problem over its objects, the first `vars` variables and the wild card.
 fn is_pattern_of(problem: &Problem, vars: u64, atom: &Atom) -> bool
     ensures { IsTrue result ↔ IsPatternOf problem.now vars atom.now }
 {
@@ -135,7 +152,7 @@ fn is_pattern_of(problem: &Problem, vars: u64, atom: &Atom) -> bool
             .all(|term| is_pattern_term_of(problem, vars, term))
 }
 
-/// Are all atoms such patterns?
+/// Returns whether all atoms are patterns of the problem: atoms in which the wild card may stand, too.
 fn are_patterns_of(problem: &Problem, vars: u64, atoms: &[Atom]) -> bool
     ensures { IsTrue result ↔ All (IsPatternOf problem.now vars) atoms.now }
 {
@@ -153,7 +170,7 @@ pub fn is_instance_of(problem: &Problem, inst: &OpInst) -> bool
         && inst.args().iter().all(|term| is_term_of(problem, 0, term))
 }
 
-/// Has the axiom at most twelve variables, and are its atoms the problem's?
+/// Returns whether the axiom has at most twelve variables, and its atoms are the problem's.
 fn is_axiom_of(problem: &Problem, clause: &Clause) -> bool
     ensures { IsTrue result ↔ IsAxiomOf problem.now clause.now }
 {
@@ -166,17 +183,17 @@ fn is_axiom_of(problem: &Problem, clause: &Clause) -> bool
             .all(|lit| is_atom_of(problem, u64::from(vars), &lit.atom))
 }
 
-/// The length that no list of a problem reaches.
+/// A length that no list of a problem reaches.
 const TOO_LONG: usize = 4_294_967_295;
 
-/// Are the schema's lists short?
+/// Returns whether the schema's lists are short.
 fn has_short_lists(schema: &Schema) -> bool
     ensures { IsTrue result ↔ (IsShort schema.now.pre × IsShort schema.now.del × IsShort schema.now.add) }
 {
     schema.pre.len() < TOO_LONG && schema.del.len() < TOO_LONG && schema.add.len() < TOO_LONG
 }
 
-/// Are the schema's atoms the problem's?
+/// Returns whether the schema's atoms are the problem's.
 fn has_atoms_of(problem: &Problem, schema: &Schema) -> bool
     ensures { IsTrue result ↔ (All (IsAtomOf problem.now schema.now.params) schema.now.pre
         × All (IsPatternOf problem.now schema.now.params) schema.now.del
@@ -188,21 +205,21 @@ fn has_atoms_of(problem: &Problem, schema: &Schema) -> bool
         && are_atoms_of(problem, vars, schema.add.as_slice())
 }
 
-/// Has the schema the number of the place, and at most eight parameters?
+/// Returns whether the schema has the number of the place, and at most eight parameters.
 fn is_numbered(place: usize, schema: &Schema) -> bool
     ensures { IsTrue result ↔ ((schema.now.op ≡ place) × (schema.now.params ≤ 8)) }
 {
     schema.op as usize == place && schema.params <= 8
 }
 
-/// Is the schema the operator at the place of the problem?
+/// Returns whether the schema is the operator at the place of the problem.
 fn is_schema_of(problem: &Problem, place: usize, schema: &Schema) -> bool
     ensures { IsTrue result ↔ IsSchemaOf problem.now place schema.now }
 {
     is_numbered(place, schema) && has_atoms_of(problem, schema) && has_short_lists(schema)
 }
 
-/// Is the schema at the place the operator of that number?
+/// Returns whether the schema at the place is the operator of that number.
 fn is_schema_at(problem: &Problem, place: usize) -> bool
     requires { place < length problem.now.schemas }
     ensures { IsTrue result ↔ IsSchemaOf problem.now place (slice_index_or problem.now.schemas place no_schema) }
@@ -210,7 +227,7 @@ fn is_schema_at(problem: &Problem, place: usize) -> bool
     is_schema_of(problem, place, &problem.schemas.as_slice()[place])
 }
 
-/// Is each schema the operator at its place?
+/// Returns whether each schema is the operator at its place.
 fn are_schemas_of(problem: &Problem) -> bool
     ensures { IsTrue result ↔ EachIndex problem.now.schemas (λ k. IsSchemaOf problem.now k
         (slice_index_or problem.now.schemas k no_schema)) }
@@ -223,7 +240,7 @@ fn are_schemas_of(problem: &Problem) -> bool
     true
 }
 
-/// Are the axioms the problem's? Those of any arena are clauses.
+/// Returns whether the axioms are the problem's. Those of any arena are clauses.
 fn are_axioms_of(problem: &Problem) -> bool
     ensures axioms { IsTrue result ↔ All (IsAxiomOf problem.now) problem.now.axioms }
     ensures arena { IsArena problem.now.axioms }
@@ -235,7 +252,7 @@ fn are_axioms_of(problem: &Problem) -> bool
         .all(|clause| is_axiom_of(problem, clause))
 }
 
-/// Is there an object, or nothing that one could be put for?
+/// Returns whether there is an object, or nothing that one could be put for.
 fn has_objects(problem: &Problem) -> bool
     ensures { IsTrue result ↔ (problem.now.objects ≡ 0 → All (λ schema. schema.params ≡ 0) problem.now.schemas
         × All (λ clause. clause.vars ≡ 0) problem.now.axioms) }
@@ -253,7 +270,7 @@ fn has_objects(problem: &Problem) -> bool
                 .all(|clause| clause.vars == 0))
 }
 
-/// Are the problem's limits in range, and its lists short?
+/// Returns whether the problem's limits are in range, and its lists short.
 fn is_limited(problem: &Problem) -> bool
     ensures { IsTrue result ↔ ((IsShort problem.now.arities × IsShort problem.now.schemas)
         × ((1 ≤ problem.now.height) × (problem.now.height ≤ 8))

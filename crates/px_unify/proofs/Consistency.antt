@@ -8,16 +8,20 @@ use Rattle.px_terms.specs.declared.term.Term.TheVariants.{Any}
 use Rattle.px_unify.specs.declared.change.Change.{Change}
 use Rattle.px_unify.specs.declared.change.Change.TheVariants.{Fresh, Bound}
 use Rattle.px_unify.specs.declared.change.TheConstants.{MOST_VARIABLES}
-use Rattle.px_unify.specs.Changes.{slots_after, slots_of, IsEarlier, IsUnbound, WellBound, IsConsistent}
+use Rattle.px_terms.specs.Language.{IsPlainBelow}
+use Rattle.px_unify.specs.Changes.{slots_after, slots_of, IsUnbound, WellBound, IsConsistent}
 use Rattle.px_unify.specs.ChangeLaws.{slots_after-append, slots-fresh}
 use Rattle.px_unify.proofs.Slots.{Slots}
 
-WellBound-push : (front rest : List Change) (slots : Slots) → WellBound slots front → WellBound (slots_after slots front) rest → WellBound slots (front ++ rest)
+WellBound-push : (front rest : List Change) (slots : Slots) → WellBound slots front → WellBound (slots_after slots front) rest
+    → WellBound slots (front ++ rest)
 WellBound-push [] rest slots well more = more
 WellBound-push (Fresh ∷ front) rest slots well more = WellBound-push front rest (slots ++ None ∷ []) well more
-WellBound-push (Bound v term ∷ front) rest slots well more = (well.0, well.1, WellBound-push front rest (set slots v (Some term)) well.2 more)
+WellBound-push (Bound v term ∷ front) rest slots well more =
+    (well.0, well.1, WellBound-push front rest (set slots v (Some term)) well.2 more)
 
-WellBound-front : (front rest : List Change) (slots : Slots) → WellBound slots (front ++ rest) → WellBound slots front × WellBound (slots_after slots front) rest
+WellBound-front : (front rest : List Change) (slots : Slots) → WellBound slots (front ++ rest)
+    → WellBound slots front × WellBound (slots_after slots front) rest
 WellBound-front [] rest slots well = (tt, well)
 WellBound-front (Fresh ∷ front) rest slots well = WellBound-front front rest (slots ++ None ∷ []) well
 WellBound-front (Bound v term ∷ front) rest slots well =
@@ -34,7 +38,8 @@ unbound_count [] = 0
 unbound_count (None ∷ slots) = 1 + unbound_count slots
 unbound_count (Some term ∷ slots) = unbound_count slots
 
-unbound_count-set : (slots : Slots) (v : ℕ) (term : Term) → slice_get slots v ≡ Some None → suc (unbound_count (set slots v (Some term))) ≡ unbound_count slots
+unbound_count-set : (slots : Slots) (v : ℕ) (term : Term) → slice_get slots v ≡ Some None
+    → suc (unbound_count (set slots v (Some term))) ≡ unbound_count slots
 unbound_count-set [] v term at = absurd (cc)
 unbound_count-set (None ∷ slots) zero term at = omega arith
 unbound_count-set (Some old ∷ slots) zero term at = absurd (cc)
@@ -50,25 +55,36 @@ unbound_count-pos : (slots : Slots) (v : ℕ) → slice_get slots v ≡ Some Non
 unbound_count-pos slots v at = omega (arith, unbound_count-set slots v Any at)
 
 -- a variable and its binding are two changes
-two_each_after : (changes : List Change) (slots : Slots) → WellBound slots changes →
-    length changes + unbound_count (slots_after slots changes) + 2 * length slots ≡ 2 * length (slots_after slots changes) + unbound_count slots
+two_each_after : (changes : List Change) (slots : Slots) → WellBound slots changes
+    → length changes + unbound_count (slots_after slots changes) + 2 * length slots
+    ≡ 2 * length (slots_after slots changes) + unbound_count slots
 two_each_after [] slots well = omega arith
-two_each_after (Fresh ∷ changes) slots well = omega (arith, two_each_after changes (slots ++ None ∷ []) well, unbound_count-push slots, length-append slots (None ∷ []))
+two_each_after (Fresh ∷ changes) slots well =
+    omega (arith, two_each_after changes (slots ++ None ∷ []) well, unbound_count-push slots, length-append slots (None ∷ []))
 two_each_after (Bound v term ∷ changes) slots well =
-    omega (arith, two_each_after changes (set slots v (Some term)) well.2, unbound_count-set slots v term well.0, length-set slots v (Some term))
+    omega (
+      arith,
+      two_each_after changes (set slots v (Some term)) well.2,
+      unbound_count-set slots v term well.0,
+      length-set slots v (Some term),
+    )
 
-two_each_of : (changes : List Change) → WellBound [] changes → length changes + unbound_count (slots_of changes) ≡ 2 * length (slots_of changes)
+two_each_of : (changes : List Change) → WellBound [] changes
+    → length changes + unbound_count (slots_of changes) ≡ 2 * length (slots_of changes)
 two_each_of changes well = omega (arith, two_each_after changes [] well)
 
-pub two_each : (changes : List Change) (slots : Slots) (capacity : ℕ) → IsConsistent changes slots capacity → length changes ≤ 2 * length slots
+pub two_each : (changes : List Change) (slots : Slots) (capacity : ℕ) → IsConsistent changes slots capacity
+    → length changes ≤ 2 * length slots
 two_each changes slots capacity is = rw is.slots_are (omega (arith, two_each_of changes is.bound))
 
 -- where a variable is not bound, there is room for its binding
-pub room_left : (changes : List Change) (slots : Slots) (capacity v : ℕ) → IsConsistent changes slots capacity → IsUnbound changes v → length changes < capacity
+pub room_left : (changes : List Change) (slots : Slots) (capacity v : ℕ) → IsConsistent changes slots capacity → IsUnbound changes v
+    → length changes < capacity
 room_left changes slots capacity v is unbound =
     omega (arith, is.room, ap length is.slots_are, two_each_of changes is.bound, unbound_count-pos (slots_of changes) v unbound)
 
-pub unbound-within : (changes : List Change) (slots : Slots) (capacity v : ℕ) → IsConsistent changes slots capacity → IsUnbound changes v → v < length slots
+pub unbound-within : (changes : List Change) (slots : Slots) (capacity v : ℕ) → IsConsistent changes slots capacity → IsUnbound changes v
+    → v < length slots
 unbound-within changes slots capacity v is unbound = rw is.slots_are (slice_get_within (slots_of changes) v None unbound)
 
 set-back : {X : Type 0} (xs : List X) (v : ℕ) (x y : X) → slice_get xs v ≡ Some x → set (set xs v y) v x ≡ xs
@@ -76,8 +92,9 @@ set-back [] v x y at = refl
 set-back (z ∷ xs) zero x y at = let same : z ≡ x = cc in ap (λ w. w ∷ xs) (sym same)
 set-back (z ∷ xs) (suc v) x y at = ap (λ ws. z ∷ ws) (set-back xs v x y at)
 
-pub consistent-bind : (changes : List Change) (slots : Slots) (capacity larger v : ℕ) (term : Term) → IsConsistent changes slots capacity → capacity ≤ larger →
-    IsUnbound changes v → IsEarlier v term → IsConsistent (changes ++ Bound v term ∷ []) (set slots v (Some term)) larger
+pub consistent-bind : (changes : List Change) (slots : Slots) (capacity larger v : ℕ) (term : Term) → IsConsistent changes slots capacity
+    → capacity ≤ larger
+    → IsUnbound changes v → IsPlainBelow v term → IsConsistent (changes ++ Bound v term ∷ []) (set slots v (Some term)) larger
 consistent-bind changes slots capacity larger v term is grown unbound earlier = record {
   slots_are = rw (is.slots_are, slots_after-append changes (Bound v term ∷ []) []) refl;
   bound = WellBound-push changes (Bound v term ∷ []) [] is.bound (unbound, earlier, tt);
@@ -85,17 +102,20 @@ consistent-bind changes slots capacity larger v term is grown unbound earlier = 
   few = omega (arith, is.few, length-set slots v (Some term));
 }
 
-consistent-undo_bind : (front : List Change) (slots : Slots) (capacity v : ℕ) (term : Term) → IsConsistent (front ++ Bound v term ∷ []) slots capacity → IsConsistent front (set slots v None) capacity
+consistent-undo_bind : (front : List Change) (slots : Slots) (capacity v : ℕ) (term : Term)
+    → IsConsistent (front ++ Bound v term ∷ []) slots capacity → IsConsistent front (set slots v None) capacity
 consistent-undo_bind front slots capacity v term is =
     let well = WellBound-front front (Bound v term ∷ []) [] is.bound in
     record {
-      slots_are = rw (is.slots_are, slots_after-append front (Bound v term ∷ []) []) (set-back (slots_of front) v None (Some term) well.1.0);
+      slots_are =
+          rw (is.slots_are, slots_after-append front (Bound v term ∷ []) []) (set-back (slots_of front) v None (Some term) well.1.0);
       bound = well.0;
       room = omega (arith, is.room, length-set slots v None);
       few = omega (arith, is.few, length-set slots v None);
     }
 
-consistent-undo_fresh : (front : List Change) (slots : Slots) (capacity : ℕ) → IsConsistent (front ++ Fresh ∷ []) slots capacity → IsConsistent front (take (length slots - 1) slots) capacity
+consistent-undo_fresh : (front : List Change) (slots : Slots) (capacity : ℕ) → IsConsistent (front ++ Fresh ∷ []) slots capacity
+    → IsConsistent front (take (length slots - 1) slots) capacity
 consistent-undo_fresh front slots capacity is =
     let well = WellBound-front front (Fresh ∷ []) [] is.bound in
     let pushed : slots ≡ slots_of front ++ None ∷ [] = is.slots_are ∙ slots_after-append front (Fresh ∷ []) [] in
@@ -109,10 +129,14 @@ consistent-undo_fresh front slots capacity is =
     }
   where
     take_pushed : {X : Type 0} (xs : List X) (x : X) → take (length (xs ++ x ∷ []) - 1) (xs ++ x ∷ []) ≡ xs
-    take_pushed xs x = let short : length (xs ++ x ∷ []) - 1 ≡ length xs = omega (arith, length-append xs (x ∷ [])) in rw short (take-append_seam xs (x ∷ []))
+    take_pushed xs x =
+        let short : length (xs ++ x ∷ []) - 1 ≡ length xs =
+        omega (arith, length-append xs (x ∷ [])) in rw short (take-append_seam xs (x ∷ []))
 
-pub consistent-fresh : (changes : List Change) (slots : Slots) (capacity larger n : ℕ) (new : List Change) (new_slots : Slots) → IsConsistent changes slots capacity →
-    new ≡ changes ++ replicate n Fresh → new_slots ≡ slots ++ replicate n None → 2 * (length slots + n) ≤ larger → length slots + n ≤ MOST_VARIABLES → IsConsistent new new_slots larger
+pub consistent-fresh : (changes : List Change) (slots : Slots) (capacity larger n : ℕ) (new : List Change) (new_slots : Slots)
+    → IsConsistent changes slots capacity
+    → new ≡ changes ++ replicate n Fresh → new_slots ≡ slots ++ replicate n None → 2 * (length slots + n) ≤ larger
+    → length slots + n ≤ MOST_VARIABLES → IsConsistent new new_slots larger
 consistent-fresh changes slots capacity larger n new new_slots is added longer enough few = record {
   slots_are = longer ∙ ap (λ xs. xs ++ replicate n None) is.slots_are ∙ sym (slots-fresh changes n) ∙ ap slots_of (sym added);
   bound = rw added (WellBound-push changes (replicate n Fresh) [] is.bound (WellBound-fresh n (slots_of changes)));
@@ -124,7 +148,8 @@ consistent-fresh changes slots capacity larger n new new_slots is added longer e
     count = ap length longer ∙ length-append slots (replicate n None) ∙ ap (λ k. length slots + k) (length-replicate n None)
 
 -- the same, where the last change is known by equations
-module _ (changes front : List Change) (last : Change) (slots : Slots) (capacity : ℕ) (is : IsConsistent changes slots capacity) (splits : changes ≡ front ++ last ∷ []) where
+module _ (changes front : List Change) (last : Change) (slots : Slots) (capacity : ℕ) (is : IsConsistent changes slots capacity)
+    (splits : changes ≡ front ++ last ∷ []) where
   last-fresh : last ≡ Fresh → IsConsistent (front ++ Fresh ∷ []) slots capacity
   last-fresh fresh = rw (splits, fresh) at is
 

@@ -1,3 +1,4 @@
+-- The files of lemmas.
 pub mod Consistency
 pub mod Lists
 pub mod Narrowing

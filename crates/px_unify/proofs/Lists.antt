@@ -32,45 +32,57 @@ abbrev pub AreEqualBelow : ℕ → List Term → List Term → List Term → Typ
 AreEqualBelow k xs ys sigma = map (substitute sigma) (take k xs) ≡ map (substitute sigma) (take k ys)
 
 module _ (xs ys : List Term) (same_length : length xs ≡ length ys) (k : ℕ) (x y : Term) (within : k < length xs) where
-  one_more : (sigma : List Term) → AreEqualBelow (k + 1) xs ys sigma ↔ (AreEqualBelow k xs ys sigma × (substitute sigma (get_or xs k x) ≡ substitute sigma (get_or ys k y)))
+  one_more : (sigma : List Term) → AreEqualBelow (k + 1) xs ys sigma
+      ↔ (AreEqualBelow k xs ys sigma × (substitute sigma (get_or xs k x) ≡ substitute sigma (get_or ys k y)))
   one_more sigma =
       let within_ys : k < length ys = omega (arith, within, same_length) in
-      let fronts : length (map (substitute sigma) (take k xs)) ≡ length (map (substitute sigma) (take k ys)) = simp (length-map, length-take) (rw same_length refl) in
+      let fronts : length (map (substitute sigma) (take k xs)) ≡ length (map (substitute sigma) (take k ys)) =
+      simp (length-map, length-take) (rw same_length refl) in
       rw (add-one, take-suc xs k x within, take-suc ys k y within_ys, map-append, map-append)
-      (snoc-equal (map (substitute sigma) (take k xs)) (map (substitute sigma) (take k ys)) (substitute sigma (get_or xs k x)) (substitute sigma (get_or ys k y)) fronts)
+      (snoc-equal (map (substitute sigma) (take k xs)) (map (substitute sigma) (take k ys)) (substitute sigma (get_or xs k x))
+      (substitute sigma (get_or ys k y)) fronts)
 
   module _ (start now : List Change) (so_far : NarrowedBy start now (AreEqualBelow k xs ys)) where
     -- one more pair of arguments is made equal
-    pub narrowed-more : (new : List Change) → NarrowedBy now new (λ sigma. substitute sigma (get_or xs k x) ≡ substitute sigma (get_or ys k y)) → NarrowedBy start new (AreEqualBelow (k + 1) xs ys)
+    pub narrowed-more : (new : List Change)
+        → NarrowedBy now new (λ sigma. substitute sigma (get_or xs k x) ≡ substitute sigma (get_or ys k y))
+        → NarrowedBy start new (AreEqualBelow (k + 1) xs ys)
     narrowed-more new agrees sigma =
-        let both = NarrowedBy-both start now new (AreEqualBelow k xs ys) (λ tau. substitute tau (get_or xs k x) ≡ substitute tau (get_or ys k y)) so_far agrees sigma in (
+        let both =
+        NarrowedBy-both start now new (AreEqualBelow k xs ys)
+        (λ tau. substitute tau (get_or xs k x) ≡ substitute tau (get_or ys k y)) so_far agrees sigma in (
           λ fits. ((both.0 fits).0, (one_more sigma).1 (both.0 fits).1),
           λ h. both.1 (h.0, (one_more sigma).0 h.1),
         )
 
     -- where the next two arguments can't be made equal, the lists can't
-    pub never-more : NoneFits now (λ sigma. substitute sigma (get_or xs k x) ≡ substitute sigma (get_or ys k y)) → NoneFits start (λ sigma. map (substitute sigma) xs ≡ map (substitute sigma) ys)
+    pub never-more : NoneFits now (λ sigma. substitute sigma (get_or xs k x) ≡ substitute sigma (get_or ys k y))
+        → NoneFits start (λ sigma. map (substitute sigma) xs ≡ map (substitute sigma) ys)
     never-more never sigma fits equal =
-        let front : AreEqualBelow (k + 1) xs ys sigma = sym (take-map (substitute sigma) (k + 1) xs) ∙ ap (take (k + 1)) equal ∙ take-map (substitute sigma) (k + 1) ys in
+        let front : AreEqualBelow (k + 1) xs ys sigma =
+        sym (take-map (substitute sigma) (k + 1) xs) ∙ ap (take (k + 1)) equal ∙ take-map (substitute sigma) (k + 1) ys in
         let parts = (one_more sigma).0 front in
         never sigma ((so_far sigma).1 (fits, parts.0)) parts.1
 
 -- the two atoms are equal where their arguments are, as they have one predicate
 module _ (a b : Atom) (same_pred : a.pred ≡ b.pred) (xs ys : List Term) (xs_are : xs ≡ a.args) (ys_are : ys ≡ b.args) where
-  pub atoms-narrowed : (start now : List Change) (k : ℕ) → length xs ≡ length ys → k ≡ length xs → NarrowedBy start now (AreEqualBelow k xs ys) → NarrowedBy start now (MakesEqual a b)
+  pub atoms-narrowed : (start now : List Change) (k : ℕ) → length xs ≡ length ys → k ≡ length xs
+      → NarrowedBy start now (AreEqualBelow k xs ys) → NarrowedBy start now (MakesEqual a b)
   atoms-narrowed start now k same_length all narrowed sigma =
       let whole_xs : take k xs ≡ a.args = ap (λ n. take n xs) all ∙ take-length xs ∙ xs_are in
       let whole_ys : take k ys ≡ b.args = ap (λ n. take n ys) (all ∙ same_length) ∙ take-length ys ∙ ys_are in (
         λ fits.
             let both = (narrowed sigma).0 fits in
-            let args : map (substitute sigma) a.args ≡ map (substitute sigma) b.args = ap (map (substitute sigma)) (sym whole_xs) ∙ both.1 ∙ ap (map (substitute sigma)) whole_ys in
+            let args : map (substitute sigma) a.args ≡ map (substitute sigma) b.args =
+            ap (map (substitute sigma)) (sym whole_xs) ∙ both.1 ∙ ap (map (substitute sigma)) whole_ys in
             (both.0, λ i. record { pred = same_pred i; args = args i }),
         λ h.
             let args : map (substitute sigma) a.args ≡ map (substitute sigma) b.args = ap (λ (atom : Atom). atom.args) h.1 in
             (narrowed sigma).1 (h.0, ap (map (substitute sigma)) whole_xs ∙ args ∙ ap (map (substitute sigma)) (sym whole_ys)),
       )
 
-  pub atoms-never : (start : List Change) → NoneFits start (λ sigma. map (substitute sigma) xs ≡ map (substitute sigma) ys) → NoneFits start (MakesEqual a b)
+  pub atoms-never : (start : List Change) → NoneFits start (λ sigma. map (substitute sigma) xs ≡ map (substitute sigma) ys)
+      → NoneFits start (MakesEqual a b)
   atoms-never start never sigma fits equal =
       let args : map (substitute sigma) a.args ≡ map (substitute sigma) b.args = ap (λ (atom : Atom). atom.args) equal in
       never sigma fits (ap (map (substitute sigma)) xs_are ∙ args ∙ ap (map (substitute sigma)) (sym ys_are))
@@ -82,7 +94,8 @@ some-fits changes solvable =
     (found.0, found.2)
 
 -- after unifying, some substitution that fitted before makes the atoms equal
-pub never-clash : (start now : List Change) (Condition : List Term → Type 0) → HasSolutions now → NarrowedBy start now Condition → ¬ NoneFits start Condition
+pub never-clash : (start now : List Change) (Condition : List Term → Type 0) → HasSolutions now → NarrowedBy start now Condition
+    → ¬ NoneFits start Condition
 never-clash start now Condition solvable narrowed never =
     let found = some-fits now solvable in
     let both = (narrowed found.0).0 found.1 in

@@ -20,14 +20,16 @@ module _ (old new : List Change) (v : ℕ) (to : Term) (is : new ≡ old ++ Boun
   fits_new : NarrowedBy old new (λ sigma. substitute sigma (Var v) ≡ substitute sigma to)
   fits_new sigma = rw is (Fits-bound sigma old v to)
 
-  pub narrowed-bound : (s t : Term) → AreOneUnder old s (Var v) → AreOneUnder old t to → NarrowedBy old new (λ sigma. substitute sigma s ≡ substitute sigma t)
+  pub narrowed-bound : (s t : Term) → AreOneUnder old s (Var v) → AreOneUnder old t to
+      → NarrowedBy old new (λ sigma. substitute sigma s ≡ substitute sigma t)
   narrowed-bound s t s_is t_is sigma =
       let both = fits_new sigma in (
         λ fits. let h = both.0 fits in (h.0, s_is sigma h.0 ∙ h.1 ∙ sym (t_is sigma h.0)),
         λ h. both.1 (h.0, sym (s_is sigma h.0) ∙ h.1 ∙ t_is sigma h.0),
       )
 
-  pub narrowed-bound_back : (s t : Term) → AreOneUnder old s to → AreOneUnder old t (Var v) → NarrowedBy old new (λ sigma. substitute sigma s ≡ substitute sigma t)
+  pub narrowed-bound_back : (s t : Term) → AreOneUnder old s to → AreOneUnder old t (Var v)
+      → NarrowedBy old new (λ sigma. substitute sigma s ≡ substitute sigma t)
   narrowed-bound_back s t s_is t_is sigma =
       let both = fits_new sigma in (
         λ fits. let h = both.0 fits in (h.0, s_is sigma h.0 ∙ sym h.1 ∙ sym (t_is sigma h.0)),

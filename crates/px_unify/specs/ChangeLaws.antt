@@ -11,7 +11,7 @@ use Rattle.px_terms.specs.declared.term.Term.TheVariants.{Obj, Var, Any}
 use Rattle.px_terms.specs.Language.{substitute}
 use Rattle.px_unify.specs.declared.change.Change.{Change}
 use Rattle.px_unify.specs.declared.change.Change.TheVariants.{Fresh, Bound}
-use Rattle.px_unify.specs.Changes.{slots_after, slots_of, variables_of, Meets, Fits, IsUnbound, IsRoot, AreOneUnder, MakesEqual, MakesPairEqual, MakesEachEqual, NarrowedBy, NoneFits, HasSolutions, IsKept, Binds}
+use Rattle.px_unify.specs.Changes.{slots_after, slots_of, variables_of, Meets, Fits, IsUnbound, IsRoot, AreOneUnder, MakesEqual, MakesPairEqual, MakesEachEqual, NarrowedBy, NoneFits, HasSolutions, AreChangesKept, Binds}
 
 pub slots_after-append : (front rest : List Change) (slots : List (Option Term))
     → slots_after slots (front ++ rest) ≡ slots_after (slots_after slots front) rest
@@ -23,7 +23,7 @@ slots_after-fresh : (n : ℕ) (slots : List (Option Term)) → slots_after slots
 slots_after-fresh zero slots = sym (append-nil slots)
 slots_after-fresh (suc n) slots = slots_after-fresh n (slots ++ None ∷ []) ∙ append_assoc slots (None ∷ []) (replicate n None)
 
--- new variables stand behind the others, and are not bound
+-- new variables come after the others, and are not bound
 pub slots-fresh : (changes : List Change) (n : ℕ) → slots_of (changes ++ replicate n Fresh) ≡ slots_of changes ++ replicate n None
 slots-fresh changes n = slots_after-append changes (replicate n Fresh) [] ∙ slots_after-fresh n (slots_of changes)
 
@@ -56,11 +56,11 @@ module _ (sigma : List Term) where
   pub Fits-append : (old more : List Change) → Fits sigma (old ++ more) ↔ (Fits sigma old × Fits sigma more)
   Fits-append old more = (fits_front old more, λ h. All-append (Meets sigma) old more h.0 h.1)
 
-  -- what fits now has fitted at each mark
+  -- what fits now fitted at each mark
   pub Fits-take : (changes : List Change) (mark : ℕ) → Fits sigma changes → Fits sigma (take mark changes)
   Fits-take changes mark fits = All-take (Meets sigma) mark changes fits
 
-  -- new variables ask nothing
+  -- new variables ask for nothing
   pub Fits-fresh : (changes : List Change) (n : ℕ) → Fits sigma (changes ++ replicate n Fresh) ↔ Fits sigma changes
   Fits-fresh changes n = (
     λ fits. ((Fits-append changes (replicate n Fresh)).0 fits).0,
@@ -75,7 +75,7 @@ module _ (sigma : List Term) where
     λ h. All-push (Meets sigma) changes (Bound v term) h.0 h.1,
   )
 
-  -- what fits after bindings has fitted before
+  -- what fits after bindings fitted before
   pub Fits-binds : (old new : List Change) → Binds old new → Fits sigma new → Fits sigma old
   Fits-binds old new binds fits = rw binds.prefix at (Fits-take new (length old) fits)
 
@@ -90,34 +90,35 @@ length-take-le zero xs = omega arith
 length-take-le (suc n) [] = omega arith
 length-take-le (suc n) (x ∷ xs) = omega (arith, length-take-le n xs)
 
-kept-within : (marked now : List Change) → IsKept marked now → length marked ≤ length now
+kept-within : (marked now : List Change) → AreChangesKept marked now → length marked ≤ length now
 kept-within marked now kept = omega (arith, ap length kept, length-take-le (length marked) now)
 
 -- What is at a mark is kept by `fresh`, by `unify`, and by undoing to a later mark. So `undo_to`, which leaves
 -- `take mark changes`, gives back the very list at the mark.
-pub IsKept-itself : (changes : List Change) → IsKept changes changes
-IsKept-itself changes = take-length changes
+pub AreChangesKept-itself : (changes : List Change) → AreChangesKept changes changes
+AreChangesKept-itself changes = take-length changes
 
-pub IsKept-fresh : (marked now : List Change) (n : ℕ) → IsKept marked now → IsKept marked (now ++ replicate n Fresh)
-IsKept-fresh marked now n kept = take-append-le (length marked) now (replicate n Fresh) (kept-within marked now kept) ∙ kept
+pub AreChangesKept-fresh : (marked now : List Change) (n : ℕ) → AreChangesKept marked now → AreChangesKept marked (now ++ replicate n Fresh)
+AreChangesKept-fresh marked now n kept = take-append-le (length marked) now (replicate n Fresh) (kept-within marked now kept) ∙ kept
 
-pub IsKept-binds : (marked now new : List Change) → IsKept marked now → Binds now new → IsKept marked new
-IsKept-binds marked now new kept binds = sym (take_take (length marked) (length now) new (kept-within marked now kept)) ∙ ap
+pub AreChangesKept-binds : (marked now new : List Change) → AreChangesKept marked now → Binds now new → AreChangesKept marked new
+AreChangesKept-binds marked now new kept binds = sym (take_take (length marked) (length now) new (kept-within marked now kept)) ∙ ap
     (take (length marked)) binds.prefix ∙ kept
 
-pub IsKept-undone : (marked now : List Change) (mark : ℕ) → IsKept marked now → length marked ≤ mark → IsKept marked (take mark now)
-IsKept-undone marked now mark kept above = take_take (length marked) mark now above ∙ kept
+pub AreChangesKept-undone : (marked now : List Change) (mark : ℕ) → AreChangesKept marked now → length marked ≤ mark
+    → AreChangesKept marked (take mark now)
+AreChangesKept-undone marked now mark kept above = take_take (length marked) mark now above ∙ kept
 
 pub Binds-itself : (changes : List Change) → Binds changes changes
 Binds-itself changes = record {
-  prefix = IsKept-itself changes;
+  prefix = AreChangesKept-itself changes;
   grown = omega arith;
   variables = refl;
 }
 
 pub Binds-trans : (old now new : List Change) → Binds old now → Binds now new → Binds old new
 Binds-trans old now new first second = record {
-  prefix = IsKept-binds old now new first.prefix second;
+  prefix = AreChangesKept-binds old now new first.prefix second;
   grown = omega (arith, first.grown, second.grown);
   variables = second.variables ∙ first.variables;
 }
@@ -150,8 +151,8 @@ NarrowedBy-none changes sigma = (λ fits. (fits, All-nil (MakesPairEqual sigma))
 
 -- One pair more: the substitutions that fit then make it equal as well.
 pub NarrowedBy-pair : (old now new : List Change) (pairs : List (Atom × Atom)) (a b : Atom) → NarrowedBy old now (MakesEachEqual pairs)
-    → NarrowedBy now new (MakesEqual a b) →
-    NarrowedBy old new (MakesEachEqual (pairs ++ (a, b) ∷ []))
+    → NarrowedBy now new (MakesEqual a b)
+    → NarrowedBy old new (MakesEachEqual (pairs ++ (a, b) ∷ []))
 NarrowedBy-pair old now new pairs a b first second sigma =
     let both = NarrowedBy-both old now new (MakesEachEqual pairs) (MakesEqual a b) first second sigma in (
       λ fits. let h = both.0 fits in (h.0, All-push (MakesPairEqual sigma) pairs (a, b) h.1.0 h.1.1),
@@ -161,16 +162,16 @@ NarrowedBy-pair old now new pairs a b first second sigma =
 
 -- Where the next pair clashes, nothing that fitted at the start makes all of the pairs equal.
 pub NoneFits-pair : (old now : List Change) (pairs : List (Atom × Atom)) (a b : Atom) (later : List (Atom × Atom))
-    → NarrowedBy old now (MakesEachEqual pairs) → NoneFits now (MakesEqual a b) →
-    NoneFits old (MakesEachEqual (pairs ++ (a, b) ∷ later))
+    → NarrowedBy old now (MakesEachEqual pairs) → NoneFits now (MakesEqual a b)
+    → NoneFits old (MakesEachEqual (pairs ++ (a, b) ∷ later))
 NoneFits-pair old now pairs a b later narrowed never sigma fits all =
     let parts = each_front sigma pairs ((a, b) ∷ later) all in
     never sigma ((narrowed sigma).1 (fits, parts.0)) (All-head (MakesPairEqual sigma) (a, b) later parts.1)
 
 -- After each pair was unified some substitution makes all of them equal, whatever the unbound variables stand for.
 pub SomeFits : (old now : List Change) (Condition : List Term → Type 0) → NarrowedBy old now Condition → HasSolutions now
-    → (chosen : List Term) → length chosen ≡ variables_of now →
-    (sigma : List Term) × (length sigma ≡ variables_of now) × Fits sigma old × Condition sigma
+    → (chosen : List Term) → length chosen ≡ variables_of now
+    → (sigma : List Term) × (length sigma ≡ variables_of now) × Fits sigma old × Condition sigma
     × ((v : ℕ) → IsUnbound now v → slice_get sigma v ≡ slice_get chosen v)
 SomeFits old now Condition narrowed solvable chosen count =
     let found = solvable chosen count in
@@ -199,7 +200,7 @@ number_same : {m n : ℕ} → Obj m ≡ Obj n → m ≡ n
 number_same e = cc
 
 module _ (changes : List Change) (solvable : HasSolutions changes) where
-  -- a variable that is not bound has not always the value of an object
+  -- a variable that is not bound doesn't always have the value of an object
   root_differs : (m w : ℕ) → IsUnbound changes w → ¬ ((sigma : List Term) → Fits sigma changes → Obj m ≡ substitute sigma (Var w))
   root_differs m w unbound same =
       let count = variables_of changes in

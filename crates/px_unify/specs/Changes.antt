@@ -1,9 +1,9 @@
 -- Variables and bindings as the list of the changes that made them, and the substitutions that fit them.
-use Rattle.std.specs.Prelude.{◌≡◌, ℕ, ◌*◌, ◌<◌, ◌≤◌, ◌↔◌, Option, Some, None, List, [], ◌∷◌, ◌++◌, length, set, slice_get, take, All}
+use Rattle.std.specs.Prelude.{◌≡◌, ℕ, ◌*◌, ◌≤◌, ◌↔◌, Option, Some, None, List, [], ◌∷◌, ◌++◌, length, set, slice_get, take, All}
 use Rattle.px_terms.specs.declared.atom.Atom.{Atom}
 use Rattle.px_terms.specs.declared.term.Term.{Term}
 use Rattle.px_terms.specs.declared.term.Term.TheVariants.{Obj, Var, Any}
-use Rattle.px_terms.specs.Language.{substitute}
+use Rattle.px_terms.specs.Language.{IsPlainBelow, substitute}
 use Rattle.px_terms.specs.Substitution.{substitute_atom}
 use Rattle.px_unify.specs.declared.change.Change.{Change}
 use Rattle.px_unify.specs.declared.change.Change.TheVariants.{Fresh, Bound}
@@ -68,31 +68,26 @@ NoneFits changes Condition = (sigma : List Term) → Fits sigma changes → ¬ C
 -- whatever terms the unbound variables have, some substitution fits with them
 abbrev pub HasSolutions : List Change → Type 0
 HasSolutions changes =
-    (chosen : List Term) → length chosen ≡ variables_of changes →
-    (sigma : List Term) × (length sigma ≡ variables_of changes) × Fits sigma changes
+    (chosen : List Term) → length chosen ≡ variables_of changes
+    → (sigma : List Term) × (length sigma ≡ variables_of changes) × Fits sigma changes
     × ((v : ℕ) → IsUnbound changes v → slice_get sigma v ≡ slice_get chosen v)
 
--- the changes that a mark stands behind are there still, in front of the others
-abbrev pub IsKept : List Change → List Change → Type 0
-IsKept marked now = take (length marked) now ≡ marked
+-- the changes before a mark are still there, in front of the others
+abbrev pub AreChangesKept : List Change → List Change → Type 0
+AreChangesKept marked now = take (length marked) now ≡ marked
 
 -- the list only grew, and by bindings
 pub record Binds (old new : List Change) : Type 0 where
-  pub prefix : IsKept old new
+  pub prefix : AreChangesKept old new
   pub grown : length old ≤ length new
   pub variables : variables_of new ≡ variables_of old
-
--- an object, or a variable before this one
-abbrev pub IsEarlier : ℕ → Term → Type 0
-IsEarlier v (Obj o) = Unit {0}
-IsEarlier v (Var w) = w < v
-IsEarlier v Any = ⊥
 
 -- each binding is of a variable that was not bound, to an object or to an earlier variable
 abbrev pub WellBound : List (Option Term) → List Change → Type 0
 WellBound slots [] = Unit {0}
 WellBound slots (Fresh ∷ changes) = WellBound (slots ++ None ∷ []) changes
-WellBound slots (Bound v term ∷ changes) = (slice_get slots v ≡ Some None) × IsEarlier v term × WellBound (set slots v (Some term)) changes
+WellBound slots (Bound v term ∷ changes) =
+    (slice_get slots v ≡ Some None) × IsPlainBelow v term × WellBound (set slots v (Some term)) changes
 
 -- the slots are those of the changes, and there is room for a binding of each variable
 pub record IsConsistent (changes : List Change) (slots : List (Option Term)) (capacity : ℕ) : Type 0 where

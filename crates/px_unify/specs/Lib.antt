@@ -1,2 +1,3 @@
+-- The files of definitions and laws.
 pub mod ChangeLaws
 pub mod Changes

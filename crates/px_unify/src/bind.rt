@@ -2,7 +2,7 @@
 ghost use Rattle.std.specs.Prelude.{◌≡◌, ◌+◌, ◌<◌, ◌≤◌, ◌↔◌, [], ◌++◌, ◌∷◌, ◌-◌, length, take, replicate, All, OnOk, OnErr, IfOk, IsErr};
 ghost use Rattle.px_terms.specs.Language.{IsPlainBelow, substitute};
 ghost use Rattle.px_terms.specs.declared.term.Term.{Term};
-ghost use Rattle.px_unify.specs.Changes.{variables_of, AreOneUnder, Binds, HasSolutions, IsEarlier, IsRoot, IsUnbound, MakesEqual, NarrowedBy, NoneFits};
+ghost use Rattle.px_unify.specs.Changes.{variables_of, AreOneUnder, Binds, HasSolutions, IsRoot, IsUnbound, MakesEqual, NarrowedBy, NoneFits};
 
 use crate::change::{BindErr, Change, Clash, MOST_VARIABLES};
 use crate::room::add_variables;
@@ -44,7 +44,7 @@ impl Model for TrailMark {
 }
 
 impl Bind {
-    /// No variable. Takes no memory until `fresh` does.
+    /// Returns bindings without variables. Takes no memory until `fresh` does.
     pub fn new(alloc: Global) -> Bind
         ensures { result ≡ [] }
     {
@@ -54,7 +54,7 @@ impl Bind {
         }
     }
 
-    /// How many variables there are.
+    /// Returns how many variables there are.
     pub fn variables(&self) -> u32
         ensures count { result ≡ variables_of self.now }
         ensures most { variables_of self.now ≤ MOST_VARIABLES }
@@ -65,7 +65,7 @@ impl Bind {
         self.slots.len() as u32
     }
 
-    /// The place after the changes so far.
+    /// Returns the place after the changes so far.
     pub fn mark(&self) -> TrailMark
         ensures place { result ≡ length self.now }
 
@@ -75,7 +75,7 @@ impl Bind {
         TrailMark(self.changes.len())
     }
 
-    /// Follows the bindings from a term to an object or to a variable that is not bound.
+    /// Returns where the bindings of a term lead: to an object, or to a variable that is not bound.
     pub fn resolve(&self, term: Term) -> Term
         requires { IsPlainBelow (variables_of self.now) term }
         // Each substitution that fits gives the two one value, and there is nothing to follow further.
@@ -95,7 +95,7 @@ impl Bind {
         at
     }
 
-    /// Adds `count` variables that are not bound, with room to bind each, and answers the number of the first.
+    /// Adds `count` variables that are not bound, with room to bind each, and returns the number of the first.
     ///
     /// # Errors
     /// `Full` where there would be more than [`MOST_VARIABLES`] variables, and `NoMemory`.
@@ -146,7 +146,7 @@ impl Bind {
     /// Binds a variable that is not bound to an object or to an earlier variable.
     fn bind_variable(&mut self, variable: u32, term: Term)
         requires unbound { IsUnbound self.old variable }
-        requires earlier { IsEarlier variable term }
+        requires earlier { IsPlainBelow variable term }
         ensures bound { self.new ≡ self.old ++ Change.Bound variable term ∷ [] }
 
         // Whatever the variables that are not bound stand for, some substitution fits.

@@ -2,7 +2,7 @@
 use px_terms::Term;
 use thiserror::Error;
 
-/// The most variables that there are at a time.
+/// The greatest number of variables at a time.
 pub const MOST_VARIABLES: u32 = 1_000_000;
 
 /// What is done to variables and their bindings.

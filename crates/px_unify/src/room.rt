@@ -5,7 +5,7 @@ ghost use Rattle.px_unify.specs.declared.change.Change.TheVariants.{Fresh};
 use crate::change::{Change, MOST_VARIABLES};
 use px_terms::{NoMemory, Term};
 
-/// Adds `count` unbound variables, with room to bind every variable.
+/// Adds `count` variables that are not bound, with room to bind every variable.
 pub(crate) fn add_variables(
     changes: &mut Vec<Change>,
     slots: &mut Vec<Option<Term>>,

@@ -1,4 +1,5 @@
-pub mod NumberLemmas
+-- The files of lemmas.
+pub mod Decimals
 pub mod Ranges
 pub mod ReadingLemmas
 pub mod WorkedOut

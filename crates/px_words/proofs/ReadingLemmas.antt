@@ -17,7 +17,7 @@ use Rattle.px_words.specs.Orders.{demo_order, order_of}
 use Rattle.px_words.specs.Reading.{order_in, order_read, planex}
 use Rattle.px_words.specs.declared.orders.Order.{Order}
 use Rattle.px_words.specs.declared.orders.Order.TheVariants.{Demo, Run}
-use Rattle.px_words.proofs.NumberLemmas.{other-than, plain-number}
+use Rattle.px_words.proofs.Decimals.{other-than, plain-number}
 
 -- ---- what `clap` makes of the words
 

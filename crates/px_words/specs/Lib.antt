@@ -1,3 +1,4 @@
+-- The files of definitions and laws.
 pub mod Numbers
 pub mod Orders
 pub mod Reading

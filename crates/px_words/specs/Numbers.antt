@@ -4,7 +4,7 @@ use Rattle.std.specs.Char.{is_ascii_digit}
 use Rattle.std.specs.List.{list_all}
 use Rattle.std.specs.Str.Parse.{digits_value}
 
--- the text is of one to ten digits
+-- the text has one to ten digits, and nothing else
 abbrev pub is_number : List ℕ → Bool
 is_number text = nat_le 1 (length text) && (nat_le (length text) 10 && list_all is_ascii_digit text)
 

@@ -22,10 +22,10 @@ pub enum Order {
     },
 }
 
-/// What the words order, or `None` where they aren't taken.
+/// Returns what the words order, or `None` where they aren't taken.
 ///
 /// # Errors
-/// `NoMemory` where there is none for reading words that are taken.
+/// `NoMemory` where there is no memory for reading words that are taken.
 #[tactic(auto, using(crate::proofs::Ranges::order_ranges, crate::proofs::Ranges::ranges_of))]
 pub fn order_of<'a>(alloc: Global, words: &'a [&'a str]) -> Result<Option<Order>, NoMemory>
     ensures order { IfOk result (λ order. order ≡ order_of (map (λ word. word.now) words.now)) }
@@ -41,7 +41,7 @@ pub fn order_of<'a>(alloc: Global, words: &'a [&'a str]) -> Result<Option<Order>
     }
 }
 
-/// What the words order, without `clap`.
+/// Returns what the words order, without `clap`.
 fn plain_order(words: &[&str]) -> Option<Order>
     ensures { result ≡ order_of (map (λ word. word.now) words.now) }
 {
@@ -52,7 +52,7 @@ fn plain_order(words: &[&str]) -> Option<Order>
     }
 }
 
-/// What a first word orders, with the two words that may follow it.
+/// Returns what a first word orders, with the two words that may follow it.
 pub(crate) fn order_in(word: &str, rooms: Option<&str>, seed: Option<&str>) -> Option<Order>
     ensures { result ≡ order_in word.now (option_map (λ text. text.now) rooms.entry) (option_map (λ text. text.now) seed.entry) }
 {
@@ -63,7 +63,7 @@ pub(crate) fn order_in(word: &str, rooms: Option<&str>, seed: Option<&str>) -> O
     }
 }
 
-/// What `demo` orders with two words.
+/// Returns what `demo` orders with two words.
 fn demo_order(rooms: &str, seed: &str) -> Option<Order>
     ensures { result ≡ demo_order rooms.now seed.now }
 {

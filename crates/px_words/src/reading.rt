@@ -9,7 +9,7 @@ use clap::error::ErrorKind;
 use clap::{Arg, ArgMatches, Command, Error};
 use std::alloc::{AllocError, Global};
 
-/// The command: a first word, and two that may be left out.
+/// Returns the command: a first word, and two that may be left out.
 fn command<'a>(alloc: Global) -> Result<Command<'a>, AllocError>
     ensures { IfOk result (λ command. app_of command ≡ planex) }
 {
@@ -33,7 +33,7 @@ pub(crate) fn read<'a>(alloc: Global, words: &'a [&'a str]) -> Result<ArgMatches
     command.try_get_matches_from(words)
 }
 
-/// What the words order that were read.
+/// Returns what the words order that were read.
 pub(crate) fn read_order(matches: &ArgMatches) -> Option<Order>
     ensures { result ≡ order_read (found_of matches.now) }
 {

@@ -4,7 +4,7 @@ use px_base::NoMemory;
 use std::alloc::Global;
 use std::rt::HostRuntime;
 
-/// Do the words order this?
+/// Returns whether the words order this.
 fn orders(alloc: Global, words: &[&str], order: Option<Order>) -> Result<bool, NoMemory> {
     Ok(order_of(alloc, words)? == order)
 }

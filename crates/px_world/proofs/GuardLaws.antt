@@ -9,27 +9,27 @@ use Rattle.px_terms.specs.declared.clause.Lit.{Lit}
 use Rattle.px_terms.specs.declared.problem.Schema.{Schema}
 use Rattle.px_terms.specs.Clauses.{IsClause}
 use Rattle.px_terms.specs.Language.{IsPlainBelow}
-use Rattle.px_terms.specs.MergedNamesLaws.{nothing, one}
+use Rattle.px_terms.specs.MergedNamesLaws.{All-nothing, one}
 use Rattle.px_terms.specs.Operators.{no_schema}
 use Rattle.px_terms.specs.States.{AreValues, State, Holds, LiteralHoldsUnder}
 use Rattle.px_terms.specs.Validity.{IsAtomOf, IsAxiomOf, IsInstanceOf, IsPatternOf, IsSchemaOf, IsTermOf, IsValid}
 use Rattle.px_world.specs.WorkedGuard.{GuardFact, go, guarded, needs_p, p, p_is_true, p_or_not_q, q, q_is_false}
-use Rattle.px_world.specs.Worlds.{IsRefused}
+use Rattle.px_world.specs.Worlds.{IsActionRefused}
 
 -- ---- the problem is valid, and the step is its instance
 
 p_is_atom : IsAtomOf guarded 0 p
-p_is_atom = ((omega arith, refl), nothing (IsTermOf guarded 0))
+p_is_atom = ((omega arith, refl), All-nothing (IsTermOf guarded 0))
 
 q_is_atom : IsAtomOf guarded 0 q
-q_is_atom = ((omega arith, refl), nothing (IsTermOf guarded 0))
+q_is_atom = ((omega arith, refl), All-nothing (IsTermOf guarded 0))
 
 is_schema : IsSchemaOf guarded 0 needs_p
 is_schema = record {
   number = refl;
   params = omega arith;
   pre = one (IsAtomOf guarded 0) p p_is_atom;
-  del = nothing (IsPatternOf guarded 0);
+  del = All-nothing (IsPatternOf guarded 0);
   add = one (IsAtomOf guarded 0) q q_is_atom;
   short = (omega arith, omega arith, omega arith);
 }
@@ -46,7 +46,13 @@ is_axiom : IsAxiomOf guarded p_or_not_q
 is_axiom = record { vars = omega arith; lits = both (λ lit. IsAtomOf guarded 0 lit.atom) p_is_atom q_is_atom }
 
 is_clause : IsClause p_or_not_q
-is_clause = record { size = (omega arith, omega arith); plain = both (λ lit. All (IsPlainBelow 0) lit.atom.args) (nothing (IsPlainBelow 0)) (nothing (IsPlainBelow 0)) }
+is_clause =
+    record {
+      size =
+          (omega arith, omega arith);
+      plain =
+          both (λ lit. All (IsPlainBelow 0) lit.atom.args) (All-nothing (IsPlainBelow 0)) (All-nothing (IsPlainBelow 0));
+    }
 
 valid : IsValid guarded
 valid = record {
@@ -61,7 +67,7 @@ valid = record {
 }
 
 instance : IsInstanceOf guarded go
-instance = record { op = omega arith; count = refl; objects = nothing (IsTermOf guarded 0) }
+instance = record { op = omega arith; count = refl; objects = All-nothing (IsTermOf guarded 0) }
 
 -- some literal of the clause is true, whatever elements its variables have
 abbrev HasTrueLiteral : State → Clause → Type 0
@@ -72,12 +78,12 @@ HasTrueLiteral state clause = (values : List ℕ) → AreValues state clause.var
 abbrev empty : State
 empty = record { size = 1; elements = []; tuples = [] }
 
-unknown : IsRefused guarded [] go
+unknown : IsActionRefused guarded [] go
 unknown = record {
   state = empty;
-  is_state = record { not_empty = omega arith; elements = nothing _; tuples = nothing _ };
+  is_state = record { not_empty = omega arith; elements = All-nothing _; tuples = All-nothing _ };
   axioms = one (HasTrueLiteral empty) p_or_not_q (λ values are. (1, q_is_false, omega arith, refl, λ holds. Contains-none [] holds));
-  hold = nothing (Holds empty);
+  hold = All-nothing (Holds empty);
   atom = p;
   needed = Contains-first p [];
   false_there = λ holds. Contains-none [] holds;
@@ -91,11 +97,11 @@ is_p atom has = elim (Contains-cases p [] atom has) [
   | inr later ↦ absurd (Contains-none atom later)
 ]
 
-module _ (atoms : List Atom) (refused : IsRefused guarded atoms go) where
+module _ (atoms : List Atom) (refused : IsActionRefused guarded atoms go) where
   p_is_false : ¬ Holds refused.state p
   p_is_false holds = refused.false_there (subst (Holds refused.state) (is_p refused.atom refused.needed) holds)
 
-known : ¬ IsRefused guarded (p ∷ []) go
+known : ¬ IsActionRefused guarded (p ∷ []) go
 known refused = p_is_false (p ∷ []) refused (All-head (Holds refused.state) p [] refused.hold)
 
 -- a literal of the axiom is true, and makes P true or Q false
@@ -104,11 +110,13 @@ either state (zero, lit, below, is, holds) = inl (subst (LiteralHoldsUnder state
 either state (suc zero, lit, below, is, holds) = inr (subst (LiteralHoldsUnder state []) (sym is) holds)
 either state (suc (suc k), lit, below, is, holds) = absurd (omega (arith, below))
 
-implied : ¬ IsRefused guarded (q ∷ []) go
-implied refused = elim (either refused.state (All-head (HasTrueLiteral refused.state) p_or_not_q [] refused.axioms [] (refl, nothing (λ e. e < refused.state.size)))) [
-  | inl p_holds ↦ p_is_false (q ∷ []) refused p_holds
-  | inr q_fails ↦ q_fails (All-head (Holds refused.state) q [] refused.hold)
-]
+implied : ¬ IsActionRefused guarded (q ∷ []) go
+implied refused =
+    elim (either refused.state (All-head (HasTrueLiteral refused.state) p_or_not_q [] refused.axioms []
+    (refl, All-nothing (λ e. e < refused.state.size)))) [
+      | inl p_holds ↦ p_is_false (q ∷ []) refused p_holds
+      | inr q_fails ↦ q_fails (All-head (Holds refused.state) q [] refused.hold)
+    ]
 
 pub worked_guard : GuardFact
 worked_guard = record { valid = valid; instance = instance; unknown = unknown; known = known; implied = implied }

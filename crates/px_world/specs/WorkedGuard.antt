@@ -7,7 +7,7 @@ use Rattle.px_terms.specs.declared.instance.OpInst.{OpInst}
 use Rattle.px_terms.specs.declared.problem.Problem.{Problem}
 use Rattle.px_terms.specs.declared.problem.Schema.{Schema}
 use Rattle.px_terms.specs.Validity.{IsInstanceOf, IsValid}
-use Rattle.px_world.specs.Worlds.{IsRefused}
+use Rattle.px_world.specs.Worlds.{IsActionRefused}
 
 abbrev pub p : Atom
 p = record { pred = 0; args = [] }
@@ -38,6 +38,6 @@ go = record { op = 0; args = [] }
 pub record GuardFact : Type 0 where
   pub valid : IsValid guarded
   pub instance : IsInstanceOf guarded go
-  pub unknown : IsRefused guarded [] go
-  pub known : ¬ IsRefused guarded (p ∷ []) go
-  pub implied : ¬ IsRefused guarded (q ∷ []) go
+  pub unknown : IsActionRefused guarded [] go
+  pub known : ¬ IsActionRefused guarded (p ∷ []) go
+  pub implied : ¬ IsActionRefused guarded (q ∷ []) go

@@ -18,7 +18,7 @@ pub record HaveSameRules (one other : Problem) : Type 0 where
   pub schemas : one.schemas ≡ other.schemas
 
 -- the instance may be refused: in some state in which the axioms and the atoms hold, an atom of its precondition is false
-pub record IsRefused (problem : Problem) (atoms : List Atom) (inst : OpInst) : Type 0 where
+pub record IsActionRefused (problem : Problem) (atoms : List Atom) (inst : OpInst) : Type 0 where
   pub state : State
   pub is_state : IsState state
   pub axioms : AxiomsHold problem state

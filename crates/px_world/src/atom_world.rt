@@ -3,7 +3,7 @@ ghost use Rattle.std.specs.Prelude.{◌≡◌, ◌≤◌, ◌+◌, length, IfOk,
 ghost use Rattle.px_terms.specs.Operators.{adds, result_of};
 ghost use Rattle.px_terms.specs.Validity.{IsInstanceOf, IsValid};
 ghost use Rattle.px_world.specs.declared.edits.AtomEdit.{AtomEdit};
-ghost use Rattle.px_world.specs.Worlds.{IsRefused, edited, IsGroundEdit};
+ghost use Rattle.px_world.specs.Worlds.{IsActionRefused, edited, IsGroundEdit};
 
 use crate::edits::AtomEdit;
 use crate::world::{Guard, World};
@@ -83,7 +83,7 @@ impl<'a> World for AtomWorld<'a> {
         requires room { length (adds self.old.rules inst.now) ≤ self.old.spare }
         ensures never { IsOk result }
         ensures acted { OnOk result (self.new.atoms ≡ result_of self.old.rules self.old.atoms inst.now) }
-        ensures guard { OnErr result (IsRefused self.old.rules self.old.atoms inst.now) }
+        ensures guard { OnErr result (IsActionRefused self.old.rules self.old.atoms inst.now) }
         ensures kept { OnErr result (self.new ≡ self.old) }
         ensures spare { self.old.spare ≤ self.new.spare + length (adds self.old.rules inst.now) }
         ensures rules { self.new.rules ≡ self.old.rules }

@@ -15,7 +15,7 @@ pub enum AtomEdit {
 pub enum RoomEdit {
     /// The robot is put into the room.
     Robot(u32),
-    /// The box, which comes first, is put into the room.
+    /// The box, which is the first of the two, is put into the room.
     Box(u32, u32),
     /// The door is opened or closed.
     Door(u32, bool),

@@ -2,13 +2,13 @@
 //!
 //! # Calling it
 //!
-//! - A [`World`] is seen by its true atoms, ascending, a problem of which the objects, axioms and operators count (`rules`),
+//! - A [`World`] is seen by its true atoms, ascending, a problem whose objects, axioms and operators are its own (`rules`),
 //!   the edits that it admits, the atoms that an edit leaves, and how much room is left (`spare`). No method takes memory.
 //! - `sense` fills an empty model that has the room. `act` asks for an instance of an operator over the world's objects, and
 //!   room for what it adds; first all that it deletes goes, then what it adds comes. `disturb` asks that the edit is
 //!   admitted, and for one place.
-//! - `act` may answer [`Guard`] where the precondition may be false: in some state in which the axioms and all atoms hold an
-//!   atom of it doesn't (`IsRefused` in `specs/Worlds`, after Lifschitz 1987). The world is then as it was. Where an atom of
+//! - `act` may answer [`Guard`] where the precondition may be false: in some state in which the axioms and all atoms hold,
+//!   an atom of it doesn't (`IsActionRefused` in `specs/Worlds`, after Lifschitz 1987). The world is then as it was. Where an atom of
 //!   the precondition isn't among the world's atoms but follows from them, nothing can be refused ([`worked_guard`]).
 //! - [`AtomWorld`] is a set of atoms with a problem. It never answers `Guard`, and it admits each [`AtomEdit`] of a ground atom.
 //! - [`RoomEdit`] is a change in a building, whose things are given as [`Thing`]s.

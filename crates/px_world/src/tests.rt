@@ -10,7 +10,7 @@ use std::alloc::Global;
 use std::process::Abort;
 use std::rt::HostRuntime;
 
-// Alike: `moving_problem` of the tests of `px_ops`, since tests lend nothing to those of other crates.
+// Alike: `moving_problem` of the tests of `px_ops`, since tests can't use those of other crates.
 
 /// Returns the problem without objects whose operator needs OFF, deletes it and adds ON.
 fn switch_problem(alloc: Global, rt: &impl Abort) -> Result<Problem, NoMemory>

@@ -11,7 +11,7 @@ pub enum Thing {
         a: u32,
         /// The other room.
         b: u32,
-        /// Can it be gone through?
+        /// Whether it is open.
         is_open: bool,
     },
     /// A box.

@@ -6,7 +6,7 @@ ghost use Rattle.px_terms.specs.AtomSets.{IsAtomSet};
 ghost use Rattle.px_terms.specs.Instances.{IsGround};
 ghost use Rattle.px_terms.specs.Operators.{adds, result_of};
 ghost use Rattle.px_terms.specs.Validity.{IsInstanceOf};
-ghost use Rattle.px_world.specs.Worlds.{IsRefused};
+ghost use Rattle.px_world.specs.Worlds.{IsActionRefused};
 
 use px_ops::Model;
 use px_terms::{Atom, OpInst};
@@ -38,7 +38,7 @@ pub trait World {
     /// The number of places that are there for further atoms.
     ghost spare: { Self → ℕ };
 
-    /// Is the atom true?
+    /// Returns whether the atom is true.
     fn holds(&self, atom: &Atom) -> bool
         ensures holds { IsTrue result ↔ Contains (atoms self.now) atom.now }
         ensures set { IsAtomSet (atoms self.now) }
@@ -60,13 +60,13 @@ pub trait World {
         requires instance { IsInstanceOf (rules self.old) inst.now }
         requires room { length (adds (rules self.old) inst.now) ≤ spare self.old }
         ensures acted { OnOk result (atoms self.new ≡ result_of (rules self.old) (atoms self.old) inst.now) }
-        ensures guard { OnErr result (IsRefused (rules self.old) (atoms self.old) inst.now) }
+        ensures guard { OnErr result (IsActionRefused (rules self.old) (atoms self.old) inst.now) }
         ensures kept { OnErr result (self.new ≡ self.old) }
         ensures spare { spare self.old ≤ spare self.new + length (adds (rules self.old) inst.now) }
         ensures rules { rules self.new ≡ rules self.old }
         ensures admitted { (edit : Self.Edit) → admits self.new edit ↔ admits self.old edit };
 
-    /// Changes the world from outside. There is at most one atom more, and a place of the room is taken at most.
+    /// Changes the world from outside. There is at most one atom more, and it takes at most one place of the room.
     fn disturb(&mut self, edit: &Self::Edit)
         requires admitted { admits self.old edit.now }
         requires room { 1 ≤ spare self.old }

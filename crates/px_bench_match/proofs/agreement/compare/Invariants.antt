@@ -1,3 +1,4 @@
+-- What the loops of `compare` in src/agreement.rt keep true.
 use Rattle.std.specs.Prelude.{◌≤◌}
 use Rattle.px_bench_match.proofs.agreement.compare.Given as goal
 

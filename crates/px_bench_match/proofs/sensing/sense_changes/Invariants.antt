@@ -1,3 +1,4 @@
+-- What the loops of `sense_changes` in src/sensing.rt keep true.
 use Rattle.std.specs.Prelude.{◌≤◌}
 use Rattle.px_bench_match.proofs.sensing.sense_changes.Given as goal
 

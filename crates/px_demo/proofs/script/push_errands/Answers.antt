@@ -1,7 +1,8 @@
+-- Proofs of the goals that `push_errands` of src/script.rt leaves open.
 use Rattle.std.proofs.Common.{◌+◌, ◌++◌, ℕ, ap, ◌∙◌, arith}
 use Rattle.std.specs.Prelude.{string_bytes}
 use Rattle.px_demo.specs.Errands.{room_after}
-use Rattle.px_demo.specs.Script.{errand_lines, text_of}
+use Rattle.px_demo.specs.Script.{errand_lines, text_of_lines}
 use Rattle.px_demo.proofs.Steps.{number-step, room-step}
 use Rattle.px_demo.proofs.Texts.{first-lines, grows}
 use Rattle.px_demo.proofs.script.push_errands.Goals as goal
@@ -14,7 +15,7 @@ loop-done-preserved c =
     let room_is = c.target-room.ensures.target
     ∙ room-step c.args.rooms c.args.seed done _ _ _ number_is so_far.2 c.distance-far.ensures.distance in
     let grown = c.in_ok-push_errand.ensures
-    ∙ ap (λ (r : ℕ). string_bytes c.loop-done.text ++ text_of (errand_lines (done + 1) r)) room_is in (
+    ∙ ap (λ (r : ℕ). string_bytes c.loop-done.text ++ text_of_lines (errand_lines (done + 1) r)) room_is in (
       grows _ _ _ _ _ _ grown
           (first-lines (λ j. errand_lines j (room_after c.args.rooms c.args.seed j)) done c.args.rooms
           (omega (arith, c.loop-done-test.true))) so_far.0,

@@ -1,10 +1,12 @@
+-- Proofs of the goals that `least_of` of src/first_instances.rt leaves open.
 use Rattle.std.proofs.Common.{sym, subst, take}
 use Rattle.px_terms.specs.declared.instance.OpInst.{OpInst}
-use Rattle.px_diff.specs.Firsts.{IsAtMost}
+use Rattle.px_diff.specs.Firsts.{IsNotAfter}
 use Rattle.px_diff.proofs.FirstOrder.{eight_zeros, instance-least, zeros-all, zeros-long}
 use Rattle.px_diff.proofs.first_instances.least_of.Goals as goal
 
 pub returns : goal.returns
 returns c = λ full stands.
-    subst (λ (inst : OpInst). IsAtMost inst full) (sym c.filled.ensures)
-    (instance-least c.args.problem.now c.args.partial.now (take c.args.partial.now.vars eight_zeros) full c.requires.partial (zeros-long c.args.partial.now.vars c.requires.partial.few) (zeros-all c.args.partial.now.vars) stands)
+    subst (λ (inst : OpInst). IsNotAfter inst full) (sym c.filled.ensures)
+    (instance-least c.args.problem.now c.args.partial.now (take c.args.partial.now.vars eight_zeros) full c.requires.partial
+    (zeros-long c.args.partial.now.vars c.requires.partial.few) (zeros-all c.args.partial.now.vars) stands)

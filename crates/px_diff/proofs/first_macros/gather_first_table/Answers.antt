@@ -1,3 +1,4 @@
+-- Proofs of the goals that `gather_first_table` of src/first_macros.rt leaves open.
 use Rattle.std.proofs.Common.{get_or, arith}
 use Rattle.px_proof.specs.PlaceLaws.{slice_get-read}
 use Rattle.px_diff.specs.Macros.{IsOfTable}
@@ -8,19 +9,29 @@ use Rattle.px_diff.proofs.first_macros.gather_first_table.Goals as goal
 
 pub returns-then-can_leave_off-clause-gathers : goal.returns-then-can_leave_off-clause-gathers
 returns-then-can_leave_off-clause-gathers c =
-    fronts-left c.args.request.now.problem.now c.args.request.now.tables.now c.args.request.now.wanted.now c.args.request.now.stack.now c.args.request.now.model.now.atoms c.args.enough c.args.number 0 c.args.found.now.items c.can_leave_off.new.found.items
-    (entries_reordered c.args.request.now.problem.now c.args.request.now.tables.now c.args.request.now.wanted.now c.args.request.now.stack.now c.args.request.now.model.now.atoms (IsShorter c.args.request.now.problem.now c.args.request.now.tables.now c.args.request.now.wanted.now c.args.request.now.stack.now c.args.request.now.model.now.atoms c.args.number 0) c.args.found.now.items c.args.found.now.items c.can_leave_off.new.found.items c.can_leave_off.ensures.members (shorter-zero c.args.request.now.problem.now c.args.request.now.tables.now c.args.request.now.wanted.now c.args.request.now.stack.now c.args.request.now.model.now.atoms c.args.number c.args.found.now.items))
+    fronts-left c.args.request.now.problem.now c.args.request.now.tables.now c.args.request.now.wanted.now c.args.request.now.stack.now
+    c.args.request.now.model.now.atoms c.args.enough c.args.number 0 c.args.found.now.items c.can_leave_off.new.found.items
+    (entries_reordered c.args.request.now.problem.now c.args.request.now.tables.now c.args.request.now.wanted.now
+    c.args.request.now.stack.now c.args.request.now.model.now.atoms
+    (IsShorter c.args.request.now.problem.now c.args.request.now.tables.now c.args.request.now.wanted.now c.args.request.now.stack.now
+    c.args.request.now.model.now.atoms c.args.number 0) c.args.found.now.items c.args.found.now.items c.can_leave_off.new.found.items
+    c.can_leave_off.ensures.members (shorter-zero c.args.request.now.problem.now c.args.request.now.tables.now
+    c.args.request.now.wanted.now c.args.request.now.stack.now c.args.request.now.model.now.atoms c.args.number c.args.found.now.items))
     (c.can_leave_off.ensures.before c.if-can_leave_off.true) (c.can_leave_off.ensures.enough c.if-can_leave_off.true)
 
 pub loop-count-init : goal.loop-count-init
 loop-count-init c =
     let tables = c.args.request.now.tables.now in
     let d = c.index-request-number.result in
-    shorter-none c.args.request.now.problem.now tables c.args.request.now.wanted.now c.args.request.now.stack.now c.args.request.now.model.now.atoms c.args.number (get_or tables c.args.number d) c.can_leave_off.new.found.items (slice_get-read tables c.args.number d c.requires.number)
+    shorter-none c.args.request.now.problem.now tables c.args.request.now.wanted.now c.args.request.now.stack.now
+    c.args.request.now.model.now.atoms c.args.number (get_or tables c.args.number d) c.can_leave_off.new.found.items
+    (slice_get-read tables c.args.number d c.requires.number)
     (learned-at c.args.request.now.problem.now tables c.args.number d c.requires.tables c.requires.number)
 
 pub choices_of_table-requires-clause-table : goal.choices_of_table-requires-clause-table
-choices_of_table-requires-clause-table c = learned-at c.args.request.now.problem.now c.args.request.now.tables.now c.args.number c.index-request-number.result c.requires.tables c.requires.number
+choices_of_table-requires-clause-table c =
+    learned-at c.args.request.now.problem.now c.args.request.now.tables.now c.args.number c.index-request-number.result c.requires.tables
+    c.requires.number
 
 pub gather_front-requires-clause-front : goal.gather_front-requires-clause-front
 gather_front-requires-clause-front c = record {
@@ -37,24 +48,48 @@ gather_front-requires-clause-rows c = c.in_ok-made.ensures
 
 pub loop-count-preserved : goal.loop-count-preserved
 loop-count-preserved c =
-    shorter-next c.args.request.now.problem.now c.args.request.now.tables.now c.args.request.now.wanted.now c.args.request.now.stack.now c.args.request.now.model.now.atoms c.args.number c.loop-count.count c.can_leave_off.new.found.items c.can_leave_off-in-loop-count.new.found.items c.gather_front.new.found.items
-    (entries_reordered c.args.request.now.problem.now c.args.request.now.tables.now c.args.request.now.wanted.now c.args.request.now.stack.now c.args.request.now.model.now.atoms (IsShorter c.args.request.now.problem.now c.args.request.now.tables.now c.args.request.now.wanted.now c.args.request.now.stack.now c.args.request.now.model.now.atoms c.args.number c.loop-count.count) c.can_leave_off.new.found.items c.loop-count.found.items c.can_leave_off-in-loop-count.new.found.items c.can_leave_off-in-loop-count.ensures.members c.loop-count.invariant)
+    shorter-next c.args.request.now.problem.now c.args.request.now.tables.now c.args.request.now.wanted.now c.args.request.now.stack.now
+    c.args.request.now.model.now.atoms c.args.number c.loop-count.count c.can_leave_off.new.found.items
+    c.can_leave_off-in-loop-count.new.found.items c.gather_front.new.found.items
+    (entries_reordered c.args.request.now.problem.now c.args.request.now.tables.now c.args.request.now.wanted.now
+    c.args.request.now.stack.now c.args.request.now.model.now.atoms
+    (IsShorter c.args.request.now.problem.now c.args.request.now.tables.now c.args.request.now.wanted.now c.args.request.now.stack.now
+    c.args.request.now.model.now.atoms c.args.number c.loop-count.count) c.can_leave_off.new.found.items c.loop-count.found.items
+    c.can_leave_off-in-loop-count.new.found.items c.can_leave_off-in-loop-count.ensures.members c.loop-count.invariant)
     c.in_ok-gather_front.ensures.gathers
 
 pub returns-clause-gathers : goal.returns-clause-gathers
 returns-clause-gathers c =
     let tables = c.args.request.now.tables.now in
     let d = c.index-request-number.result in
-    entries_since c.args.request.now.problem.now c.args.request.now.tables.now c.args.request.now.wanted.now c.args.request.now.stack.now c.args.request.now.model.now.atoms (IsOfTable c.args.number) c.args.found.now.items c.can_leave_off.new.found.items c.loop-count.found.items c.can_leave_off.ensures.members
-    (shorter-all c.args.request.now.problem.now tables c.args.request.now.wanted.now c.args.request.now.stack.now c.args.request.now.model.now.atoms c.args.number c.loop-count.count (get_or tables c.args.number d) c.can_leave_off.new.found.items c.loop-count.found.items (slice_get-read tables c.args.number d c.requires.number)
-    (learned-at c.args.request.now.problem.now tables c.args.number d c.requires.tables c.requires.number) (omega (arith, c.loop-count-test.false)) c.loop-count.invariant)
+    entries_since c.args.request.now.problem.now c.args.request.now.tables.now c.args.request.now.wanted.now c.args.request.now.stack.now
+    c.args.request.now.model.now.atoms (IsOfTable c.args.number) c.args.found.now.items c.can_leave_off.new.found.items
+    c.loop-count.found.items c.can_leave_off.ensures.members
+    (shorter-all c.args.request.now.problem.now tables c.args.request.now.wanted.now c.args.request.now.stack.now
+    c.args.request.now.model.now.atoms c.args.number c.loop-count.count
+    (get_or tables c.args.number d) c.can_leave_off.new.found.items c.loop-count.found.items
+    (slice_get-read tables c.args.number d c.requires.number)
+    (learned-at c.args.request.now.problem.now tables c.args.number d c.requires.tables c.requires.number)
+    (omega (arith, c.loop-count-test.false)) c.loop-count.invariant)
 
 pub returns-then-can_leave_off-2-clause-gathers : goal.returns-then-can_leave_off-2-clause-gathers
 returns-then-can_leave_off-2-clause-gathers c =
-    fronts-left c.args.request.now.problem.now c.args.request.now.tables.now c.args.request.now.wanted.now c.args.request.now.stack.now c.args.request.now.model.now.atoms c.args.enough c.args.number c.loop-count.count c.args.found.now.items c.can_leave_off-in-loop-count.new.found.items
-    (entries_since c.args.request.now.problem.now c.args.request.now.tables.now c.args.request.now.wanted.now c.args.request.now.stack.now c.args.request.now.model.now.atoms (IsShorter c.args.request.now.problem.now c.args.request.now.tables.now c.args.request.now.wanted.now c.args.request.now.stack.now c.args.request.now.model.now.atoms c.args.number c.loop-count.count) c.args.found.now.items c.can_leave_off.new.found.items c.can_leave_off-in-loop-count.new.found.items c.can_leave_off.ensures.members
-    (entries_reordered c.args.request.now.problem.now c.args.request.now.tables.now c.args.request.now.wanted.now c.args.request.now.stack.now c.args.request.now.model.now.atoms (IsShorter c.args.request.now.problem.now c.args.request.now.tables.now c.args.request.now.wanted.now c.args.request.now.stack.now c.args.request.now.model.now.atoms c.args.number c.loop-count.count) c.can_leave_off.new.found.items c.loop-count.found.items c.can_leave_off-in-loop-count.new.found.items c.can_leave_off-in-loop-count.ensures.members c.loop-count.invariant))
-    (c.can_leave_off-in-loop-count.ensures.before c.if-can_leave_off-2.true) (c.can_leave_off-in-loop-count.ensures.enough c.if-can_leave_off-2.true)
+    fronts-left c.args.request.now.problem.now c.args.request.now.tables.now c.args.request.now.wanted.now c.args.request.now.stack.now
+    c.args.request.now.model.now.atoms c.args.enough c.args.number c.loop-count.count c.args.found.now.items
+    c.can_leave_off-in-loop-count.new.found.items
+    (entries_since c.args.request.now.problem.now c.args.request.now.tables.now c.args.request.now.wanted.now c.args.request.now.stack.now
+    c.args.request.now.model.now.atoms (IsShorter c.args.request.now.problem.now c.args.request.now.tables.now
+    c.args.request.now.wanted.now c.args.request.now.stack.now c.args.request.now.model.now.atoms c.args.number c.loop-count.count)
+    c.args.found.now.items c.can_leave_off.new.found.items c.can_leave_off-in-loop-count.new.found.items c.can_leave_off.ensures.members
+    (entries_reordered c.args.request.now.problem.now c.args.request.now.tables.now c.args.request.now.wanted.now
+    c.args.request.now.stack.now c.args.request.now.model.now.atoms
+    (IsShorter c.args.request.now.problem.now c.args.request.now.tables.now c.args.request.now.wanted.now c.args.request.now.stack.now
+    c.args.request.now.model.now.atoms c.args.number c.loop-count.count) c.can_leave_off.new.found.items c.loop-count.found.items
+    c.can_leave_off-in-loop-count.new.found.items c.can_leave_off-in-loop-count.ensures.members c.loop-count.invariant))
+    (c.can_leave_off-in-loop-count.ensures.before c.if-can_leave_off-2.true)
+    (c.can_leave_off-in-loop-count.ensures.enough c.if-can_leave_off-2.true)
 
 pub facts_suffice-suffice-requires-clause-table : goal.facts_suffice-suffice-requires-clause-table
-facts_suffice-suffice-requires-clause-table c = learned-at c.args.request.now.problem.now c.args.request.now.tables.now c.args.number c.index-request-number.result c.requires.tables c.requires.number
+facts_suffice-suffice-requires-clause-table c =
+    learned-at c.args.request.now.problem.now c.args.request.now.tables.now c.args.number c.index-request-number.result c.requires.tables
+    c.requires.number

@@ -1,3 +1,4 @@
+-- Proofs of the goals that `are_settled_marks` of src/macro_open.rt leaves open.
 use Rattle.std.proofs.Common.{List, length, subst, sym}
 use Rattle.std.specs.Prelude.{All, Contains}
 use Rattle.px_base.specs.ListLaws.{All-at}
@@ -13,27 +14,43 @@ use Rattle.px_diff.proofs.macro_open.are_settled_marks.Goals as goal
 pub is_settled_mark-requires-clause-variables : goal.is_settled_mark-requires-clause-variables
 is_settled_mark-requires-clause-variables c =
     let has = contains_here c.as_slice-marks.result.now c.loop-mark.mark-index c.mark-item.result c.loop-mark-test.true c.mark-item.is in
-    All-at (λ (mark : Mark). All (IsVariableBelow (length c.args.sigma.now)) mark.atom.args) c.args.front.now.table.now.marks c.mark-item.result
-    (marks-variables c.args.front.now.request.problem.now c.args.front.now.table.now c.args.sigma.now (front-table c.args.front.now c.requires.front) c.requires.sigma.count) (subst (λ (l : List Mark). Contains l c.mark-item.result) c.as_slice-marks.ensures has)
+    All-at (λ (mark : Mark). All (IsVariableBelow (length c.args.sigma.now)) mark.atom.args) c.args.front.now.table.now.marks
+    c.mark-item.result
+    (marks-variables c.args.front.now.request.problem.now c.args.front.now.table.now c.args.sigma.now
+    (front-table c.args.front.now c.requires.front) c.requires.sigma.count)
+    (subst (λ (l : List Mark). Contains l c.mark-item.result) c.as_slice-marks.ensures has)
 
 pub is_settled_mark-requires-clause-atom : goal.is_settled_mark-requires-clause-atom
 is_settled_mark-requires-clause-atom c = λ early.
     let has = contains_here c.as_slice-marks.result.now c.loop-mark.mark-index c.mark-item.result c.loop-mark-test.true c.mark-item.is in
-    mark-is_of c.args.front.now.request.problem.now c.args.front.now.table.now c.args.front.now.count c.args.sigma.now (front-table c.args.front.now c.requires.front) c.requires.sigma c.mark-item.result (subst (λ (l : List Mark). Contains l c.mark-item.result) c.as_slice-marks.ensures has) early
+    mark-is_of c.args.front.now.request.problem.now c.args.front.now.table.now c.args.front.now.count c.args.sigma.now
+    (front-table c.args.front.now c.requires.front) c.requires.sigma c.mark-item.result
+    (subst (λ (l : List Mark). Contains l c.mark-item.result) c.as_slice-marks.ensures has) early
 
 pub returns-in-Some-false : goal.returns-in-Some-false
 returns-in-Some-false c = λ all.
-    let Settled = IsSettledMark c.args.front.now.request.problem.now c.args.front.now.request.model.now.atoms c.args.front.now.count c.args.sigma.now in
-    some-no {P = Settled c.mark-item.result} c.in_ok-is_settled_mark.field-0 c.in-Some-false.field-0 c.in-Some-false.is c.in-Some-false.field-0-test c.in_ok-is_settled_mark.ensures
-    (All-at Settled c.as_slice-marks.result.now c.mark-item.result (subst (All Settled) (sym c.as_slice-marks.ensures) all) (contains_here c.as_slice-marks.result.now c.loop-mark.mark-index c.mark-item.result c.loop-mark-test.true c.mark-item.is))
+    let Settled =
+    IsSettledMark c.args.front.now.request.problem.now c.args.front.now.request.model.now.atoms c.args.front.now.count c.args.sigma.now
+    in
+    some-no {P = Settled c.mark-item.result} c.in_ok-is_settled_mark.field-0 c.in-Some-false.field-0 c.in-Some-false.is
+    c.in-Some-false.field-0-test c.in_ok-is_settled_mark.ensures
+    (All-at Settled c.as_slice-marks.result.now c.mark-item.result (subst (All Settled) (sym c.as_slice-marks.ensures) all)
+    (contains_here c.as_slice-marks.result.now c.loop-mark.mark-index c.mark-item.result c.loop-mark-test.true c.mark-item.is))
 
 pub loop-mark-preserved : goal.loop-mark-preserved
 loop-mark-preserved c =
-    let Settled = IsSettledMark c.args.front.now.request.problem.now c.args.front.now.request.model.now.atoms c.args.front.now.count c.args.sigma.now in
-    all_before_next Settled c.as_slice-marks.result.now c.loop-mark.mark-index c.mark-item.result c.loop-mark.invariant c.loop-mark-test.true c.mark-item.is
-    (some-yes {P = Settled c.mark-item.result} c.in_ok-is_settled_mark.field-0 c.in-Some-true.field-0 c.in-Some-true.is c.in-Some-true.field-0-test c.in_ok-is_settled_mark.ensures)
+    let Settled =
+    IsSettledMark c.args.front.now.request.problem.now c.args.front.now.request.model.now.atoms c.args.front.now.count c.args.sigma.now
+    in
+    all_before_next Settled c.as_slice-marks.result.now c.loop-mark.mark-index c.mark-item.result c.loop-mark.invariant
+    c.loop-mark-test.true c.mark-item.is
+    (some-yes {P = Settled c.mark-item.result} c.in_ok-is_settled_mark.field-0 c.in-Some-true.field-0 c.in-Some-true.is
+    c.in-Some-true.field-0-test c.in_ok-is_settled_mark.ensures)
 
 pub returns : goal.returns
 returns c =
-    let Settled = IsSettledMark c.args.front.now.request.problem.now c.args.front.now.request.model.now.atoms c.args.front.now.count c.args.sigma.now in
-    subst (All Settled) c.as_slice-marks.ensures (all_whole Settled c.as_slice-marks.result.now c.loop-mark.mark-index c.loop-mark.invariant c.loop-mark-test.false)
+    let Settled =
+    IsSettledMark c.args.front.now.request.problem.now c.args.front.now.request.model.now.atoms c.args.front.now.count c.args.sigma.now
+    in
+    subst (All Settled) c.as_slice-marks.ensures (all_whole Settled c.as_slice-marks.result.now c.loop-mark.mark-index c.loop-mark.invariant
+    c.loop-mark-test.false)

@@ -1,6 +1,8 @@
+-- What the loops of `are_settled_marks` in src/macro_open.rt keep true.
 use Rattle.px_diff.specs.MacroOpen.{IsSettledMark}
 use Rattle.px_base.proofs.Loops.{AllBefore}
 use Rattle.px_diff.proofs.macro_open.are_settled_marks.Given as goal
 
 abbrev pub invariant-loop-mark : goal.invariant-loop-mark
-invariant-loop-mark l = AllBefore (IsSettledMark l.front.request.problem.now l.front.request.model.now.atoms l.front.count l.sigma) l.marks l.mark-index
+invariant-loop-mark l =
+    AllBefore (IsSettledMark l.front.request.problem.now l.front.request.model.now.atoms l.front.count l.sigma) l.marks l.mark-index

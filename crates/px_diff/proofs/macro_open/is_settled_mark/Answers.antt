@@ -1,3 +1,4 @@
+-- Proofs of the goals that `is_settled_mark` of src/macro_open.rt leaves open.
 use Rattle.std.proofs.Common.{sym, subst}
 use Rattle.px_diff.specs.MacroOpen.{IsSettledMark}
 use Rattle.px_entries.specs.Plain.{IsSettled}
@@ -11,7 +12,9 @@ is_settled-requires-clause-problem c = c.requires.front.problem
 pub returns : goal.returns
 returns c =
     let Settled = IsSettled c.args.front.now.request.problem.now c.args.front.now.request.model.now.atoms in
-    told-as {P = Settled c.atom_with-atom.result} {Q = IsSettledMark c.args.front.now.request.problem.now c.args.front.now.request.model.now.atoms c.args.front.now.count c.args.sigma.now c.args.mark.now} c.is_settled.result (
+    told-as {P = Settled c.atom_with-atom.result} {Q = IsSettledMark c.args.front.now.request.problem.now
+    c.args.front.now.request.model.now.atoms c.args.front.now.count c.args.sigma.now c.args.mark.now} c.is_settled.result (
       λ settled wanted. subst Settled c.atom_with-atom.ensures settled,
-      λ settled. subst Settled (sym c.atom_with-atom.ensures) (settled (said_yes c.is_needed.result c.is_needed.ensures c.if-not-is_needed.false)),
+      λ settled. subst Settled (sym c.atom_with-atom.ensures)
+          (settled (said_yes c.is_needed.result c.is_needed.ensures c.if-not-is_needed.false)),
     ) c.is_settled.ensures

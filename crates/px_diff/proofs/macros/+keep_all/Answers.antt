@@ -1,8 +1,9 @@
+-- Proofs of the goals that `keep_all` of src/macros.rt leaves open.
 use Rattle.std.proofs.Common.{◌≡◌, ◌∙◌, ◌<◌, List, set, sym, subst, arith}
 use Rattle.std.proofs.lemmas.Option.{slice_get_within}
 use Rattle.px_terms.specs.declared.term.Term.{Term}
 use Rattle.px_terms.specs.declared.term.Term.TheVariants.{Obj, Var}
-use Rattle.px_gaps.specs.Bindings.{IsBinding, open_count}
+use Rattle.px_gaps.specs.Bindings.{IsBinding, open_term_count}
 use Rattle.px_gaps.proofs.Choosing.{bound-binding, count-falls}
 use Rattle.px_diff.proofs.GatherLemmas.{objects-all, objects-closed, objects-next, objects-none}
 use Rattle.px_base.proofs.Loops.{on_ok}
@@ -20,22 +21,43 @@ keep_all-requires t c =
     let v = c.in-Some.parameter in
     let object = c.loop-object.object in
     let next_is : c.deref.result.now ≡ set terms v (Obj object) = c.deref.ensures.value ∙ c.in_ok-next.ensures in
-    let less : open_count c.deref.result.now < open_count terms = subst (λ (ts : List Term). open_count ts < open_count terms) (sym next_is) (count-falls terms v v object c.in-Some.ensures.some) in (
+    let less : open_term_count c.deref.result.now < open_term_count terms =
+    subst (λ (ts : List Term). open_term_count ts < open_term_count terms) (sym next_is)
+    (count-falls terms v v object c.in-Some.ensures.some) in (
       omega (arith, less, c.decreases),
-      (c.requires.front, subst (IsBinding c.args.front.now.request.problem.now.objects) (sym next_is) (bound-binding c.args.front.now.request.problem.now.objects terms v c.in-Some.ensures.some object c.requires.binding c.loop-object-test.true)),
+      (
+        c.requires.front,
+        subst (IsBinding c.args.front.now.request.problem.now.objects) (sym next_is)
+            (bound-binding c.args.front.now.request.problem.now.objects terms v c.in-Some.ensures.some object c.requires.binding
+            c.loop-object-test.true),
+      ),
     )
 
 pub loop-object-init : goal.loop-object-init
-loop-object-init t c = objects-none c.args.front.now.request.problem.now c.args.front.now.request.tables.now c.args.front.now.request.wanted.now c.args.front.now.request.stack.now c.args.front.now.request.model.now.atoms c.args.front.now.number c.args.front.now.count c.args.terms.now c.in-Some.parameter c.args.found.now.items c.in-Some.ensures.some
+loop-object-init t c =
+    objects-none c.args.front.now.request.problem.now c.args.front.now.request.tables.now c.args.front.now.request.wanted.now
+    c.args.front.now.request.stack.now c.args.front.now.request.model.now.atoms c.args.front.now.number c.args.front.now.count
+    c.args.terms.now c.in-Some.parameter c.args.found.now.items c.in-Some.ensures.some
 
 pub loop-object-preserved : goal.loop-object-preserved
 loop-object-preserved t c =
-    objects-next c.args.front.now.request.problem.now c.args.front.now.request.tables.now c.args.front.now.request.wanted.now c.args.front.now.request.stack.now c.args.front.now.request.model.now.atoms c.args.front.now.number c.args.front.now.count c.args.terms.now c.deref.result.now c.in-Some.parameter c.loop-object.object c.args.found.now.items c.loop-object.found.items c.keep_all.new.found.items
+    objects-next c.args.front.now.request.problem.now c.args.front.now.request.tables.now c.args.front.now.request.wanted.now
+    c.args.front.now.request.stack.now c.args.front.now.request.model.now.atoms c.args.front.now.number c.args.front.now.count
+    c.args.terms.now c.deref.result.now c.in-Some.parameter c.loop-object.object c.args.found.now.items c.loop-object.found.items
+    c.keep_all.new.found.items
     c.in-Some.ensures.some (c.deref.ensures.value ∙ c.in_ok-next.ensures) c.loop-object.invariant c.in_ok-keep_all.ensures.gathers
 
 pub returns-clause-gathers : goal.returns-clause-gathers
-returns-clause-gathers t c = objects-all c.args.front.now.request.problem.now c.args.front.now.request.tables.now c.args.front.now.request.wanted.now c.args.front.now.request.stack.now c.args.front.now.request.model.now.atoms c.args.front.now.number c.args.front.now.count c.args.terms.now c.in-Some.parameter c.loop-object.object c.args.found.now.items c.loop-object.found.items c.in-Some.ensures.some c.loop-object-test.false c.loop-object.invariant
+returns-clause-gathers t c =
+    objects-all c.args.front.now.request.problem.now c.args.front.now.request.tables.now c.args.front.now.request.wanted.now
+    c.args.front.now.request.stack.now c.args.front.now.request.model.now.atoms c.args.front.now.number c.args.front.now.count
+    c.args.terms.now c.in-Some.parameter c.loop-object.object c.args.found.now.items c.loop-object.found.items c.in-Some.ensures.some
+    c.loop-object-test.false c.loop-object.invariant
 
 pub returns-in-None-clause-gathers : goal.returns-in-None-clause-gathers
 returns-in-None-clause-gathers t c =
-    on_ok c.keep_open.result (objects-closed c.args.front.now.request.problem.now c.args.front.now.request.tables.now c.args.front.now.request.wanted.now c.args.front.now.request.stack.now c.args.front.now.request.model.now.atoms c.args.front.now.number c.args.front.now.count c.args.terms.now c.as_slice.result.now c.args.found.now.items c.keep_open.new.found.items c.in-None.ensures.none (c.as_slice.ensures.value ∙ c.in_ok-sigma-in-None.ensures)) c.keep_open.ensures.gathers
+    on_ok c.keep_open.result (objects-closed c.args.front.now.request.problem.now c.args.front.now.request.tables.now
+    c.args.front.now.request.wanted.now c.args.front.now.request.stack.now c.args.front.now.request.model.now.atoms
+    c.args.front.now.number c.args.front.now.count c.args.terms.now c.as_slice.result.now c.args.found.now.items
+    c.keep_open.new.found.items c.in-None.ensures.none (c.as_slice.ensures.value ∙ c.in_ok-sigma-in-None.ensures))
+    c.keep_open.ensures.gathers

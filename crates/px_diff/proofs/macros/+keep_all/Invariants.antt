@@ -1,11 +1,14 @@
-use Rattle.px_gaps.specs.Bindings.{open_count}
+-- What the loops of `keep_all` in src/macros.rt keep true.
+use Rattle.px_gaps.specs.Bindings.{open_term_count}
 use Rattle.px_diff.specs.Macros.{GathersEntries, IsMacroBefore}
 use Rattle.px_diff.proofs.macros.+keep_all.Given as goal
 
 abbrev pub decreases-keep_all : goal.decreases-keep_all
-decreases-keep_all l = open_count l.terms.now
+decreases-keep_all l = open_term_count l.terms.now
 
 abbrev pub invariant-loop-object : goal.invariant-loop-object
 invariant-loop-object l =
-    GathersEntries l.front.request.problem.now l.front.request.tables.now l.front.request.wanted.now l.front.request.stack.now l.front.request.model.now.atoms
-    (IsMacroBefore l.front.request.problem.now.objects l.front.number l.front.count l.terms l.parameter l.object) l.initial.found.items l.found.items
+    GathersEntries l.front.request.problem.now l.front.request.tables.now l.front.request.wanted.now l.front.request.stack.now
+    l.front.request.model.now.atoms
+    (IsMacroBefore l.front.request.problem.now.objects l.front.number l.front.count l.terms l.parameter l.object) l.initial.found.items
+    l.found.items

@@ -1,3 +1,4 @@
+-- Proofs of the goals that `gather_front` of src/macros.rt leaves open.
 use Rattle.std.proofs.Common.{◌≡◌, ◌∙◌, ℕ, List, length, take, ap, sym, subst, arith}
 use Rattle.std.specs.Prelude.{All}
 use Rattle.std.proofs.lemmas.List.Elements.{All-nil, All-take}
@@ -10,7 +11,7 @@ use Rattle.px_terms.specs.declared.term.Term.{Term}
 use Rattle.px_gaps.specs.Bindings.{IsBinding, first_values}
 use Rattle.px_gaps.specs.Closings.{OneOf}
 use Rattle.px_diff.specs.Macros.{GathersEntries, IsMacroBy, IsOfFront}
-use Rattle.px_entries.specs.Parameters.{IsMatch}
+use Rattle.px_entries.specs.Parameters.{IsParameterMatch}
 use Rattle.px_diff.specs.RowQuestions.{AreTableChoices}
 use Rattle.px_diff.proofs.EntryLemmas.{entries_relevant}
 use Rattle.px_diff.proofs.FittingLemmas.{some_found}
@@ -26,9 +27,15 @@ returns-then-problem-eq0-clause-gathers c =
     let problem = c.args.front.now.request.problem.now in
     let tables = c.args.front.now.request.tables.now in
     let is_table = front-table c.args.front.now c.requires.front in
-    on_ok c.keep_open.result (entries_relevant c.args.front.now.request.problem.now c.args.front.now.request.tables.now c.args.front.now.request.wanted.now c.args.front.now.request.stack.now c.args.front.now.request.model.now.atoms (λ (entry : Entry). Macro c.args.front.now.number c.args.front.now.count c.deref.result.now ≡ entry) (IsOfFront c.args.front.now.number c.args.front.now.count) c.args.found.now.items c.keep_open.new.found.items
-    (λ entry relevant of. ap (λ (l : List ℕ). Macro c.args.front.now.number c.args.front.now.count l) (c.deref.ensures.value ∙ c.in_ok-sigma.ensures ∙ ap first_values c.as_slice-terms.ensures.value)
-    ∙ of_zeros problem tables c.args.front.now.request.wanted.now c.args.front.now.request.stack.now c.args.front.now.number c.args.front.now.count c.args.front.now.table.now c.requires.front.table is_table c.in_ok-start.start.items c.in_ok-start.ensures c.if-problem-eq0.true entry relevant of))
+    on_ok c.keep_open.result (entries_relevant c.args.front.now.request.problem.now c.args.front.now.request.tables.now
+    c.args.front.now.request.wanted.now c.args.front.now.request.stack.now c.args.front.now.request.model.now.atoms
+    (λ (entry : Entry). Macro c.args.front.now.number c.args.front.now.count c.deref.result.now ≡ entry)
+    (IsOfFront c.args.front.now.number c.args.front.now.count) c.args.found.now.items c.keep_open.new.found.items
+    (λ entry relevant of. ap (λ (l : List ℕ). Macro c.args.front.now.number c.args.front.now.count l)
+    (c.deref.ensures.value ∙ c.in_ok-sigma.ensures ∙ ap first_values c.as_slice-terms.ensures.value)
+    ∙ of_zeros problem tables c.args.front.now.request.wanted.now c.args.front.now.request.stack.now c.args.front.now.number
+    c.args.front.now.count c.args.front.now.table.now c.requires.front.table is_table c.in_ok-start.start.items c.in_ok-start.ensures
+    c.if-problem-eq0.true entry relevant of))
     c.keep_open.ensures.gathers
 
 pub macro_matches-requires-clause-problem : goal.macro_matches-requires-clause-problem
@@ -41,46 +48,61 @@ macro_matches-requires-clause-steps c =
     let is_table = front-table c.args.front.now c.requires.front in
     let long : length c.as_slice-terms.result.now ≡ table.params = ap length c.as_slice-terms.ensures.value ∙ c.in_ok-start.ensures.count in
     subst (λ (n : ℕ). All (IsStepOf problem n) (take c.args.front.now.count c.as_slice.result.now)) (sym long)
-    (subst (λ (l : List OpInst). All (IsStepOf problem table.params) (take c.args.front.now.count l)) (sym c.as_slice.ensures) (All-take (IsStepOf problem table.params) c.args.front.now.count table.steps is_table.in_range.steps))
+    (subst (λ (l : List OpInst). All (IsStepOf problem table.params) (take c.args.front.now.count l)) (sym c.as_slice.ensures)
+    (All-take (IsStepOf problem table.params) c.args.front.now.count table.steps is_table.in_range.steps))
 
 pub macro_matches-requires-clause-binding : goal.macro_matches-requires-clause-binding
 macro_matches-requires-clause-binding c =
     let problem = c.args.front.now.request.problem.now in
-    subst (IsBinding problem.objects) (sym c.as_slice-terms.ensures.value) (first-binding problem c.args.front.now.table.now c.args.front.now.count c.in_ok-start.start.items c.in_ok-start.ensures (omega (arith, c.if-problem-eq0.false)))
+    subst (IsBinding problem.objects) (sym c.as_slice-terms.ensures.value)
+    (first-binding problem c.args.front.now.table.now c.args.front.now.count c.in_ok-start.start.items c.in_ok-start.ensures
+    (omega (arith, c.if-problem-eq0.false)))
 
 pub keep_listed-requires-clause-matches : goal.keep_listed-requires-clause-matches
 keep_listed-requires-clause-matches c =
     let problem = c.args.front.now.request.problem.now in
     let table = c.args.front.now.table.now in
     let long : length c.as_slice-terms.result.now ≡ table.params = ap length c.as_slice-terms.ensures.value ∙ c.in_ok-start.ensures.count in
-    let all = c.in_ok-made.ensures.form (All-nil (IsMatch problem.objects (length c.as_slice-terms.result.now))) in
-    subst (All (IsMatch problem.objects table.params)) (sym c.as_slice-matches.ensures.value) (subst (λ (n : ℕ). All (IsMatch problem.objects n) c.in_ok-made.made.items) long all)
+    let all = c.in_ok-made.ensures.form (All-nil (IsParameterMatch problem.objects (length c.as_slice-terms.result.now))) in
+    subst (All (IsParameterMatch problem.objects table.params)) (sym c.as_slice-matches.ensures.value)
+    (subst (λ (n : ℕ). All (IsParameterMatch problem.objects n) c.in_ok-made.made.items) long all)
 
 pub keep_matches-requires-clause-matches : goal.keep_matches-requires-clause-matches
 keep_matches-requires-clause-matches c =
     let problem = c.args.front.now.request.problem.now in
     let table = c.args.front.now.table.now in
     let long : length c.as_slice-terms.result.now ≡ table.params = ap length c.as_slice-terms.ensures.value ∙ c.in_ok-start.ensures.count in
-    let all = c.in_ok-made.ensures.form (All-nil (IsMatch problem.objects (length c.as_slice-terms.result.now))) in
-    subst (All (IsMatch problem.objects table.params)) (sym c.as_slice-matches.ensures.value) (subst (λ (n : ℕ). All (IsMatch problem.objects n) c.in_ok-made.made.items) long all)
+    let all = c.in_ok-made.ensures.form (All-nil (IsParameterMatch problem.objects (length c.as_slice-terms.result.now))) in
+    subst (All (IsParameterMatch problem.objects table.params)) (sym c.as_slice-matches.ensures.value)
+    (subst (λ (n : ℕ). All (IsParameterMatch problem.objects n) c.in_ok-made.made.items) long all)
 
 pub keep_matches-requires-clause-rows : goal.keep_matches-requires-clause-rows
 keep_matches-requires-clause-rows c =
     let problem = c.args.front.now.request.problem.now in
     let table = c.args.front.now.table.now in
     let found = c.in-Some.known in
-    let told = some_found (AreTableChoices problem c.args.front.now.request.model.now.atoms table) c.args.rows.now found c.in-Some.is c.requires.rows in
-    subst (λ (l : List (List (List Term))). All (All (λ (choice : List Term). length choice ≡ table.params)) (take c.args.front.now.count l)) (sym c.as_slice-in-Some.ensures)
-    (All-take (All (λ (choice : List Term). length choice ≡ table.params)) c.args.front.now.count found.choices (choices-long (setting_of problem c.args.front.now.request.model.now.atoms) table told.terms (length table.steps) found.choices found.limited told.known))
+    let told =
+    some_found (AreTableChoices problem c.args.front.now.request.model.now.atoms table) c.args.rows.now found c.in-Some.is
+    c.requires.rows in
+    subst (λ (l : List (List (List Term))). All (All (λ (choice : List Term). length choice ≡ table.params))
+    (take c.args.front.now.count l)) (sym c.as_slice-in-Some.ensures)
+    (All-take (All (λ (choice : List Term). length choice ≡ table.params)) c.args.front.now.count found.choices
+    (choices-long (setting_of problem c.args.front.now.request.model.now.atoms) table told.terms
+    (length table.steps) found.choices found.limited told.known))
 
 pub keep_matches-requires-clause-limited : goal.keep_matches-requires-clause-limited
 keep_matches-requires-clause-limited c =
     let problem = c.args.front.now.request.problem.now in
     let table = c.args.front.now.table.now in
     let found = c.in-Some.known in
-    let told = some_found (AreTableChoices problem c.args.front.now.request.model.now.atoms table) c.args.rows.now found c.in-Some.is c.requires.rows in
-    subst (λ (l : List (List (List Term))). All (All (λ (choice : List Term). length choice ≡ table.params)) (take c.args.front.now.count l)) (sym c.as_slice-in-Some-2.ensures)
-    (All-take (All (λ (choice : List Term). length choice ≡ table.params)) c.args.front.now.count found.limited (limited-long (setting_of problem c.args.front.now.request.model.now.atoms) table told.terms (length table.steps) found.choices found.limited told.known))
+    let told =
+    some_found (AreTableChoices problem c.args.front.now.request.model.now.atoms table) c.args.rows.now found c.in-Some.is
+    c.requires.rows in
+    subst (λ (l : List (List (List Term))). All (All (λ (choice : List Term). length choice ≡ table.params))
+    (take c.args.front.now.count l)) (sym c.as_slice-in-Some-2.ensures)
+    (All-take (All (λ (choice : List Term). length choice ≡ table.params)) c.args.front.now.count found.limited
+    (limited-long (setting_of problem c.args.front.now.request.model.now.atoms) table told.terms
+    (length table.steps) found.choices found.limited told.known))
 
 pub returns-in-Some-clause-gathers : goal.returns-in-Some-clause-gathers
 returns-in-Some-clause-gathers c =
@@ -97,11 +119,18 @@ returns-in-Some-clause-gathers c =
     let found = c.in-Some.known in
     let told = some_found (AreTableChoices problem model table) c.args.rows.now found c.in-Some.is c.requires.rows in
     let known = rows-taken s table told.terms (length table.steps) count found.choices found.limited c.requires.front.within told.known in
-    let matched = matches-as problem wanted count c.as_slice-terms.result.now c.in_ok-start.start.items c.as_slice.result.now table.steps c.in_ok-made.made.items c.as_slice-terms.ensures.value c.as_slice.ensures c.in_ok-made.ensures in
+    let matched =
+    matches-as problem wanted count c.as_slice-terms.result.now c.in_ok-start.start.items c.as_slice.result.now table.steps
+    c.in_ok-made.made.items c.as_slice-terms.ensures.value c.as_slice.ensures c.in_ok-made.ensures in
     on_ok c.keep_matches.result (λ gathers.
-    wide-gather problem tables wanted stack number count table c.requires.front.table is_table model told.set told.terms told.unbound told.some_object (take count found.choices) (take count found.limited) known c.in_ok-start.start.items c.in_ok-start.ensures c.in_ok-made.made.items matched c.args.found.now.items
+    wide-gather problem tables wanted stack number count table c.requires.front.table is_table model told.set told.terms told.unbound
+    told.some_object (take count found.choices)
+    (take count found.limited) known c.in_ok-start.start.items c.in_ok-start.ensures c.in_ok-made.made.items matched
+    c.args.found.now.items
     c.keep_matches.new.found.items
-    (told-same problem tables wanted stack model number count c.as_slice-matches.result.now c.in_ok-made.made.items c.as_slice-in-Some.result.now found.choices c.as_slice-in-Some-2.result.now found.limited c.args.found.now.items c.keep_matches.new.found.items c.as_slice-matches.ensures.value c.as_slice-in-Some.ensures c.as_slice-in-Some-2.ensures
+    (told-same problem tables wanted stack model number count c.as_slice-matches.result.now c.in_ok-made.made.items
+    c.as_slice-in-Some.result.now found.choices c.as_slice-in-Some-2.result.now found.limited c.args.found.now.items
+    c.keep_matches.new.found.items c.as_slice-matches.ensures.value c.as_slice-in-Some.ensures c.as_slice-in-Some-2.ensures
     gathers)) c.keep_matches.ensures.gathers
 
 pub returns-clause-gathers : goal.returns-clause-gathers
@@ -111,7 +140,19 @@ returns-clause-gathers c =
     let wanted = c.args.front.now.request.wanted.now in
     let table = c.args.front.now.table.now in
     let is_table = front-table c.args.front.now c.requires.front in
-    let matched = matches-as problem wanted c.args.front.now.count c.as_slice-terms.result.now c.in_ok-start.start.items c.as_slice.result.now table.steps c.in_ok-made.made.items c.as_slice-terms.ensures.value c.as_slice.ensures c.in_ok-made.ensures in
-    on_ok c.keep_listed.result (λ gathers. entries_relevant c.args.front.now.request.problem.now c.args.front.now.request.tables.now c.args.front.now.request.wanted.now c.args.front.now.request.stack.now c.args.front.now.request.model.now.atoms (λ (entry : Entry). OneOf c.in_ok-made.made.items (λ (terms : List Term). IsMacroBy problem.objects c.args.front.now.number c.args.front.now.count terms entry)) (IsOfFront c.args.front.now.number c.args.front.now.count) c.args.found.now.items c.keep_listed.new.found.items
-    (of_matches problem tables wanted c.args.front.now.request.stack.now c.args.front.now.number c.args.front.now.count table c.requires.front.table is_table c.in_ok-start.start.items c.in_ok-start.ensures c.in_ok-made.made.items (omega (arith, c.if-problem-eq0.false)) matched)
-    (subst (λ (l : List (List Term)). GathersEntries c.args.front.now.request.problem.now c.args.front.now.request.tables.now c.args.front.now.request.wanted.now c.args.front.now.request.stack.now c.args.front.now.request.model.now.atoms (λ (entry : Entry). OneOf l (λ (terms : List Term). IsMacroBy problem.objects c.args.front.now.number c.args.front.now.count terms entry)) c.args.found.now.items c.keep_listed.new.found.items) c.as_slice-matches.ensures.value gathers)) c.keep_listed.ensures.gathers
+    let matched =
+    matches-as problem wanted c.args.front.now.count c.as_slice-terms.result.now c.in_ok-start.start.items c.as_slice.result.now
+    table.steps c.in_ok-made.made.items c.as_slice-terms.ensures.value c.as_slice.ensures c.in_ok-made.ensures in
+    on_ok c.keep_listed.result (λ gathers. entries_relevant c.args.front.now.request.problem.now c.args.front.now.request.tables.now
+    c.args.front.now.request.wanted.now c.args.front.now.request.stack.now c.args.front.now.request.model.now.atoms
+    (λ (entry : Entry). OneOf c.in_ok-made.made.items
+    (λ (terms : List Term). IsMacroBy problem.objects c.args.front.now.number c.args.front.now.count terms entry))
+    (IsOfFront c.args.front.now.number c.args.front.now.count) c.args.found.now.items c.keep_listed.new.found.items
+    (of_matches problem tables wanted c.args.front.now.request.stack.now c.args.front.now.number c.args.front.now.count table
+    c.requires.front.table is_table c.in_ok-start.start.items c.in_ok-start.ensures c.in_ok-made.made.items
+    (omega (arith, c.if-problem-eq0.false)) matched)
+    (subst (λ (l : List (List Term)). GathersEntries c.args.front.now.request.problem.now c.args.front.now.request.tables.now
+    c.args.front.now.request.wanted.now c.args.front.now.request.stack.now c.args.front.now.request.model.now.atoms
+    (λ (entry : Entry). OneOf l (λ (terms : List Term). IsMacroBy problem.objects c.args.front.now.number c.args.front.now.count terms
+    entry)) c.args.found.now.items c.keep_listed.new.found.items) c.as_slice-matches.ensures.value gathers))
+    c.keep_listed.ensures.gathers

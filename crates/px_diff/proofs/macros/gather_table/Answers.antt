@@ -1,3 +1,4 @@
+-- Proofs of the goals that `gather_table` of src/macros.rt leaves open.
 use Rattle.std.proofs.Common.{get_or, arith}
 use Rattle.px_proof.specs.PlaceLaws.{slice_get-read}
 use Rattle.px_diff.proofs.GatherLemmas.{shorter-all, shorter-next, shorter-none, learned-at}
@@ -7,10 +8,15 @@ pub loop-count-init : goal.loop-count-init
 loop-count-init c =
     let tables = c.args.request.now.tables.now in
     let d = c.index-request-number.result in
-    shorter-none c.args.request.now.problem.now tables c.args.request.now.wanted.now c.args.request.now.stack.now c.args.request.now.model.now.atoms c.args.number (get_or tables c.args.number d) c.args.found.now.items (slice_get-read tables c.args.number d c.requires.number) (learned-at c.args.request.now.problem.now tables c.args.number d c.requires.tables c.requires.number)
+    shorter-none c.args.request.now.problem.now tables c.args.request.now.wanted.now c.args.request.now.stack.now
+    c.args.request.now.model.now.atoms c.args.number (get_or tables c.args.number d) c.args.found.now.items
+    (slice_get-read tables c.args.number d c.requires.number)
+    (learned-at c.args.request.now.problem.now tables c.args.number d c.requires.tables c.requires.number)
 
 pub choices_of_table-requires-clause-table : goal.choices_of_table-requires-clause-table
-choices_of_table-requires-clause-table c = learned-at c.args.request.now.problem.now c.args.request.now.tables.now c.args.number c.index-request-number.result c.requires.tables c.requires.number
+choices_of_table-requires-clause-table c =
+    learned-at c.args.request.now.problem.now c.args.request.now.tables.now c.args.number c.index-request-number.result c.requires.tables
+    c.requires.number
 
 pub gather_front-requires-clause-front : goal.gather_front-requires-clause-front
 gather_front-requires-clause-front c = record {
@@ -26,11 +32,18 @@ pub gather_front-requires-clause-rows : goal.gather_front-requires-clause-rows
 gather_front-requires-clause-rows c = c.in_ok-made.ensures
 
 pub loop-count-preserved : goal.loop-count-preserved
-loop-count-preserved c = shorter-next c.args.request.now.problem.now c.args.request.now.tables.now c.args.request.now.wanted.now c.args.request.now.stack.now c.args.request.now.model.now.atoms c.args.number c.loop-count.count c.args.found.now.items c.loop-count.found.items c.gather_front.new.found.items c.loop-count.invariant c.in_ok-gather_front.ensures.gathers
+loop-count-preserved c =
+    shorter-next c.args.request.now.problem.now c.args.request.now.tables.now c.args.request.now.wanted.now c.args.request.now.stack.now
+    c.args.request.now.model.now.atoms c.args.number c.loop-count.count c.args.found.now.items c.loop-count.found.items
+    c.gather_front.new.found.items c.loop-count.invariant c.in_ok-gather_front.ensures.gathers
 
 pub returns-clause-gathers : goal.returns-clause-gathers
 returns-clause-gathers c =
     let tables = c.args.request.now.tables.now in
     let d = c.index-request-number.result in
-    shorter-all c.args.request.now.problem.now tables c.args.request.now.wanted.now c.args.request.now.stack.now c.args.request.now.model.now.atoms c.args.number c.loop-count.count (get_or tables c.args.number d) c.args.found.now.items c.loop-count.found.items (slice_get-read tables c.args.number d c.requires.number) (learned-at c.args.request.now.problem.now tables c.args.number d c.requires.tables c.requires.number)
+    shorter-all c.args.request.now.problem.now tables c.args.request.now.wanted.now c.args.request.now.stack.now
+    c.args.request.now.model.now.atoms c.args.number c.loop-count.count
+    (get_or tables c.args.number d) c.args.found.now.items c.loop-count.found.items
+    (slice_get-read tables c.args.number d c.requires.number)
+    (learned-at c.args.request.now.problem.now tables c.args.number d c.requires.tables c.requires.number)
     (omega (arith, c.loop-count-test.false)) c.loop-count.invariant

@@ -1,3 +1,4 @@
+-- Proofs of the goals that `is_relevant_macro` of src/macros.rt leaves open.
 use Rattle.std.proofs.Common.{◌∙◌, List, take, sym, subst}
 use Rattle.std.specs.Prelude.{◌↔◌, All, Contains, IsTrue}
 use Rattle.px_table.specs.Kernels.{steps_under}
@@ -21,7 +22,8 @@ steps_with-requires-clause-prefix c = c.requires.front.within
 
 pub steps_with-requires-clause-steps : goal.steps_with-requires-clause-steps
 steps_with-requires-clause-steps c =
-    steps-variables c.args.front.now.request.problem.now c.args.front.now.table.now c.args.sigma.now (front-table c.args.front.now c.requires.front) c.requires.sigma.count
+    steps-variables c.args.front.now.request.problem.now c.args.front.now.table.now c.args.sigma.now
+    (front-table c.args.front.now c.requires.front) c.requires.sigma.count
 
 pub add_wanted-requires-clause-problem : goal.add_wanted-requires-clause-problem
 add_wanted-requires-clause-problem c = c.requires.front.problem
@@ -29,7 +31,8 @@ add_wanted-requires-clause-problem c = c.requires.front.problem
 pub add_wanted-requires-clause-steps : goal.add_wanted-requires-clause-steps
 add_wanted-requires-clause-steps c =
     subst (All (IsInstanceOf c.args.front.now.request.problem.now)) (sym (c.deref.ensures.value ∙ c.in_ok-steps.ensures))
-    (prefix-instances c.args.front.now.request.problem.now c.args.front.now.table.now c.args.front.now.count c.args.sigma.now (front-table c.args.front.now c.requires.front) c.requires.sigma)
+    (prefix-instances c.args.front.now.request.problem.now c.args.front.now.table.now c.args.front.now.count c.args.sigma.now
+    (front-table c.args.front.now c.requires.front) c.requires.sigma)
 
 pub returns : goal.returns
 returns c =
@@ -40,9 +43,14 @@ returns c =
     let table = c.args.front.now.table.now in
     let is_table = front-table c.args.front.now c.requires.front in
     let same = c.deref.ensures.value ∙ c.in_ok-steps.ensures in
-    let adds : IsTrue c.add_wanted.result ↔ OneOf wanted (IsAdded problem (take c.args.front.now.count (steps_under table c.args.sigma.now))) = subst (λ (l : List OpInst). IsTrue c.add_wanted.result ↔ OneOf wanted (IsAdded problem l)) same c.add_wanted.ensures in (
+    let adds : IsTrue c.add_wanted.result
+    ↔ OneOf wanted (IsAdded problem (take c.args.front.now.count (steps_under table c.args.sigma.now))) =
+    subst (λ (l : List OpInst). IsTrue c.add_wanted.result ↔ OneOf wanted (IsAdded problem l)) same c.add_wanted.ensures in (
       λ yes'. subst (IsRelevant problem tables wanted stack) (sym c.requires.entry)
-          (relevance_macro problem tables wanted stack c.args.front.now.number c.args.front.now.count table c.requires.front.table is_table c.args.sigma.now c.requires.sigma
-          (subst (λ (e : Entry). ¬ Contains stack e) c.requires.entry (said_no c.is_stacked.result c.is_stacked.ensures c.if-is_stacked.false)) (adds.0 yes')),
-      λ relevant. adds.1 (macro_adds problem tables wanted stack c.args.front.now.number c.args.front.now.count table c.requires.front.table is_table c.args.sigma.now (subst (IsRelevant problem tables wanted stack) c.requires.entry relevant)),
+          (relevance_macro problem tables wanted stack c.args.front.now.number c.args.front.now.count table c.requires.front.table is_table
+          c.args.sigma.now c.requires.sigma
+          (subst (λ (e : Entry). ¬ Contains stack e) c.requires.entry
+          (said_no c.is_stacked.result c.is_stacked.ensures c.if-is_stacked.false)) (adds.0 yes')),
+      λ relevant. adds.1 (macro_adds problem tables wanted stack c.args.front.now.number c.args.front.now.count table c.requires.front.table
+          is_table c.args.sigma.now (subst (IsRelevant problem tables wanted stack) c.requires.entry relevant)),
     )

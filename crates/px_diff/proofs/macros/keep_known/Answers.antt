@@ -1,3 +1,4 @@
+-- Proofs of the goals that `keep_known` of src/macros.rt leaves open.
 use Rattle.std.proofs.Common.{subst}
 use Rattle.px_entries.specs.Entries.{obligations_of}
 use Rattle.px_gaps.specs.Known.{IsKnownOf}
@@ -16,20 +17,43 @@ known_entry-requires-clause-entry c = c.requires.relevant.is_entry
 
 pub returns-in_ok-push-in-Ok-Applicable-clause-gathers : goal.returns-in_ok-push-in-Ok-Applicable-clause-gathers
 returns-in_ok-push-in-Ok-Applicable-clause-gathers c =
-    let known = subst (IsKnownOf c.args.front.now.request.problem.now (obligations_of c.args.front.now.request.problem.now c.args.front.now.request.tables.now c.args.front.now.request.model.now.atoms c.args.entry)) c.in-Ok-Applicable.field-0-is c.in-Ok-Applicable.ensures in
-    entries_one c.args.front.now.request.problem.now c.args.front.now.request.tables.now c.args.front.now.request.wanted.now c.args.front.now.request.stack.now c.args.front.now.request.model.now.atoms c.args.entry c.args.found.now.items c.push.new.items.items c.in_ok-push-in-Ok-Applicable.ensures.ok c.requires.relevant (applicable-open c.args.front.now.request.problem.now (obligations_of c.args.front.now.request.problem.now c.args.front.now.request.tables.now c.args.front.now.request.model.now.atoms c.args.entry) known.0) known.1.unlimited
+    let known =
+    subst (IsKnownOf c.args.front.now.request.problem.now
+    (obligations_of c.args.front.now.request.problem.now c.args.front.now.request.tables.now c.args.front.now.request.model.now.atoms
+    c.args.entry)) c.in-Ok-Applicable.field-0-is c.in-Ok-Applicable.ensures in
+    entries_one c.args.front.now.request.problem.now c.args.front.now.request.tables.now c.args.front.now.request.wanted.now
+    c.args.front.now.request.stack.now c.args.front.now.request.model.now.atoms c.args.entry c.args.found.now.items
+    c.push.new.items.items c.in_ok-push-in-Ok-Applicable.ensures.ok c.requires.relevant
+    (applicable-open c.args.front.now.request.problem.now
+    (obligations_of c.args.front.now.request.problem.now c.args.front.now.request.tables.now c.args.front.now.request.model.now.atoms
+    c.args.entry) known.0) known.1.unlimited
 
 pub returns-in_ok-push-in-Ok-Open-clause-gathers : goal.returns-in_ok-push-in-Ok-Open-clause-gathers
 returns-in_ok-push-in-Ok-Open-clause-gathers c =
-    let known = subst (IsKnownOf c.args.front.now.request.problem.now (obligations_of c.args.front.now.request.problem.now c.args.front.now.request.tables.now c.args.front.now.request.model.now.atoms c.args.entry)) c.in-Ok-Open.field-0-is c.in-Ok-Open.ensures in
-    entries_one c.args.front.now.request.problem.now c.args.front.now.request.tables.now c.args.front.now.request.wanted.now c.args.front.now.request.stack.now c.args.front.now.request.model.now.atoms c.args.entry c.args.found.now.items c.push-in-Ok-Open.new.items.items c.in_ok-push-in-Ok-Open.ensures.ok c.requires.relevant known.open_needs known.questions.unlimited
+    let known =
+    subst (IsKnownOf c.args.front.now.request.problem.now
+    (obligations_of c.args.front.now.request.problem.now c.args.front.now.request.tables.now c.args.front.now.request.model.now.atoms
+    c.args.entry)) c.in-Ok-Open.field-0-is c.in-Ok-Open.ensures in
+    entries_one c.args.front.now.request.problem.now c.args.front.now.request.tables.now c.args.front.now.request.wanted.now
+    c.args.front.now.request.stack.now c.args.front.now.request.model.now.atoms c.args.entry c.args.found.now.items
+    c.push-in-Ok-Open.new.items.items c.in_ok-push-in-Ok-Open.ensures.ok c.requires.relevant known.open_needs known.questions.unlimited
 
 pub returns-in-Ok-Closed-clause-gathers : goal.returns-in-Ok-Closed-clause-gathers
 returns-in-Ok-Closed-clause-gathers c =
-    let known = subst (IsKnownOf c.args.front.now.request.problem.now (obligations_of c.args.front.now.request.problem.now c.args.front.now.request.tables.now c.args.front.now.request.model.now.atoms c.args.entry)) c.in-Ok-Closed.field-0-is c.in-Ok-Closed.ensures in
-    entries_closed c.args.front.now.request.problem.now c.args.front.now.request.tables.now c.args.front.now.request.wanted.now c.args.front.now.request.stack.now c.args.front.now.request.model.now.atoms c.args.entry c.args.found.now.items known.0 known.1.unlimited
+    let known =
+    subst (IsKnownOf c.args.front.now.request.problem.now
+    (obligations_of c.args.front.now.request.problem.now c.args.front.now.request.tables.now c.args.front.now.request.model.now.atoms
+    c.args.entry)) c.in-Ok-Closed.field-0-is c.in-Ok-Closed.ensures in
+    entries_closed c.args.front.now.request.problem.now c.args.front.now.request.tables.now c.args.front.now.request.wanted.now
+    c.args.front.now.request.stack.now c.args.front.now.request.model.now.atoms c.args.entry c.args.found.now.items known.0
+    known.1.unlimited
 
 pub returns-in-Ok-Limited-clause-limited : goal.returns-in-Ok-Limited-clause-limited
 returns-in-Ok-Limited-clause-limited c =
-    let known = subst (IsKnownOf c.args.front.now.request.problem.now (obligations_of c.args.front.now.request.problem.now c.args.front.now.request.tables.now c.args.front.now.request.model.now.atoms c.args.entry)) c.in-Ok-Limited.field-0-is c.in-Ok-Limited.ensures in
-    limits_entry c.args.front.now.request.problem.now c.args.front.now.request.tables.now c.args.front.now.request.wanted.now c.args.front.now.request.stack.now c.args.front.now.request.model.now.atoms c.args.entry c.in-Ok-Limited.formula c.in-Ok-Limited.shapes c.requires.relevant known
+    let known =
+    subst (IsKnownOf c.args.front.now.request.problem.now
+    (obligations_of c.args.front.now.request.problem.now c.args.front.now.request.tables.now c.args.front.now.request.model.now.atoms
+    c.args.entry)) c.in-Ok-Limited.field-0-is c.in-Ok-Limited.ensures in
+    limits_entry c.args.front.now.request.problem.now c.args.front.now.request.tables.now c.args.front.now.request.wanted.now
+    c.args.front.now.request.stack.now c.args.front.now.request.model.now.atoms c.args.entry c.in-Ok-Limited.formula
+    c.in-Ok-Limited.shapes c.requires.relevant known

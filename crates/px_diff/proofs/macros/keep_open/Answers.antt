@@ -1,3 +1,4 @@
+-- Proofs of the goals that `keep_open` of src/macros.rt leaves open.
 use Rattle.std.proofs.Common.{◌≡◌, sym, subst}
 use Rattle.std.specs.Prelude.{OnOk}
 use Rattle.px_table.specs.declared.entry.Entry.{Entry}
@@ -16,20 +17,32 @@ is_macro-is_one-requires-clause-table c = front-table c.args.front.now c.require
 
 pub returns-then-not-is_one-clause-gathers : goal.returns-then-not-is_one-clause-gathers
 returns-then-not-is_one-clause-gathers c =
-    irrelevant-none c.args.front.now.request.problem.now c.args.front.now.request.tables.now c.args.front.now.request.wanted.now c.args.front.now.request.stack.now c.args.front.now.request.model.now.atoms c.args.front.now.number c.args.front.now.count c.args.sigma.now c.args.found.now.items (λ relevant. said_no c.is_macro-is_one.result c.is_macro-is_one.ensures c.if-not-is_one.true
-    (relevant_macro c.args.front.now.request.problem.now c.args.front.now.request.tables.now c.args.front.now.number c.args.front.now.count c.args.front.now.table.now c.requires.front.table c.args.sigma.now c.args.front.now.request.wanted.now c.args.front.now.request.stack.now relevant))
+    irrelevant-none c.args.front.now.request.problem.now c.args.front.now.request.tables.now c.args.front.now.request.wanted.now
+    c.args.front.now.request.stack.now c.args.front.now.request.model.now.atoms c.args.front.now.number c.args.front.now.count
+    c.args.sigma.now c.args.found.now.items (λ relevant. said_no c.is_macro-is_one.result c.is_macro-is_one.ensures c.if-not-is_one.true
+    (relevant_macro c.args.front.now.request.problem.now c.args.front.now.request.tables.now c.args.front.now.number c.args.front.now.count
+    c.args.front.now.table.now c.requires.front.table c.args.sigma.now c.args.front.now.request.wanted.now
+    c.args.front.now.request.stack.now relevant))
 
 pub is_relevant_macro-requires-clause-sigma : goal.is_relevant_macro-requires-clause-sigma
 is_relevant_macro-requires-clause-sigma c = said_yes c.is_macro-is_one.result c.is_macro-is_one.ensures c.if-not-is_one.false
 
 pub returns-then-not-branch-clause-gathers : goal.returns-then-not-branch-clause-gathers
 returns-then-not-branch-clause-gathers c =
-    irrelevant-none c.args.front.now.request.problem.now c.args.front.now.request.tables.now c.args.front.now.request.wanted.now c.args.front.now.request.stack.now c.args.front.now.request.model.now.atoms c.args.front.now.number c.args.front.now.count c.args.sigma.now c.args.found.now.items (λ relevant. said_no c.in_ok-is_relevant_macro.field-0 c.in_ok-is_relevant_macro.ensures c.if-not-branch.true
-    (subst (IsRelevant c.args.front.now.request.problem.now c.args.front.now.request.tables.now c.args.front.now.request.wanted.now c.args.front.now.request.stack.now) (sym c.in_ok-entry.ensures) relevant))
+    irrelevant-none c.args.front.now.request.problem.now c.args.front.now.request.tables.now c.args.front.now.request.wanted.now
+    c.args.front.now.request.stack.now c.args.front.now.request.model.now.atoms c.args.front.now.number c.args.front.now.count
+    c.args.sigma.now c.args.found.now.items (λ relevant. said_no c.in_ok-is_relevant_macro.field-0 c.in_ok-is_relevant_macro.ensures
+    c.if-not-branch.true
+    (subst (IsRelevant c.args.front.now.request.problem.now c.args.front.now.request.tables.now c.args.front.now.request.wanted.now
+    c.args.front.now.request.stack.now) (sym c.in_ok-entry.ensures) relevant))
 
 pub keep_relevant-requires-clause-relevant : goal.keep_relevant-requires-clause-relevant
-keep_relevant-requires-clause-relevant c = said_yes c.in_ok-is_relevant_macro.field-0 c.in_ok-is_relevant_macro.ensures c.if-not-branch.false
+keep_relevant-requires-clause-relevant c =
+    said_yes c.in_ok-is_relevant_macro.field-0 c.in_ok-is_relevant_macro.ensures c.if-not-branch.false
 
 pub returns-clause-gathers : goal.returns-clause-gathers
 returns-clause-gathers c =
-    subst (λ (e : Entry). OnOk c.keep_relevant.result (GathersEntries c.args.front.now.request.problem.now c.args.front.now.request.tables.now c.args.front.now.request.wanted.now c.args.front.now.request.stack.now c.args.front.now.request.model.now.atoms (λ other. e ≡ other) c.args.found.now.items c.keep_relevant.new.found.items)) c.in_ok-entry.ensures c.keep_relevant.ensures.gathers
+    subst (λ (e : Entry). OnOk c.keep_relevant.result
+    (GathersEntries c.args.front.now.request.problem.now c.args.front.now.request.tables.now c.args.front.now.request.wanted.now
+    c.args.front.now.request.stack.now c.args.front.now.request.model.now.atoms
+    (λ other. e ≡ other) c.args.found.now.items c.keep_relevant.new.found.items)) c.in_ok-entry.ensures c.keep_relevant.ensures.gathers

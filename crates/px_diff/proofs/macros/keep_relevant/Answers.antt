@@ -1,3 +1,4 @@
+-- Proofs of the goals that `keep_relevant` of src/macros.rt leaves open.
 use Rattle.std.proofs.Common.{sym, subst}
 use Rattle.std.specs.Prelude.{All}
 use Rattle.px_table.specs.declared.entry.Entry.{Entry}
@@ -17,9 +18,16 @@ returns-in_ok-push-in-Some-true-clause-gathers c =
     let tables = front.request.tables.now in
     let model = front.request.model.now.atoms in
     let suffice = c.requires.front.suffice c.if-not-front.false in
-    let told = macro-told problem c.requires.front.problem tables front.number front.table.now c.requires.front.table (front-table front c.requires.front) front.count c.args.sigma.now c.requires.sigma suffice.1 suffice.0 model c.atoms-facts.ensures.model.ascending in
-    let settled = some-yes {P = All (IsSettledMark problem model front.count c.args.sigma.now) front.table.now.marks} c.in_ok-are_settled_marks.field-0 c.in-Some-true.field-0 c.in-Some-true.is c.in-Some-true.field-0-test c.in_ok-are_settled_marks.ensures in
-    entries_one problem tables front.request.wanted.now front.request.stack.now model c.args.entry c.args.found.now.items c.push.new.items.items c.in_ok-push-in-Some-true.ensures.ok c.requires.relevant
+    let told =
+    macro-told problem c.requires.front.problem tables front.number front.table.now c.requires.front.table
+    (front-table front c.requires.front) front.count c.args.sigma.now c.requires.sigma suffice.1 suffice.0 model
+    c.atoms-facts.ensures.model.ascending in
+    let settled =
+    some-yes {P = All (IsSettledMark problem model front.count c.args.sigma.now) front.table.now.marks}
+    c.in_ok-are_settled_marks.field-0 c.in-Some-true.field-0 c.in-Some-true.is c.in-Some-true.field-0-test
+    c.in_ok-are_settled_marks.ensures in
+    entries_one problem tables front.request.wanted.now front.request.stack.now model c.args.entry c.args.found.now.items
+    c.push.new.items.items c.in_ok-push-in-Some-true.ensures.ok c.requires.relevant
     (subst (λ (e : Entry). IsOpen problem (obligations_of problem tables model e)) (sym c.requires.entry) (told.0 settled))
     (suffice.0 model c.atoms-facts.ensures.model.ascending c.args.entry c.requires.relevant.is_entry)
 
@@ -30,8 +38,13 @@ returns-in-Some-false-clause-gathers c =
     let tables = front.request.tables.now in
     let model = front.request.model.now.atoms in
     let suffice = c.requires.front.suffice c.if-not-front.false in
-    let told = macro-told problem c.requires.front.problem tables front.number front.table.now c.requires.front.table (front-table front c.requires.front) front.count c.args.sigma.now c.requires.sigma suffice.1 suffice.0 model c.atoms-facts.ensures.model.ascending in
-    let unsettled = some-no {P = All (IsSettledMark problem model front.count c.args.sigma.now) front.table.now.marks} c.in_ok-are_settled_marks.field-0 c.in-Some-false.field-0 c.in-Some-false.is c.in-Some-false.field-0-test c.in_ok-are_settled_marks.ensures in
+    let told =
+    macro-told problem c.requires.front.problem tables front.number front.table.now c.requires.front.table
+    (front-table front c.requires.front) front.count c.args.sigma.now c.requires.sigma suffice.1 suffice.0 model
+    c.atoms-facts.ensures.model.ascending in
+    let unsettled =
+    some-no {P = All (IsSettledMark problem model front.count c.args.sigma.now) front.table.now.marks} c.in_ok-are_settled_marks.field-0
+    c.in-Some-false.field-0 c.in-Some-false.is c.in-Some-false.field-0-test c.in_ok-are_settled_marks.ensures in
     entries_closed problem tables front.request.wanted.now front.request.stack.now model c.args.entry c.args.found.now.items
     (λ is. unsettled (told.1 (subst (λ (e : Entry). IsOpen problem (obligations_of problem tables model e)) c.requires.entry is)))
     (suffice.0 model c.atoms-facts.ensures.model.ascending c.args.entry c.requires.relevant.is_entry)

@@ -1,3 +1,4 @@
+-- Proofs of the goals that `gather` of src/pushes.rt leaves open.
 use Rattle.std.proofs.Common.{◌≡◌, ◌<◌, ◌+◌, ℕ, List, sym, ◌∙◌, subst, inl, inr, arith}
 use Rattle.std.specs.Prelude.{All, slice_index}
 use Rattle.px_prover.proofs.PatternLists.{patterns-are}
@@ -26,19 +27,28 @@ precondition_of-requires-clause-count t c = c.requires.partial.count
 
 pub rest_answer-requires-clause-formula : goal.rest_answer-requires-clause-formula
 rest_answer-requires-clause-formula t c =
-    subst (All (IsAtomOf c.args.request.now.problem.now c.args.partial.now.vars)) (sym (c.deref.ensures.value ∙ c.in_ok-formula.ensures)) (needs-are c.args.request.now.problem.now c.args.partial.now c.requires.problem c.requires.partial)
+    subst (All (IsAtomOf c.args.request.now.problem.now c.args.partial.now.vars)) (sym (c.deref.ensures.value ∙ c.in_ok-formula.ensures))
+    (needs-are c.args.request.now.problem.now c.args.partial.now c.requires.problem c.requires.partial)
 
 pub ask_gaps-requires-clause-formula : goal.ask_gaps-requires-clause-formula
 ask_gaps-requires-clause-formula t c =
-    subst (All (IsAtomOf c.args.request.now.problem.now c.args.partial.now.vars)) (sym (c.deref-2.ensures.value ∙ c.in_ok-formula.ensures)) (needs-are c.args.request.now.problem.now c.args.partial.now c.requires.problem c.requires.partial)
+    subst (All (IsAtomOf c.args.request.now.problem.now c.args.partial.now.vars)) (sym (c.deref-2.ensures.value ∙ c.in_ok-formula.ensures))
+    (needs-are c.args.request.now.problem.now c.args.partial.now c.requires.problem c.requires.partial)
 
 pub keep_open-requires-clause-answer : goal.keep_open-requires-clause-answer
 keep_open-requires-clause-answer t c =
     let problem = c.args.request.now.problem.now in
     let partial = c.args.partial.now in
-    let rest = subst (λ (l : List Atom). IsRestAnswer problem c.args.request.now.model.now.atoms l partial.vars c.in-Some.answer.patterns.items c.in-Some.answer.provable.atoms) (c.deref.ensures.value ∙ c.in_ok-formula.ensures)
-    (some_found (λ answer. IsRestAnswer problem c.args.request.now.model.now.atoms c.deref.result.now partial.vars answer.patterns.items answer.provable.atoms) c.in_ok-answer.field-0 c.in-Some.answer c.in-Some.is c.in_ok-answer.ensures) in
-    (rest.rest, rest-all (IsAtomOf problem partial.vars) problem (precondition problem partial.inst) rest.rest rest.is_rest (needs-are problem partial c.requires.problem c.requires.partial), rest.answer)
+    let rest =
+    subst (λ (l : List Atom). IsRestAnswer problem c.args.request.now.model.now.atoms l partial.vars c.in-Some.answer.patterns.items
+    c.in-Some.answer.provable.atoms) (c.deref.ensures.value ∙ c.in_ok-formula.ensures)
+    (some_found (λ answer. IsRestAnswer problem c.args.request.now.model.now.atoms c.deref.result.now partial.vars answer.patterns.items
+    answer.provable.atoms) c.in_ok-answer.field-0 c.in-Some.answer c.in-Some.is c.in_ok-answer.ensures) in (
+      rest.rest,
+      rest-all (IsAtomOf problem partial.vars) problem (precondition problem partial.inst) rest.rest rest.is_rest
+          (needs-are problem partial c.requires.problem c.requires.partial),
+      rest.answer,
+    )
 
 pub returns-in-Some-clause-gathers : goal.returns-in-Some-clause-gathers
 returns-in-Some-clause-gathers t c =
@@ -47,16 +57,26 @@ returns-in-Some-clause-gathers t c =
     let patterns = c.in-Some.answer.patterns.items in
     let provable = c.in-Some.answer.provable.atoms in
     let model = c.args.request.now.model.now.atoms in
-    let rest = subst (λ (l : List Atom). IsRestAnswer problem model l partial.vars patterns provable) (c.deref.ensures.value ∙ c.in_ok-formula.ensures)
-    (some_found (λ answer. IsRestAnswer problem model c.deref.result.now partial.vars answer.patterns.items answer.provable.atoms) c.in_ok-answer.field-0 c.in-Some.answer c.in-Some.is c.in_ok-answer.ensures) in
+    let rest =
+    subst (λ (l : List Atom). IsRestAnswer problem model l partial.vars patterns provable)
+    (c.deref.ensures.value ∙ c.in_ok-formula.ensures)
+    (some_found (λ answer. IsRestAnswer problem model c.deref.result.now partial.vars answer.patterns.items answer.provable.atoms)
+    c.in_ok-answer.field-0 c.in-Some.answer c.in-Some.is c.in_ok-answer.ensures) in
     let listed = patterns-are (setting_of problem model) rest.rest partial.vars patterns rest.answer.all in
-    rest-gathered problem c.requires.problem model partial c.requires.partial rest.rest rest.is_rest (lists_of problem.objects patterns) listed provable
+    rest-gathered problem c.requires.problem model partial c.requires.partial rest.rest rest.is_rest
+    (lists_of problem.objects patterns) listed provable
     (none-provable (setting_of problem model) rest.rest partial.vars patterns provable rest.answer)
-    c.args.request.now.tables.now c.args.request.now.wanted.now c.args.request.now.stack.now c.atoms-facts.ensures.model.ascending rest.few rest.answer.unlimited c.args.found.now.items c.keep_open.new.found.items c.in_ok-keep_open-in-Some.ensures
+    c.args.request.now.tables.now c.args.request.now.wanted.now c.args.request.now.stack.now c.atoms-facts.ensures.model.ascending rest.few
+    rest.answer.unlimited c.args.found.now.items c.keep_open.new.found.items c.in_ok-keep_open-in-Some.ensures
 
 pub keep_open-requires-in-Ok-clause-answer : goal.keep_open-requires-in-Ok-clause-answer
-keep_open-requires-in-Ok-clause-answer t c =
-    (c.deref-2.result.now, subst (All (IsAtomOf c.args.request.now.problem.now c.args.partial.now.vars)) (sym (c.deref-2.ensures.value ∙ c.in_ok-formula.ensures)) (needs-are c.args.request.now.problem.now c.args.partial.now c.requires.problem c.requires.partial), c.in-Ok.ensures.answer)
+keep_open-requires-in-Ok-clause-answer t c = (
+  c.deref-2.result.now,
+  subst (All (IsAtomOf c.args.request.now.problem.now c.args.partial.now.vars))
+      (sym (c.deref-2.ensures.value ∙ c.in_ok-formula.ensures))
+      (needs-are c.args.request.now.problem.now c.args.partial.now c.requires.problem c.requires.partial),
+  c.in-Ok.ensures.answer,
+)
 
 pub returns-in-Ok-clause-gathers : goal.returns-in-Ok-clause-gathers
 returns-in-Ok-clause-gathers t c =
@@ -65,16 +85,23 @@ returns-in-Ok-clause-gathers t c =
     let patterns = c.in-Ok.answer.patterns.items in
     let provable = c.in-Ok.answer.provable.atoms in
     let s = setting_of problem c.args.request.now.model.now.atoms in
-    let answer = subst (λ (l : List Atom). IsGapAnswer s l partial.vars patterns provable) (c.deref-2.ensures.value ∙ c.in_ok-formula.ensures) c.in-Ok.ensures.answer in
-    all-gathered problem c.requires.problem c.args.request.now.model.now.atoms partial c.requires.partial (lists_of problem.objects patterns) (answer-listed s (precondition problem partial.inst) partial.vars patterns provable answer) provable
+    let answer =
+    subst (λ (l : List Atom). IsGapAnswer s l partial.vars patterns provable)
+    (c.deref-2.ensures.value ∙ c.in_ok-formula.ensures) c.in-Ok.ensures.answer in
+    all-gathered problem c.requires.problem c.args.request.now.model.now.atoms partial c.requires.partial
+    (lists_of problem.objects patterns) (answer-listed s (precondition problem partial.inst) partial.vars patterns provable answer)
+    provable
     (none-provable s (precondition problem partial.inst) partial.vars patterns provable answer)
-    c.args.request.now.tables.now c.args.request.now.wanted.now c.args.request.now.stack.now answer.unlimited c.args.found.now.items c.keep_open-in-Ok.new.found.items c.in_ok-keep_open-in-Ok.ensures
+    c.args.request.now.tables.now c.args.request.now.wanted.now c.args.request.now.stack.now answer.unlimited c.args.found.now.items
+    c.keep_open-in-Ok.new.found.items c.in_ok-keep_open-in-Ok.ensures
 
 pub returns-then-partial-eq0-clause-gathers : goal.returns-then-partial-eq0-clause-gathers
 returns-then-partial-eq0-clause-gathers t c =
     let problem = c.args.request.now.problem.now in
     let partial = c.args.partial.now in
-    on_ok c.gather_one.result (gathers_less problem c.args.request.now.tables.now c.args.request.now.wanted.now c.args.request.now.stack.now c.args.request.now.model.now.atoms (λ (other : OpInst). partial.inst ≡ other) (StandsFor problem partial) c.args.found.now.items c.gather_one.new.found.items
+    on_ok c.gather_one.result (gathers_less problem c.args.request.now.tables.now c.args.request.now.wanted.now c.args.request.now.stack.now
+    c.args.request.now.model.now.atoms (λ (other : OpInst). partial.inst ≡ other)
+    (StandsFor problem partial) c.args.found.now.items c.gather_one.new.found.items
     (λ inst stands. stands-closed problem partial inst c.requires.partial c.if-partial-eq0.true stands)) c.gather_one.ensures.gathers
 
 pub loop-object-preserved : goal.loop-object-preserved
@@ -82,8 +109,11 @@ loop-object-preserved t c =
     let problem = c.args.request.now.problem.now in
     let partial = c.args.partial.now in
     let object = c.loop-object.object in
-    gathers_part problem c.args.request.now.tables.now c.args.request.now.wanted.now c.args.request.now.stack.now c.args.request.now.model.now.atoms (λ (inst : OpInst). (objects : List ℕ) × Fills problem partial inst objects × (slice_index objects 0 < object))
-    (StandsFor problem c.bound_instance-next.result) (λ (inst : OpInst). (objects : List ℕ) × Fills problem partial inst objects × (slice_index objects 0 < object + 1))
+    gathers_part problem c.args.request.now.tables.now c.args.request.now.wanted.now c.args.request.now.stack.now
+    c.args.request.now.model.now.atoms (λ (inst : OpInst). (objects : List ℕ) × Fills problem partial inst objects
+    × (slice_index objects 0 < object))
+    (StandsFor problem c.bound_instance-next.result)
+    (λ (inst : OpInst). (objects : List ℕ) × Fills problem partial inst objects × (slice_index objects 0 < object + 1))
     c.args.found.now.items c.loop-object.found.items c.gather.new.found.items
     (λ inst w. elim (level_or_below (slice_index w.0 0) object w.2) [
       | inl before ↦ inl (w.0, w.1, before)
@@ -95,6 +125,13 @@ pub returns-clause-gathers : goal.returns-clause-gathers
 returns-clause-gathers t c =
     let problem = c.args.request.now.problem.now in
     let partial = c.args.partial.now in
-    gathers_less problem c.args.request.now.tables.now c.args.request.now.wanted.now c.args.request.now.stack.now c.args.request.now.model.now.atoms (λ (inst : OpInst). (objects : List ℕ) × Fills problem partial inst objects × (slice_index objects 0 < c.loop-object.object))
+    gathers_less problem c.args.request.now.tables.now c.args.request.now.wanted.now c.args.request.now.stack.now
+    c.args.request.now.model.now.atoms (λ (inst : OpInst). (objects : List ℕ) × Fills problem partial inst objects
+    × (slice_index objects 0 < c.loop-object.object))
     (StandsFor problem partial) c.args.found.now.items c.loop-object.found.items
-    (λ inst stands. (stands.0, stands.1, omega (arith, stands.1.below 0 0 (omega (arith, stands.1.count, c.if-partial-eq0.false)), c.loop-object-test.false))) c.loop-object.invariant
+    (λ inst stands. (
+      stands.0,
+      stands.1,
+      omega (arith, stands.1.below 0 0 (omega (arith, stands.1.count, c.if-partial-eq0.false)), c.loop-object-test.false),
+    ))
+    c.loop-object.invariant

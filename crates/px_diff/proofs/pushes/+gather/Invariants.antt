@@ -1,3 +1,4 @@
+-- What the loops of `gather` in src/pushes.rt keep true.
 use Rattle.std.proofs.Common.{◌<◌, ℕ, List}
 use Rattle.std.specs.Prelude.{slice_index}
 use Rattle.px_terms.specs.declared.instance.OpInst.{OpInst}
@@ -10,4 +11,6 @@ decreases-gather l = l.partial.now.vars
 
 abbrev pub invariant-loop-object : goal.invariant-loop-object
 invariant-loop-object l =
-    Gathers l.request.problem.now l.request.tables.now l.request.wanted.now l.request.stack.now l.request.model.now.atoms (λ (inst : OpInst). (objects : List ℕ) × Fills l.request.problem.now l.partial inst objects × (slice_index objects 0 < l.object)) l.initial.found.items l.found.items
+    Gathers l.request.problem.now l.request.tables.now l.request.wanted.now l.request.stack.now l.request.model.now.atoms
+    (λ (inst : OpInst). (objects : List ℕ) × Fills l.request.problem.now l.partial inst objects × (slice_index objects 0 < l.object))
+    l.initial.found.items l.found.items

@@ -1,3 +1,4 @@
+-- Proofs of the goals that `gather_matches` of src/pushes.rt leaves open.
 use Rattle.std.proofs.Common.{◌+◌, take}
 use Rattle.px_entries.specs.Instances.{IsCovered, StandsFor}
 use Rattle.px_entries.specs.declared.partial.PartialInstance.{PartialInstance}
@@ -11,7 +12,10 @@ loop-partial-preserved c =
     let matches = c.args.matches.now in
     let i = c.loop-partial.partial-index in
     let item = c.partial-item.result in
-    gathers_part problem c.args.request.now.tables.now c.args.request.now.wanted.now c.args.request.now.stack.now c.args.request.now.model.now.atoms (IsCovered problem (take i matches)) (StandsFor problem item) (IsCovered problem (take (i + 1) matches))
+    gathers_part problem c.args.request.now.tables.now c.args.request.now.wanted.now c.args.request.now.stack.now
+    c.args.request.now.model.now.atoms (IsCovered problem (take i matches)) (StandsFor problem item)
+    (IsCovered problem (take (i + 1) matches))
     c.args.found.now.items c.loop-partial.found.items c.gather.new.found.items
-    (λ inst w. (one_next (λ (partial : PartialInstance). StandsFor problem partial inst) matches i item c.loop-partial-test.true c.partial-item.is).0 w)
+    (λ inst w. (one_next (λ (partial : PartialInstance). StandsFor problem partial inst) matches i item c.loop-partial-test.true
+    c.partial-item.is).0 w)
     c.loop-partial.invariant c.in_ok-gather.ensures.gathers

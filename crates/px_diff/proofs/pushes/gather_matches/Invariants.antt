@@ -1,7 +1,10 @@
+-- What the loops of `gather_matches` in src/pushes.rt keep true.
 use Rattle.std.proofs.Common.{take}
 use Rattle.px_diff.specs.Gathering.{Gathers}
 use Rattle.px_entries.specs.Instances.{IsCovered}
 use Rattle.px_diff.proofs.pushes.gather_matches.Given as goal
 
 abbrev pub invariant-loop-partial : goal.invariant-loop-partial
-invariant-loop-partial l = Gathers l.request.problem.now l.request.tables.now l.request.wanted.now l.request.stack.now l.request.model.now.atoms (IsCovered l.request.problem.now (take l.partial-index l.matches)) l.initial.found.items l.found.items
+invariant-loop-partial l =
+    Gathers l.request.problem.now l.request.tables.now l.request.wanted.now l.request.stack.now l.request.model.now.atoms
+    (IsCovered l.request.problem.now (take l.partial-index l.matches)) l.initial.found.items l.found.items

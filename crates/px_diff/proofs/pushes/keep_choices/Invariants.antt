@@ -1,3 +1,4 @@
+-- What the loops of `keep_choices` in src/pushes.rt keep true.
 use Rattle.std.specs.Prelude.{◌≡◌, ◌↔◌, ◌⊎◌, ℕ, List, take, Contains}
 use Rattle.px_terms.specs.declared.instance.OpInst.{OpInst}
 use Rattle.px_gaps.specs.Closings.{OneOf}
@@ -7,4 +8,7 @@ use Rattle.px_diff.proofs.pushes.keep_choices.Given as goal
 
 abbrev pub invariant-loop-objects : goal.invariant-loop-objects
 invariant-loop-objects l =
-    (inst : OpInst) → Contains l.found.items inst ↔ (Contains l.initial.found.items inst ⊎ OneOf (take l.objects-index l.choices) (λ (objects : List ℕ). (instance_by l.partial objects ≡ inst) × IsRelevantFor l.request inst))
+    (inst : OpInst) → Contains l.found.items inst
+    ↔ (Contains l.initial.found.items inst
+    ⊎ OneOf (take l.objects-index l.choices) (λ (objects : List ℕ). (instance_by l.partial objects ≡ inst)
+    × IsRelevantFor l.request inst))

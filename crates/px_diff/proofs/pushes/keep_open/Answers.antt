@@ -1,3 +1,4 @@
+-- Proofs of the goals that `keep_open` of src/pushes.rt leaves open.
 use Rattle.std.proofs.Common.{ℕ, sym, subst}
 use Rattle.std.specs.Prelude.{◌↔◌, List, All, Contains}
 use Rattle.px_prover.proofs.PatternLists.{patterns-are}
@@ -15,20 +16,23 @@ use Rattle.px_diff.proofs.RestOpening.{stands-by}
 use Rattle.px_diff.proofs.pushes.keep_open.Goals as goal
 
 abbrev AreChoices : ℕ → List GapPattern → List (List ℕ) → List Atom → Type 0
-AreChoices limit patterns choices provable = (objects : List ℕ) → Contains choices objects ↔ IsChosenIn (lists_of limit patterns) provable objects
+AreChoices limit patterns choices provable =
+    (objects : List ℕ) → Contains choices objects ↔ IsChosenIn (lists_of limit patterns) provable objects
 
 pub choices_of-requires-clause-patterns : goal.choices_of-requires-clause-patterns
 choices_of-requires-clause-patterns c =
     let problem = c.args.request.now.problem.now in
     let partial = c.args.partial.now in
     subst (All (IsPlainPattern problem.objects)) (sym c.deref.ensures.value)
-    (patterns-plain problem c.requires.problem c.args.request.now.model.now.atoms c.requires.answer.0 partial.vars c.requires.answer.1 c.args.answer.now.patterns.items c.requires.answer.2.all)
+    (patterns-plain problem c.requires.problem c.args.request.now.model.now.atoms c.requires.answer.0 partial.vars c.requires.answer.1
+    c.args.answer.now.patterns.items c.requires.answer.2.all)
 
 pub choices_of-requires-clause-provable : goal.choices_of-requires-clause-provable
 choices_of-requires-clause-provable c =
     let problem = c.args.request.now.problem.now in
     let partial = c.args.partial.now in
-    provable-ground problem c.requires.problem c.args.request.now.model.now.atoms c.requires.answer.0 partial.vars c.requires.answer.1 c.args.answer.now.patterns.items c.args.answer.now.provable.atoms c.requires.answer.2
+    provable-ground problem c.requires.problem c.args.request.now.model.now.atoms c.requires.answer.0 partial.vars c.requires.answer.1
+    c.args.answer.now.patterns.items c.args.answer.now.provable.atoms c.requires.answer.2
 
 pub keep_choices-requires-clause-choices : goal.keep_choices-requires-clause-choices
 keep_choices-requires-clause-choices c =
@@ -37,9 +41,13 @@ keep_choices-requires-clause-choices c =
     let patterns = c.args.answer.now.patterns.items in
     let provable = c.args.answer.now.provable.atoms in
     let model = c.args.request.now.model.now.atoms in
-    let choices_are = subst (λ (l : List (List ℕ)). AreChoices problem.objects patterns l provable) (sym c.deref-2.ensures.value) (subst (λ (ps : List GapPattern). AreChoices problem.objects ps c.in_ok-choices.choices.items provable) c.deref.ensures.value c.in_ok-choices.ensures) in
+    let choices_are =
+    subst (λ (l : List (List ℕ)). AreChoices problem.objects patterns l provable) (sym c.deref-2.ensures.value)
+    (subst (λ (ps : List GapPattern). AreChoices problem.objects ps c.in_ok-choices.choices.items provable) c.deref.ensures.value
+    c.in_ok-choices.ensures) in
     let listed = patterns-are (setting_of problem model) c.requires.answer.0 partial.vars patterns c.requires.answer.2.all in
-    chosen-for problem partial (lists_of problem.objects patterns) provable c.deref-2.result.now choices_are (stands-by problem model c.requires.answer.0 partial (lists_of problem.objects patterns) listed)
+    chosen-for problem partial (lists_of problem.objects patterns) provable c.deref-2.result.now choices_are
+    (stands-by problem model c.requires.answer.0 partial (lists_of problem.objects patterns) listed)
 
 pub returns : goal.returns
 returns c =
@@ -47,6 +55,11 @@ returns c =
     let partial = c.args.partial.now in
     let patterns = c.args.answer.now.patterns.items in
     let provable = c.args.answer.now.provable.atoms in
-    let choices_are = subst (λ (l : List (List ℕ)). AreChoices problem.objects patterns l provable) (sym c.deref-2.ensures.value) (subst (λ (ps : List GapPattern). AreChoices problem.objects ps c.in_ok-choices.choices.items provable) c.deref.ensures.value c.in_ok-choices.ensures) in
+    let choices_are =
+    subst (λ (l : List (List ℕ)). AreChoices problem.objects patterns l provable) (sym c.deref-2.ensures.value)
+    (subst (λ (ps : List GapPattern). AreChoices problem.objects ps c.in_ok-choices.choices.items provable) c.deref.ensures.value
+    c.in_ok-choices.ensures) in
     on_ok c.keep_choices.result
-    (λ made inst. then-same (made inst) (chosen-open problem partial (lists_of problem.objects patterns) provable c.deref-2.result.now choices_are (IsRelevantFor c.args.request.now) inst)) c.keep_choices.ensures
+    (λ made inst. then-same (made inst) (chosen-open problem partial
+    (lists_of problem.objects patterns) provable c.deref-2.result.now choices_are (IsRelevantFor c.args.request.now) inst))
+    c.keep_choices.ensures

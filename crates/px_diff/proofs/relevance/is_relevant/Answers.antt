@@ -1,3 +1,4 @@
+-- Proofs of the goals that `is_relevant` of src/relevance.rt leaves open.
 use Rattle.std.proofs.Common.{[]}
 use Rattle.std.proofs.lemmas.List.Elements.{All-cons, All-nil}
 use Rattle.px_terms.specs.Validity.{IsInstanceOf}
@@ -5,7 +6,9 @@ use Rattle.px_base.proofs.Loops.{is_false, said_no, said_yes}
 use Rattle.px_diff.proofs.relevance.is_relevant.Goals as goal
 
 pub add_wanted-requires-clause-steps : goal.add_wanted-requires-clause-steps
-add_wanted-requires-clause-steps c = All-cons (IsInstanceOf c.args.request.now.problem.now) c.args.inst.now [] c.requires.inst (All-nil (IsInstanceOf c.args.request.now.problem.now))
+add_wanted-requires-clause-steps c =
+    All-cons (IsInstanceOf c.args.request.now.problem.now) c.args.inst.now [] c.requires.inst
+    (All-nil (IsInstanceOf c.args.request.now.problem.now))
 
 pub returns-then-is_stacked : goal.returns-then-is_stacked
 returns-then-is_stacked c = is_false (λ relevant. relevant.fresh (said_yes c.is_stacked.result c.is_stacked.ensures c.if-is_stacked.true))

@@ -1,3 +1,4 @@
+-- Proofs of the goals that `rest_answer` of src/rest.rt leaves open.
 use Rattle.std.proofs.Common.{sym, subst}
 use Rattle.std.specs.Prelude.{All}
 use Rattle.px_terms.specs.Validity.{IsAtomOf}
@@ -7,4 +8,5 @@ use Rattle.px_diff.proofs.rest.rest_answer.Goals as goal
 pub ask_gaps-requires-clause-formula : goal.ask_gaps-requires-clause-formula
 ask_gaps-requires-clause-formula c =
     let problem = c.args.request.now.problem.now in
-    subst (All (IsAtomOf problem c.args.vars)) (sym c.deref.ensures.value) (rest-all (IsAtomOf problem c.args.vars) problem c.args.formula.now c.in_ok-rest.rest.items c.in_ok-rest.ensures c.requires.formula)
+    subst (All (IsAtomOf problem c.args.vars)) (sym c.deref.ensures.value)
+    (rest-all (IsAtomOf problem c.args.vars) problem c.args.formula.now c.in_ok-rest.rest.items c.in_ok-rest.ensures c.requires.formula)

@@ -1,10 +1,11 @@
+-- Proofs of the goals that `add_choices` of src/row_questions.rt leaves open.
 use Rattle.std.proofs.Common.{◌≡◌, ◌∙◌, ◌<◌, List, length, set, ap, sym, subst, arith}
 use Rattle.std.proofs.lemmas.List.{length-set}
 use Rattle.std.proofs.lemmas.Option.{slice_get_within}
 use Rattle.px_question.specs.Settings.{setting_of}
 use Rattle.px_terms.specs.declared.term.Term.{Term}
 use Rattle.px_terms.specs.declared.term.Term.TheVariants.{Obj, Var}
-use Rattle.px_gaps.specs.Bindings.{IsBinding, open_count}
+use Rattle.px_gaps.specs.Bindings.{IsBinding, open_term_count}
 use Rattle.px_gaps.proofs.Choosing.{bound-binding, count-falls}
 use Rattle.px_diff.proofs.RowSplitting.{asked-all, asked-next, asked-none, widens-next, widens-none}
 use Rattle.px_diff.proofs.row_questions.+add_choices.Goals as goal
@@ -18,14 +19,18 @@ add_choices-requires t c =
     let v = c.in-Some.parameter in
     let object = c.loop-object.object in
     let next_is : c.deref.result.now ≡ set terms v (Obj object) = c.deref.ensures.value ∙ c.in_ok-next.ensures in
-    let less : open_count c.deref.result.now < open_count terms = subst (λ (ts : List Term). open_count ts < open_count terms) (sym next_is) (count-falls terms v v object c.in-Some.ensures) in (
+    let less : open_term_count c.deref.result.now < open_term_count terms =
+    subst (λ ts. open_term_count ts < open_term_count terms) (sym next_is) (count-falls terms v v object c.in-Some.ensures) in (
       omega (arith, less, c.decreases),
       (
         record {
           valid = c.requires.asked.valid;
           is_table = c.requires.asked.is_table;
           long = ap length next_is ∙ length-set terms v (Obj object) ∙ c.requires.asked.long;
-          binding = subst (IsBinding c.args.question.now.problem.now.objects) (sym next_is) (bound-binding c.args.question.now.problem.now.objects terms v c.in-Some.ensures object c.requires.asked.binding c.loop-object-test.true);
+          binding =
+              subst (IsBinding c.args.question.now.problem.now.objects) (sym next_is)
+              (bound-binding c.args.question.now.problem.now.objects terms v c.in-Some.ensures object c.requires.asked.binding
+              c.loop-object-test.true);
           few = c.requires.asked.few;
         },
         c.loop-object.invariant.choices.long c.requires.choices,
@@ -36,7 +41,10 @@ pub loop-object-init : goal.loop-object-init
 loop-object-init t c = record {
   choices = c.in_ok-ask_choices.ensures.widens;
   limited = widens-none c.args.question.now.table.now.params c.args.limited.now.items;
-  known = asked-none (setting_of c.args.question.now.problem.now c.args.question.now.model.now.atoms) c.args.question.now.table.now c.args.question.now.row c.args.question.now.problem.now.objects c.args.terms.now c.in-Some.parameter c.in-Some.ensures c.ask_choices.new.choices.items c.args.limited.now.items;
+  known =
+      asked-none (setting_of c.args.question.now.problem.now c.args.question.now.model.now.atoms) c.args.question.now.table.now
+      c.args.question.now.row c.args.question.now.problem.now.objects c.args.terms.now c.in-Some.parameter c.in-Some.ensures
+      c.ask_choices.new.choices.items c.args.limited.now.items;
 }
 
 pub loop-object-preserved : goal.loop-object-preserved
@@ -44,10 +52,16 @@ loop-object-preserved t c =
     let table = c.args.question.now.table.now in
     let here = c.in_ok-add_choices.ensures in
     let before = c.loop-object.invariant in record {
-      choices = widens-next table.params c.args.choices.now.items c.loop-object.choices.items c.add_choices.new.choices.items before.choices here.choices;
-      limited = widens-next table.params c.args.limited.now.items c.loop-object.limited.items c.add_choices.new.limited.items before.limited here.limited;
+      choices =
+          widens-next table.params c.args.choices.now.items c.loop-object.choices.items c.add_choices.new.choices.items before.choices
+          here.choices;
+      limited =
+          widens-next table.params c.args.limited.now.items c.loop-object.limited.items c.add_choices.new.limited.items before.limited
+          here.limited;
       known =
-          asked-next (setting_of c.args.question.now.problem.now c.args.question.now.model.now.atoms) table c.args.question.now.row c.args.question.now.problem.now.objects c.args.terms.now c.in-Some.parameter c.in-Some.ensures c.loop-object.object c.deref.result.now c.loop-object.choices.items c.loop-object.limited.items c.add_choices.new.choices.items
+          asked-next (setting_of c.args.question.now.problem.now c.args.question.now.model.now.atoms) table c.args.question.now.row
+          c.args.question.now.problem.now.objects c.args.terms.now c.in-Some.parameter c.in-Some.ensures c.loop-object.object
+          c.deref.result.now c.loop-object.choices.items c.loop-object.limited.items c.add_choices.new.choices.items
           c.add_choices.new.limited.items (c.deref.ensures.value ∙ c.in_ok-next.ensures) here.choices here.limited before.known here.known;
     }
 
@@ -59,5 +73,7 @@ returns-clause-limited t c = c.loop-object.invariant.limited
 
 pub returns-clause-known : goal.returns-clause-known
 returns-clause-known t c =
-    asked-all (setting_of c.args.question.now.problem.now c.args.question.now.model.now.atoms) c.args.question.now.table.now c.args.question.now.row c.args.question.now.problem.now.objects c.args.terms.now c.in-Some.parameter c.in-Some.ensures c.loop-object.object c.loop-object.choices.items c.loop-object.limited.items c.loop-object-test.false
+    asked-all (setting_of c.args.question.now.problem.now c.args.question.now.model.now.atoms) c.args.question.now.table.now
+    c.args.question.now.row c.args.question.now.problem.now.objects c.args.terms.now c.in-Some.parameter c.in-Some.ensures
+    c.loop-object.object c.loop-object.choices.items c.loop-object.limited.items c.loop-object-test.false
     c.loop-object.invariant.known

@@ -1,3 +1,4 @@
+-- Proofs of the goals that `choices_of_row` of src/row_questions.rt leaves open.
 use Rattle.std.proofs.Common.{◌≡◌, List, length, sym, subst}
 use Rattle.std.specs.Prelude.{All}
 use Rattle.std.proofs.lemmas.List.Elements.{All-nil}
@@ -14,8 +15,10 @@ returns c =
     let here = c.in_ok-add_choices.ensures in
     let none = All-nil (λ (choice : List Term). length choice ≡ table.params) in
     subst (λ (l : List (List Term)). IsRowKnown s table terms c.args.question.now.row l c.from_vec-2.result) (sym c.from_vec.ensures)
-    (subst (λ (l : List (List Term)). IsRowKnown s table terms c.args.question.now.row c.add_choices.new.choices.items l) (sym c.from_vec-2.ensures) (record {
+    (subst (λ (l : List (List Term)). IsRowKnown s table terms c.args.question.now.row c.add_choices.new.choices.items l)
+    (sym c.from_vec-2.ensures) (record {
       long = here.choices.long (subst (All (λ (choice : List Term). length choice ≡ table.params)) (sym c.new-choices.ensures.items) none);
-      limited_long = here.limited.long (subst (All (λ (choice : List Term). length choice ≡ table.params)) (sym c.new-limited.ensures.items) none);
+      limited_long =
+          here.limited.long (subst (All (λ (choice : List Term). length choice ≡ table.params)) (sym c.new-limited.ensures.items) none);
       asked = here.known;
     }))

@@ -1,3 +1,4 @@
+-- Proofs of the goals that `has_few` of src/row_questions.rt leaves open.
 use Rattle.std.proofs.Common.{ℕ, [], ◌∷◌, length, ap, sym, subst}
 use Rattle.std.proofs.lemmas.List.Elements.{All-cons, All-nil}
 use Rattle.px_question.specs.Limits.{AreFewGapShapes}
@@ -8,7 +9,11 @@ use Rattle.px_diff.proofs.row_questions.has_few.Goals as goal
 pub gap_patterns-requires-clause-formula : goal.gap_patterns-requires-clause-formula
 gap_patterns-requires-clause-formula c =
     let vars = length c.args-2.result.now in
-    All-cons (IsAtomOf c.args.problem.now vars) c.args.form.now [] (subst (λ (n : ℕ). IsAtomOf c.args.problem.now n c.args.form.now) (ap length (sym c.args-2.ensures.value)) c.requires.form.is_atom) (All-nil (IsAtomOf c.args.problem.now vars))
+    All-cons (IsAtomOf c.args.problem.now vars) c.args.form.now []
+    (subst (λ (n : ℕ). IsAtomOf c.args.problem.now n c.args.form.now) (ap length (sym c.args-2.ensures.value)) c.requires.form.is_atom)
+    (All-nil (IsAtomOf c.args.problem.now vars))
 
 pub returns-in-Ok : goal.returns-in-Ok
-returns-in-Ok c = λ _. subst (λ (n : ℕ). AreFewGapShapes (setting_of c.args.problem.now c.args.model.now.atoms) (c.args.form.now ∷ []) n) (ap length c.args-2.ensures.value) c.in-Ok.ensures.few
+returns-in-Ok c =
+    λ _. subst (λ (n : ℕ). AreFewGapShapes (setting_of c.args.problem.now c.args.model.now.atoms) (c.args.form.now ∷ []) n)
+    (ap length c.args-2.ensures.value) c.in-Ok.ensures.few

@@ -1,3 +1,4 @@
+-- Proofs of the goals that `have_few` of src/row_questions.rt leaves open.
 use Rattle.std.proofs.Common.{[], ◌∷◌, length}
 use Rattle.px_base.specs.ListLaws.{All-at}
 use Rattle.px_question.specs.Limits.{AreFewGapShapes}
@@ -9,9 +10,11 @@ use Rattle.px_diff.proofs.row_questions.have_few.Goals as goal
 
 pub has_few-requires-clause-form : goal.has_few-requires-clause-form
 has_few-requires-clause-form c =
-    All-at (IsForm c.args.problem.now) c.args.forms.now c.form-item.result c.requires.forms (contains_here c.args.forms.now c.loop-form.form-index c.form-item.result c.loop-form-test.true c.form-item.is)
+    All-at (IsForm c.args.problem.now) c.args.forms.now c.form-item.result c.requires.forms
+    (contains_here c.args.forms.now c.loop-form.form-index c.form-item.result c.loop-form-test.true c.form-item.is)
 
 pub loop-form-preserved : goal.loop-form-preserved
 loop-form-preserved c =
-    all_before_next (λ (form : Atom). AreFewGapShapes (setting_of c.args.problem.now c.args.model.now.atoms) (form ∷ []) (length form.args)) c.args.forms.now c.loop-form.form-index c.form-item.result c.loop-form.invariant c.loop-form-test.true c.form-item.is
+    all_before_next (λ (form : Atom). AreFewGapShapes (setting_of c.args.problem.now c.args.model.now.atoms) (form ∷ []) (length form.args))
+    c.args.forms.now c.loop-form.form-index c.form-item.result c.loop-form.invariant c.loop-form-test.true c.form-item.is
     (c.in_ok-has_few.ensures c.if-not-branch.false)

@@ -1,3 +1,4 @@
+-- What the loops of `have_few` in src/row_questions.rt keep true.
 use Rattle.std.specs.Prelude.{[], ◌∷◌, length}
 use Rattle.px_question.specs.Limits.{AreFewGapShapes}
 use Rattle.px_question.specs.Settings.{setting_of}
@@ -6,4 +7,5 @@ use Rattle.px_base.proofs.Loops.{AllBefore}
 use Rattle.px_diff.proofs.row_questions.have_few.Given as goal
 
 abbrev pub invariant-loop-form : goal.invariant-loop-form
-invariant-loop-form l = AllBefore (λ (form : Atom). AreFewGapShapes (setting_of l.problem l.model.atoms) (form ∷ []) (length form.args)) l.forms l.form-index
+invariant-loop-form l =
+    AllBefore (λ (form : Atom). AreFewGapShapes (setting_of l.problem l.model.atoms) (form ∷ []) (length form.args)) l.forms l.form-index

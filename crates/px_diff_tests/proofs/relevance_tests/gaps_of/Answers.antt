@@ -1,3 +1,4 @@
+-- Proofs of the goals that `gaps_of` of src/relevance_tests.rt leaves open.
 use Rattle.std.proofs.Common.{refl}
 use Rattle.px_diff_tests.proofs.relevance_tests.gaps_of.Goals as goal
 

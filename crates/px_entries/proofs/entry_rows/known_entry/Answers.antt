@@ -1,3 +1,4 @@
+-- Proofs of the goals that `known_entry` of src/entry_rows.rt leaves open.
 use Rattle.std.proofs.Common.{◌∙◌, List, sym, subst}
 use Rattle.std.specs.Prelude.{[], ◌∷◌, All, IfOk}
 use Rattle.px_terms.specs.Validity.{IsAtomOf}
@@ -17,18 +18,26 @@ precondition_of-requires-clause-count c = (subst (IsEntry c.args.problem.now c.a
 
 pub known_row-requires-clause-formula : goal.known_row-requires-clause-formula
 known_row-requires-clause-formula c =
-    subst (All (IsAtomOf c.args.problem.now 0)) (sym (c.deref.ensures.value ∙ c.in_ok-formula-in-Op.ensures)) (precondition-is_of c.args.problem.now c.in-Op.inst c.requires.problem (subst (IsEntry c.args.problem.now c.args.tables.now) c.in-Op.is c.requires.entry))
+    subst (All (IsAtomOf c.args.problem.now 0)) (sym (c.deref.ensures.value ∙ c.in_ok-formula-in-Op.ensures))
+    (precondition-is_of c.args.problem.now c.in-Op.inst c.requires.problem
+    (subst (IsEntry c.args.problem.now c.args.tables.now) c.in-Op.is c.requires.entry))
 
 pub returns-in_ok-formula-in-Op : goal.returns-in_ok-formula-in-Op
 returns-in_ok-formula-in-Op c =
-    subst (λ (e : Entry). IfOk c.known_row.result (IsKnownOf c.args.problem.now (obligations_of c.args.problem.now c.args.tables.now c.args.model.now.atoms e))) (sym c.in-Op.is)
-    (subst (λ (l : List Atom). IfOk c.known_row.result (IsKnownOf c.args.problem.now (record { formula = l; vars = 0; facts = c.args.model.now.atoms } ∷ []))) (c.deref.ensures.value ∙ c.in_ok-formula-in-Op.ensures) c.known_row.ensures)
+    subst (λ (e : Entry). IfOk c.known_row.result (IsKnownOf c.args.problem.now
+    (obligations_of c.args.problem.now c.args.tables.now c.args.model.now.atoms e))) (sym c.in-Op.is)
+    (subst (λ (l : List Atom). IfOk c.known_row.result
+    (IsKnownOf c.args.problem.now (record { formula = l; vars = 0; facts = c.args.model.now.atoms } ∷ [])))
+    (c.deref.ensures.value ∙ c.in_ok-formula-in-Op.ensures) c.known_row.ensures)
 
 pub returns-in-Macro : goal.returns-in-Macro
 returns-in-Macro c =
     let problem = c.args.problem.now in
     let tables = c.args.tables.now in
     let model = c.args.model.now.atoms in
-    let within = macro-within problem tables c.in-Macro.number c.in-Macro.prefix c.in-Macro.sigma (subst (IsEntry problem tables) c.in-Macro.is c.requires.entry) in
+    let within =
+    macro-within problem tables c.in-Macro.number c.in-Macro.prefix c.in-Macro.sigma
+    (subst (IsEntry problem tables) c.in-Macro.is c.requires.entry) in
     subst (λ (e : Entry). IfOk c.known_prefix.result (IsKnownOf problem (obligations_of problem tables model e))) (sym c.in-Macro.is)
-    (macro-known problem tables model c.in-Macro.number c.in-Macro.prefix c.in-Macro.sigma c.as_slice.result.now c.index-tables-number.result c.known_prefix.result c.as_slice.ensures within c.index-tables-number.is c.known_prefix.ensures)
+    (macro-known problem tables model c.in-Macro.number c.in-Macro.prefix c.in-Macro.sigma c.as_slice.result.now
+    c.index-tables-number.result c.known_prefix.result c.as_slice.ensures within c.index-tables-number.is c.known_prefix.ensures)

@@ -1,3 +1,4 @@
+-- Proofs of the goals that `closed_beside` of src/joining.rt leaves open.
 use Rattle.std.proofs.Common.{sym, subst}
 use Rattle.px_entries.specs.Joined.{Joins}
 use Rattle.px_gaps.specs.declared.known.Known.{Known}
@@ -15,4 +16,6 @@ pub returns-in-Closed : goal.returns-in-Closed
 returns-in-Closed c = subst (λ (k : Known). Joins Closed k Closed) (sym c.in-Closed.is) joins-closed_closed
 
 pub returns : goal.returns
-returns c = subst (λ (k : Known). Joins Closed k (Limited c.in-Limited.formula c.in-Limited.shapes)) (sym c.in-Limited.is) (joins-later_limit Closed c.in-Limited.formula c.in-Limited.shapes)
+returns c =
+    subst (λ (k : Known). Joins Closed k (Limited c.in-Limited.formula c.in-Limited.shapes)) (sym c.in-Limited.is)
+    (joins-later_limit Closed c.in-Limited.formula c.in-Limited.shapes)

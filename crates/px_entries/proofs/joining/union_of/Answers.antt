@@ -1,3 +1,4 @@
+-- Proofs of the goals that `union_of` of src/joining.rt leaves open.
 use Rattle.std.proofs.Common.{◌∙◌}
 use Rattle.std.proofs.lemmas.List.Filters.{dedup_is}
 use Rattle.px_terms.specs.Order.{atom_eq}
@@ -9,5 +10,7 @@ returns-clause-order c = union-ascends c.sort_unstable.new.self.items c.from_vec
     (c.from_vec.ensures ∙ dedup_is atom_eq c.sort_unstable.new.self.items c.dedup.new.self.items c.dedup.ensures.filtered)
 
 pub returns-clause-members : goal.returns-clause-members
-returns-clause-members c = union-members c.args.first.now c.args.second.now c.in_ok-union.union.items c.sort_unstable.new.self.items c.from_vec.result c.in_ok-union.ensures c.sort_unstable.ensures.permutation
+returns-clause-members c =
+    union-members c.args.first.now c.args.second.now c.in_ok-union.union.items c.sort_unstable.new.self.items c.from_vec.result
+    c.in_ok-union.ensures c.sort_unstable.ensures.permutation
     (c.from_vec.ensures ∙ dedup_is atom_eq c.sort_unstable.new.self.items c.dedup.new.self.items c.dedup.ensures.filtered)

@@ -1,3 +1,4 @@
+-- Proofs of the goals that `initial_patterns` of src/limiting.rt leaves open.
 use Rattle.std.proofs.Common.{◌∙◌, List, ap, refl}
 use Rattle.std.proofs.lemmas.List.{take_all}
 use Rattle.std.specs.Prelude.{◌==◌, ◌&&◌, filter, map}
@@ -7,10 +8,13 @@ use Rattle.px_entries.proofs.limiting.initial_patterns.Goals as goal
 
 pub loop-mark-preserved : goal.loop-mark-preserved
 loop-mark-preserved c =
-    picked-next (λ (mark : Mark). (mark.row == c.args.row) && (mark.column == 0)) c.as_slice-marks.result.now c.loop-mark.mark-index c.mark-item.result c.loop-mark-test.true c.mark-item.is
-    (λ (mark : Mark). mark.atom) c.loop-mark.atoms.items c.loop-mark.invariant c.is_initial-is_wanted.result c.push_wanted.new.atoms.items c.mark-item.result.atom c.is_initial-is_wanted.ensures refl c.in_ok-push_wanted.ensures
+    picked-next (λ (mark : Mark). (mark.row == c.args.row) && (mark.column == 0)) c.as_slice-marks.result.now c.loop-mark.mark-index
+    c.mark-item.result c.loop-mark-test.true c.mark-item.is
+    (λ (mark : Mark). mark.atom) c.loop-mark.atoms.items c.loop-mark.invariant c.is_initial-is_wanted.result c.push_wanted.new.atoms.items
+    c.mark-item.result.atom c.is_initial-is_wanted.ensures refl c.in_ok-push_wanted.ensures
 
 pub returns : goal.returns
 returns c =
     c.loop-mark.invariant
-    ∙ ap (λ (l : List Mark). map (λ (mark : Mark). mark.atom) (filter (λ (mark : Mark). (mark.row == c.args.row) && (mark.column == 0)) l)) (take_all c.loop-mark.mark-index c.as_slice-marks.result.now c.loop-mark-test.false ∙ c.as_slice-marks.ensures)
+    ∙ ap (λ (l : List Mark). map (λ (mark : Mark). mark.atom) (filter (λ (mark : Mark). (mark.row == c.args.row) && (mark.column == 0)) l))
+    (take_all c.loop-mark.mark-index c.as_slice-marks.result.now c.loop-mark-test.false ∙ c.as_slice-marks.ensures)

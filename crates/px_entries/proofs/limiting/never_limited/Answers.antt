@@ -1,3 +1,4 @@
+-- Proofs of the goals that `never_limited` of src/limiting.rt leaves open.
 use Rattle.std.specs.Prelude.{All, IfOk, IsTrue, Result, Ok, Err}
 use Rattle.px_entries.specs.Few.{RowsHaveFew}
 use Rattle.px_entries.specs.Unlimited.{IsNeverLimited}
@@ -12,5 +13,7 @@ pub returns : goal.returns
 returns c =
     let problem = c.args.problem.now in
     let tables = c.args.tables.now in
-    if_ok (λ few. IsTrue few → All (RowsHaveFew problem) tables) (λ never. IsTrue never → IsNeverLimited problem tables) c.tables_have_few.result
-    (λ never told is. never-limited problem (c.adds_have_few.ensures c.if-not-adds_have_few.false) (c.preconditions_have_few.ensures c.if-not-preconditions_have_few.false) tables (told is)) c.tables_have_few.ensures
+    if_ok (λ few. IsTrue few → All (RowsHaveFew problem) tables)
+    (λ never. IsTrue never → IsNeverLimited problem tables) c.tables_have_few.result
+    (λ never told is. never-limited problem (c.adds_have_few.ensures c.if-not-adds_have_few.false)
+    (c.preconditions_have_few.ensures c.if-not-preconditions_have_few.false) tables (told is)) c.tables_have_few.ensures

@@ -1,3 +1,4 @@
+-- Proofs of the goals that `rows_have_few` of src/limiting.rt leaves open.
 use Rattle.std.proofs.Common.{◌≡◌, ◌∙◌, ℕ, List, inl, inr, map, subst, sym}
 use Rattle.px_terms.specs.declared.atom.Atom.{Atom}
 use Rattle.px_gaps.specs.Bounds.{HasFewShapes}
@@ -10,7 +11,9 @@ loop-row-preserved c row below =
     let problem = c.args.problem.now in
     let table = c.args.table.now in
     let atoms_are : c.deref.result.now ≡ initial_patterns table c.loop-row.row = c.deref.ensures.value ∙ c.in_ok-atoms.ensures in
-    let here : HasFew problem (initial_patterns table c.loop-row.row) = subst (λ (l : List Atom). HasFewShapes problem (map (λ (a : Atom). a.pred) l)) atoms_are (c.has_few.ensures c.if-not-has_few.false) in
+    let here : HasFew problem (initial_patterns table c.loop-row.row) =
+    subst (λ (l : List Atom). HasFewShapes problem (map (λ (a : Atom). a.pred) l)) atoms_are
+    (c.has_few.ensures c.if-not-has_few.false) in
     elim (level_or_below row c.loop-row.row below) [
       | inl before ↦ c.loop-row.invariant row before
       | inr level ↦ subst (λ (n : ℕ). HasFew problem (initial_patterns table n)) (sym level) here

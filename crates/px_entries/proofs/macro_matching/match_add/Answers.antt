@@ -1,3 +1,4 @@
+-- Proofs of the goals that `match_add` of src/macro_matching.rt leaves open.
 use Rattle.std.proofs.Common.{◌≡◌, false, length, sym, subst}
 use Rattle.std.specs.Prelude.{All}
 use Rattle.px_question.specs.Answers.{object_terms}
@@ -13,11 +14,17 @@ use Rattle.px_entries.proofs.macro_matching.match_add.Goals as goal
 
 pub returns-then-one_always_deletes : goal.returns-then-one_always_deletes
 returns-then-one_always_deletes c =
-    matches_none c.args.problem.now.objects (length c.args.start.now) c.args.start.now (λ sigma. IsLeftAdd c.args.problem.now c.args.later.now c.args.wanted.now sigma c.args.add.now) c.args.found.now.items
-    (λ sigma extends left. c.one_always_deletes.ensures c.if-one_always_deletes.true sigma (subst (λ (a : Atom). All (λ (step : OpInst). deletes c.args.problem.now (instance_under sigma step) a ≡ false) c.args.later.now) (sym left.0) left.1))
+    matches_none c.args.problem.now.objects (length c.args.start.now) c.args.start.now
+    (λ sigma. IsLeftAdd c.args.problem.now c.args.later.now c.args.wanted.now sigma c.args.add.now) c.args.found.now.items
+    (λ sigma extends left. c.one_always_deletes.ensures c.if-one_always_deletes.true sigma
+    (subst (λ (a : Atom). All (λ (step : OpInst). deletes c.args.problem.now (instance_under sigma step) a ≡ false) c.args.later.now)
+    (sym left.0) left.1))
 
 pub returns : goal.returns
 returns c =
     on_ok c.match_pattern.result (λ made.
-    matches_less c.args.problem.now.objects (length c.args.start.now) c.args.start.now (λ sigma. substitute_atom (object_terms sigma) c.args.add.now ≡ c.args.wanted.now) (λ sigma. IsLeftAdd c.args.problem.now c.args.later.now c.args.wanted.now sigma c.args.add.now) c.args.found.now.items c.match_pattern.new.found.items
+    matches_less c.args.problem.now.objects (length c.args.start.now) c.args.start.now
+    (λ sigma. substitute_atom (object_terms sigma) c.args.add.now ≡ c.args.wanted.now)
+    (λ sigma. IsLeftAdd c.args.problem.now c.args.later.now c.args.wanted.now sigma c.args.add.now) c.args.found.now.items
+    c.match_pattern.new.found.items
     (λ sigma left. left.0) made) c.match_pattern.ensures

@@ -1,3 +1,4 @@
+-- Proofs of the goals that `one_always_deletes` of src/macro_matching.rt leaves open.
 use Rattle.std.proofs.Common.{◌≡◌, false}
 use Rattle.px_base.specs.ListLaws.{All-at}
 use Rattle.px_question.specs.Answers.{object_terms}
@@ -13,11 +14,15 @@ use Rattle.px_entries.proofs.macro_matching.one_always_deletes.Goals as goal
 pub always_deletes-requires-clause-step : goal.always_deletes-requires-clause-step
 always_deletes-requires-clause-step c = (
   c.requires.steps.0,
-  All-at (IsStepOf c.args.problem.now c.requires.steps.0) c.args.steps.now c.step-item.result c.requires.steps.1 (contains_here c.args.steps.now c.loop-step.step-index c.step-item.result c.loop-step-test.true c.step-item.is),
+  All-at (IsStepOf c.args.problem.now c.requires.steps.0) c.args.steps.now c.step-item.result c.requires.steps.1
+      (contains_here c.args.steps.now c.loop-step.step-index c.step-item.result c.loop-step-test.true c.step-item.is),
 )
 
 pub returns-then-always_deletes : goal.returns-then-always_deletes
 returns-then-always_deletes c = λ _ sigma kept.
-    both_answers (deletes c.args.problem.now (instance_under sigma c.step-item.result) (substitute_atom (object_terms sigma) c.args.atom.now))
-    (All-at (λ (step : OpInst). deletes c.args.problem.now (instance_under sigma step) (substitute_atom (object_terms sigma) c.args.atom.now) ≡ false) c.args.steps.now c.step-item.result kept (contains_here c.args.steps.now c.loop-step.step-index c.step-item.result c.loop-step-test.true c.step-item.is))
+    both_answers (deletes c.args.problem.now (instance_under sigma c.step-item.result)
+    (substitute_atom (object_terms sigma) c.args.atom.now))
+    (All-at (λ (step : OpInst). deletes c.args.problem.now (instance_under sigma step)
+    (substitute_atom (object_terms sigma) c.args.atom.now) ≡ false) c.args.steps.now c.step-item.result kept
+    (contains_here c.args.steps.now c.loop-step.step-index c.step-item.result c.loop-step-test.true c.step-item.is))
     (c.always_deletes.ensures c.if-always_deletes.true sigma)

@@ -1,3 +1,4 @@
+-- What the loops of `step_adds` in src/macro_steps.rt keep true.
 use Rattle.std.proofs.Common.{◌≡◌}
 use Rattle.px_terms.specs.Operators.{adds}
 use Rattle.px_terms.specs.declared.atom.Atom.{Atom}

@@ -1,3 +1,4 @@
+-- What the loops of `match_schema` in src/matching.rt keep true.
 use Rattle.std.proofs.Common.{◌≡◌, take}
 use Rattle.px_terms.specs.declared.instance.OpInst.{OpInst}
 use Rattle.px_terms.specs.Substitution.{substitute_atom}
@@ -7,4 +8,6 @@ use Rattle.px_entries.proofs.matching.match_schema.Given as goal
 
 abbrev pub invariant-loop-pattern : goal.invariant-loop-pattern
 invariant-loop-pattern l =
-    Covers l.problem (λ (full : OpInst). (full.op ≡ l.schema.op) × OneOf (take l.pattern-index l.patterns) (λ pattern. substitute_atom full.args pattern ≡ l.wanted)) l.initial.found.items l.found.items
+    Covers l.problem (λ (full : OpInst). (full.op ≡ l.schema.op)
+    × OneOf (take l.pattern-index l.patterns) (λ pattern. substitute_atom full.args pattern ≡ l.wanted)) l.initial.found.items
+    l.found.items

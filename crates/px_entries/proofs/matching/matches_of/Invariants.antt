@@ -1,3 +1,4 @@
+-- What the loops of `matches_of` in src/matching.rt keep true.
 use Rattle.std.proofs.Common.{[], take}
 use Rattle.std.specs.Prelude.{Contains}
 use Rattle.px_terms.specs.declared.instance.OpInst.{OpInst}
@@ -7,4 +8,5 @@ use Rattle.px_entries.specs.Instances.{Covers}
 use Rattle.px_entries.proofs.matching.matches_of.Given as goal
 
 abbrev pub invariant-loop-atom : goal.invariant-loop-atom
-invariant-loop-atom l = Covers l.problem (λ (full : OpInst). OneOf (take l.atom-index l.wanted) (Contains (adds l.problem full))) [] l.found.items
+invariant-loop-atom l =
+    Covers l.problem (λ (full : OpInst). OneOf (take l.atom-index l.wanted) (Contains (adds l.problem full))) [] l.found.items

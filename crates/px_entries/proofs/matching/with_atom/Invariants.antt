@@ -1,3 +1,4 @@
+-- What the loops of `with_atom` in src/matching.rt keep true.
 use Rattle.std.proofs.Common.{◌≡◌, ◌<◌, ℕ, length, get_or}
 use Rattle.px_terms.specs.declared.term.Term.TheVariants.{Any}
 use Rattle.px_terms.specs.Language.{substitute}
@@ -10,6 +11,8 @@ abbrev pub invariant-loop-k : goal.invariant-loop-k
 invariant-loop-k l = record {
   form : IsPartialInstance l.problem l.matched;
   count : length l.matched.inst.args ≡ length l.partial.inst.args;
-  stands : (full : OpInst) → StandsFor l.problem l.partial full → substitute_atom full.args l.pattern ≡ l.wanted → StandsFor l.problem l.matched full;
-  only : (full : OpInst) → StandsFor l.problem l.matched full → StandsFor l.problem l.partial full × ((j : ℕ) → j < l.k → substitute full.args (get_or l.terms j Any) ≡ get_or l.objects j Any);
+  stands : (full : OpInst) → StandsFor l.problem l.partial full → substitute_atom full.args l.pattern ≡ l.wanted
+      → StandsFor l.problem l.matched full;
+  only : (full : OpInst) → StandsFor l.problem l.matched full
+      → StandsFor l.problem l.partial full × ((j : ℕ) → j < l.k → substitute full.args (get_or l.terms j Any) ≡ get_or l.objects j Any);
 }

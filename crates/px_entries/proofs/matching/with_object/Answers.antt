@@ -1,3 +1,4 @@
+-- Proofs of the goals that `with_object` of src/matching.rt leaves open.
 use Rattle.std.proofs.Common.{◌<◌, ◌∙◌, ℕ, sym, ap, subst, inl, inr, arith}
 use Rattle.px_terms.specs.declared.term.Term.TheVariants.{Obj}
 use Rattle.px_entries.proofs.Covering.{object_is, object_within, not_other}
@@ -6,11 +7,15 @@ use Rattle.px_entries.proofs.matching.with_object.Goals as goal
 
 pub returns-then-object-problem-clause-stands : goal.returns-then-object-problem-clause-stands
 returns-then-object-problem-clause-stands c = λ full objects fills is.
-    c.bound_instance.ensures.fills c.args.problem.now full objects fills (object_is c.args.problem.now c.args.partial.now full objects c.args.variable c.in-Obj.object c.args.wanted fills c.requires.variable is c.in-Obj.is)
+    c.bound_instance.ensures.fills c.args.problem.now full objects fills
+    (object_is c.args.problem.now c.args.partial.now full objects c.args.variable c.in-Obj.object c.args.wanted fills
+    c.requires.variable is c.in-Obj.is)
 
 pub returns-else-object-problem-clause-stands : goal.returns-else-object-problem-clause-stands
 returns-else-object-problem-clause-stands c = λ full objects fills is.
-    let same = object_is c.args.problem.now c.args.partial.now full objects c.args.variable c.in-Obj.object c.args.wanted fills c.requires.variable is c.in-Obj.is in
+    let same =
+    object_is c.args.problem.now c.args.partial.now full objects c.args.variable c.in-Obj.object c.args.wanted fills c.requires.variable
+    is c.in-Obj.is in
     let within = object_within c.args.problem.now c.args.partial.now full objects c.args.variable fills c.requires.variable in
     omega (arith, subst (λ (n : ℕ). n < c.args.problem.now.objects) same within, c.if-object-problem.false)
 

@@ -1,3 +1,4 @@
+-- Proofs of the goals that `first_unbound` of src/parameters.rt leaves open.
 use Rattle.std.proofs.Common.{◌≡◌, ℕ, Some, slice_get}
 use Rattle.std.specs.Prelude.{All, Contains}
 use Rattle.px_terms.specs.Language.{IsObject}
@@ -10,9 +11,11 @@ use Rattle.px_entries.proofs.parameters.first_unbound.Goals as goal
 pub returns-clause-some : goal.returns-clause-some
 returns-clause-some c =
     let terms = c.args.terms.now in
-    some-map c.first_variable.result (λ (v : ℕ). Contains terms (Var v)) (λ (v : ℕ). slice_get terms v ≡ Some (Var v)) (λ v has. variable-there c.requires.binding.0 terms v c.requires.binding.1 has) c.first_variable.ensures.some
+    some-map c.first_variable.result (λ (v : ℕ). Contains terms (Var v)) (λ (v : ℕ). slice_get terms v ≡ Some (Var v))
+    (λ v has. variable-there c.requires.binding.0 terms v c.requires.binding.1 has) c.first_variable.ensures.some
 
 pub returns-clause-none : goal.returns-clause-none
 returns-clause-none c =
     let terms = c.args.terms.now in
-    none-map c.first_variable.result (All (λ (t : Term). (v : ℕ) → ¬ (t ≡ Var v)) terms) (All IsObject terms) (all-objects c.requires.binding.0 terms c.requires.binding.1) c.first_variable.ensures.none
+    none-map c.first_variable.result (All (λ (t : Term). (v : ℕ) → ¬ (t ≡ Var v)) terms) (All IsObject terms)
+    (all-objects c.requires.binding.0 terms c.requires.binding.1) c.first_variable.ensures.none

@@ -1,3 +1,4 @@
+-- What the loops of `absent_of` in src/plain.rt keep true.
 use Rattle.std.proofs.Common.{◌⊎◌, [], take}
 use Rattle.std.specs.Prelude.{◌↔◌, Contains}
 use Rattle.px_terms.specs.declared.atom.Atom.{Atom}
@@ -5,4 +6,6 @@ use Rattle.px_entries.specs.Plain.{IsAbsent}
 use Rattle.px_entries.proofs.plain.absent_of.Given as goal
 
 abbrev pub invariant-loop-atom : goal.invariant-loop-atom
-invariant-loop-atom l = (q : Atom) → Contains l.absent.atoms q ↔ (Contains {X = Atom} [] q ⊎ (Contains (take l.atom-index l.formula) q × IsAbsent l.problem l.model.atoms q))
+invariant-loop-atom l =
+    (q : Atom) → Contains l.absent.atoms q
+    ↔ (Contains {X = Atom} [] q ⊎ (Contains (take l.atom-index l.formula) q × IsAbsent l.problem l.model.atoms q))

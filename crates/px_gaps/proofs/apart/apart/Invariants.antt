@@ -1,3 +1,4 @@
+-- What the loops of `apart` in src/apart.rt keep true.
 use Rattle.std.specs.Prelude.{◌<◌, length}
 use Rattle.px_gaps.proofs.PartLemmas.{ArePartly}
 use Rattle.px_gaps.proofs.apart.apart.Given as goal

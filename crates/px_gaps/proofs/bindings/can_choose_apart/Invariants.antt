@@ -1,3 +1,4 @@
+-- What the loops of `can_choose_apart` in src/bindings.rt keep true.
 use Rattle.std.specs.Prelude.{length, Contains}
 use Rattle.px_terms.specs.declared.atom.Atom.{Atom}
 use Rattle.px_gaps.specs.Bindings.{ArePlain, CanAvoid}
@@ -10,5 +11,6 @@ abbrev pub invariant-loop-place : goal.invariant-loop-place
 invariant-loop-place l = record {
   among : (atom : Atom) → Contains l.rest.items atom → Contains l.avoidance.atoms.now atom;
   plain : ArePlain (length l.terms) l.rest.items;
-  enough : CanAvoid l.avoidance.limit l.terms l.rest.items l.avoidance.set.now.atoms → CanAvoid l.avoidance.limit l.terms l.avoidance.atoms.now l.avoidance.set.now.atoms;
+  enough : CanAvoid l.avoidance.limit l.terms l.rest.items l.avoidance.set.now.atoms
+      → CanAvoid l.avoidance.limit l.terms l.avoidance.atoms.now l.avoidance.set.now.atoms;
 }

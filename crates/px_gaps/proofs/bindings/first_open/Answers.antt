@@ -1,3 +1,4 @@
+-- Proofs of the goals that `first_open` of src/bindings.rt leaves open.
 use Rattle.px_terms.specs.Instances.{IsGround}
 use Rattle.px_terms.specs.Substitution.{substitute_atom}
 use Rattle.px_terms.specs.declared.atom.Atom.{Atom}
@@ -6,7 +7,10 @@ use Rattle.px_gaps.proofs.bindings.first_open.Goals as goal
 
 pub loop-place-preserved : goal.loop-place-preserved
 loop-place-preserved c =
-    all_before_next (λ (atom : Atom). IsGround (substitute_atom c.args.terms.now atom)) c.args.atoms.now c.loop-place.place c.index-atoms-place.result c.loop-place.invariant c.loop-place-test.true c.index-atoms-place.is c.in-None.ensures.none
+    all_before_next (λ (atom : Atom). IsGround (substitute_atom c.args.terms.now atom)) c.args.atoms.now c.loop-place.place
+    c.index-atoms-place.result c.loop-place.invariant c.loop-place-test.true c.index-atoms-place.is c.in-None.ensures.none
 
 pub returns-clause-none : goal.returns-clause-none
-returns-clause-none c = all_whole (λ (atom : Atom). IsGround (substitute_atom c.args.terms.now atom)) c.args.atoms.now c.loop-place.place c.loop-place.invariant c.loop-place-test.false
+returns-clause-none c =
+    all_whole (λ (atom : Atom). IsGround (substitute_atom c.args.terms.now atom)) c.args.atoms.now c.loop-place.place c.loop-place.invariant
+    c.loop-place-test.false

@@ -1,3 +1,4 @@
+-- What the loops of `unbound` in src/bindings.rt keep true.
 use Rattle.px_gaps.specs.Bindings.{AreUnbound}
 use Rattle.px_gaps.proofs.bindings.unbound.Given as goal
 

@@ -1,3 +1,4 @@
+-- Proofs of the goals that `push_open` of src/choices.rt leaves open.
 use Rattle.std.proofs.Common.{◌≡◌, ◌∙◌, ◌<◌, List, length, map, set, sym, subst, arith}
 use Rattle.std.specs.Prelude.{All}
 use Rattle.std.proofs.lemmas.List.{length-set}
@@ -6,7 +7,7 @@ use Rattle.px_prover.specs.Patterns.{object_under}
 use Rattle.px_terms.specs.Language.{IsVariableBelow}
 use Rattle.px_terms.specs.declared.term.Term.{Term}
 use Rattle.px_terms.specs.declared.term.Term.TheVariants.{Obj, Var}
-use Rattle.px_gaps.specs.Bindings.{ArePlain, IsBinding, open_count}
+use Rattle.px_gaps.specs.Bindings.{ArePlain, IsBinding, open_term_count}
 use Rattle.px_gaps.proofs.Choosing.{before-all, before-next, bound-binding, bound-plain, count-falls, met-none, none-open}
 use Rattle.px_gaps.proofs.Describing.{then-same}
 use Rattle.px_gaps.proofs.Grows.{grouped, grown}
@@ -21,8 +22,11 @@ meets_under-requires t c = c.requires.bound.plain
 
 pub returns-then-meets_under : goal.returns-then-meets_under
 returns-then-meets_under t c =
-    none-open c.args.avoidance.now.limit c.args.terms.now c.args.avoidance.now.atoms.now c.args.avoidance.now.set.now.atoms (λ values. map (object_under values) c.args.targets.now) c.args.found.now.items
-    (met-none c.args.avoidance.now.limit c.args.terms.now c.requires.bound.binding c.args.avoidance.now.atoms.now c.args.avoidance.now.set.now.atoms c.requires.bound.plain c.requires.bound.is_ground (said_yes c.meets_under.result c.meets_under.ensures c.if-meets_under.true))
+    none-open c.args.avoidance.now.limit c.args.terms.now c.args.avoidance.now.atoms.now c.args.avoidance.now.set.now.atoms
+    (λ values. map (object_under values) c.args.targets.now) c.args.found.now.items
+    (met-none c.args.avoidance.now.limit c.args.terms.now c.requires.bound.binding c.args.avoidance.now.atoms.now
+    c.args.avoidance.now.set.now.atoms c.requires.bound.plain c.requires.bound.is_ground
+    (said_yes c.meets_under.result c.meets_under.ensures c.if-meets_under.true))
 
 pub bound-requires : goal.bound-requires
 bound-requires t c = slice_get_within c.args.terms.now c.in-Some.variable (Var c.in-Some.variable) c.in-Some.ensures.some
@@ -33,13 +37,22 @@ push_open-requires t c =
     let v = c.in-Some.variable in
     let object = c.loop-object.object in
     let next_is : c.deref.result.now ≡ set terms v (Obj object) = c.deref.ensures.value ∙ c.in_ok-next.ensures in
-    let less : open_count c.deref.result.now < open_count terms = subst (λ (ts : List Term). open_count ts < open_count terms) (sym next_is) (count-falls terms v v object c.in-Some.ensures.some) in (
+    let less : open_term_count c.deref.result.now < open_term_count terms =
+    subst (λ (ts : List Term). open_term_count ts < open_term_count terms) (sym next_is)
+    (count-falls terms v v object c.in-Some.ensures.some) in (
       omega (arith, less, c.decreases),
       (
-        subst (λ (ts : List Term). All (IsVariableBelow (length ts)) c.args.targets.now) (sym next_is) (subst (λ (n : _). All (IsVariableBelow n) c.args.targets.now) (sym (length-set terms v (Obj object))) c.requires.below),
+        subst (λ (ts : List Term). All (IsVariableBelow (length ts)) c.args.targets.now) (sym next_is)
+            (subst (λ (n : _). All (IsVariableBelow n) c.args.targets.now) (sym (length-set terms v (Obj object))) c.requires.below),
         record {
-          plain = subst (λ (ts : List Term). ArePlain (length ts) c.args.avoidance.now.atoms.now) (sym next_is) (bound-plain c.args.avoidance.now.limit terms v c.in-Some.ensures.some object c.args.avoidance.now.atoms.now c.requires.bound.plain);
-          binding = subst (IsBinding c.args.avoidance.now.limit) (sym next_is) (bound-binding c.args.avoidance.now.limit terms v c.in-Some.ensures.some object c.requires.bound.binding c.loop-object-test.true);
+          plain =
+              subst (λ (ts : List Term). ArePlain (length ts) c.args.avoidance.now.atoms.now) (sym next_is)
+              (bound-plain c.args.avoidance.now.limit terms v c.in-Some.ensures.some object c.args.avoidance.now.atoms.now
+              c.requires.bound.plain);
+          binding =
+              subst (IsBinding c.args.avoidance.now.limit) (sym next_is)
+              (bound-binding c.args.avoidance.now.limit terms v c.in-Some.ensures.some object c.requires.bound.binding
+              c.loop-object-test.true);
           is_ground = c.requires.bound.is_ground;
         },
       ),
@@ -47,8 +60,13 @@ push_open-requires t c =
 
 pub loop-object-preserved : goal.loop-object-preserved
 loop-object-preserved t c = λ objects.
-    grown (c.loop-object.invariant objects) (c.in_ok-push_open.ensures objects) (grouped (before-next c.args.avoidance.now.limit c.args.terms.now c.args.avoidance.now.atoms.now c.args.avoidance.now.set.now.atoms (λ values. map (object_under values) c.args.targets.now) c.in-Some.variable c.in-Some.ensures.some c.loop-object.object c.deref.result.now (c.deref.ensures.value ∙ c.in_ok-next.ensures) objects))
+    grown (c.loop-object.invariant objects) (c.in_ok-push_open.ensures objects)
+    (grouped (before-next c.args.avoidance.now.limit c.args.terms.now c.args.avoidance.now.atoms.now c.args.avoidance.now.set.now.atoms
+    (λ values. map (object_under values) c.args.targets.now) c.in-Some.variable c.in-Some.ensures.some c.loop-object.object
+    c.deref.result.now (c.deref.ensures.value ∙ c.in_ok-next.ensures) objects))
 
 pub returns : goal.returns
 returns t c = λ objects.
-    then-same (c.loop-object.invariant objects) (before-all c.args.avoidance.now.limit c.args.terms.now c.args.avoidance.now.atoms.now c.args.avoidance.now.set.now.atoms (λ values. map (object_under values) c.args.targets.now) c.in-Some.variable c.in-Some.ensures.some c.loop-object.object c.loop-object-test.false objects)
+    then-same (c.loop-object.invariant objects) (before-all c.args.avoidance.now.limit c.args.terms.now c.args.avoidance.now.atoms.now
+    c.args.avoidance.now.set.now.atoms (λ values. map (object_under values) c.args.targets.now) c.in-Some.variable
+    c.in-Some.ensures.some c.loop-object.object c.loop-object-test.false objects)

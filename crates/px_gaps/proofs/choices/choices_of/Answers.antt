@@ -1,3 +1,4 @@
+-- Proofs of the goals that `choices_of` of src/choices.rt leaves open.
 use Rattle.std.proofs.Common.{List, subst, arith}
 use Rattle.std.specs.Prelude.{◌↔◌, Contains}
 use Rattle.std.proofs.lemmas.List.{take_all}
@@ -10,10 +11,15 @@ use Rattle.px_gaps.proofs.choices.choices_of.Goals as goal
 
 pub loop-pattern-preserved : goal.loop-pattern-preserved
 loop-pattern-preserved c = λ objects. grown (c.loop-pattern.invariant objects) (c.in_ok-push_choices.ensures objects)
-    (one_next (λ (pattern : GapPattern). IsChosenBy c.args.limit c.args.provable.now.atoms pattern objects) c.args.patterns.now c.loop-pattern.pattern-index c.pattern-item.result c.loop-pattern-test.true c.pattern-item.is)
+    (one_next (λ (pattern : GapPattern). IsChosenBy c.args.limit c.args.provable.now.atoms pattern objects) c.args.patterns.now
+    c.loop-pattern.pattern-index c.pattern-item.result c.loop-pattern-test.true c.pattern-item.is)
 
 pub returns : goal.returns
 returns c = λ objects.
     let is = chosen-by c.args.limit c.args.patterns.now c.args.provable.now.atoms objects in
-    let all = subst (λ (ps : List GapPattern). Contains c.loop-pattern.choices.items objects ↔ OneOf ps (λ (pattern : GapPattern). IsChosenBy c.args.limit c.args.provable.now.atoms pattern objects)) (take_all c.loop-pattern.pattern-index c.args.patterns.now (omega (arith, c.loop-pattern-test.false))) (c.loop-pattern.invariant objects) in
+    let all =
+    subst (λ (ps : List GapPattern). Contains c.loop-pattern.choices.items objects
+    ↔ OneOf ps (λ (pattern : GapPattern). IsChosenBy c.args.limit c.args.provable.now.atoms pattern objects))
+    (take_all c.loop-pattern.pattern-index c.args.patterns.now (omega (arith, c.loop-pattern-test.false)))
+    (c.loop-pattern.invariant objects) in
     (λ h. is.0 (all.0 h), λ h. all.1 (is.1 h))

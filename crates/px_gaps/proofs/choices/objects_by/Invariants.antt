@@ -1,6 +1,6 @@
+-- What the loops of `objects_by` in src/choices.rt keep true.
 use Rattle.std.proofs.Common.{◌≡◌, map, take}
-use Rattle.px_question.specs.Answers.{object_of}
-use Rattle.px_terms.specs.Language.{substitute}
+use Rattle.px_terms.specs.Language.{substitute, object_of}
 use Rattle.px_gaps.proofs.choices.objects_by.Given as goal
 
 abbrev pub invariant-loop-target : goal.invariant-loop-target

@@ -1,3 +1,4 @@
+-- Proofs of the goals that `push_choices` of src/choices.rt leaves open.
 use Rattle.std.proofs.Common.{◌⊎◌, ◌∙◌, ℕ, List, length, map, sym, subst, ap}
 use Rattle.std.specs.Prelude.{◌↔◌, All, Contains}
 use Rattle.px_prover.specs.Patterns.{object_under}
@@ -12,14 +13,20 @@ use Rattle.px_gaps.proofs.choices.push_choices.Goals as goal
 pub push_open-requires-clause-below : goal.push_open-requires-clause-below
 push_open-requires-clause-below c =
     let long = ap length c.deref.ensures.value ∙ c.in_ok-terms.ensures.count in
-    subst (λ (ts : List Term). All (IsVariableBelow (length c.deref.result.now)) ts) (sym c.as_slice-targets.ensures) (subst (λ (n : ℕ). All (IsVariableBelow n) c.args.pattern.now.terms) (sym long) c.requires.pattern.terms_below)
+    subst (λ (ts : List Term). All (IsVariableBelow (length c.deref.result.now)) ts) (sym c.as_slice-targets.ensures)
+    (subst (λ (n : ℕ). All (IsVariableBelow n) c.args.pattern.now.terms) (sym long) c.requires.pattern.terms_below)
 
 pub push_open-requires-clause-bound : goal.push_open-requires-clause-bound
 push_open-requires-clause-bound c =
     let long = ap length c.deref.ensures.value ∙ c.in_ok-terms.ensures.count in
     record {
-      plain = subst (λ (xs : List Atom). ArePlain (length c.deref.result.now) xs) (sym c.as_slice-atoms.ensures) (subst (λ (n : ℕ). ArePlain n c.args.pattern.now.atoms) (sym long) c.requires.pattern.atoms_plain);
-      binding = subst (IsBinding c.args.limit) (sym c.deref.ensures.value) (unbound-binding c.args.limit c.args.pattern.now.vars c.in_ok-terms.terms.items c.in_ok-terms.ensures c.requires.pattern.some_object);
+      plain =
+          subst (λ (xs : List Atom). ArePlain (length c.deref.result.now) xs) (sym c.as_slice-atoms.ensures)
+          (subst (λ (n : ℕ). ArePlain n c.args.pattern.now.atoms) (sym long) c.requires.pattern.atoms_plain);
+      binding =
+          subst (IsBinding c.args.limit) (sym c.deref.ensures.value)
+          (unbound-binding c.args.limit c.args.pattern.now.vars c.in_ok-terms.terms.items c.in_ok-terms.ensures
+          c.requires.pattern.some_object);
       is_ground = c.requires.provable;
     }
 
@@ -28,7 +35,16 @@ returns c = on_ok c.push_open.result (λ made objects.
     let limit = c.args.limit in
     let pattern = c.args.pattern.now in
     let provable = c.args.provable.now.atoms in
-    let are : AreUnbound pattern.vars c.deref.result.now = subst (AreUnbound pattern.vars) (sym c.deref.ensures.value) c.in_ok-terms.ensures in
-    let here = subst (λ (xs : List Atom). Contains c.push_open.new.found.items objects ↔ (Contains c.args.found.now.items objects ⊎ IsOpenChoice limit c.deref.result.now xs provable c.as_slice-targets.result.now objects)) c.as_slice-atoms.ensures (made objects) in
-    let whole = subst (λ (ts : List Term). Contains c.push_open.new.found.items objects ↔ (Contains c.args.found.now.items objects ⊎ IsOpenChoice limit c.deref.result.now pattern.atoms provable ts objects)) c.as_slice-targets.ensures here in
-    then-same whole (unbound-open limit pattern.vars c.deref.result.now pattern.atoms provable (λ values. map (object_under values) pattern.terms) objects are)) c.push_open.ensures
+    let are : AreUnbound pattern.vars c.deref.result.now =
+    subst (AreUnbound pattern.vars) (sym c.deref.ensures.value) c.in_ok-terms.ensures in
+    let here =
+    subst (λ (xs : List Atom). Contains c.push_open.new.found.items objects
+    ↔ (Contains c.args.found.now.items objects
+    ⊎ IsOpenChoice limit c.deref.result.now xs provable c.as_slice-targets.result.now objects)) c.as_slice-atoms.ensures
+    (made objects) in
+    let whole =
+    subst (λ (ts : List Term). Contains c.push_open.new.found.items objects
+    ↔ (Contains c.args.found.now.items objects ⊎ IsOpenChoice limit c.deref.result.now pattern.atoms provable ts objects))
+    c.as_slice-targets.ensures here in
+    then-same whole (unbound-open limit pattern.vars c.deref.result.now pattern.atoms provable
+    (λ values. map (object_under values) pattern.terms) objects are)) c.push_open.ensures

@@ -1,3 +1,4 @@
+-- What the loops of `insert_facts` in src/facts.rt keep true.
 use Rattle.std.proofs.Common.{◌⊎◌, take}
 use Rattle.std.specs.Prelude.{◌↔◌, Contains}
 use Rattle.px_terms.specs.declared.atom.Atom.{Atom}
@@ -5,4 +6,6 @@ use Rattle.px_gaps.specs.Forms.{IsInstanceIn}
 use Rattle.px_gaps.proofs.facts.insert_facts.Given as goal
 
 abbrev pub invariant-loop-fact : goal.invariant-loop-fact
-invariant-loop-fact l = (q : Atom) → Contains l.found.atoms q ↔ (Contains l.initial.found.atoms q ⊎ (Contains (take l.fact-index l.facts) q × IsInstanceIn l.problem.objects l.form q))
+invariant-loop-fact l =
+    (q : Atom) → Contains l.found.atoms q
+    ↔ (Contains l.initial.found.atoms q ⊎ (Contains (take l.fact-index l.facts) q × IsInstanceIn l.problem.objects l.form q))

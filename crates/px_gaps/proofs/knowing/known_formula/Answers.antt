@@ -1,3 +1,4 @@
+-- Proofs of the goals that `known_formula` of src/knowing.rt leaves open.
 use Rattle.std.proofs.Common.{◌≡◌, ◌∙◌, ℕ, Bool, true, false, List, [], ◌∷◌, length, refl, sym, ap, subst, arith}
 use Rattle.std.specs.Prelude.{◌==◌}
 use borrow.Author.Tests.{eqb-true}
@@ -10,7 +11,8 @@ use Rattle.px_gaps.proofs.knowing.known_formula.Goals as goal
 
 pub returns-in-Err-ShapeLimit : goal.returns-in-Err-ShapeLimit
 returns-in-Err-ShapeLimit c =
-    known-limited c.args.problem.now (record { formula = c.args.formula.now; vars = c.args.vars; facts = c.args.model.now.atoms }) c.requires.no_answer c.in-Err-ShapeLimit.formula c.in-Err-ShapeLimit.shapes
+    known-limited c.args.problem.now (record { formula = c.args.formula.now; vars = c.args.vars; facts = c.args.model.now.atoms })
+    c.requires.no_answer c.in-Err-ShapeLimit.formula c.in-Err-ShapeLimit.shapes
     (rw c.in-Err-ShapeLimit.field-0-is at c.in-Err-ShapeLimit.ensures.limited)
 
 -- the test of an empty list, by its length
@@ -26,11 +28,15 @@ nothing (atom ∷ atoms) e = absurd (omega (arith, e))
 
 pub returns-then-is_empty : goal.returns-then-is_empty
 returns-then-is_empty c =
-    known-closed c.args.problem.now (record { formula = c.args.formula.now; vars = c.args.vars; facts = c.args.model.now.atoms }) c.requires.no_answer c.in-Ok.found.items c.in-Ok.ensures.exact c.in-Ok.ensures.unlimited c.in-Ok.ensures.below
-    (nothing c.in-Ok.found.items (no_items c.is_empty.result _ c.in-Ok.found.items c.is_empty.ensures c.if-is_empty.true (omega (arith, c.in-Ok.found.ok.0))))
+    known-closed c.args.problem.now (record { formula = c.args.formula.now; vars = c.args.vars; facts = c.args.model.now.atoms })
+    c.requires.no_answer c.in-Ok.found.items c.in-Ok.ensures.exact c.in-Ok.ensures.unlimited c.in-Ok.ensures.below
+    (nothing c.in-Ok.found.items (no_items c.is_empty.result _ c.in-Ok.found.items c.is_empty.ensures c.if-is_empty.true
+    (omega (arith, c.in-Ok.found.ok.0))))
 
 pub returns-else-is_empty : goal.returns-else-is_empty
 returns-else-is_empty c =
     let needed : Obligation = record { formula = c.args.formula.now; vars = c.args.vars; facts = c.args.model.now.atoms } in
     subst (IsOpenWith c.args.problem.now (needed ∷ [])) (sym c.from_vec.ensures)
-    (known-open c.args.problem.now needed c.requires.no_answer c.in-Ok.found.items c.in-Ok.ensures.exact c.in-Ok.ensures.unlimited c.in-Ok.ensures.below (some_items c.is_empty.result _ c.in-Ok.found.items c.is_empty.ensures c.if-is_empty.false (omega (arith, c.in-Ok.found.ok.0))) c.in-Ok.ensures.order)
+    (known-open c.args.problem.now needed c.requires.no_answer c.in-Ok.found.items c.in-Ok.ensures.exact c.in-Ok.ensures.unlimited
+    c.in-Ok.ensures.below (some_items c.is_empty.result _ c.in-Ok.found.items c.is_empty.ensures c.if-is_empty.false
+    (omega (arith, c.in-Ok.found.ok.0))) c.in-Ok.ensures.order)

@@ -1,9 +1,10 @@
+-- Proofs of the goals that `insert_open` of src/missing.rt leaves open.
 use Rattle.std.proofs.Common.{◌≡◌, ◌∙◌, ◌<◌, List, length, set, sym, subst, arith}
 use Rattle.px_question.specs.Answers.{object_terms}
 use Rattle.px_terms.specs.Substitution.{substitute_atom}
 use Rattle.px_terms.specs.declared.term.Term.{Term}
 use Rattle.px_terms.specs.declared.term.Term.TheVariants.{Obj}
-use Rattle.px_gaps.specs.Bindings.{ArePlain, IsBinding, IsPlain, open_count}
+use Rattle.px_gaps.specs.Bindings.{ArePlain, IsBinding, IsPlain, open_term_count}
 use Rattle.px_gaps.proofs.Choosing.{before-all, before-next, bound-binding, bound-plain, bound-plain_one, count-falls, met-none, none-open}
 use Rattle.px_gaps.proofs.Describing.{then-same}
 use Rattle.px_gaps.proofs.Grows.{grouped, grown}
@@ -18,8 +19,11 @@ meets_under-requires t c = c.requires.bound.plain
 
 pub returns-then-meets_under : goal.returns-then-meets_under
 returns-then-meets_under t c =
-    none-open c.args.avoidance.now.limit c.args.terms.now c.args.avoidance.now.atoms.now c.args.avoidance.now.set.now.atoms (λ values. substitute_atom (object_terms values) c.args.target.now) c.args.found.now.atoms
-    (met-none c.args.avoidance.now.limit c.args.terms.now c.requires.bound.binding c.args.avoidance.now.atoms.now c.args.avoidance.now.set.now.atoms c.requires.bound.plain c.requires.bound.is_ground (said_yes c.meets_under.result c.meets_under.ensures c.if-meets_under.true))
+    none-open c.args.avoidance.now.limit c.args.terms.now c.args.avoidance.now.atoms.now c.args.avoidance.now.set.now.atoms
+    (λ values. substitute_atom (object_terms values) c.args.target.now) c.args.found.now.atoms
+    (met-none c.args.avoidance.now.limit c.args.terms.now c.requires.bound.binding c.args.avoidance.now.atoms.now
+    c.args.avoidance.now.set.now.atoms c.requires.bound.plain c.requires.bound.is_ground
+    (said_yes c.meets_under.result c.meets_under.ensures c.if-meets_under.true))
 
 pub insert_open-requires : goal.insert_open-requires
 insert_open-requires t c =
@@ -27,13 +31,22 @@ insert_open-requires t c =
     let v = c.in-Some.variable in
     let object = c.loop-object.object in
     let next_is : c.deref.result.now ≡ set terms v (Obj object) = c.deref.ensures.value ∙ c.in_ok-next.ensures in
-    let less : open_count c.deref.result.now < open_count terms = subst (λ (ts : List Term). open_count ts < open_count terms) (sym next_is) (count-falls terms v v object c.in-Some.ensures.some) in (
+    let less : open_term_count c.deref.result.now < open_term_count terms =
+    subst (λ (ts : List Term). open_term_count ts < open_term_count terms) (sym next_is)
+    (count-falls terms v v object c.in-Some.ensures.some) in (
       omega (arith, less, c.decreases),
       (
-        subst (λ (ts : List Term). IsPlain (length ts) c.args.target.now) (sym next_is) (bound-plain_one c.args.avoidance.now.limit terms v c.in-Some.ensures.some object c.args.target.now c.requires.target),
+        subst (λ (ts : List Term). IsPlain (length ts) c.args.target.now) (sym next_is)
+            (bound-plain_one c.args.avoidance.now.limit terms v c.in-Some.ensures.some object c.args.target.now c.requires.target),
         record {
-          plain = subst (λ (ts : List Term). ArePlain (length ts) c.args.avoidance.now.atoms.now) (sym next_is) (bound-plain c.args.avoidance.now.limit terms v c.in-Some.ensures.some object c.args.avoidance.now.atoms.now c.requires.bound.plain);
-          binding = subst (IsBinding c.args.avoidance.now.limit) (sym next_is) (bound-binding c.args.avoidance.now.limit terms v c.in-Some.ensures.some object c.requires.bound.binding c.loop-object-test.true);
+          plain =
+              subst (λ (ts : List Term). ArePlain (length ts) c.args.avoidance.now.atoms.now) (sym next_is)
+              (bound-plain c.args.avoidance.now.limit terms v c.in-Some.ensures.some object c.args.avoidance.now.atoms.now
+              c.requires.bound.plain);
+          binding =
+              subst (IsBinding c.args.avoidance.now.limit) (sym next_is)
+              (bound-binding c.args.avoidance.now.limit terms v c.in-Some.ensures.some object c.requires.bound.binding
+              c.loop-object-test.true);
           is_ground = c.requires.bound.is_ground;
         },
       ),
@@ -41,8 +54,13 @@ insert_open-requires t c =
 
 pub loop-object-preserved : goal.loop-object-preserved
 loop-object-preserved t c = λ q.
-    grown (c.loop-object.invariant q) (c.in_ok-insert_open.ensures q) (grouped (before-next c.args.avoidance.now.limit c.args.terms.now c.args.avoidance.now.atoms.now c.args.avoidance.now.set.now.atoms (λ values. substitute_atom (object_terms values) c.args.target.now) c.in-Some.variable c.in-Some.ensures.some c.loop-object.object c.deref.result.now (c.deref.ensures.value ∙ c.in_ok-next.ensures) q))
+    grown (c.loop-object.invariant q) (c.in_ok-insert_open.ensures q)
+    (grouped (before-next c.args.avoidance.now.limit c.args.terms.now c.args.avoidance.now.atoms.now c.args.avoidance.now.set.now.atoms
+    (λ values. substitute_atom (object_terms values) c.args.target.now) c.in-Some.variable c.in-Some.ensures.some c.loop-object.object
+    c.deref.result.now (c.deref.ensures.value ∙ c.in_ok-next.ensures) q))
 
 pub returns : goal.returns
 returns t c = λ q.
-    then-same (c.loop-object.invariant q) (before-all c.args.avoidance.now.limit c.args.terms.now c.args.avoidance.now.atoms.now c.args.avoidance.now.set.now.atoms (λ values. substitute_atom (object_terms values) c.args.target.now) c.in-Some.variable c.in-Some.ensures.some c.loop-object.object c.loop-object-test.false q)
+    then-same (c.loop-object.invariant q) (before-all c.args.avoidance.now.limit c.args.terms.now c.args.avoidance.now.atoms.now
+    c.args.avoidance.now.set.now.atoms (λ values. substitute_atom (object_terms values) c.args.target.now) c.in-Some.variable
+    c.in-Some.ensures.some c.loop-object.object c.loop-object-test.false q)

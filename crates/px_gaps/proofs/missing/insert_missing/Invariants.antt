@@ -1,3 +1,4 @@
+-- What the loops of `insert_missing` in src/missing.rt keep true.
 use Rattle.std.specs.Prelude.{◌↔◌, ◌⊎◌, take, Contains}
 use Rattle.px_terms.specs.declared.atom.Atom.{Atom}
 use Rattle.px_gaps.specs.Closings.{OneOf}
@@ -6,4 +7,6 @@ use Rattle.px_gaps.proofs.missing.insert_missing.Given as goal
 
 abbrev pub invariant-loop-target : goal.invariant-loop-target
 invariant-loop-target l =
-    (q : Atom) → Contains l.found.atoms q ↔ (Contains l.initial.found.atoms q ⊎ OneOf (take l.target-index l.atoms) (IsReached l.limit l.pattern.vars l.atoms l.provable.atoms q))
+    (q : Atom) → Contains l.found.atoms q
+    ↔ (Contains l.initial.found.atoms q
+    ⊎ OneOf (take l.target-index l.atoms) (IsReached l.limit l.pattern.vars l.atoms l.provable.atoms q))

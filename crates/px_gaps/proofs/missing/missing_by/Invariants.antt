@@ -1,3 +1,4 @@
+-- What the loops of `missing_by` in src/missing.rt keep true.
 use Rattle.std.specs.Prelude.{◌↔◌, take, Contains}
 use Rattle.px_prover.specs.declared.pattern.GapPattern.{GapPattern}
 use Rattle.px_terms.specs.declared.atom.Atom.{Atom}
@@ -6,4 +7,6 @@ use Rattle.px_gaps.specs.Described.{IsMissingBy}
 use Rattle.px_gaps.proofs.missing.missing_by.Given as goal
 
 abbrev pub invariant-loop-pattern : goal.invariant-loop-pattern
-invariant-loop-pattern l = (q : Atom) → Contains l.missing.atoms q ↔ OneOf (take l.pattern-index l.patterns) (λ (pattern : GapPattern). IsMissingBy l.limit l.provable.atoms pattern q)
+invariant-loop-pattern l =
+    (q : Atom) → Contains l.missing.atoms q
+    ↔ OneOf (take l.pattern-index l.patterns) (λ (pattern : GapPattern). IsMissingBy l.limit l.provable.atoms pattern q)

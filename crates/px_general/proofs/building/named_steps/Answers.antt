@@ -1,3 +1,4 @@
+-- Proofs of the goals that `named_steps` of src/building.rt leaves open.
 use Rattle.std.proofs.Common.{length}
 use Rattle.px_terms.specs.declared.instance.OpInst.{OpInst}
 use Rattle.px_terms.specs.Language.{IsVariableBelow}
@@ -6,4 +7,5 @@ use Rattle.px_general.proofs.building.named_steps.Goals as goal
 
 pub apply_inst-requires : goal.apply_inst-requires
 apply_inst-requires c =
-    part-within (λ (inst : OpInst). inst.args) (IsVariableBelow (length c.args.names.now)) c.args.steps.now c.loop-inst.inst-index c.inst-item.result c.loop-inst-test.true c.inst-item.is c.requires
+    part-within (λ (inst : OpInst). inst.args) (IsVariableBelow (length c.args.names.now)) c.args.steps.now c.loop-inst.inst-index
+    c.inst-item.result c.loop-inst-test.true c.inst-item.is c.requires

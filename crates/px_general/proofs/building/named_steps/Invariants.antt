@@ -1,3 +1,4 @@
+-- What the loops of `named_steps` in src/building.rt keep true.
 use Rattle.std.proofs.Common.{◌≡◌, ◌++◌, List, take, map}
 use Rattle.std.specs.Prelude.{flat_map}
 use Rattle.px_terms.specs.Substitution.{substitute_instance}

@@ -1,3 +1,4 @@
+-- Proofs of the goals that `is_too_deep` of src/limits.rt leaves open.
 use Rattle.std.proofs.Common.{◌<◌, List, subst, sym}
 use Rattle.std.specs.Prelude.{Any}
 use Rattle.px_proof.specs.declared.proof.Proof.{Proof}
@@ -9,6 +10,8 @@ use Rattle.px_general.proofs.limits.is_too_deep.Goals as goal
 pub returns : goal.returns
 returns c =
     let high = high_rows c.as_slice.result.now in (
-      λ yes. subst (λ (rows : List (List Proof)). Any (Any (λ d. 56 < height d)) (rows_of rows)) c.as_slice.ensures (high.0 (c.has_high_row.ensures.0 yes)),
-      λ deep. c.has_high_row.ensures.1 (high.1 (subst (λ (rows : List (List Proof)). Any (Any (λ d. 56 < height d)) (rows_of rows)) (sym c.as_slice.ensures) deep)),
+      λ yes. subst (λ (rows : List (List Proof)). Any (Any (λ d. 56 < height d)) (rows_of rows)) c.as_slice.ensures
+          (high.0 (c.has_high_row.ensures.0 yes)),
+      λ deep. c.has_high_row.ensures.1 (high.1 (subst (λ (rows : List (List Proof)). Any (Any (λ d. 56 < height d)) (rows_of rows))
+          (sym c.as_slice.ensures) deep)),
     )

@@ -1,3 +1,4 @@
+-- What the loops of `add_steps` in src/walking.rt keep true.
 use Rattle.std.proofs.Common.{◌≡◌, ◌++◌, List, take, map}
 use Rattle.std.specs.Prelude.{flat_map}
 use Rattle.px_general.specs.General.{step_terms}

@@ -1,3 +1,4 @@
+-- What the loops of `are_same` in src/keeping.rt keep true.
 use Rattle.std.proofs.Common.{◌≡◌, drop}
 use Rattle.std.specs.Cmp.Lexicographic.{pointwise}
 use Rattle.px_terms.specs.Order.{term_eq}

@@ -1,3 +1,4 @@
+-- What the loops of `meets` in src/keeping.rt keep true.
 use Rattle.std.specs.Prelude.{◌-◌, length}
 use Rattle.px_match.proofs.keeping.meets.Given as goal
 

@@ -1,3 +1,4 @@
+-- Proofs of the goals that `put_one` of src/keeping.rt leaves open.
 use Rattle.std.proofs.Common.{sym, ap, ◌∙◌}
 use Rattle.px_terms.specs.AtomSets.{with_atom}
 use Rattle.px_match.specs.Keeping.{covers}
@@ -10,8 +11,11 @@ returns-then-covers c = record {
   each = λ room atoms set hasnt is. record {
     same = c.insert_spare.ensures.atoms ∙ ap (with_atom c.args.atom.now) is.same
         ∙ sym (put-covered (covers c.args.mark.now) c.args.atom.now atoms set (sym c.covers.ensures ∙ c.if-covers.true));
-    places = room_put room c.args.atom.now c.args.list.now c.insert_spare.new.self (matches_set c.args.mark.now atoms c.args.list.now.atoms set is.same)
-        c.insert_spare.ensures.atoms (matches_without c.args.mark.now atoms c.args.list.now.atoms c.args.atom.now is.same hasnt) c.insert_spare.ensures.spare is.places;
+    places =
+        room_put room c.args.atom.now c.args.list.now c.insert_spare.new.self
+        (matches_set c.args.mark.now atoms c.args.list.now.atoms set is.same)
+        c.insert_spare.ensures.atoms (matches_without c.args.mark.now atoms c.args.list.now.atoms c.args.atom.now is.same hasnt)
+        c.insert_spare.ensures.spare is.places;
   };
 }
 

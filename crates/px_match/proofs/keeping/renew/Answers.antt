@@ -1,3 +1,4 @@
+-- Proofs of the goals that `renew` of src/keeping.rt leaves open.
 use Rattle.std.specs.Prelude.{length}
 use Rattle.px_match.proofs.Renewed.{matches_of}
 use Rattle.px_match.proofs.keeping.renew.Goals as goal
@@ -11,4 +12,5 @@ returns-clause-kept c = λ room are. c.put_new.ensures.kept room (c.take_gone.en
 pub returns-clause-matches : goal.returns-clause-matches
 returns-clause-matches c =
     let few = length c.args.new.now.atoms in
-    matches_of few c.args.marks.now c.put_new.new.kept c.put_new.new.lists c.args.new.now.atoms c.put_new.ensures.atoms (c.put_new.ensures.kept few (c.take_gone.ensures.kept few c.requires.room))
+    matches_of few c.args.marks.now c.put_new.new.kept c.put_new.new.lists c.args.new.now.atoms c.put_new.ensures.atoms
+    (c.put_new.ensures.kept few (c.take_gone.ensures.kept few c.requires.room))

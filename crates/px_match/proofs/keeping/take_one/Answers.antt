@@ -1,3 +1,4 @@
+-- Proofs of the goals that `take_one` of src/keeping.rt leaves open.
 use Rattle.std.proofs.Common.{sym, ap, ◌∙◌}
 use Rattle.px_ops.specs.Models.{without_atom}
 use Rattle.px_match.specs.Keeping.{covers}
@@ -8,8 +9,12 @@ use Rattle.px_match.proofs.keeping.take_one.Goals as goal
 pub returns-then-covers : goal.returns-then-covers
 returns-then-covers c = record {
   each = λ room atoms set is. record {
-    same = c.remove.ensures.atoms ∙ ap (without_atom c.args.atom.now) is.same ∙ sym (taken-covered (covers c.args.mark.now) c.args.atom.now atoms set);
-    places = room_taken room c.args.atom.now c.args.list.now c.remove.new.self c.remove.result (matches_set c.args.mark.now atoms c.args.list.now.atoms set is.same)
+    same =
+        c.remove.ensures.atoms ∙ ap (without_atom c.args.atom.now) is.same
+        ∙ sym (taken-covered (covers c.args.mark.now) c.args.atom.now atoms set);
+    places =
+        room_taken room c.args.atom.now c.args.list.now c.remove.new.self c.remove.result
+        (matches_set c.args.mark.now atoms c.args.list.now.atoms set is.same)
         c.remove.ensures.atoms c.remove.ensures.was_there c.remove.ensures.spare_kept c.remove.ensures.spare_won is.places;
   };
 }

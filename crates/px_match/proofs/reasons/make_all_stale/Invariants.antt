@@ -1,3 +1,4 @@
+-- What the loops of `make_all_stale` in src/reasons.rt keep true.
 use Rattle.std.proofs.Common.{ℕ, ◌<◌}
 use Rattle.px_match.specs.Reasons.{IsStale}
 use Rattle.px_match.proofs.reasons.make_all_stale.Given as goal

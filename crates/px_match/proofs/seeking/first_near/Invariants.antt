@@ -1,3 +1,4 @@
+-- What the loops of `first_near` in src/seeking.rt keep true.
 use Rattle.std.specs.Prelude.{◌≤◌, ◌-◌, length}
 use Rattle.px_match.specs.Seeking.{IsNoneBefore}
 use Rattle.px_match.proofs.seeking.first_near.Given as goal

@@ -1,3 +1,4 @@
+-- Proofs of the goals that `numbers_of` of src/numbers.rt leaves open.
 use Rattle.std.proofs.Common.{◌≡◌, ◌+◌, ◌++◌, ℕ, List, [], ◌∷◌, take, subst, sym, ap, ◌∙◌}
 use Rattle.std.proofs.lemmas.List.{take_more}
 use Rattle.px_terms.specs.declared.atom.Atom.{Atom}
@@ -8,7 +9,8 @@ use Rattle.px_numbers.proofs.numbers.numbers_of.Goals as goal
 
 pub returns-in_err-push-clause-once : goal.returns-in_err-push-clause-once
 returns-in_err-push-clause-once c = λ once.
-    keeps-once c.loop-atom.index c.number_of.new.index c.atom-item.result c.in_ok-number.number c.in_ok-number.ensures.kept (c.loop-atom.invariant.once once)
+    keeps-once c.loop-atom.index c.number_of.new.index c.atom-item.result c.in_ok-number.number c.in_ok-number.ensures.kept
+    (c.loop-atom.invariant.once once)
 
 pub loop-atom-preserved : goal.loop-atom-preserved
 loop-atom-preserved c =

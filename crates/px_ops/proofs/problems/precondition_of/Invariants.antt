@@ -1,3 +1,4 @@
+-- What the loops of `precondition_of` in src/problems.rt keep true.
 use Rattle.std.proofs.Common.{◌≡◌, take}
 use Rattle.px_terms.specs.Operators.{atoms_of}
 use Rattle.px_ops.proofs.problems.precondition_of.Given as goal

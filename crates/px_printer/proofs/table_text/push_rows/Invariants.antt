@@ -1,3 +1,4 @@
+-- What the loops of `push_rows` in src/table_text.rt keep true.
 use Rattle.std.proofs.Common.{◌≡◌, ◌++◌, ◌+◌, drop}
 use Rattle.std.specs.Prelude.{string_bytes}
 use Rattle.px_printer.specs.Rows.{step_rows}

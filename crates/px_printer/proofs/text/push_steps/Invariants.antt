@@ -1,3 +1,4 @@
+-- What the loops of `push_steps` in src/text.rt keep true.
 use Rattle.std.proofs.Common.{◌≡◌, ◌++◌, ◌+◌, drop, map}
 use Rattle.std.specs.Prelude.{string_bytes}
 use Rattle.px_printer.specs.Texts.{instance_text, numbered_lines}

@@ -1,3 +1,4 @@
+-- Proofs of the goals that `graft_leaf` of src/grafting.rt leaves open.
 use Rattle.std.proofs.Common.{◌∙◌, ap, map, drop, length}
 use Rattle.px_proof.specs.ProofTerm.{derivation_of}
 use Rattle.px_proof.proofs.Grafts.{place_first, place_later, one_left}
@@ -10,4 +11,5 @@ returns-then-leaf-eq0-clause-value c =
     (one_left c.args.leaf.now c.args.used.now (length c.args.parts.now) c.if-leaf-eq0.true c.requires.parts) c.index-parts-next.is
 
 pub returns-clause-value : goal.returns-clause-value
-returns-clause-value c = place_later c.args.shift (drop c.args.used.now (map derivation_of c.args.parts.now)) c.args.leaf.now c.if-leaf-eq0.false
+returns-clause-value c =
+    place_later c.args.shift (drop c.args.used.now (map derivation_of c.args.parts.now)) c.args.leaf.now c.if-leaf-eq0.false

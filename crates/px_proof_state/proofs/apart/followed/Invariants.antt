@@ -1,3 +1,4 @@
+-- What the loops of `followed` in src/apart.rt keep true.
 use Rattle.std.proofs.Common.{◌≡◌, ◌≤◌, List, length, map, take}
 use Rattle.px_terms.specs.declared.term.Term.{Term}
 use Rattle.px_terms.specs.Language.{substitute}
@@ -8,5 +9,6 @@ abbrev pub invariant-loop-place : goal.invariant-loop-place
 invariant-loop-place l = record {
   within : l.place ≤ length l.args;
   long : length l.terms ≡ 6;
-  same : (sigma : List Term) → Fits sigma l.bind → map (substitute sigma) (take l.place l.args) ≡ map (substitute sigma) (take l.place l.terms);
+  same : (sigma : List Term) → Fits sigma l.bind
+      → map (substitute sigma) (take l.place l.args) ≡ map (substitute sigma) (take l.place l.terms);
 }

@@ -1,3 +1,4 @@
+-- Proofs of the goals that `try_clause` of src/axioms.rt leaves open.
 use Rattle.std.proofs.Common.{◌+◌, false, true, length, arith}
 use Rattle.px_terms.specs.declared.clause.Clause.{Clause}
 use Rattle.px_proof_state.specs.Places.{NeverStep, ComesStep}
@@ -9,20 +10,26 @@ use Rattle.px_proof_state.proofs.axioms.try_clause.Goals as goal
 pub returns-in-Ok-true : goal.returns-in-Ok-true
 returns-in-Ok-true c =
     let clause : Clause = record { vars = c.args.vars; lits = c.args.lits.now } in
-    with_room c.args.number clause c.args.goal.now c.args.from c.args.state.now c.close_by_step.new.self true (c.has_room.ensures.0 c.if-not-has_room.false)
-    (step-comes c.args.number clause c.args.goal.now c.args.from c.loop-place.place c.args.state.now c.loop-place.state c.close_by_step.new.self c.in-Ok-true.field-0 c.loop-place.invariant.same c.in-Ok-true.ensures
+    with_room c.args.number clause c.args.goal.now c.args.from c.args.state.now c.close_by_step.new.self true
+    (c.has_room.ensures.0 c.if-not-has_room.false)
+    (step-comes c.args.number clause c.args.goal.now c.args.from c.loop-place.place c.args.state.now c.loop-place.state
+    c.close_by_step.new.self c.in-Ok-true.field-0 c.loop-place.invariant.same c.in-Ok-true.ensures
     c.in-Ok-true.field-0-test c.loop-place.auto.place c.loop-place-test.true c.loop-place.invariant.never)
 
 pub loop-place-preserved : goal.loop-place-preserved
 loop-place-preserved c =
     let clause : Clause = record { vars = c.args.vars; lits = c.args.lits.now } in
-    let both = step-never c.args.number clause c.args.goal.now c.args.from c.loop-place.place c.args.state.now c.loop-place.state c.close_by_step.new.self c.in-Ok-false.field-0 c.loop-place.invariant.same c.in-Ok-false.ensures
+    let both =
+    step-never c.args.number clause c.args.goal.now c.args.from c.loop-place.place c.args.state.now c.loop-place.state
+    c.close_by_step.new.self c.in-Ok-false.field-0 c.loop-place.invariant.same c.in-Ok-false.ensures
     c.in-Ok-false.field-0-test (c.loop-place.place + 1) (omega arith) c.loop-place.invariant.never in
     record { same = both.0; never = both.1 }
 
 pub returns : goal.returns
 returns c =
     let clause : Clause = record { vars = c.args.vars; lits = c.args.lits.now } in
-    with_room c.args.number clause c.args.goal.now c.args.from c.args.state.now c.loop-place.state false (c.has_room.ensures.0 c.if-not-has_room.false)
-    (range-none (NeverStep clause c.args.state.now c.args.goal.now) (ComesStep c.args.number clause c.args.state.now c.args.goal.now) c.args.from (length c.args.lits.now) c.loop-place.place
+    with_room c.args.number clause c.args.goal.now c.args.from c.args.state.now c.loop-place.state false
+    (c.has_room.ensures.0 c.if-not-has_room.false)
+    (range-none (NeverStep clause c.args.state.now c.args.goal.now)
+    (ComesStep c.args.number clause c.args.state.now c.args.goal.now) c.args.from (length c.args.lits.now) c.loop-place.place
     c.args.state.now c.loop-place.state c.loop-place.invariant.same c.loop-place.invariant.never (omega (arith, c.loop-place-test.false)))

@@ -1,3 +1,4 @@
+-- Proofs of the goals that `walk_to_end` of src/gather.rt leaves open.
 use Rattle.std.proofs.Common.{List, [], ◌∷◌, ◌++◌, ◌+◌, ◌<◌, refl, length, arith, ap, subst}
 use Rattle.px_proof.specs.declared.shape.Tick.{Tick}
 use Rattle.px_proof_walk.specs.Order.{IsNext, NoneAfter}
@@ -10,7 +11,13 @@ loop-count-init g c = record {
   stands = c.requires.stands;
   short = rw c.requires.start (omega arith);
   here = rw c.requires.start c.requires.possible;
-  visits = ([], c.new-shapes.ensures.items, refl, rw c.requires.start (seen-start (g.W.Walk.possible c.args.question.now) (λ ticks. ⊥)), c.requires.nothing);
+  visits = (
+    [],
+    c.new-shapes.ensures.items,
+    refl,
+    rw c.requires.start (seen-start (g.W.Walk.possible c.args.question.now) (λ ticks. ⊥)),
+    c.requires.nothing,
+  );
 }
 
 pub returns-then-count-limit-clause-limited : goal.returns-then-count-limit-clause-limited
@@ -18,7 +25,8 @@ returns-then-count-limit-clause-limited g c =
     let visits = c.loop-count.invariant.visits in (
       visits.0 ++ g.W.Walk.ticks c.loop-count.walk ∷ [],
       rw (c.in_ok-push.ensures.ok, c.in_ok-shape.ensures) (shapes-push (g.W.Walk.shape_of c.args.question.now) _ visits.0 _ visits.1),
-      limit-comes (g.W.Walk.possible c.args.question.now) (λ ticks. ⊥) visits.0 _ visits.3 c.loop-count.invariant.here (λ h. h) c.args.limit (rw visits.2 c.if-count-limit.true),
+      limit-comes (g.W.Walk.possible c.args.question.now) (λ ticks. ⊥) visits.0 _ visits.3 c.loop-count.invariant.here (λ h. h) c.args.limit
+          (rw visits.2 c.if-count-limit.true),
     )
 
 pub returns-then-not-branch-clause-all : goal.returns-then-not-branch-clause-all
@@ -26,9 +34,11 @@ returns-then-not-branch-clause-all g c =
     let visits = c.loop-count.invariant.visits in
     let few : length visits.0 + 1 < c.args.limit = rw visits.2 (omega (arith, c.if-count-limit.false, c.loop-count.invariant.within)) in
     let after : NoneAfter (g.W.Walk.possible c.args.question.now) (g.W.Walk.ticks c.loop-count.walk) =
-    subst (NoneAfter (g.W.Walk.possible c.args.question.now)) c.in_ok-gather.ensures.there (c.in_ok-advance.ensures.none c.if-not-branch.true) in (
+    subst (NoneAfter (g.W.Walk.possible c.args.question.now)) c.in_ok-gather.ensures.there
+    (c.in_ok-advance.ensures.none c.if-not-branch.true) in (
       visits.0 ++ g.W.Walk.ticks c.loop-count.walk ∷ [],
-      all-come (g.W.Walk.possible c.args.question.now) (λ ticks. ⊥) visits.0 _ visits.3 c.loop-count.invariant.here (λ h. h) c.args.limit few after,
+      all-come (g.W.Walk.possible c.args.question.now) (λ ticks. ⊥) visits.0 _ visits.3 c.loop-count.invariant.here
+          (λ h. h) c.args.limit few after,
       c.in_ok-gather.ensures.more visits.0 visits.4,
     )
 
@@ -36,7 +46,8 @@ pub loop-count-preserved : goal.loop-count-preserved
 loop-count-preserved g c =
     let visits = c.loop-count.invariant.visits in
     let next : IsNext (g.W.Walk.possible c.args.question.now) (g.W.Walk.ticks c.loop-count.walk) (g.W.Walk.ticks c.advance.new.walk) =
-    subst (λ (ticks : List Tick). IsNext (g.W.Walk.possible c.args.question.now) ticks (g.W.Walk.ticks c.advance.new.walk)) c.in_ok-gather.ensures.there (c.in_ok-advance.ensures.next c.if-not-branch.false) in
+    subst (λ (ticks : List Tick). IsNext (g.W.Walk.possible c.args.question.now) ticks (g.W.Walk.ticks c.advance.new.walk))
+    c.in_ok-gather.ensures.there (c.in_ok-advance.ensures.next c.if-not-branch.false) in
     record {
       within = omega (arith, c.if-count-limit.false, c.loop-count.invariant.within);
       stands = c.in_ok-advance.ensures.still;
@@ -45,7 +56,10 @@ loop-count-preserved g c =
       visits = (
         visits.0 ++ g.W.Walk.ticks c.loop-count.walk ∷ [],
         rw (c.in_ok-push.ensures.ok, c.in_ok-shape.ensures) (shapes-push (g.W.Walk.shape_of c.args.question.now) _ visits.0 _ visits.1),
-        rw (length-seen (g.W.Walk.possible c.args.question.now) (λ ticks. ⊥) visits.0 _ visits.3 c.loop-count.invariant.here (λ h. h), visits.2) refl,
+        rw (
+          length-seen (g.W.Walk.possible c.args.question.now) (λ ticks. ⊥) visits.0 _ visits.3 c.loop-count.invariant.here (λ h. h),
+          visits.2,
+        ) refl,
         seen-next (g.W.Walk.possible c.args.question.now) (λ ticks. ⊥) visits.0 _ visits.3 c.loop-count.invariant.here (λ h. h) _ next,
         c.in_ok-gather.ensures.more visits.0 visits.4,
       );

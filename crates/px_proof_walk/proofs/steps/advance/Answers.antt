@@ -1,3 +1,4 @@
+-- Proofs of the goals that `advance` of src/steps.rt leaves open.
 use Rattle.std.proofs.Common.{◌∷◌, [], length, ap, arith, length-append}
 use Rattle.px_proof_walk.proofs.Ordering.{onward-start, turn-next, turn-none, turn-retract}
 use Rattle.px_proof_walk.proofs.steps.advance.Goals as goal
@@ -11,7 +12,8 @@ loop-walk-init g c = record {
 
 pub returns-in-None-clause-none : goal.returns-in-None-clause-none
 returns-in-None-clause-none g c =
-    λ is_false. turn-none (g.W.Walk.possible c.args.question.now) (g.W.Walk.shorter c.args.question.now) (g.W.Walk.ticks c.args.walk.now) _ _ _ _
+    λ is_false. turn-none (g.W.Walk.possible c.args.question.now) (g.W.Walk.shorter c.args.question.now)
+    (g.W.Walk.ticks c.args.walk.now) _ _ _ _
     c.loop-walk.invariant.way c.in_ok-try_after.ensures.tried c.if-not-branch.true c.in-None.ensures.none
 
 pub returns-in-None-clause-longer : goal.returns-in-None-clause-longer
@@ -22,7 +24,8 @@ loop-walk-preserved g c =
     let same = (c.in_ok-try_after.ensures.tried.no_more c.if-not-branch.true).0 in
     let more = length-append (g.W.Walk.ticks c.retract.new.self) (c.in-Some.tick ∷ []) in
     record {
-      way = turn-retract (g.W.Walk.possible c.args.question.now) (g.W.Walk.shorter c.args.question.now) (g.W.Walk.ticks c.args.walk.now) _ _ _ _
+      way = turn-retract (g.W.Walk.possible c.args.question.now) (g.W.Walk.shorter c.args.question.now)
+          (g.W.Walk.ticks c.args.walk.now) _ _ _ _
           c.loop-walk.invariant.way c.in_ok-try_after.ensures.tried c.if-not-branch.true _ _ c.in-Some.ensures.last;
       within = omega (arith, ap length c.in-Some.ensures.last, more, ap length same, c.loop-walk.invariant.within);
       stands = c.in-Some.ensures.still;
@@ -30,5 +33,6 @@ loop-walk-preserved g c =
 
 pub returns-clause-next : goal.returns-clause-next
 returns-clause-next g c =
-    λ is_true. turn-next (g.W.Walk.possible c.args.question.now) (g.W.Walk.shorter c.args.question.now) (g.W.Walk.ticks c.args.walk.now) _ _ _ _
+    λ is_true. turn-next (g.W.Walk.possible c.args.question.now) (g.W.Walk.shorter c.args.question.now)
+    (g.W.Walk.ticks c.args.walk.now) _ _ _ _
     c.loop-walk.invariant.way c.in_ok-try_after.ensures.tried c.if-not-branch.false

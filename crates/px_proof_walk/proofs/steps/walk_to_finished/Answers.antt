@@ -1,3 +1,4 @@
+-- Proofs of the goals that `walk_to_finished` of src/steps.rt leaves open.
 use Rattle.std.proofs.Common.{[], ◌∷◌, ◌++◌, ◌+◌, ◌<◌, refl, length, arith}
 use Rattle.px_proof_walk.proofs.Visits.{seen-start, seen-next, none-comes, limit-comes, length-seen, shapes-push}
 use Rattle.px_proof_walk.proofs.steps.walk_to_finished.Goals as goal
@@ -8,7 +9,12 @@ loop-count-init g c = record {
   stands = c.requires.stands;
   short = rw c.requires.start (omega arith);
   here = rw c.requires.start c.requires.possible;
-  visits = ([], c.new-shapes.ensures.items, refl, rw c.requires.start (seen-start (g.W.Walk.possible c.args.question.now) (g.W.Walk.finished c.args.question.now)));
+  visits = (
+    [],
+    c.new-shapes.ensures.items,
+    refl,
+    rw c.requires.start (seen-start (g.W.Walk.possible c.args.question.now) (g.W.Walk.finished c.args.question.now)),
+  );
 }
 
 pub returns-then-count-limit-clause-end : goal.returns-then-count-limit-clause-end
@@ -16,7 +22,8 @@ returns-then-count-limit-clause-end g c =
     let visits = c.loop-count.invariant.visits in (
       visits.0 ++ g.W.Walk.ticks c.loop-count.walk ∷ [],
       rw (c.in_ok-push.ensures.ok, c.in_ok-shape.ensures) (shapes-push (g.W.Walk.shape_of c.args.question.now) _ visits.0 _ visits.1),
-      limit-comes (g.W.Walk.possible c.args.question.now) (g.W.Walk.finished c.args.question.now) visits.0 _ visits.3 c.loop-count.invariant.here
+      limit-comes (g.W.Walk.possible c.args.question.now)
+          (g.W.Walk.finished c.args.question.now) visits.0 _ visits.3 c.loop-count.invariant.here
           (λ finished. let is_finished = c.is_finished.ensures.1 finished in let is_not = c.if-is_finished.false in cc)
           c.args.limit (rw visits.2 c.if-count-limit.true),
     )
@@ -25,7 +32,8 @@ pub returns-then-not-branch-clause-end : goal.returns-then-not-branch-clause-end
 returns-then-not-branch-clause-end g c =
     let visits = c.loop-count.invariant.visits in
     let few : length visits.0 + 1 < c.args.limit = rw visits.2 (omega (arith, c.if-count-limit.false, c.loop-count.invariant.within)) in
-    none-comes (g.W.Walk.possible c.args.question.now) (g.W.Walk.finished c.args.question.now) visits.0 _ visits.3 c.loop-count.invariant.here
+    none-comes (g.W.Walk.possible c.args.question.now)
+    (g.W.Walk.finished c.args.question.now) visits.0 _ visits.3 c.loop-count.invariant.here
     (λ finished. let is_finished = c.is_finished.ensures.1 finished in let is_not = c.if-is_finished.false in cc)
     c.args.limit few (c.in_ok-advance.ensures.none c.if-not-branch.true)
 
@@ -41,8 +49,14 @@ loop-count-preserved g c =
       visits = (
         visits.0 ++ g.W.Walk.ticks c.loop-count.walk ∷ [],
         rw (c.in_ok-push.ensures.ok, c.in_ok-shape.ensures) (shapes-push (g.W.Walk.shape_of c.args.question.now) _ visits.0 _ visits.1),
-        rw (length-seen (g.W.Walk.possible c.args.question.now) (g.W.Walk.finished c.args.question.now) visits.0 _ visits.3 c.loop-count.invariant.here (λ finished. let is_finished = c.is_finished.ensures.1 finished in let is_not = c.if-is_finished.false in cc), visits.2) refl,
-        seen-next (g.W.Walk.possible c.args.question.now) (g.W.Walk.finished c.args.question.now) visits.0 _ visits.3 c.loop-count.invariant.here
+        rw (
+          length-seen (g.W.Walk.possible c.args.question.now)
+              (g.W.Walk.finished c.args.question.now) visits.0 _ visits.3 c.loop-count.invariant.here
+              (λ finished. let is_finished = c.is_finished.ensures.1 finished in let is_not = c.if-is_finished.false in cc),
+          visits.2,
+        ) refl,
+        seen-next (g.W.Walk.possible c.args.question.now)
+            (g.W.Walk.finished c.args.question.now) visits.0 _ visits.3 c.loop-count.invariant.here
             (λ finished. let is_finished = c.is_finished.ensures.1 finished in let is_not = c.if-is_finished.false in cc) _ next,
       );
     }

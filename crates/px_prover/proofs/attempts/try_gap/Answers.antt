@@ -1,3 +1,4 @@
+-- Proofs of the goals that `try_gap` of src/attempts.rt leaves open.
 use Rattle.std.proofs.Common.{true, false}
 use Rattle.px_prover.specs.Asking.{setting_in}
 use Rattle.px_prover.specs.Standing.{ticks_in}
@@ -10,7 +11,9 @@ use Rattle.px_proof_state.proofs.Trying.{if_ok}
 use Rattle.px_prover.proofs.attempts.try_gap.Goals as goal
 
 pub close_by_gap-requires : goal.close_by_gap-requires
-close_by_gap-requires c = ready-below c.args.question.now.loose (setting_in c.args.question.now) c.args.question.now.formula.now c.args.question.now.vars (ticks_in c.args.state.now.choices) c.args.state.now c.args.goal.now c.requires
+close_by_gap-requires c =
+    ready-below c.args.question.now.loose (setting_in c.args.question.now) c.args.question.now.formula.now c.args.question.now.vars
+    (ticks_in c.args.state.now.choices) c.args.state.now c.args.goal.now c.requires
 
 pub returns-then-not-question : goal.returns-then-not-question
 returns-then-not-question c = gap-not_loose c.args.question.now c.args.state.now c.args.goal.now c.requires c.if-not-question.true
@@ -21,7 +24,8 @@ returns-then-not-goal c = gap-denied c.args.question.now c.args.state.now c.args
 pub returns-then-not-is_added : goal.returns-then-not-is_added
 returns-then-not-is_added c =
     gap-not_added c.args.question.now c.args.state.now c.args.goal.now c.requires
-    (any-as c.pred.result c.args.goal.now.lit.atom.pred c.as_slice.result.now c.args.question.now.problem.now.schemas c.is_added.result false c.pred.ensures c.as_slice.ensures c.is_added.ensures c.if-not-is_added.true)
+    (any-as c.pred.result c.args.goal.now.lit.atom.pred c.args.question.now.problem.now.schemas c.is_added.result
+    false c.pred.ensures c.is_added.ensures c.if-not-is_added.true)
 
 pub returns : goal.returns
 returns c =
@@ -29,6 +33,7 @@ returns c =
     (λ found. ClosesBy c.args.state.now c.close_by_gap.new.state Gap c.args.goal.now.lit c.args.goal.now.lit c.args.goal.now.next found)
     (λ found. TriesSince c.args.question.now Gap c.args.state.now c.close_by_gap.new.state found)
     (λ found closes. gap-tried c.args.question.now c.args.state.now c.args.goal.now c.requires c.if-not-question.false c.if-not-goal.false
-    (any-as c.pred.result c.args.goal.now.lit.atom.pred c.as_slice.result.now c.args.question.now.problem.now.schemas c.is_added.result true c.pred.ensures c.as_slice.ensures c.is_added.ensures c.if-not-is_added.false)
+    (any-as c.pred.result c.args.goal.now.lit.atom.pred c.args.question.now.problem.now.schemas c.is_added.result true
+    c.pred.ensures c.is_added.ensures c.if-not-is_added.false)
     c.close_by_gap.new.state found closes)
     c.close_by_gap.ensures

@@ -1,3 +1,4 @@
+-- Proofs of the goals that `try_since_ancestor` of src/attempts.rt leaves open.
 use Rattle.px_prover.specs.Asking.{setting_in}
 use Rattle.px_prover.specs.Standing.{ticks_in}
 use Rattle.px_prover.specs.Tries.{TriesSince}
@@ -9,30 +10,44 @@ use Rattle.px_proof_state.proofs.Trying.{if_ok}
 use Rattle.px_prover.proofs.attempts.try_since_ancestor.Goals as goal
 
 pub try_ancestors-requires-clause-few : goal.try_ancestors-requires-clause-few
-try_ancestors-requires-clause-few c = ready-near c.args.question.now.loose (setting_in c.args.question.now) c.args.question.now.formula.now c.args.question.now.vars (ticks_in c.args.state.now.choices) c.args.state.now c.args.goal.now c.requires
+try_ancestors-requires-clause-few c =
+    ready-near c.args.question.now.loose (setting_in c.args.question.now) c.args.question.now.formula.now c.args.question.now.vars
+    (ticks_in c.args.state.now.choices) c.args.state.now c.args.goal.now c.requires
 
 pub try_ancestors-requires-clause-above_older : goal.try_ancestors-requires-clause-above_older
-try_ancestors-requires-clause-above_older c = ready-above c.args.question.now.loose (setting_in c.args.question.now) c.args.question.now.formula.now c.args.question.now.vars (ticks_in c.args.state.now.choices) c.args.state.now c.args.goal.now c.requires
+try_ancestors-requires-clause-above_older c =
+    ready-above c.args.question.now.loose (setting_in c.args.question.now) c.args.question.now.formula.now c.args.question.now.vars
+    (ticks_in c.args.state.now.choices) c.args.state.now c.args.goal.now c.requires
 
 pub try_ancestors-requires-clause-arena : goal.try_ancestors-requires-clause-arena
 try_ancestors-requires-clause-arena c = c.requires.sound.arena
 
 pub try_ancestors-requires-clause-goal_below : goal.try_ancestors-requires-clause-goal_below
-try_ancestors-requires-clause-goal_below c = ready-below c.args.question.now.loose (setting_in c.args.question.now) c.args.question.now.formula.now c.args.question.now.vars (ticks_in c.args.state.now.choices) c.args.state.now c.args.goal.now c.requires
+try_ancestors-requires-clause-goal_below c =
+    ready-below c.args.question.now.loose (setting_in c.args.question.now) c.args.question.now.formula.now c.args.question.now.vars
+    (ticks_in c.args.state.now.choices) c.args.state.now c.args.goal.now c.requires
 
 pub try_ancestors-requires-clause-path_below : goal.try_ancestors-requires-clause-path_below
-try_ancestors-requires-clause-path_below c = ready-path_below c.args.question.now.loose (setting_in c.args.question.now) c.args.question.now.formula.now c.args.question.now.vars (ticks_in c.args.state.now.choices) c.args.state.now c.args.goal.now c.requires
+try_ancestors-requires-clause-path_below c =
+    ready-path_below c.args.question.now.loose (setting_in c.args.question.now) c.args.question.now.formula.now c.args.question.now.vars
+    (ticks_in c.args.state.now.choices) c.args.state.now c.args.goal.now c.requires
 
 pub returns-in-Ok-true : goal.returns-in-Ok-true
-returns-in-Ok-true c = ancestor-found c.args.question.now.loose (setting_in c.args.question.now) c.args.question.now.formula.now c.args.question.now.vars (ticks_in c.args.state.now.choices) c.args.state.now c.args.goal.now c.requires c.args.from c.try_ancestors.new.state (rw c.in-Ok-true.field-0-test at c.in-Ok-true.ensures)
+returns-in-Ok-true c =
+    ancestor-found c.args.question.now.loose (setting_in c.args.question.now) c.args.question.now.formula.now c.args.question.now.vars
+    (ticks_in c.args.state.now.choices) c.args.state.now c.args.goal.now c.requires c.args.from c.try_ancestors.new.state
+    (rw c.in-Ok-true.field-0-test at c.in-Ok-true.ensures)
 
 pub try_since_axiom-requires : goal.try_since_axiom-requires
-try_since_axiom-requires c = ready-same c.args.question.now c.args.state.now c.try_ancestors.new.state c.args.goal.now (c.in-Ok-false.ensures.no_more c.in-Ok-false.field-0-test).0 c.requires
+try_since_axiom-requires c =
+    ready-same c.args.question.now c.args.state.now c.try_ancestors.new.state c.args.goal.now
+    (c.in-Ok-false.ensures.no_more c.in-Ok-false.field-0-test).0 c.requires
 
 pub returns : goal.returns
 returns c =
     if_ok c.try_since_axiom.result
     (λ found. TriesSince c.args.question.now (Step 0 0) c.try_ancestors.new.state c.try_since_axiom.new.state found)
     (λ found. TriesSince c.args.question.now (Anc c.args.from) c.args.state.now c.try_since_axiom.new.state found)
-    (λ found later. join-ancestor c.args.question.now c.args.state.now c.try_ancestors.new.state c.args.goal.now c.requires c.try_since_axiom.new.state found c.args.from (rw c.in-Ok-false.field-0-test at c.in-Ok-false.ensures) later)
+    (λ found later. join-ancestor c.args.question.now c.args.state.now c.try_ancestors.new.state c.args.goal.now c.requires
+    c.try_since_axiom.new.state found c.args.from (rw c.in-Ok-false.field-0-test at c.in-Ok-false.ensures) later)
     c.try_since_axiom.ensures

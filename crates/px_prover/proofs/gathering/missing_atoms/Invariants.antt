@@ -1,3 +1,4 @@
+-- What the loops of `missing_atoms` in src/gathering.rt keep true.
 use Rattle.std.proofs.Common.{map, take}
 use Rattle.px_prover.specs.GapAsking.{gap_setting}
 use Rattle.px_prover.specs.Gathering.{AreMissing}
@@ -6,4 +7,6 @@ use Rattle.px_unify.specs.Changes.{variables_of}
 use Rattle.px_prover.proofs.gathering.missing_atoms.Given as goal
 
 abbrev pub invariant-loop-choice : goal.invariant-loop-choice
-invariant-loop-choice l = AreMissing (gap_setting l.fn._question) l.fn._question.formula.now l.fn._question.vars (map (λ (x : Choice). x.tick) (take l.choice-index l.choices)) (variables_of l.state.changes) l.atoms.items
+invariant-loop-choice l =
+    AreMissing (gap_setting l.fn._question) l.fn._question.formula.now l.fn._question.vars
+    (map (λ (x : Choice). x.tick) (take l.choice-index l.choices)) (variables_of l.state.changes) l.atoms.items

@@ -1,3 +1,4 @@
+-- What the loops of `push_longer` in src/tuples.rt keep true.
 use Rattle.std.proofs.Common.{◌≡◌, ◌++◌}
 use Rattle.px_prover.specs.Tuples.{longer_by}
 use Rattle.px_prover.proofs.tuples.push_longer.Given as goal

@@ -1,3 +1,4 @@
+-- What the loops of `tuples` in src/tuples.rt keep true.
 use Rattle.std.proofs.Common.{◌≡◌}
 use Rattle.px_prover.specs.Tuples.{tuples_of}
 use Rattle.px_prover.proofs.tuples.tuples.Given as goal

@@ -1,3 +1,4 @@
+-- What the loops of `trees` in src/reference.rt keep true.
 use Rattle.px_prover_tests.proofs.reference.+trees.Given as goal
 
 abbrev pub decreases-trees : goal.decreases-trees

@@ -1,3 +1,4 @@
+-- What the loops of `owned` in src/blocks.rt keep true.
 use Rattle.px_reader.proofs.Common.{◌≡◌, map, take, string_bytes, text_of}
 use Rattle.px_reader.proofs.blocks.owned.Given as goal
 

@@ -1,3 +1,4 @@
+-- Proofs of the goals that `argument_at` of src/lists.rt leaves open.
 use Rattle.px_reader.proofs.Common.{◌≡◌, ◌-◌, take, drop, length, arith, common_steps, drop-drop}
 use Rattle.px_reader.proofs.lists.argument_at.Goals as goal
 

@@ -1,3 +1,4 @@
+-- Proofs of the goals that `arguments_after` of src/lists.rt leaves open.
 use Rattle.px_reader.proofs.Common.{◌≡◌, ◌++◌, ◌∷◌, [], false, map, drop, arith, ◌==◌, common_steps, map-append, argument_of, lexemes_of, argument_view}
 use Rattle.px_reader.proofs.Walks.{items-closed, items-wrong, items-more, items-none}
 use Rattle.px_reader.proofs.lists.arguments_after.Goals as goal

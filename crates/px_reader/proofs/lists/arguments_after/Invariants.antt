@@ -1,3 +1,4 @@
+-- What the loops of `arguments_after` in src/lists.rt keep true.
 use Rattle.px_reader.proofs.Common.{◌≡◌, ◌≤◌, ◌-◌, drop, map, length, items_after, argument_of, lexemes_of, argument_view}
 use Rattle.px_reader.proofs.Walks.{in_front}
 use Rattle.px_reader.proofs.lists.arguments_after.Given as goal

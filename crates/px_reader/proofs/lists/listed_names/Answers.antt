@@ -1,3 +1,4 @@
+-- Proofs of the goals that `listed_names` of src/lists.rt leaves open.
 use Rattle.px_reader.proofs.Common.{◌<◌, ◌≤◌, drop, map, length, arith, length-drop, length-map, names_among, argument_view, text_of, lexeme_of, lexemes_of}
 use Rattle.px_reader.specs.StatementViews.{list_view}
 use Rattle.px_reader.proofs.Walks.{ended, not-ended, ok-same}

@@ -1,3 +1,4 @@
+-- What the loops of `names` in src/lists.rt keep true.
 use Rattle.px_reader.proofs.Common.{◌≡◌, ◌++◌, drop, map, option_map, names_of, lexemes_of, text_of}
 use Rattle.px_reader.proofs.lists.names.Given as goal
 

@@ -1,3 +1,4 @@
+-- What the loops of `names_among` in src/lists.rt keep true.
 use Rattle.px_reader.proofs.Common.{◌≡◌, ◌++◌, drop, map, option_map, names_among, argument_view, text_of}
 use Rattle.px_reader.proofs.lists.names_among.Given as goal
 

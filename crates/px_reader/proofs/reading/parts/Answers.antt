@@ -1,3 +1,4 @@
+-- Proofs of the goals that `parts` of src/reading.rt leaves open.
 use Rattle.px_reader.proofs.Common.{lit<}
 use Rattle.std.proofs.lemmas.Iterator.Consumers.{map_from_collect}
 use Rattle.std.proofs.lemmas.Iterator.Splits.{YieldsList-from_str_split}

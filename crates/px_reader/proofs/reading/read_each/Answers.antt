@@ -1,3 +1,4 @@
+-- Proofs of the goals that `read_each` of src/reading.rt leaves open.
 use Rattle.px_reader.proofs.Common.{sym, ap, subst, chars, without_return, LinesFail, characters_of, stage_view, declared_of}
 use Rattle.px_reader.specs.FaultViews.{refusal_of}
 use Rattle.px_reader.proofs.LineSteps.{none-read, more-read, one-fails}

@@ -1,4 +1,5 @@
-use Rattle.px_reader.proofs.Common.{◌≡◌, refl, block_view, sym, ap, ◌∙◌, subst, inr, length, arith, nothing_declared, lines_of, PassAll, lines-kept, start-in-range, declared-in-range, characters_of, HasFirstFault, LinesFail, stage_view, declared_of}
+-- Proofs of the goals that `read_text` of src/reading.rt leaves open.
+use Rattle.px_reader.proofs.Common.{◌≡◌, refl, open_block_view, sym, ap, ◌∙◌, subst, inr, length, arith, nothing_declared, lines_of, PassAll, lines-kept, start-in-range, declared-in-range, characters_of, HasFirstFault, LinesFail, stage_view, declared_of}
 use Rattle.px_reader.proofs.Outcomes.{parts-lines, few-parts, left-open, text-fails, err-carried}
 use Rattle.px_reader.proofs.reading.read_text.Goals as goal
 
@@ -42,7 +43,7 @@ returns-in-Some-clause-refused c =
     ∙ parts-lines c.in-Ok.lines.items c.args.text.now (rw c.without_mark.ensures at c.in-Ok.ensures) in
     let passes = subst (λ ls. PassAll (stage_view c.args.stage.now) 1 nothing_declared ls (declared_of c.read_each.new.reader)) lines
     c.in_ok-read_each.ensures.passes in
-    let block = block_view (length c.read_each.new.reader.schemas.items) c.in-Some.block in
+    let block = open_block_view (length c.read_each.new.reader.schemas.items) c.in-Some.block in
     let fails = left-open (stage_view c.args.stage.now) 1 nothing_declared (lines_of c.args.text.now) (declared_of c.read_each.new.reader)
     block passes (rw c.in-Some.is refl) in
     subst (HasFirstFault (stage_view c.args.stage.now) c.args.text.now) (sym c.refused.ensures)

@@ -1,10 +1,10 @@
-use Rattle.px_reader.proofs.Common.{◌≡◌, ◌≤◌, ◌-◌, drop, map, length, all_of, atom_at, lexemes_of, signed_view}
-use Rattle.px_reader.proofs.Walks.{before}
+-- What the loops of `atoms` in src/series.rt keep true.
+use Rattle.px_reader.proofs.Common.{◌-◌, length, atom_at, signed_view}
+use Rattle.px_reader.proofs.Walks.{AreReadTo}
 use Rattle.px_reader.proofs.series.atoms.Given as goal
 
 abbrev pub invariant-things : goal.invariant-things
-invariant-things l = (all_of atom_at (lexemes_of l.tokens)
-    ≡ before (map signed_view l.atoms.items) (all_of atom_at (lexemes_of (drop l.at l.tokens)))) × (l.at ≤ length l.tokens)
+invariant-things l = AreReadTo signed_view atom_at l.tokens l.at l.atoms.items
 
 abbrev pub decreases-things : goal.decreases-things
 decreases-things l = length l.tokens - l.at

@@ -1,10 +1,10 @@
-use Rattle.px_reader.proofs.Common.{◌≡◌, ◌≤◌, ◌-◌, drop, map, length, all_of, binding_at, lexemes_of, binding_view}
-use Rattle.px_reader.proofs.Walks.{before}
+-- What the loops of `bindings` in src/series.rt keep true.
+use Rattle.px_reader.proofs.Common.{◌-◌, length, binding_at, binding_view}
+use Rattle.px_reader.proofs.Walks.{AreReadTo}
 use Rattle.px_reader.proofs.series.bindings.Given as goal
 
 abbrev pub invariant-things : goal.invariant-things
-invariant-things l = (all_of binding_at (lexemes_of l.tokens)
-    ≡ before (map binding_view l.bindings.items) (all_of binding_at (lexemes_of (drop l.at l.tokens)))) × (l.at ≤ length l.tokens)
+invariant-things l = AreReadTo binding_view binding_at l.tokens l.at l.bindings.items
 
 abbrev pub decreases-things : goal.decreases-things
 decreases-things l = length l.tokens - l.at

@@ -1,3 +1,4 @@
+-- What the loops of `add_variables` in src/terms.rt keep true.
 use Rattle.px_reader.proofs.Common.{◌≡◌, map, take, fold, with_variable, argument_view, text_of}
 use Rattle.px_reader.proofs.terms.add_variables.Given as goal
 

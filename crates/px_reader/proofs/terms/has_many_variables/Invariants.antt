@@ -1,3 +1,4 @@
+-- What the loops of `has_many_variables` in src/terms.rt keep true.
 use Rattle.px_reader.proofs.Common.{◌≡◌, [], map, take, fold, with_variable, signed_view, text_of}
 use Rattle.px_reader.proofs.AtomTests.{arguments}
 use Rattle.px_reader.proofs.terms.has_many_variables.Given as goal

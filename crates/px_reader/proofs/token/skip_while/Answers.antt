@@ -1,3 +1,4 @@
+-- Proofs of the goals that `skip_while` of src/token.rt leaves open.
 use Rattle.px_reader.proofs.Common.{◌≡◌, ◌++◌, [], true, refl, arith, encode_utf8, chars-nil, is_of}
 use Rattle.px_reader.proofs.Texts.{front-grows}
 use Rattle.px_reader.proofs.token.skip_while.Goals as goal

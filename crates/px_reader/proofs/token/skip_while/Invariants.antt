@@ -1,3 +1,4 @@
+-- What the loops of `skip_while` in src/token.rt keep true.
 use Rattle.px_reader.proofs.Common.{◌≡◌, ◌++◌, ℕ, List, length, true, list_all, IsUtf8, chars, is_of}
 use Rattle.px_reader.proofs.token.skip_while.Given as goal
 

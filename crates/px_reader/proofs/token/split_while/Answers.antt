@@ -1,3 +1,4 @@
+-- Proofs of the goals that `split_while` of src/token.rt leaves open.
 use Rattle.px_reader.proofs.Common.{◌≡◌, arith, common_steps, is_of}
 use Rattle.px_reader.proofs.Texts.{front-ends, cut-boundary, cut-front}
 use Rattle.px_reader.proofs.token.split_while.Goals as goal

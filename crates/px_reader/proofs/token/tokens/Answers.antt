@@ -1,4 +1,5 @@
-use Rattle.px_reader.proofs.Common.{◌≡◌, ◌++◌, ◌∷◌, [], map, arith, common_steps, map-append, chars, lexeme_of, found-begins, Begins-shorter}
+-- Proofs of the goals that `tokens` of src/token.rt leaves open.
+use Rattle.px_reader.proofs.Common.{◌≡◌, ◌++◌, ◌∷◌, [], arith, common_steps, map-append, chars, lexeme_of, found-begins, Begins-shorter}
 use Rattle.px_reader.proofs.LineFronts.{one-more-read, all-read, none-read}
 use Rattle.px_reader.proofs.token.tokens.Goals as goal
 
@@ -12,17 +13,12 @@ pub loop-token-preserved : goal.loop-token-preserved
 loop-token-preserved c =
     let scan = rw c.in-Ok-Some.field-0-is at c.in-Ok-Some.ensures in
     let pushed : c.push.new.self.items ≡ c.loop-token.tokens.items ++ c.in-Ok-Some.token ∷ [] = grind (arith, common_steps) in (
-      rw (pushed, map-append) (one-more-read (chars c.args.line.now) (map lexeme_of c.loop-token.tokens.items) (chars c.loop-token.rest.now)
-          (lexeme_of c.in-Ok-Some.token) (chars c.in-Ok-Some.after.now) c.loop-token.invariant.0 scan.0),
+      rw (pushed, map-append) (one-more-read (lexeme_of c.in-Ok-Some.token) (chars c.in-Ok-Some.after.now) c.loop-token.invariant.0 scan.0),
       scan.1,
     )
 
 pub returns-in-Ok-None : goal.returns-in-Ok-None
-returns-in-Ok-None c =
-    let scan = rw c.in-Ok-None.field-0-is at c.in-Ok-None.ensures in
-    all-read (chars c.args.line.now) (map lexeme_of c.loop-token.tokens.items) (chars c.loop-token.rest.now) c.loop-token.invariant.0 scan
+returns-in-Ok-None c = all-read c.loop-token.invariant.0 (rw c.in-Ok-None.field-0-is at c.in-Ok-None.ensures)
 
 pub returns-in-Err : goal.returns-in-Err
-returns-in-Err c = λ all lexes.
-    none-read (chars c.args.line.now) (map lexeme_of c.loop-token.tokens.items) (chars c.loop-token.rest.now) c.loop-token.invariant.0
-    c.in-Err.ensures all lexes
+returns-in-Err c = none-read c.loop-token.invariant.0 c.in-Err.ensures

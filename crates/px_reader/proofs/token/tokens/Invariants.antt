@@ -1,3 +1,4 @@
+-- What the loops of `tokens` in src/token.rt keep true.
 use Rattle.px_reader.proofs.Common.{map, length, IsUtf8, chars, ReadSoFar, lexeme_of}
 use Rattle.px_reader.proofs.token.tokens.Given as goal
 

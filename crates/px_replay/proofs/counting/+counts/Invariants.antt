@@ -1,3 +1,4 @@
+-- What the loops of `counts` in src/counting.rt keep true.
 use Rattle.std.proofs.Common.{◌≡◌, ◌-◌, ◌^◌, take}
 use Rattle.std.specs.Prelude.{min}
 use Rattle.px_replay.specs.FreshOf.{row_fresh}

@@ -1,3 +1,4 @@
+-- Proofs of the goals that `name_each` of src/goal.rt leaves open.
 use Rattle.std.proofs.Common.{◌∙◌, ◌++◌, ◌∷◌, [], ap, sym, take, get_or, arith}
 use Rattle.px_terms.specs.declared.term.Term.TheVariants.{Obj}
 use Rattle.px_replay.specs.Opened.{named_args, named_term}
@@ -14,7 +15,8 @@ loop-i-preserved c =
       front =
           take-set c.loop-i.into i c.name_of.result (omega (arith, c.requires.room, c.loop-i.invariant.long, c.loop-i-test.true))
           ∙ ap (λ l. l ++ c.name_of.result ∷ []) c.loop-i.invariant.front
-          ∙ ap (λ x. front ++ x ∷ []) (c.name_of.ensures ∙ ap (λ n. named_term c.args.names.now c.args.own n (get_or args i (Obj 0))) c.loop-i.invariant.next)
+          ∙ ap (λ x. front ++ x ∷ []) (c.name_of.ensures
+          ∙ ap (λ n. named_term c.args.names.now c.args.own n (get_or args i (Obj 0))) c.loop-i.invariant.next)
           ∙ sym (named_args-more c.args.names.now c.args.own c.args.first i args (Obj 0) c.loop-i-test.true);
       next = omega (arith, c.loop-i.invariant.next, c.object_count-next.ensures, objects-more args i (Obj 0) c.loop-i-test.true);
     }

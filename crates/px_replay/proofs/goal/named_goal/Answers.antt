@@ -1,3 +1,4 @@
+-- Proofs of the goals that `named_goal` of src/goal.rt leaves open.
 use Rattle.std.specs.Prelude.{count_by}
 use Rattle.std.proofs.Common.{◌∙◌, ◌+◌, ◌++◌, ◌∷◌, [], ap, sym, take, arith}
 use Rattle.std.proofs.lemmas.List.Sums.{sum_by_more}
@@ -18,7 +19,8 @@ loop-atom-preserved c =
       made =
           c.in_ok-push.ensures.ok ∙ ap (λ l. l ++ c.named_atom.result ∷ []) c.loop-atom.invariant.made
           ∙ ap (λ (a : Atom). front ++ a ∷ []) (c.named_atom.ensures
-          ∙ ap (λ n. record { pred = c.atom-item.result.pred; args = named_args c.args.names.now own n c.atom-item.result.args }) c.loop-atom.invariant.next
+          ∙ ap (λ n. record { pred = c.atom-item.result.pred; args = named_args c.args.names.now own n c.atom-item.result.args })
+          c.loop-atom.invariant.next
           ∙ ap (λ (a : Atom). record { pred = a.pred; args = named_args c.args.names.now own next a.args }) c.atom-item.is)
           ∙ sym (named_goal-more c.args.names.now own c.args.first k atoms c.atom-item.result c.loop-atom-test.true);
       next = omega (

@@ -1,3 +1,4 @@
+-- Proofs of the goals that `open_goal` of src/goal.rt leaves open.
 use Rattle.std.proofs.Common.{◌≡◌, ◌∙◌, ap, length, arith}
 use Rattle.px_base.proofs.Loops.{ok_map}
 use Rattle.px_table.proofs.Choosing.{length-variables}
@@ -15,6 +16,8 @@ named_goal-requires-clause-few c =
 
 pub returns : goal.returns
 returns c =
-    ok_map (λ made. made.items ≡ named_goal c.deref.result.now c.args.own c.args.first c.args.goal.now) (λ made. made.items ≡ opened_goal c.args.first c.args.own c.args.goal.now)
-    (λ made is. is ∙ ap (λ l. named_goal l c.args.own c.args.first c.args.goal.now) (c.deref.ensures.value ∙ c.in_ok-slots.ensures) ∙ goal-opened c.args.own c.args.first c.args.goal.now c.requires.objects)
+    ok_map (λ made. made.items ≡ named_goal c.deref.result.now c.args.own c.args.first c.args.goal.now)
+    (λ made. made.items ≡ opened_goal c.args.first c.args.own c.args.goal.now)
+    (λ made is. is ∙ ap (λ l. named_goal l c.args.own c.args.first c.args.goal.now) (c.deref.ensures.value ∙ c.in_ok-slots.ensures)
+    ∙ goal-opened c.args.own c.args.first c.args.goal.now c.requires.objects)
     c.named_goal.result c.named_goal.ensures

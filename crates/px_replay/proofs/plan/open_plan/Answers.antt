@@ -1,3 +1,4 @@
+-- Proofs of the goals that `open_plan` of src/plan.rt leaves open.
 use Rattle.std.proofs.Common.{◌∙◌, ap, sym, subst, sum_by, arith}
 use Rattle.std.specs.Prelude.{All}
 use Rattle.px_replay.specs.FreshOf.{row_fresh}
@@ -9,7 +10,8 @@ use Rattle.px_replay.proofs.plan.open_plan.Goals as goal
 pub open_rows-requires-clause-schemas : goal.open_rows-requires-clause-schemas
 open_rows-requires-clause-schemas c =
     let steps_are = c.deref.ensures.value ∙ c.in_ok-steps.ensures ∙ ap (opened_steps 0) c.as_slice-3.ensures in
-    subst (All (HasSchema c.args.problem.now)) (sym steps_are) (schemas_opened c.args.problem.now c.args.table.now c.requires.table c.requires.no_params)
+    subst (All (HasSchema c.args.problem.now)) (sym steps_are)
+    (schemas_opened c.args.problem.now c.args.table.now c.requires.table c.requires.no_params)
 
 pub open_rows-requires-clause-room : goal.open_rows-requires-clause-room
 open_rows-requires-clause-room c = omega (

@@ -1,3 +1,4 @@
+-- Proofs of the goals that `counted` of src/counts.rt leaves open.
 use Rattle.std.proofs.Common.{◌<◌, ◌≤◌, ◌++◌, ◌∷◌, List, [], length, sym, subst, arith}
 use Rattle.px_script.specs.Commands.{Command}
 use Rattle.px_run.proofs.AnswerLemmas.{one-more, so-far-start}

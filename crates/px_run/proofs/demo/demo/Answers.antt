@@ -1,8 +1,9 @@
+-- Proofs of the goals that `demo` of src/demo.rt leaves open.
 use Rattle.std.proofs.Common.{◌∙◌, ℕ, List, subst}
 use Rattle.px_reader.specs.LineReads.{content}
 use Rattle.px_script.specs.Scripts.{IsScript}
 use Rattle.px_script.specs.Stages.{stage_now}
-use Rattle.px_run.specs.Transcripts.{IsRefused}
+use Rattle.px_run.specs.Transcripts.{IsScriptRefused}
 use Rattle.px_run.proofs.DemoLemmas.{demo-refused, demo-summed}
 use Rattle.px_run.proofs.demo.demo.Goals as goal
 
@@ -17,5 +18,5 @@ pub returns-in-Err-Refused-clause-right : goal.returns-in-Err-Refused-clause-rig
 returns-in-Err-Refused-clause-right g c =
     let bytes_are = c.deref.ensures.value ∙ c.in-Ok.ensures.script in
     let first = rw c.in-Err-Refused.field-0-is at c.in-Err-Refused.ensures.refused in
-    let fault = subst (λ (bytes : List ℕ). IsRefused bytes c.in-Err-Refused.refused) bytes_are first in
+    let fault = subst (λ (bytes : List ℕ). IsScriptRefused bytes c.in-Err-Refused.refused) bytes_are first in
     demo-refused c.args.rooms c.args.seed _ c.in-Err-Refused.refused c.refuse.result fault c.refuse.ensures.right

@@ -1,3 +1,4 @@
+-- Proofs of the goals that `execute` of src/running.rt leaves open.
 use Rattle.std.proofs.Common.{◌<◌, ◌≤◌, ◌++◌, ◌∷◌, List, [], length, refl, sym, subst, ◌∙◌, arith}
 use Rattle.px_script.specs.Commands.{Command}
 use Rattle.px_session.specs.Transcripts.{texts}

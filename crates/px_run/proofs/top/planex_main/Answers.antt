@@ -1,3 +1,4 @@
+-- Proofs of the goals that `planex_main` of src/top.rt leaves open.
 use Rattle.px_run.proofs.DemoLemmas.{demo-completes, demo-completes_surely, demo-front, demo-refuses, demo-right, run-right}
 use Rattle.px_run.proofs.Fronts.{run-front}
 use Rattle.px_run.proofs.OutcomeLemmas.{run-completes, run-completes_surely, run-refuses}

@@ -1,3 +1,4 @@
+-- Proofs of the goals that `run` of src/top.rt leaves open.
 use Rattle.px_reader.specs.LineReads.{content}
 use Rattle.px_run.proofs.OutcomeLemmas.{run-executed, run-refused}
 use Rattle.px_run.proofs.top.run.Goals as goal

@@ -1,3 +1,4 @@
+-- Proofs of the goals that `found_by_moves` of src/breadth_first.rt leaves open.
 use Rattle.std.proofs.Common.{subst}
 use Rattle.px_support.specs.Asking.{task_for}
 use Rattle.px_search.specs.Looping.{ComesToEnd}
@@ -13,4 +14,5 @@ pub returns-in-NoPlan-clause-ends : goal.returns-in-NoPlan-clause-ends
 returns-in-NoPlan-clause-ends c = subst (ComesToEnd (task_for c.args.asked.now) c.search.new.self) c.in-NoPlan.is c.in-Ok.ensures.outcome
 
 pub node_limit-requires : goal.node_limit-requires
-node_limit-requires c = record { full = subst (ComesToEnd (task_for c.args.asked.now) c.search.new.self) c.in-NoRoom.is c.in-Ok.ensures.outcome }
+node_limit-requires c =
+    record { full = subst (ComesToEnd (task_for c.args.asked.now) c.search.new.self) c.in-NoRoom.is c.in-Ok.ensures.outcome }

@@ -1,3 +1,4 @@
+-- Proofs of the goals that `limit_at` of src/breadth_first.rt leaves open.
 use Rattle.std.proofs.Common.{subst, sym}
 use Rattle.px_table.specs.declared.node.Node.{Node}
 use Rattle.px_ends.specs.Ends.{IsShapeLimit}
@@ -5,4 +6,6 @@ use Rattle.px_support.specs.Asking.{task_for}
 use Rattle.px_search.proofs.breadth_first.limit_at.Goals as goal
 
 pub returns-in-Ok : goal.returns-in-Ok
-returns-in-Ok c = λ node stands limit. subst (λ (n : Node). IsShapeLimit (task_for c.args.asked.now) n c.args.formula c.args.shapes) (sym (c.in-Ok.ensures node stands)) limit
+returns-in-Ok c =
+    λ node stands limit. subst (λ (n : Node). IsShapeLimit (task_for c.args.asked.now) n c.args.formula c.args.shapes)
+    (sym (c.in-Ok.ensures node stands)) limit

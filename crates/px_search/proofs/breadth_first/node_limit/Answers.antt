@@ -1,3 +1,4 @@
+-- Proofs of the goals that `node_limit` of src/breadth_first.rt leaves open.
 use Rattle.std.proofs.Common.{List, subst, sym}
 use Rattle.px_table.specs.declared.node.Node.{Node}
 use Rattle.px_ends.specs.Ends.{IsNodeLimit}
@@ -14,4 +15,5 @@ pub returns : goal.returns
 returns c =
     let task = task_for c.args.asked.now in
     let full = c.requires.full in
-    subst (λ (nodes : List Node). IsNodeLimit task nodes c.args.moves) (sym (c.new-firsts.ensures full.stand.0 full.stand.1)) (full.limit full.stand.0 full.stand.1)
+    subst (λ (nodes : List Node). IsNodeLimit task nodes c.args.moves) (sym (c.new-firsts.ensures full.stand.0 full.stand.1))
+    (full.limit full.stand.0 full.stand.1)

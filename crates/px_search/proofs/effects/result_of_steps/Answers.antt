@@ -1,3 +1,4 @@
+-- Proofs of the goals that `result_of_steps` of src/effects.rt leaves open.
 use Rattle.std.proofs.Common.{◌≡◌, ◌+◌, ◌++◌, ◌∷◌, [], List, take, sym, ap, ◌∙◌, subst}
 use Rattle.std.proofs.lemmas.List.{take_more}
 use Rattle.px_terms.specs.declared.instance.OpInst.{OpInst}
@@ -10,6 +11,8 @@ loop-step-preserved c =
     let i = c.loop-step.step-index in
     let step = c.step-item.result in
     let steps = c.args.steps.now in
-    let taken : take (i + 1) steps ≡ take i steps ++ step ∷ [] = take_more steps i step c.loop-step-test.true ∙ ap (λ (x : OpInst). take i steps ++ x ∷ []) (sym c.step-item.is) in
+    let taken : take (i + 1) steps ≡ take i steps ++ step ∷ [] =
+    take_more steps i step c.loop-step-test.true ∙ ap (λ (x : OpInst). take i steps ++ x ∷ []) (sym c.step-item.is) in
     subst (λ (l : List OpInst). c.in_ok-next-2.next.atoms ≡ results_of c.args.problem.now c.args.model.now.atoms l) (sym taken)
-    (applied-more c.args.problem.now c.args.model.now.atoms c.loop-step.next.atoms c.in_ok-next-2.next.atoms (take i steps) step c.loop-step.invariant c.in_ok-next-2.ensures.atoms)
+    (applied-more c.args.problem.now c.args.model.now.atoms c.loop-step.next.atoms c.in_ok-next-2.next.atoms
+    (take i steps) step c.loop-step.invariant c.in_ok-next-2.ensures.atoms)

@@ -1,10 +1,12 @@
+-- Proofs of the goals that `compared` of src/merging.rt leaves open.
 use Rattle.std.proofs.Common.{ap, ◌∙◌}
 use Rattle.px_table.specs.declared.entry.Entry.{Entry}
 use Rattle.px_table.specs.EntryLaws.{entry_cmp-is}
-use Rattle.px_table.specs.EntryOrder.{order_of}
+use Rattle.px_table.specs.EntryOrder.{order_of_entries}
 use Rattle.px_search.proofs.merging.compared.Goals as goal
 
 pub returns : goal.returns
 returns c = λ first second is is'.
     c.cmp.ensures ∙ entry_cmp-is c.pushed.result.now c.pushed-2.result.now
-    ∙ ap (λ (e : Entry). order_of e c.pushed-2.result.now) (c.pushed.ensures first is) ∙ ap (λ (e : Entry). order_of first e) (c.pushed-2.ensures second is')
+    ∙ ap (λ (e : Entry). order_of_entries e c.pushed-2.result.now) (c.pushed.ensures first is)
+    ∙ ap (λ (e : Entry). order_of_entries first e) (c.pushed-2.ensures second is')

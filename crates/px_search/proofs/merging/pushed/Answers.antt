@@ -1,4 +1,5 @@
-use Rattle.px_ops.specs.KeepLaws.{place_in}
+-- Proofs of the goals that `pushed` of src/merging.rt leaves open.
+use Rattle.px_ops.specs.KeepLaws.{place_within}
 use Rattle.px_numbers.specs.NumberLaws.{one_at}
 use Rattle.px_search.proofs.OfferLaws.{apply-pushes, push-entry}
 use Rattle.px_search.proofs.merging.pushed.Goals as goal
@@ -7,9 +8,12 @@ pub unreachable-requires : goal.unreachable-requires
 unreachable-requires c = apply-pushes c.args.numbers.now c.args.step c.requires.0 c.in-Apply.is c.requires.1
 
 pub entry-requires : goal.entry-requires
-entry-requires c = place_in c.args.numbers.now.entries c.in-Push.number c.requires.0 (push-entry c.args.numbers.now c.args.step c.in-Push.number c.requires.0 c.in-Push.is c.requires.1)
+entry-requires c =
+    place_within c.args.numbers.now.entries c.in-Push.number c.requires.0
+    (push-entry c.args.numbers.now c.args.step c.in-Push.number c.requires.0 c.in-Push.is c.requires.1)
 
 pub returns : goal.returns
 returns c = λ entry is.
     let kept = c.args.numbers.now in
-    one_at kept.entries c.in-Push.number c.entry.result.now entry c.entry.ensures (push-entry kept c.args.step c.in-Push.number entry c.in-Push.is is)
+    one_at kept.entries c.in-Push.number c.entry.result.now entry c.entry.ensures
+    (push-entry kept c.args.step c.in-Push.number entry c.in-Push.is is)

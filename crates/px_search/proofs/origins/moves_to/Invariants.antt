@@ -1,3 +1,4 @@
+-- What the loops of `moves_to` in src/origins.rt keep true.
 use Rattle.std.proofs.Common.{◌≡◌, ◌+◌, ◌≤◌, ◌++◌, List, length, reverse, slice_get, Some}
 use Rattle.px_table.specs.declared.entry.Move.{Move}
 use Rattle.px_search.specs.Steps.{Trace}
@@ -7,7 +8,8 @@ abbrev pub invariant-loop-here : goal.invariant-loop-here
 invariant-loop-here l = record {
   within : l.here ≤ length l.origins;
   few : length l.moves.items + l.here ≤ l.place;
-  trace : (found : List (List Move)) → Trace l.numbers l.origins found → (front : List Move) × (slice_get found l.here ≡ Some front) × (slice_get found l.place ≡ Some (front ++ reverse l.moves.items));
+  trace : (found : List (List Move)) → Trace l.numbers l.origins found
+      → (front : List Move) × (slice_get found l.here ≡ Some front) × (slice_get found l.place ≡ Some (front ++ reverse l.moves.items));
 }
 
 abbrev pub decreases-loop-here : goal.decreases-loop-here

@@ -1,3 +1,4 @@
+-- Proofs of the goals that `numbered` of src/picks.rt leaves open.
 use Rattle.std.proofs.Common.{◌≡◌, ◌<◌, ◌++◌, ◌∷◌, [], List, length, map, take, slice_get, Some, sym, ap, ◌∙◌, subst, arith}
 use Rattle.std.proofs.lemmas.List.{take_all}
 use Rattle.px_table.specs.declared.entry.Entry.{Entry}
@@ -23,11 +24,14 @@ loop-place-preserved c =
       keeps = keeps_all_both c.args.numbers.now old new c.loop-place.invariant.keeps c.in_ok-number.ensures.keeps;
       steps = subst (λ (l : List Entry). AreStepsOf new c.push.new.self.items (map Push l)) (sym (take_one items place one at))
           (subst (λ (s : List Step). AreStepsOf new s (map Push (take place items ++ one ∷ []))) (sym c.in_ok-push.ensures.items)
-          (pushes_more new c.loop-place.steps.items (take place items) c.in_ok-number.number one (steps-grow old new c.loop-place.steps.items (map Push (take place items)) c.in_ok-number.ensures.keeps c.loop-place.invariant.steps)
+          (pushes_more new c.loop-place.steps.items (take place items) c.in_ok-number.number one
+          (steps-grow old new c.loop-place.steps.items
+          (map Push (take place items)) c.in_ok-number.ensures.keeps c.loop-place.invariant.steps)
           (c.in_ok-number.ensures.entry ∙ ap Some c.in_ok-copy.ensures)));
     }
 
 pub returns-clause-steps : goal.returns-clause-steps
 returns-clause-steps c =
     subst (λ (l : List Entry). AreStepsOf c.loop-place.numbers c.loop-place.steps.items (map Push l))
-    (take_all c.loop-place.place c.args.entries.now.items (omega (arith, c.loop-place-test.false, c.len-place-end.ensures, c.args.entries.now.ok.0))) c.loop-place.invariant.steps
+    (take_all c.loop-place.place c.args.entries.now.items
+    (omega (arith, c.loop-place-test.false, c.len-place-end.ensures, c.args.entries.now.ok.0))) c.loop-place.invariant.steps

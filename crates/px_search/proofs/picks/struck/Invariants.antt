@@ -1,3 +1,4 @@
+-- What the loops of `struck` in src/picks.rt keep true.
 use Rattle.std.proofs.Common.{List, take}
 use Rattle.px_table.specs.declared.entry.Entry.{Entry}
 use Rattle.px_table.specs.declared.entry.Move.{Move}
@@ -7,4 +8,5 @@ use Rattle.px_search.proofs.picks.struck.Given as goal
 
 abbrev pub invariant-loop-place : goal.invariant-loop-place
 invariant-loop-place l =
-    (entries : List Entry) (moves : List Move) → IsStackAt l.numbers l.stack entries → AreStepsOf l.numbers l.steps moves → AreStepsOf l.numbers l.left.items (unstruck entries (take l.place moves))
+    (entries : List Entry) (moves : List Move) → IsStackAt l.numbers l.stack entries → AreStepsOf l.numbers l.steps moves
+    → AreStepsOf l.numbers l.left.items (unstruck entries (take l.place moves))

@@ -1,3 +1,4 @@
+-- Proofs of the goals that `search` of src/planning.rt leaves open.
 use Rattle.std.proofs.Common.{◌≡◌, ◌<◌, [], length}
 use Rattle.std.specs.Prelude.{All}
 use Rattle.px_terms.specs.Plans.{Carries}
@@ -20,33 +21,39 @@ returns-in-Ok-clause-found c =
 pub returns-in-Ok-clause-few : goal.returns-in-Ok-clause-few
 returns-in-Ok-clause-few c =
     let task = task_of c.args.problem.now c.args.tables.now c.args.initial.now.atoms c.args.goal.now c.args.vars in
-    each_plan task c.found_plan.result c.found_plan.ensures.planned (λ plan. length plan.moves < c.args.problem.now.nodes) (λ plan is. few-moves task plan.moves is.found)
+    each_plan task c.found_plan.result c.found_plan.ensures.planned (λ plan. length plan.moves < c.args.problem.now.nodes)
+    (λ plan is. few-moves task plan.moves is.found)
 
 pub returns-in-Ok-clause-steps : goal.returns-in-Ok-clause-steps
 returns-in-Ok-clause-steps c =
     let task = task_of c.args.problem.now c.args.tables.now c.args.initial.now.atoms c.args.goal.now c.args.vars in
-    each_plan task c.found_plan.result c.found_plan.ensures.planned (λ plan. plan.steps ≡ steps_of c.args.tables.now [] plan.moves) (λ plan is. is.steps)
+    each_plan task c.found_plan.result c.found_plan.ensures.planned (λ plan. plan.steps ≡ steps_of c.args.tables.now [] plan.moves)
+    (λ plan is. is.steps)
 
 pub returns-in-Ok-clause-rows : goal.returns-in-Ok-clause-rows
 returns-in-Ok-clause-rows c =
     let task = task_of c.args.problem.now c.args.tables.now c.args.initial.now.atoms c.args.goal.now c.args.vars in
-    each_plan task c.found_plan.result c.found_plan.ensures.planned (λ plan. MovesRows task (initial_node task) [] plan.moves (rows_of plan.support.items)) (λ plan is. is.rows)
+    each_plan task c.found_plan.result c.found_plan.ensures.planned
+    (λ plan. MovesRows task (initial_node task) [] plan.moves (rows_of plan.support.items)) (λ plan is. is.rows)
 
 pub returns-in-Ok-clause-supports : goal.returns-in-Ok-clause-supports
 returns-in-Ok-clause-supports c =
     let task = task_of c.args.problem.now c.args.tables.now c.args.initial.now.atoms c.args.goal.now c.args.vars in
     each_plan task c.found_plan.result c.found_plan.ensures.planned
-    (λ plan. Supports c.args.problem.now c.args.initial.now.atoms plan.steps c.args.goal.now c.args.vars (rows_of plan.support.items)) (λ plan is. is.supports)
+    (λ plan. Supports c.args.problem.now c.args.initial.now.atoms plan.steps c.args.goal.now c.args.vars (rows_of plan.support.items))
+    (λ plan is. is.supports)
 
 pub returns-in-Ok-clause-of_problem : goal.returns-in-Ok-clause-of_problem
 returns-in-Ok-clause-of_problem c =
     let task = task_of c.args.problem.now c.args.tables.now c.args.initial.now.atoms c.args.goal.now c.args.vars in
-    each_plan task c.found_plan.result c.found_plan.ensures.planned (λ plan. AreOfProblem c.args.problem.now (rows_of plan.support.items)) (λ plan is. is.of_problem)
+    each_plan task c.found_plan.result c.found_plan.ensures.planned (λ plan. AreOfProblem c.args.problem.now (rows_of plan.support.items))
+    (λ plan is. is.of_problem)
 
 pub returns-in-Ok-clause-instances : goal.returns-in-Ok-clause-instances
 returns-in-Ok-clause-instances c =
     let task = task_of c.args.problem.now c.args.tables.now c.args.initial.now.atoms c.args.goal.now c.args.vars in
-    each_plan task c.found_plan.result c.found_plan.ensures.planned (λ plan. All (IsInstanceOf c.args.problem.now) plan.steps) (λ plan is. is.instances)
+    each_plan task c.found_plan.result c.found_plan.ensures.planned (λ plan. All (IsInstanceOf c.args.problem.now) plan.steps)
+    (λ plan is. is.instances)
 
 pub returns-in-Ok-clause-carries : goal.returns-in-Ok-clause-carries
 returns-in-Ok-clause-carries c =
@@ -60,30 +67,40 @@ returns-in-Ok-clause-short c =
     each_plan task c.found_plan.result c.found_plan.ensures.planned (λ plan. length plan.steps < 4294967295) (λ plan is. is.short)
 
 pub returns-in-Ok-clause-exhausted : goal.returns-in-Ok-clause-exhausted
-returns-in-Ok-clause-exhausted c = end-exhausted (task_of c.args.problem.now c.args.tables.now c.args.initial.now.atoms c.args.goal.now c.args.vars) c.found_plan.result c.found_plan.ensures.ends
+returns-in-Ok-clause-exhausted c =
+    end-exhausted (task_of c.args.problem.now c.args.tables.now c.args.initial.now.atoms c.args.goal.now c.args.vars) c.found_plan.result
+    c.found_plan.ensures.ends
 
 pub returns-in-Ok-clause-node_limit : goal.returns-in-Ok-clause-node_limit
-returns-in-Ok-clause-node_limit c = end-limit (task_of c.args.problem.now c.args.tables.now c.args.initial.now.atoms c.args.goal.now c.args.vars) c.found_plan.result c.found_plan.ensures.ends
+returns-in-Ok-clause-node_limit c =
+    end-limit (task_of c.args.problem.now c.args.tables.now c.args.initial.now.atoms c.args.goal.now c.args.vars) c.found_plan.result
+    c.found_plan.ensures.ends
 
 pub returns-in-Ok-clause-shape_limit : goal.returns-in-Ok-clause-shape_limit
-returns-in-Ok-clause-shape_limit c = end-shape_limit (task_of c.args.problem.now c.args.tables.now c.args.initial.now.atoms c.args.goal.now c.args.vars) c.found_plan.result c.found_plan.ensures.ends
+returns-in-Ok-clause-shape_limit c =
+    end-shape_limit (task_of c.args.problem.now c.args.tables.now c.args.initial.now.atoms c.args.goal.now c.args.vars) c.found_plan.result
+    c.found_plan.ensures.ends
 
 pub returns-in-Ok-clause-always_found : goal.returns-in-Ok-clause-always_found
 returns-in-Ok-clause-always_found c =
     let task = task_of c.args.problem.now c.args.tables.now c.args.initial.now.atoms c.args.goal.now c.args.vars in
-    answers_found (λ (plan : Found). plan.moves) task c.found_plan.result (found-in task c.found_plan.result c.found_plan.ensures.planned) c.found_plan.ensures.ends
+    answers_found (λ (plan : Found). plan.moves) task c.found_plan.result
+    (found-in task c.found_plan.result c.found_plan.ensures.planned) c.found_plan.ensures.ends
 
 pub returns-in-Ok-clause-always_exhausted : goal.returns-in-Ok-clause-always_exhausted
 returns-in-Ok-clause-always_exhausted c =
     let task = task_of c.args.problem.now c.args.tables.now c.args.initial.now.atoms c.args.goal.now c.args.vars in
-    answers_exhausted (λ (plan : Found). plan.moves) task c.found_plan.result (found-in task c.found_plan.result c.found_plan.ensures.planned) c.found_plan.ensures.ends
+    answers_exhausted (λ (plan : Found). plan.moves) task c.found_plan.result
+    (found-in task c.found_plan.result c.found_plan.ensures.planned) c.found_plan.ensures.ends
 
 pub returns-in-Ok-clause-always_node_limit : goal.returns-in-Ok-clause-always_node_limit
 returns-in-Ok-clause-always_node_limit c =
     let task = task_of c.args.problem.now c.args.tables.now c.args.initial.now.atoms c.args.goal.now c.args.vars in
-    answers_limit (λ (plan : Found). plan.moves) task c.found_plan.result (found-in task c.found_plan.result c.found_plan.ensures.planned) c.found_plan.ensures.ends
+    answers_limit (λ (plan : Found). plan.moves) task c.found_plan.result
+    (found-in task c.found_plan.result c.found_plan.ensures.planned) c.found_plan.ensures.ends
 
 pub returns-in-Ok-clause-always_shape_limit : goal.returns-in-Ok-clause-always_shape_limit
 returns-in-Ok-clause-always_shape_limit c =
     let task = task_of c.args.problem.now c.args.tables.now c.args.initial.now.atoms c.args.goal.now c.args.vars in
-    answers_shape_limit (λ (plan : Found). plan.moves) task c.found_plan.result (found-in task c.found_plan.result c.found_plan.ensures.planned) c.found_plan.ensures.ends
+    answers_shape_limit (λ (plan : Found). plan.moves) task c.found_plan.result
+    (found-in task c.found_plan.result c.found_plan.ensures.planned) c.found_plan.ensures.ends

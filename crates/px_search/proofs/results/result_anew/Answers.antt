@@ -1,20 +1,22 @@
+-- Proofs of the goals that `result_anew` of src/results.rt leaves open.
 use Rattle.std.proofs.Common.{subst}
 use Rattle.px_entries.specs.Entries.{IsEntry}
 use Rattle.px_numbers.specs.Numbers.{IsModelAt}
 use Rattle.px_numbers.specs.NumberLaws.{model_at-grows, one_at}
-use Rattle.px_ops.specs.KeepLaws.{place_in}
+use Rattle.px_ops.specs.KeepLaws.{place_within}
 use Rattle.px_search.proofs.results.result_anew.Goals as goal
 
 pub model-requires : goal.model-requires
 model-requires c = (c.requires.place.0, c.requires.place.2)
 
 pub entry-requires : goal.entry-requires
-entry-requires c = place_in c.args.numbers.now.entries c.args.place.entry c.requires.place.1 c.requires.place.3
+entry-requires c = place_within c.args.numbers.now.entries c.args.place.entry c.requires.place.1 c.requires.place.3
 
 pub result_of-requires-clause-entry : goal.result_of-requires-clause-entry
 result_of-requires-clause-entry c =
     subst (IsEntry c.args.asked.now.problem.now c.args.asked.now.tables.now)
-    (one_at c.args.numbers.now.entries c.args.place.entry c.requires.place.1 c.entry.result.now c.requires.place.3 c.entry.ensures) c.requires.place.4
+    (one_at c.args.numbers.now.entries c.args.place.entry c.requires.place.1 c.entry.result.now c.requires.place.3 c.entry.ensures)
+    c.requires.place.4
 
 pub returns-clause-number : goal.returns-clause-number
 returns-clause-number c =

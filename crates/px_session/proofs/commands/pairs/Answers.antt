@@ -1,3 +1,4 @@
+-- Proofs of the goals that `pairs` of src/commands.rt leaves open.
 use Rattle.std.proofs.Common.{◌∙◌, map, refl, ap}
 use Rattle.std.proofs.lemmas.List.{take_all}
 use Rattle.px_reader.specs.CommandViews.{binding_pair}

@@ -1,3 +1,4 @@
+-- What the loops of `pairs` in src/commands.rt keep true.
 use Rattle.std.proofs.Common.{◌≡◌, map, take}
 use Rattle.px_reader.specs.CommandViews.{binding_pair}
 use Rattle.px_session.proofs.commands.pairs.Given as goal

@@ -1,3 +1,4 @@
+-- What the loops of `count_edits` in src/running.rt keep true.
 use Rattle.std.proofs.Common.{◌≡◌, take}
 use Rattle.px_session.specs.Running.{edits_in}
 use Rattle.px_session.proofs.running.count_edits.Given as goal

@@ -1,3 +1,4 @@
+-- Proofs of the goals that `count_places` of src/running.rt leaves open.
 use Rattle.std.proofs.Common.{◌*◌, ◌≤◌, arith}
 use Rattle.std.proofs.Math.Nat.{mul-le-mul_left}
 use Rattle.px_session.specs.Running.{adds_most}

@@ -1,3 +1,4 @@
+-- What the loops of `most_adds` in src/running.rt keep true.
 use Rattle.std.proofs.Common.{◌≤◌, length, take, All}
 use Rattle.px_session.proofs.running.most_adds.Given as goal
 

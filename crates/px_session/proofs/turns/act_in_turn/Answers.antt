@@ -1,3 +1,4 @@
+-- Proofs of the goals that `act_in_turn` of src/turns.rt leaves open.
 use Rattle.std.proofs.Common.{◌∙◌, inl, inr, arith}
 use Rattle.px_planex.specs.Execution.{remembered_step}
 use Rattle.px_session.specs.Places.{building_of, place_atoms}

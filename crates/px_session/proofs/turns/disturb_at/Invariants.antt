@@ -1,3 +1,4 @@
+-- What the loops of `disturb_at` in src/turns.rt keep true.
 use Rattle.std.proofs.Common.{take}
 use Rattle.px_planex.specs.Turns.{edits_at}
 use Rattle.px_session.specs.Running.{IsDisturbed}

@@ -1,3 +1,4 @@
+-- Proofs of the goals that `take_turn` of src/turns.rt leaves open.
 use Rattle.std.proofs.Common.{◌≤◌, ◌+◌, ap, ◌∙◌, length, arith}
 use Rattle.px_planex.specs.Executors.{PlanexValue}
 use Rattle.px_session.specs.Places.{building_of, place_atoms, place_spare}

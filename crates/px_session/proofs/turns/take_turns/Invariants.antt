@@ -1,3 +1,4 @@
+-- What the loops of `take_turns` in src/turns.rt keep true.
 use Rattle.std.proofs.Common.{◌-◌, ◌≤◌, length, map}
 use Rattle.std.specs.Prelude.{vec_capacity}
 use Rattle.px_session.specs.Running.{turn_told}

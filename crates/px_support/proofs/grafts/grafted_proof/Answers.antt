@@ -1,3 +1,4 @@
+-- Proofs of the goals that `grafted_proof` of src/grafts.rt leaves open.
 use Rattle.std.proofs.Common.{◌≡◌, ◌∙◌, List, ap, length, map, rules, sym, subst}
 use Rattle.std.proofs.lemmas.List.Elements.{filter_from_retain}
 use Rattle.std.specs.Prelude.{◌==◌, All, Contains, IfOk}
@@ -13,23 +14,33 @@ use Rattle.px_support.proofs.grafts.grafted_proof.Goals as goal
 
 pub parts_for-requires-clause-leaves : goal.parts_for-requires-clause-leaves
 parts_for-requires-clause-leaves c =
-    let picked = filter_from_retain _ (λ (leaf : Leaf). leaf.column == 0) (λ f x b g h. search (rules, h)) _ _ _ c.retain.ensures.filtered in
+    let picked =
+    filter_from_retain _ (λ (leaf : Leaf). leaf.column == 0) (λ f x b g h. search (rules, h)) _ _ _ c.retain.ensures.filtered in
     subst (All (λ (leaf : Leaf). Contains c.args.graft.now.formula.now leaf.atom))
-    (sym (c.deref.ensures.value ∙ picked ∙ ap first_leaves (c.in_ok-given.ensures ∙ ap leaves_of c.in_ok-under.ensures.value))) c.requires.proof.given
+    (sym (c.deref.ensures.value ∙ picked ∙ ap first_leaves (c.in_ok-given.ensures ∙ ap leaves_of c.in_ok-under.ensures.value)))
+    c.requires.proof.given
 
 pub graft-requires-clause-parts : goal.graft-requires-clause-parts
 graft-requires-clause-parts c =
-    let picked = filter_from_retain _ (λ (leaf : Leaf). leaf.column == 0) (λ f x b g h. search (rules, h)) _ _ _ c.retain.ensures.filtered in
-    ap length c.deref-2.ensures.value ∙ parts-count c.args.graft.now (map derivation_of c.args.firsts.now) c.deref.result.now c.in_ok-parts.parts.items c.in_ok-parts.ensures
+    let picked =
+    filter_from_retain _ (λ (leaf : Leaf). leaf.column == 0) (λ f x b g h. search (rules, h)) _ _ _ c.retain.ensures.filtered in
+    ap length c.deref-2.ensures.value
+    ∙ parts-count c.args.graft.now (map derivation_of c.args.firsts.now) c.deref.result.now c.in_ok-parts.parts.items
+    c.in_ok-parts.ensures
     ∙ ap length (c.deref.ensures.value ∙ picked ∙ ap first_leaves c.in_ok-given.ensures)
 
 pub returns : goal.returns
 returns c =
-    let picked = filter_from_retain _ (λ (leaf : Leaf). leaf.column == 0) (λ f x b g h. search (rules, h)) _ _ _ c.retain.ensures.filtered in
+    let picked =
+    filter_from_retain _ (λ (leaf : Leaf). leaf.column == 0) (λ f x b g h. search (rules, h)) _ _ _ c.retain.ensures.filtered in
     let under = derivation_under c.args.graft.now.terms.now (derivation_of c.args.proof.now) in
     let firsts = map derivation_of c.args.firsts.now in
     if_graft c.args.graft.now firsts under (map derivation_of c.deref-2.result.now) c.graft.result
-    (subst (λ (ps : List Proof). AreParts c.args.graft.now firsts (first_leaves (leaves_of under)) (map derivation_of ps)) (sym c.deref-2.ensures.value)
+    (subst (λ (ps : List Proof). AreParts c.args.graft.now firsts (first_leaves (leaves_of under)) (map derivation_of ps))
+    (sym c.deref-2.ensures.value)
     (subst (λ (ls : List Leaf). AreParts c.args.graft.now firsts ls (map derivation_of c.in_ok-parts.parts.items))
-    (c.deref.ensures.value ∙ picked ∙ ap first_leaves (c.in_ok-given.ensures ∙ ap leaves_of c.in_ok-under.ensures.value)) c.in_ok-parts.ensures))
-    (subst (λ (d : Derivation). IfOk c.graft.result (λ new. derivation_of new ≡ grafted c.args.graft.now.shift (map derivation_of c.deref-2.result.now) d)) c.in_ok-under.ensures.value c.graft.ensures.value)
+    (c.deref.ensures.value ∙ picked ∙ ap first_leaves (c.in_ok-given.ensures ∙ ap leaves_of c.in_ok-under.ensures.value))
+    c.in_ok-parts.ensures))
+    (subst (λ (d : Derivation). IfOk c.graft.result
+    (λ new. derivation_of new ≡ grafted c.args.graft.now.shift (map derivation_of c.deref-2.result.now) d)) c.in_ok-under.ensures.value
+    c.graft.ensures.value)

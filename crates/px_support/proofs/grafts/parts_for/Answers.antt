@@ -1,3 +1,4 @@
+-- Proofs of the goals that `parts_for` of src/grafts.rt leaves open.
 use Rattle.std.proofs.Common.{List, [], ◌∷◌, map, ap, ◌∙◌, subst, sym}
 use Rattle.std.proofs.lemmas.List.{map-append, take_all}
 use Rattle.std.specs.Prelude.{Contains}
@@ -12,14 +13,19 @@ use Rattle.px_support.proofs.grafts.parts_for.Goals as goal
 
 pub part_for-requires-clause-atom : goal.part_for-requires-clause-atom
 part_for-requires-clause-atom c =
-    All-at (λ (leaf : Leaf). Contains c.args.graft.now.formula.now leaf.atom) c.args.leaves.now c.leaf-item.result c.requires.leaves (c.loop-leaf.leaf-index, c.loop-leaf-test.true, sym c.leaf-item.is)
+    All-at (λ (leaf : Leaf). Contains c.args.graft.now.formula.now leaf.atom) c.args.leaves.now c.leaf-item.result c.requires.leaves
+    (c.loop-leaf.leaf-index, c.loop-leaf-test.true, sym c.leaf-item.is)
 
 pub loop-leaf-preserved : goal.loop-leaf-preserved
 loop-leaf-preserved c =
-    zip-grown (λ (leaf : Leaf) (part : Derivation). IsPartFor c.args.graft.now (map derivation_of c.args.firsts.now) leaf.atom part) _ _ _ _ c.leaf-item.result (derivation_of c.in_ok-part.part)
+    zip-grown (λ (leaf : Leaf) (part : Derivation). IsPartFor c.args.graft.now (map derivation_of c.args.firsts.now) leaf.atom part) _ _ _ _
+    c.leaf-item.result (derivation_of c.in_ok-part.part)
     (taken-more c.args.leaves.now c.loop-leaf.leaf-index c.leaf-item.result c.loop-leaf-test.true c.leaf-item.is)
-    (ap (map derivation_of) c.in_ok-push.ensures.ok ∙ map-append derivation_of c.loop-leaf.parts.items (c.in_ok-part.part ∷ [])) c.loop-leaf.invariant c.in_ok-part.ensures
+    (ap (map derivation_of) c.in_ok-push.ensures.ok ∙ map-append derivation_of c.loop-leaf.parts.items (c.in_ok-part.part ∷ []))
+    c.loop-leaf.invariant c.in_ok-part.ensures
 
 pub returns : goal.returns
 returns c =
-    subst (λ (ls : List Leaf). AreParts c.args.graft.now (map derivation_of c.args.firsts.now) ls (map derivation_of c.loop-leaf.parts.items)) (take_all c.loop-leaf.leaf-index c.args.leaves.now c.loop-leaf-test.false) c.loop-leaf.invariant
+    subst (λ (ls : List Leaf). AreParts c.args.graft.now (map derivation_of c.args.firsts.now) ls
+    (map derivation_of c.loop-leaf.parts.items))
+    (take_all c.loop-leaf.leaf-index c.args.leaves.now c.loop-leaf-test.false) c.loop-leaf.invariant

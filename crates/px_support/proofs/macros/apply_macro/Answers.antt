@@ -1,3 +1,4 @@
+-- Proofs of the goals that `apply_macro` of src/macros.rt leaves open.
 use Rattle.std.proofs.Common.{◌∙◌, arith, get_or, refl, sym}
 use Rattle.std.proofs.lemmas.Option.{slice_get_within}
 use Rattle.std.specs.Prelude.{All}
@@ -10,15 +11,21 @@ bounds-asked-number c = slice_get_within c.args.asked.now.tables.now c.args.numb
 
 pub take_steps-requires-clause-learned : goal.take_steps-requires-clause-learned
 take_steps-requires-clause-learned c =
-    learned-is c.args.asked.now.problem.now c.args.asked.now.tables.now c.requires.asked.tables c.args.number c.args.prefix c.args.sigma.now c.requires.entry c.index-asked-number.result c.index-asked-number.is
-    _ (sym c.index-asked-number.is) refl refl (c.deref.ensures.value ∙ c.in_ok-terms.ensures) (omega (arith, c.requires.room.short, c.len.ensures))
+    learned-is c.args.asked.now.problem.now c.args.asked.now.tables.now c.requires.asked.tables c.args.number c.args.prefix c.args.sigma.now
+    c.requires.entry c.index-asked-number.result c.index-asked-number.is
+    _ (sym c.index-asked-number.is) refl refl (c.deref.ensures.value ∙ c.in_ok-terms.ensures)
+    (omega (arith, c.requires.room.short, c.len.ensures))
 
 pub take_steps-requires-clause-findable : goal.take_steps-requires-clause-findable
 take_steps-requires-clause-findable c =
-    learned-needs c.args.asked.now.problem.now c.args.asked.now.tables.now c.requires.asked.tables c.args.number c.args.prefix c.args.sigma.now c.requires.entry c.index-asked-number.result c.index-asked-number.is
-    (get_or c.args.asked.now.tables.now c.args.number c.index-asked-number.result) c.args.walk.model.atoms (All (IsFindable c.args.asked.now.problem.now)) (sym c.index-asked-number.is) c.requires.findable
+    learned-needs c.args.asked.now.problem.now c.args.asked.now.tables.now c.requires.asked.tables c.args.number c.args.prefix
+    c.args.sigma.now c.requires.entry c.index-asked-number.result c.index-asked-number.is
+    (get_or c.args.asked.now.tables.now c.args.number c.index-asked-number.result) c.args.walk.model.atoms
+    (All (IsFindable c.args.asked.now.problem.now)) (sym c.index-asked-number.is) c.requires.findable
 
 pub returns : goal.returns
 returns c =
-    if_entry_applied c.args.asked.now.problem.now c.args.asked.now.tables.now c.requires.asked.tables c.args.number c.args.prefix c.args.sigma.now c.requires.entry c.index-asked-number.result c.index-asked-number.is
-    _ c.args.walk c.take_steps.result (sym c.index-asked-number.is) refl refl (omega (arith, c.len.ensures, c.args.walk.steps.ok.0)) c.take_steps.ensures
+    if_entry_applied c.args.asked.now.problem.now c.args.asked.now.tables.now c.requires.asked.tables c.args.number c.args.prefix
+    c.args.sigma.now c.requires.entry c.index-asked-number.result c.index-asked-number.is
+    _ c.args.walk c.take_steps.result (sym c.index-asked-number.is) refl refl
+    (omega (arith, c.len.ensures, c.args.walk.steps.ok.0)) c.take_steps.ensures

@@ -1,3 +1,4 @@
+-- What the loops of `first_place` in src/sources.rt keep true.
 use Rattle.px_support.proofs.SourceLaws.{NotAmongFirst}
 use Rattle.px_support.proofs.sources.first_place.Given as goal
 

@@ -1,3 +1,4 @@
+-- Proofs of the goals that `support_of` of src/support.rt leaves open.
 use Rattle.std.proofs.Common.{arith}
 use Rattle.px_support.specs.Asking.{task_for}
 use Rattle.px_support.proofs.FewMoves.{few-moves}
@@ -21,20 +22,24 @@ with_goal-requires-clause-short c =
 
 pub returns-clause-supports : goal.returns-clause-supports
 returns-clause-supports c =
-    if_supports c.moves_have_supports.ensures (task_for c.args.asked.now) c.args.moves.now c.with_goal.result c.requires.asked.valid c.requires.asked.goal c.requires.asked.tables c.requires.found
+    if_supports c.moves_have_supports.ensures (task_for c.args.asked.now) c.args.moves.now c.with_goal.result c.requires.asked.valid
+    c.requires.asked.goal c.requires.asked.tables c.requires.found
     c.with_goal.ensures.steps c.with_goal.ensures.rows
 
 pub returns-clause-of_problem : goal.returns-clause-of_problem
 returns-clause-of_problem c =
-    if_of_problem c.moves_have_supports.ensures (task_for c.args.asked.now) c.args.moves.now c.with_goal.result c.requires.asked.valid c.requires.asked.goal c.requires.asked.tables c.requires.found
+    if_of_problem c.moves_have_supports.ensures (task_for c.args.asked.now) c.args.moves.now c.with_goal.result c.requires.asked.valid
+    c.requires.asked.goal c.requires.asked.tables c.requires.found
     c.with_goal.ensures.steps c.with_goal.ensures.rows
 
 pub returns-clause-instances : goal.returns-clause-instances
 returns-clause-instances c =
-    if_instances c.moves_have_supports.ensures (task_for c.args.asked.now) c.args.moves.now c.with_goal.result c.requires.asked.valid c.requires.asked.goal c.requires.asked.tables c.requires.found
+    if_instances c.moves_have_supports.ensures (task_for c.args.asked.now) c.args.moves.now c.with_goal.result c.requires.asked.valid
+    c.requires.asked.goal c.requires.asked.tables c.requires.found
     c.with_goal.ensures.steps c.with_goal.ensures.rows
 
 pub returns-clause-carries : goal.returns-clause-carries
 returns-clause-carries c =
-    if_carries c.moves_have_supports.ensures (task_for c.args.asked.now) c.args.moves.now c.with_goal.result c.requires.asked.valid c.requires.asked.goal c.requires.asked.tables c.requires.found
+    if_carries c.moves_have_supports.ensures (task_for c.args.asked.now) c.args.moves.now c.with_goal.result c.requires.asked.valid
+    c.requires.asked.goal c.requires.asked.tables c.requires.found
     c.with_goal.ensures.steps c.with_goal.ensures.rows

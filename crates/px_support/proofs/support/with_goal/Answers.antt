@@ -1,3 +1,4 @@
+-- Proofs of the goals that `with_goal` of src/support.rt leaves open.
 use Rattle.std.proofs.Common.{[], List, map, refl, sym, subst}
 use Rattle.std.specs.Prelude.{All}
 use Rattle.px_terms.specs.Validity.{IsGroundInstanceOf}
@@ -10,11 +11,14 @@ use Rattle.px_support.proofs.RowSteps.{first_row-here, rows-push}
 use Rattle.px_support.proofs.support.with_goal.Goals as goal
 
 pub first_row-requires-clause-steps : goal.first_row-requires-clause-steps
-first_row-requires-clause-steps c = subst (All (IsGroundInstanceOf c.args.asked.now.problem.now)) (sym c.deref.ensures.value) c.requires.taken.all_ground
+first_row-requires-clause-steps c =
+    subst (All (IsGroundInstanceOf c.args.asked.now.problem.now)) (sym c.deref.ensures.value) c.requires.taken.all_ground
 
 pub returns-clause-rows : goal.returns-clause-rows
 returns-clause-rows c =
     let task = task_for c.args.asked.now in
-    subst (λ (rs : List (List Derivation)). MovesRows task (initial_node task) [] c.args.moves.now rs) (sym (rows-push c.args.walk.rows.items c.push.new.items.items c.in_ok-row.row c.in_ok-push.ensures.ok))
+    subst (λ (rs : List (List Derivation)). MovesRows task (initial_node task) [] c.args.moves.now rs)
+    (sym (rows-push c.args.walk.rows.items c.push.new.items.items c.in_ok-row.row c.in_ok-push.ensures.ok))
     (c.requires.taken.rows (map derivation_of c.in_ok-row.row)
-    (first_row-here task.problem c.args.walk.steps.items c.deref.result.now c.args.walk.model.atoms task.goal task.goal task.vars (map derivation_of c.in_ok-row.row) c.deref.ensures.value refl c.in_ok-row.ensures))
+    (first_row-here task.problem c.args.walk.steps.items c.deref.result.now c.args.walk.model.atoms task.goal task.goal task.vars
+    (map derivation_of c.in_ok-row.row) c.deref.ensures.value refl c.in_ok-row.ensures))

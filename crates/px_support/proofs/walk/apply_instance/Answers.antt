@@ -1,3 +1,4 @@
+-- Proofs of the goals that `apply_instance` of src/walk.rt leaves open.
 use Rattle.std.proofs.Common.{◌∙◌, List, map, refl, sym, subst}
 use Rattle.std.specs.Prelude.{All}
 use Rattle.px_terms.specs.declared.atom.Atom.{Atom}
@@ -11,22 +12,28 @@ use Rattle.px_support.proofs.RowSteps.{first_row-here, rows-push}
 use Rattle.px_support.proofs.walk.apply_instance.Goals as goal
 
 pub first_row-requires-clause-steps : goal.first_row-requires-clause-steps
-first_row-requires-clause-steps c = subst (All (IsGroundInstanceOf c.args.asked.now.problem.now)) (sym c.deref.ensures.value) c.requires.room.all_ground
+first_row-requires-clause-steps c =
+    subst (All (IsGroundInstanceOf c.args.asked.now.problem.now)) (sym c.deref.ensures.value) c.requires.room.all_ground
 
 pub first_row-requires-clause-formula : goal.first_row-requires-clause-formula
 first_row-requires-clause-formula c =
-    subst (All (IsAtomOf c.args.asked.now.problem.now 0)) (sym (c.deref-2.ensures.value ∙ c.in_ok-formula.ensures)) (precondition-is_of c.args.asked.now.problem.now c.args.inst.now c.requires.asked.valid c.requires.inst)
+    subst (All (IsAtomOf c.args.asked.now.problem.now 0)) (sym (c.deref-2.ensures.value ∙ c.in_ok-formula.ensures))
+    (precondition-is_of c.args.asked.now.problem.now c.args.inst.now c.requires.asked.valid c.requires.inst)
 
 pub first_row-requires-clause-findable : goal.first_row-requires-clause-findable
 first_row-requires-clause-findable c =
-    subst (λ (formula : List Atom). IsFindable c.args.asked.now.problem.now (record { formula = formula; vars = 0; facts = c.args.walk.model.atoms })) (sym (c.deref-2.ensures.value ∙ c.in_ok-formula.ensures)) c.requires.findable
+    subst (λ (formula : List Atom). IsFindable c.args.asked.now.problem.now
+    (record { formula = formula; vars = 0; facts = c.args.walk.model.atoms }))
+    (sym (c.deref-2.ensures.value ∙ c.in_ok-formula.ensures)) c.requires.findable
 
 pub apply_op-requires-clause-inst : goal.apply_op-requires-clause-inst
 apply_op-requires-clause-inst c = instance-is_ground c.args.asked.now.problem.now c.args.inst.now c.requires.inst
 
 pub returns : goal.returns
 returns c =
-    applied-instance c.args.asked.now.problem.now c.args.asked.now.tables.now c.args.inst.now c.args.walk _ (map derivation_of c.in_ok-row.row) refl c.in_ok-model.ensures.atoms c.in_ok-push.ensures.ok
-    (first_row-here c.args.asked.now.problem.now c.args.walk.steps.items c.deref.result.now c.args.walk.model.atoms (precondition c.args.asked.now.problem.now c.args.inst.now) c.deref-2.result.now 0 (map derivation_of c.in_ok-row.row)
+    applied-instance c.args.asked.now.problem.now c.args.asked.now.tables.now c.args.inst.now c.args.walk _
+    (map derivation_of c.in_ok-row.row) refl c.in_ok-model.ensures.atoms c.in_ok-push.ensures.ok
+    (first_row-here c.args.asked.now.problem.now c.args.walk.steps.items c.deref.result.now c.args.walk.model.atoms
+    (precondition c.args.asked.now.problem.now c.args.inst.now) c.deref-2.result.now 0 (map derivation_of c.in_ok-row.row)
     c.deref.ensures.value (c.deref-2.ensures.value ∙ c.in_ok-formula.ensures) c.in_ok-row.ensures)
     (rows-push c.args.walk.rows.items c.push-2.new.items.items c.in_ok-row.row c.in_ok-push-2.ensures.ok)

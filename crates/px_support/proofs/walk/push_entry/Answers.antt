@@ -1,3 +1,4 @@
+-- Proofs of the goals that `push_entry` of src/walk.rt leaves open.
 use Rattle.std.proofs.Common.{◌∙◌, ◌++◌, ◌∷◌, [], refl, ap}
 use Rattle.px_table.specs.declared.entry.Entry.{Entry}
 use Rattle.px_support.specs.Asking.{task_for}
@@ -6,4 +7,5 @@ use Rattle.px_support.proofs.walk.push_entry.Goals as goal
 
 pub returns : goal.returns
 returns c =
-    taken-push (task_for c.args.asked.now) c.args.entry.now c.args.walk _ (c.in_ok-push.ensures.ok ∙ ap (λ (e : Entry). c.args.walk.stack.items ++ e ∷ []) c.in_ok-copy.ensures) refl refl refl
+    taken-push (task_for c.args.asked.now) c.args.entry.now c.args.walk _
+    (c.in_ok-push.ensures.ok ∙ ap (λ (e : Entry). c.args.walk.stack.items ++ e ∷ []) c.in_ok-copy.ensures) refl refl refl

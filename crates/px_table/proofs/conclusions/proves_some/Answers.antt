@@ -1,3 +1,4 @@
+-- Proofs of the goals that `proves_some` of src/conclusions.rt leaves open.
 use Rattle.std.proofs.Common.{◌≡◌, sym, ◌∙◌, subst}
 use Rattle.px_terms.specs.declared.atom.Atom.{Atom}
 use Rattle.px_proof.specs.Literals.{positive_of}
@@ -13,8 +14,10 @@ returns-in-Some c =
           let tree = exact.0 holds in
           (c.in-Some.atom, record { proves = tree.proves; terms = tree.terms }),
       λ some_atom.
-          let same : c.in-Some.atom ≡ some_atom.0 = some_same (sym c.in-Some.is ∙ c.conclusion.ensures some_atom.0 (c.args.objects, c.args.params, some_atom.1)) in
-          exact.1 (subst (λ (a : Atom). IsTree c.args.axioms.now c.args.objects c.args.params (positive_of a) (derivation_of c.args.proof.now)) (sym same) (record { proves = some_atom.1.proves; terms = some_atom.1.terms })),
+          let same : c.in-Some.atom ≡ some_atom.0 =
+          some_same (sym c.in-Some.is ∙ c.conclusion.ensures some_atom.0 (c.args.objects, c.args.params, some_atom.1)) in
+          exact.1 (subst (λ (a : Atom). IsTree c.args.axioms.now c.args.objects c.args.params (positive_of a)
+          (derivation_of c.args.proof.now)) (sym same) (record { proves = some_atom.1.proves; terms = some_atom.1.terms })),
     )
 
 pub returns-in-None : goal.returns-in-None

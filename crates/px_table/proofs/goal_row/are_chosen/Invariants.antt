@@ -1,3 +1,4 @@
+-- What the loops of `are_chosen` in src/goal_row.rt keep true.
 use Rattle.std.proofs.Common.{◌≡◌, List, map, take}
 use Rattle.px_terms.specs.declared.atom.Atom.{Atom}
 use Rattle.px_table.specs.Choices.{term_by}
@@ -5,4 +6,5 @@ use Rattle.px_table.specs.Conclusions.{AreConclusions}
 use Rattle.px_table.proofs.goal_row.are_chosen.Given as goal
 
 abbrev pub invariant-loop-k : goal.invariant-loop-k
-invariant-loop-k l = (atoms : List Atom) → AreConclusions l.axioms atoms l.row → map (term_by l.params l.goal atoms) (take l.k l.patterns) ≡ take l.k l.terms
+invariant-loop-k l =
+    (atoms : List Atom) → AreConclusions l.axioms atoms l.row → map (term_by l.params l.goal atoms) (take l.k l.patterns) ≡ take l.k l.terms

@@ -1,3 +1,4 @@
+-- Proofs of the goals that `concludes` of src/goal_row.rt leaves open.
 use Rattle.std.proofs.Common.{◌≡◌, sym, ap, ◌∙◌}
 use borrow.Author.Tests.{eqb-true}
 use Rattle.px_terms.specs.declared.atom.Atom.{Atom}
@@ -10,7 +11,8 @@ pub returns-then-pred : goal.returns-then-pred
 returns-then-pred c = λ atoms atom row_concluded concluded.
     let same : c.in-Some.atom ≡ atom = some_same (sym c.in-Some.is ∙ c.conclusion.ensures atom concluded) in
     let exact = rw (c.args-then-pred.ensures.value, c.args-then-pred-2.ensures.value) at (c.are_chosen.ensures atoms row_concluded) in (
-      λ yes. atom_is (atom_by c.args.params c.args.goal.now atoms c.args.pattern.now) c.in-Some.atom (sym c.pred-in-Some.ensures ∙ sym c.if-pred.true ∙ c.pred.ensures) (exact.0 yes) ∙ same,
+      λ yes. atom_is (atom_by c.args.params c.args.goal.now atoms c.args.pattern.now) c.in-Some.atom
+          (sym c.pred-in-Some.ensures ∙ sym c.if-pred.true ∙ c.pred.ensures) (exact.0 yes) ∙ same,
       λ is. exact.1 (ap (λ (a : Atom). a.args) (is ∙ sym same)),
     )
 

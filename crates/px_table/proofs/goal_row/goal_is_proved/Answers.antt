@@ -1,9 +1,10 @@
+-- Proofs of the goals that `goal_is_proved` of src/goal_row.rt leaves open.
 use Rattle.std.proofs.Common.{◌++◌, map, sym, subst}
 use Rattle.std.specs.Prelude.{List}
 use Rattle.px_terms.specs.declared.atom.Atom.{Atom}
 use Rattle.px_terms.specs.Substitution.{substitute_atom}
 use Rattle.px_proof.specs.ProofTerm.{derivation_of}
-use Rattle.px_proof.specs.Proves.{IsName}
+use Rattle.px_proof.specs.Proves.{IsObjectOrParameter}
 use Rattle.px_table.specs.Conclusions.{IsConclusion, ProvesOver}
 use Rattle.px_table.specs.Supports.{IsProofOf, ProvesEachOf, variables}
 use Rattle.px_table.proofs.Choosing.{made_by_choices, choices_give}
@@ -17,16 +18,23 @@ returns-then-each_proves_some c =
     let concluded = zip_weaker over (IsConclusion p.axioms) (λ atom proof h. (p.objects, c.args.params, h)) in
     let partners = zip_partners over c.args.row.now (c.each_proves_some.ensures.0 c.if-each_proves_some.true) in (
       λ yes.
-          let made = made_by_choices p c.args.params c.args.goal_vars c.args.goal.now c.requires partners.0 ((c.row_concludes.ensures partners.0 (concluded partners.0 c.args.row.now partners.1)).0 yes) in (
+          let made =
+          made_by_choices p c.args.params c.args.goal_vars c.args.goal.now c.requires partners.0
+          ((c.row_concludes.ensures partners.0 (concluded partners.0 c.args.row.now partners.1)).0 yes) in (
             made.0,
             made.1,
-            subst (λ (atoms : List Atom). ProvesEachOf (IsName p.objects c.args.params) p.axioms atoms (map derivation_of c.args.row.now)) (sym made.2)
-                (zip_to_map (IsProofOf (IsName p.objects c.args.params) p.axioms) derivation_of partners.0 c.args.row.now partners.1),
+            subst (λ (atoms : List Atom). ProvesEachOf (IsObjectOrParameter p.objects c.args.params) p.axioms atoms
+                (map derivation_of c.args.row.now))
+                (sym made.2)
+                (zip_to_map (IsProofOf (IsObjectOrParameter p.objects c.args.params) p.axioms) derivation_of partners.0 c.args.row.now
+                partners.1),
           ),
       λ proved.
           let given = map (substitute_atom (variables c.args.params ++ proved.0)) c.args.goal.now in
-          let each = zip_from_map (IsProofOf (IsName p.objects c.args.params) p.axioms) derivation_of given c.args.row.now proved.2 in
-          (c.row_concludes.ensures given (concluded given c.args.row.now each)).1 (choices_give p c.args.params c.args.goal_vars c.args.goal.now c.requires proved.0),
+          let each =
+          zip_from_map (IsProofOf (IsObjectOrParameter p.objects c.args.params) p.axioms) derivation_of given c.args.row.now proved.2 in
+          (c.row_concludes.ensures given (concluded given c.args.row.now each)).1
+          (choices_give p c.args.params c.args.goal_vars c.args.goal.now c.requires proved.0),
     )
 
 pub returns-else-each_proves_some : goal.returns-else-each_proves_some
@@ -36,5 +44,5 @@ returns-else-each_proves_some c =
       λ proved.
           let given = map (substitute_atom (variables c.args.params ++ proved.0)) c.args.goal.now in
           c.each_proves_some.ensures.1 (zip_each (ProvesOver p.axioms p.objects c.args.params) given c.args.row.now
-          (zip_from_map (IsProofOf (IsName p.objects c.args.params) p.axioms) derivation_of given c.args.row.now proved.2)),
+          (zip_from_map (IsProofOf (IsObjectOrParameter p.objects c.args.params) p.axioms) derivation_of given c.args.row.now proved.2)),
     )

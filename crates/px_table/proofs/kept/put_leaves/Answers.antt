@@ -1,3 +1,4 @@
+-- Proofs of the goals that `put_leaves` of src/kept.rt leaves open.
 use Rattle.std.proofs.Common.{map, take, sym, ap, ◌∙◌}
 use Rattle.px_table.specs.Marks.{mark_eq, mark_of}
 use Rattle.px_table.specs.Once.{put_each, put_once}
@@ -10,4 +11,5 @@ loop-leaf-preserved c =
     c.in_ok-put_mark.ensures
     ∙ ap (λ l. put_once mark_eq l c.leaf_mark.result) c.loop-leaf.invariant
     ∙ ap (put_once mark_eq before) (c.leaf_mark.ensures ∙ ap (mark_of c.args.row) c.leaf-item.is)
-    ∙ sym (put_each-more mark_eq c.args.marks.now.items (mark_of c.args.row) c.args.leaves.now c.loop-leaf.leaf-index c.leaf-item.result c.loop-leaf-test.true)
+    ∙ sym (put_each-more mark_eq c.args.marks.now.items
+    (mark_of c.args.row) c.args.leaves.now c.loop-leaf.leaf-index c.leaf-item.result c.loop-leaf-test.true)

@@ -1,3 +1,4 @@
+-- What the loops of `walks` in src/mark_list.rt keep true.
 use Rattle.std.proofs.Common.{◌≡◌, ◌≤◌, length, map, take}
 use Rattle.px_proof.specs.Derivation.{derivations, all_leaves_of}
 use Rattle.px_proof.specs.ProofTerm.{derivation_of}
@@ -8,5 +9,6 @@ use Rattle.px_table.proofs.mark_list.+walks.Given as goal
 abbrev pub invariant-after_proofs-loop-proof : goal.invariant-after_proofs-loop-proof
 invariant-after_proofs-loop-proof l = record {
   within : l.at ≤ length l.marks;
-  front : take l.at l.marks ≡ put_each mark_eq (take l.count l.marks) (map (mark_of l.row) (all_leaves_of (derivations (map derivation_of (take l.proof-index l.proofs)))));
+  front : take l.at l.marks ≡ put_each mark_eq (take l.count l.marks)
+      (map (mark_of l.row) (all_leaves_of (derivations (map derivation_of (take l.proof-index l.proofs)))));
 }

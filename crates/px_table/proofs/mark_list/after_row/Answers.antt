@@ -1,3 +1,4 @@
+-- Proofs of the goals that `after_row` of src/mark_list.rt leaves open.
 use Rattle.std.proofs.Common.{[], map, ap, ◌∙◌, subst}
 use Rattle.std.specs.Prelude.{List}
 use Rattle.px_proof.specs.declared.proof.Leaf.{Leaf}
@@ -11,5 +12,6 @@ use Rattle.px_table.proofs.mark_list.after_row.Goals as goal
 pub returns : goal.returns
 returns c =
     subst (λ (l : List Mark). IsFront c.args.marks.now l c.after_proofs.result)
-    (ap (λ (ls : List Leaf). put_each mark_eq [] (map (mark_of c.args.row) ls)) (all_leaves-row (map derivation_of c.args.proofs.now)) ∙ row_marks-put c.args.row (map derivation_of c.args.proofs.now))
+    (ap (λ (ls : List Leaf). put_each mark_eq [] (map (mark_of c.args.row) ls)) (all_leaves-row (map derivation_of c.args.proofs.now))
+    ∙ row_marks-put c.args.row (map derivation_of c.args.proofs.now))
     c.after_proofs.ensures

@@ -1,3 +1,4 @@
+-- What the loops of `copy_entries` in src/node.rt keep true.
 use Rattle.std.proofs.Common.{◌≡◌, take}
 use Rattle.px_table.proofs.node.copy_entries.Given as goal
 

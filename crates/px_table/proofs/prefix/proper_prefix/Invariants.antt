@@ -1,3 +1,4 @@
+-- What the loops of `proper_prefix` in src/prefix.rt keep true.
 use Rattle.std.proofs.Common.{ℕ, ◌<◌, ◌≤◌, get_or}
 use Rattle.px_table.specs.declared.mark.Mark.{Mark}
 use Rattle.px_table.specs.Kernels.{mark_under, steps_under}
@@ -5,4 +6,6 @@ use Rattle.px_table.specs.Marks.{IsKept}
 use Rattle.px_table.proofs.prefix.proper_prefix.Given as goal
 
 abbrev pub invariant-loop-mark : goal.invariant-loop-mark
-invariant-loop-mark l = (k : ℕ) (d : Mark) → k < l.mark-index → (get_or l.table.marks k d).row ≤ l.prefix → IsKept l.problem (steps_under l.table l.sigma) 1 (mark_under l.sigma (get_or l.table.marks k d))
+invariant-loop-mark l =
+    (k : ℕ) (d : Mark) → k < l.mark-index → (get_or l.table.marks k d).row ≤ l.prefix
+    → IsKept l.problem (steps_under l.table l.sigma) 1 (mark_under l.sigma (get_or l.table.marks k d))

@@ -1,5 +1,8 @@
+-- Proofs of the goals that `proper` of src/proper_instance.rt leaves open.
 use Rattle.px_table.specs.KernelLaws.{tail_carries}
 use Rattle.px_table.proofs.proper_instance.proper.Goals as goal
 
 pub returns-clause-carries : goal.returns-clause-carries
-returns-clause-carries c = λ holds. tail_carries c.args.problem.now c.args.table.now c.args.sigma.now c.args.i c.requires.table c.requires.sigma c.requires.number.0 c.requires.number.1 (c.are_kept.ensures.0 holds)
+returns-clause-carries c =
+    λ holds. tail_carries c.args.problem.now c.args.table.now c.args.sigma.now c.args.i c.requires.table c.requires.sigma
+    c.requires.number.0 c.requires.number.1 (c.are_kept.ensures.0 holds)

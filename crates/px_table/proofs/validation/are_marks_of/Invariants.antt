@@ -1,3 +1,4 @@
+-- What the loops of `are_marks_of` in src/validation.rt keep true.
 use Rattle.std.proofs.Common.{ℕ, ◌<◌, get_or}
 use Rattle.px_terms.specs.Validity.{IsAtomOf}
 use Rattle.px_table.specs.declared.mark.Mark.{Mark}

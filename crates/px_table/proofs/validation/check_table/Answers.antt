@@ -1,3 +1,4 @@
+-- Proofs of the goals that `check_table` of src/validation.rt leaves open.
 use Rattle.px_table.specs.KernelLaws.{kernels_carry}
 use Rattle.px_table.proofs.validation.check_table.Goals as goal
 

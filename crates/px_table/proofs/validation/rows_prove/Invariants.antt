@@ -1,5 +1,6 @@
+-- What the loops of `rows_prove` in src/validation.rt keep true.
 use Rattle.std.proofs.Common.{◌↔◌, drop}
-use Rattle.px_proof.specs.Proves.{IsName}
+use Rattle.px_proof.specs.Proves.{IsObjectOrParameter}
 use Rattle.px_table.specs.Supports.{RowsProve}
 use Rattle.px_table.specs.Tables.{rows_of}
 use Rattle.px_table.proofs.validation.rows_prove.Given as goal
@@ -7,5 +8,8 @@ use Rattle.px_table.proofs.validation.rows_prove.Given as goal
 -- what is left to be proved, where the rows up to here prove what they have to
 abbrev pub invariant-loop-k : goal.invariant-loop-k
 invariant-loop-k l =
-    RowsProve (IsName l.problem.objects l.table.params) l.problem l.table.params (drop l.k l.table.steps) l.table.goal l.table.goal_vars (drop l.k (rows_of l.table.proofs))
-    ↔ RowsProve (IsName l.problem.objects l.table.params) l.problem l.table.params l.table.steps l.table.goal l.table.goal_vars (rows_of l.table.proofs)
+    RowsProve (IsObjectOrParameter l.problem.objects l.table.params) l.problem l.table.params
+    (drop l.k l.table.steps) l.table.goal l.table.goal_vars
+    (drop l.k (rows_of l.table.proofs))
+    ↔ RowsProve (IsObjectOrParameter l.problem.objects l.table.params) l.problem l.table.params l.table.steps l.table.goal l.table.goal_vars
+    (rows_of l.table.proofs)

@@ -1,3 +1,4 @@
+-- What the loops of `Bounds::of` in src/bounds.rt keep true.
 use Rattle.px_gaps.specs.Bounds.{AreBounds}
 use Rattle.px_gaps.proofs.bounds.Bounds.of.Given as goal
 

@@ -1,3 +1,4 @@
+-- Proofs of the goals that `Numbers::pushed` of src/numbers.rt leaves open.
 use Rattle.std.proofs.Common.{◌≤◌, length, subst, sym, arith}
 use Rattle.px_numbers.specs.declared.stacks.Frame.{Frame}
 use Rattle.px_numbers.specs.Numbers.{Kept, KeepsAll}
@@ -9,21 +10,33 @@ use Rattle.px_numbers.proofs.numbers.Numbers.pushed.Goals as goal
 pub invariant_of-self-2 : goal.invariant_of-self-2
 invariant_of-self-2 c =
     let frame : Frame = record { entry = c.args.entry; below = c.args.below } in
-    let within : c.args.below ≤ length c.self.inside.stacks = subst (λ (k : Kept). c.args.below ≤ length k.frames) (sym c.self.view_is) (stack_within c.args.self.now c.args.below c.requires.0 c.requires.1) in
+    let within : c.args.below ≤ length c.self.inside.stacks =
+    subst (λ (k : Kept). c.args.below ≤ length k.frames) (sym c.self.view_is)
+    (stack_within c.args.self.now c.args.below c.requires.0 c.requires.1) in
     record {
       once = record {
         atoms = c.self.invariant.once.atoms;
         lists = c.self.invariant.once.lists;
         entries = c.self.invariant.once.entries;
-        frames = keeps-once c.self.inside.stacks c.intern.new.self frame c.in_ok-place.place c.in_ok-place.ensures.kept c.self.invariant.once.frames;
+        frames =
+            keeps-once c.self.inside.stacks c.intern.new.self frame c.in_ok-place.place c.in_ok-place.ensures.kept
+            c.self.invariant.once.frames;
       };
-      descending = descending_more c.self.inside.stacks c.intern.new.self frame c.in_ok-place.place c.in_ok-place.ensures.kept within c.self.invariant.descending;
+      descending =
+          descending_more c.self.inside.stacks c.intern.new.self frame c.in_ok-place.place c.in_ok-place.ensures.kept within
+          c.self.invariant.descending;
     }
 
 pub returns-clause-keeps : goal.returns-clause-keeps
 returns-clause-keeps c =
     let frame : Frame = record { entry = c.args.entry; below = c.args.below } in
-    subst (λ (k : Kept). KeepsAll k (record { atoms = c.self.inside.atoms; lists = c.self.inside.lists; entries = c.self.inside.entries; frames = c.intern.new.self })) c.self.view_is
+    subst (λ (k : Kept). KeepsAll k (record {
+      atoms =
+          c.self.inside.atoms;
+      lists = c.self.inside.lists;
+      entries = c.self.inside.entries;
+      frames = c.intern.new.self;
+    })) c.self.view_is
     (record {
       atoms = keeps_same c.self.inside.atoms;
       lists = keeps_same c.self.inside.lists;
@@ -34,7 +47,8 @@ returns-clause-keeps c =
 pub returns-clause-stack : goal.returns-clause-stack
 returns-clause-stack c = λ top stack at is.
     let frame : Frame = record { entry = c.args.entry; below = c.args.below } in
-    let new : Kept = record { atoms = c.self.inside.atoms; lists = c.self.inside.lists; entries = c.self.inside.entries; frames = c.intern.new.self } in
+    let new : Kept =
+    record { atoms = c.self.inside.atoms; lists = c.self.inside.lists; entries = c.self.inside.entries; frames = c.intern.new.self } in
     let keeps : KeepsAll c.args.self.now new = returns-clause-keeps c in (
       c.in_ok-place.place,
       frame,

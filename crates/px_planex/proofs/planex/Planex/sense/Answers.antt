@@ -1,3 +1,4 @@
+-- Proofs of the goals that `Planex::sense` of src/planex.rt leaves open.
 use Rattle.std.specs.Prelude.{◌≡◌, None, length}
 use Rattle.std.proofs.Common.{refl, ap, ◌∙◌, arith}
 use Rattle.px_match.specs.Matching.{IsHighest, NoKernelFits}
@@ -10,22 +11,29 @@ pub returns-in-None-clause-happens : goal.returns-in-None-clause-happens
 returns-in-None-clause-happens g c =
     let kept = c.in-None.ensures.kept refl ∙ ap (λ (p : PlanexValue). p.memory.instance) c.self.view_is in (
       carried NoKernelFits _ _ _ _ _ _ _ _ (c.self.invariant.same_problem ∙ ap (λ (p : PlanexValue). p.problem) c.self.view_is)
-          (c.self.invariant.same_table ∙ ap (λ (p : PlanexValue). p.table) c.self.view_is) (ap (λ (p : PlanexValue). p.bound) c.self.view_is) c.sense.ensures.atoms (c.in-None.ensures.none.0 refl),
+          (c.self.invariant.same_table ∙ ap (λ (p : PlanexValue). p.table) c.self.view_is)
+          (ap (λ (p : PlanexValue). p.bound) c.self.view_is) c.sense.ensures.atoms (c.in-None.ensures.none.0 refl),
       λ i. record { atoms = g.W.World.atoms c.args.world.now; memory = record { remembered = None; instance = kept i } },
     )
 
 pub returns-then-number-len-clause-happens : goal.returns-then-number-len-clause-happens
 returns-then-number-len-clause-happens g c =
     let kernel = kernel_with c.best-found.new.self.instance c.in-Some.number in
-    let here = carried (λ problem table bound atoms. IsHighest problem table bound atoms kernel) _ _ _ _ _ _ _ _ (c.self.invariant.same_problem ∙ ap (λ (p : PlanexValue). p.problem) c.self.view_is)
-    (c.self.invariant.same_table ∙ ap (λ (p : PlanexValue). p.table) c.self.view_is) (ap (λ (p : PlanexValue). p.bound) c.self.view_is) c.sense.ensures.atoms c.in-Some.ensures.some in
+    let here =
+    carried (λ problem table bound atoms. IsHighest problem table bound atoms kernel) _ _ _ _ _ _ _ _
+    (c.self.invariant.same_problem ∙ ap (λ (p : PlanexValue). p.problem) c.self.view_is)
+    (c.self.invariant.same_table ∙ ap (λ (p : PlanexValue). p.table) c.self.view_is)
+    (ap (λ (p : PlanexValue). p.bound) c.self.view_is) c.sense.ensures.atoms c.in-Some.ensures.some in
     let steps = ap (λ (p : PlanexValue). length p.table.steps) c.self.view_is in
     (kernel, here, omega (arith, here.fits.to_goal, c.if-number-len.true, c.len.ensures, steps), refl)
 
 pub returns-else-number-len-clause-happens : goal.returns-else-number-len-clause-happens
 returns-else-number-len-clause-happens g c =
     let kernel = kernel_with c.best-found.new.self.instance c.in-Some.number in
-    let here = carried (λ problem table bound atoms. IsHighest problem table bound atoms kernel) _ _ _ _ _ _ _ _ (c.self.invariant.same_problem ∙ ap (λ (p : PlanexValue). p.problem) c.self.view_is)
-    (c.self.invariant.same_table ∙ ap (λ (p : PlanexValue). p.table) c.self.view_is) (ap (λ (p : PlanexValue). p.bound) c.self.view_is) c.sense.ensures.atoms c.in-Some.ensures.some in
+    let here =
+    carried (λ problem table bound atoms. IsHighest problem table bound atoms kernel) _ _ _ _ _ _ _ _
+    (c.self.invariant.same_problem ∙ ap (λ (p : PlanexValue). p.problem) c.self.view_is)
+    (c.self.invariant.same_table ∙ ap (λ (p : PlanexValue). p.table) c.self.view_is)
+    (ap (λ (p : PlanexValue). p.bound) c.self.view_is) c.sense.ensures.atoms c.in-Some.ensures.some in
     let steps = ap (λ (p : PlanexValue). length p.table.steps) c.self.view_is in
     (kernel, here, refl, omega (arith, c.if-number-len.false, c.len.ensures, steps), refl)

@@ -1,3 +1,4 @@
+-- Proofs of the goals that `ProofStateWalkGapQuestion::try_after` of src/gap_question.rt leaves open.
 use Rattle.std.proofs.Common.{◌≡◌, Bool, true, Some, subst, sym, arith}
 use Rattle.px_proof.specs.declared.shape.Tick.{Tick}
 use Rattle.px_prover.specs.Asking.{setting_in, IsPossibleIn}
@@ -19,10 +20,15 @@ returns-then-first-gt0-clause-tried c =
     let was = ticks_in c.loop-self.self.choices in
     let tried : TriesAfter (IsPossible true s formula vars) was (ticks_in now.choices) c.loop-self.after true =
     subst (λ (b : Bool). TriesAfter (IsPossible true s formula vars) was (ticks_in now.choices) c.loop-self.after b) c.if-branch.true
-    (subst (λ (q : Question). TriesAfter (IsPossibleIn q) was (ticks_in now.choices) c.loop-self.after c.in_ok-try_after.field-0) c.loose-loose.ensures c.in_ok-try_after.ensures.tried) in
-    let stands : IsStanding true s formula vars now = subst (λ (q : Question). IsStanding q.loose (setting_in q) q.formula.now q.vars now) c.loose-loose.ensures c.in_ok-try_after.ensures.still in
-    passed-found s formula vars (ticks_in c.args.self.now.choices) c.args.last c.loop-self.after c.loop-self.invariant.passed was (ticks_in now.choices) c.loop-self.invariant.there tried
-    (λ finished. let none : now.first ≡ 0 = (finished-is true s formula vars now stands).1 finished in omega (arith, none, c.if-first-gt0.true, c.first.ensures))
+    (subst (λ (q : Question). TriesAfter (IsPossibleIn q) was (ticks_in now.choices) c.loop-self.after c.in_ok-try_after.field-0)
+    c.loose-loose.ensures c.in_ok-try_after.ensures.tried) in
+    let stands : IsStanding true s formula vars now =
+    subst (λ (q : Question). IsStanding q.loose (setting_in q) q.formula.now q.vars now) c.loose-loose.ensures
+    c.in_ok-try_after.ensures.still in
+    passed-found s formula vars (ticks_in c.args.self.now.choices) c.args.last c.loop-self.after c.loop-self.invariant.passed was
+    (ticks_in now.choices) c.loop-self.invariant.there tried
+    (λ finished. let none : now.first ≡ 0 = (finished-is true s formula vars now stands).1 finished in
+    omega (arith, none, c.if-first-gt0.true, c.first.ensures))
 
 pub loop-self-preserved : goal.loop-self-preserved
 loop-self-preserved c =
@@ -34,12 +40,20 @@ loop-self-preserved c =
     let was = ticks_in c.loop-self.self.choices in
     let tried : TriesAfter (IsPossible true s formula vars) was (ticks_in now.choices) c.loop-self.after true =
     subst (λ (b : Bool). TriesAfter (IsPossible true s formula vars) was (ticks_in now.choices) c.loop-self.after b) c.if-branch.true
-    (subst (λ (q : Question). TriesAfter (IsPossibleIn q) was (ticks_in now.choices) c.loop-self.after c.in_ok-try_after.field-0) c.loose-loose.ensures c.in_ok-try_after.ensures.tried) in
-    let stands : IsStanding true s formula vars now = subst (λ (q : Question). IsStanding q.loose (setting_in q) q.formula.now q.vars now) c.loose-loose.ensures c.in_ok-try_after.ensures.still in
-    let next = passed-next s formula vars here c.args.last c.loop-self.after c.loop-self.invariant.passed was (ticks_in now.choices) c.loop-self.invariant.there tried
-    ((finished-is true s formula vars now stands).0 (omega (arith, c.if-first-gt0.false, c.first.ensures))) (ticks_in c.retract.new.self.choices) c.in-Some.tick c.in-Some.ensures.last in
+    (subst (λ (q : Question). TriesAfter (IsPossibleIn q) was (ticks_in now.choices) c.loop-self.after c.in_ok-try_after.field-0)
+    c.loose-loose.ensures c.in_ok-try_after.ensures.tried) in
+    let stands : IsStanding true s formula vars now =
+    subst (λ (q : Question). IsStanding q.loose (setting_in q) q.formula.now q.vars now) c.loose-loose.ensures
+    c.in_ok-try_after.ensures.still in
+    let next =
+    passed-next s formula vars here c.args.last c.loop-self.after c.loop-self.invariant.passed was
+    (ticks_in now.choices) c.loop-self.invariant.there tried
+    ((finished-is true s formula vars now stands).0 (omega (arith, c.if-first-gt0.false, c.first.ensures)))
+    (ticks_in c.retract.new.self.choices) c.in-Some.tick c.in-Some.ensures.last in
     record {
-      stands = subst (λ (q : Question). IsStanding q.loose (setting_in q) q.formula.now q.vars c.retract.new.self) c.loose-loose.ensures c.in-Some.ensures.still;
+      stands =
+          subst (λ (q : Question). IsStanding q.loose (setting_in q) q.formula.now q.vars c.retract.new.self) c.loose-loose.ensures
+          c.in-Some.ensures.still;
       there = next.0;
       small = c.sized.ensures.small;
       passed = subst (λ (t : Tick). HasPassed s formula vars here c.args.last (Some t)) (sym c.sized.ensures.same) next.2;
@@ -55,8 +69,15 @@ loop-self-smaller c =
     let was = ticks_in c.loop-self.self.choices in
     let tried : TriesAfter (IsPossible true s formula vars) was (ticks_in now.choices) c.loop-self.after true =
     subst (λ (b : Bool). TriesAfter (IsPossible true s formula vars) was (ticks_in now.choices) c.loop-self.after b) c.if-branch.true
-    (subst (λ (q : Question). TriesAfter (IsPossibleIn q) was (ticks_in now.choices) c.loop-self.after c.in_ok-try_after.field-0) c.loose-loose.ensures c.in_ok-try_after.ensures.tried) in
-    let stands : IsStanding true s formula vars now = subst (λ (q : Question). IsStanding q.loose (setting_in q) q.formula.now q.vars now) c.loose-loose.ensures c.in_ok-try_after.ensures.still in
-    let next = passed-next s formula vars here c.args.last c.loop-self.after c.loop-self.invariant.passed was (ticks_in now.choices) c.loop-self.invariant.there tried
-    ((finished-is true s formula vars now stands).0 (omega (arith, c.if-first-gt0.false, c.first.ensures))) (ticks_in c.retract.new.self.choices) c.in-Some.tick c.in-Some.ensures.last in
-    left-falls c.loop-self.after c.sized.result c.loop-self.invariant.small c.sized.ensures.small (subst (IsAfter c.loop-self.after) (sym c.sized.ensures.same) next.1)
+    (subst (λ (q : Question). TriesAfter (IsPossibleIn q) was (ticks_in now.choices) c.loop-self.after c.in_ok-try_after.field-0)
+    c.loose-loose.ensures c.in_ok-try_after.ensures.tried) in
+    let stands : IsStanding true s formula vars now =
+    subst (λ (q : Question). IsStanding q.loose (setting_in q) q.formula.now q.vars now) c.loose-loose.ensures
+    c.in_ok-try_after.ensures.still in
+    let next =
+    passed-next s formula vars here c.args.last c.loop-self.after c.loop-self.invariant.passed was
+    (ticks_in now.choices) c.loop-self.invariant.there tried
+    ((finished-is true s formula vars now stands).0 (omega (arith, c.if-first-gt0.false, c.first.ensures)))
+    (ticks_in c.retract.new.self.choices) c.in-Some.tick c.in-Some.ensures.last in
+    left-falls c.loop-self.after c.sized.result c.loop-self.invariant.small c.sized.ensures.small
+    (subst (IsAfter c.loop-self.after) (sym c.sized.ensures.same) next.1)

@@ -1,3 +1,4 @@
+-- Proofs of the goals that `PatternsGatherGapQuestionProofState::gather` of src/patterns.rt leaves open.
 use Rattle.std.proofs.Common.{Bool, true, false, Some, subst, sym}
 use Rattle.px_proof.specs.declared.shape.Tick.{Tick}
 use Rattle.px_prover.specs.Asking.{setting_in, IsPossibleIn}
@@ -20,14 +21,21 @@ loop-self-preserved c =
     let was = ticks_in c.loop-self.walk.choices in
     let tried : TriesAfter (IsPossible true s formula vars) was (ticks_in now.choices) c.loop-self.last true =
     subst (λ (b : Bool). TriesAfter (IsPossible true s formula vars) was (ticks_in now.choices) c.loop-self.last b) c.if-branch.true
-    (subst (λ (q : Question). TriesAfter (IsPossibleIn q) was (ticks_in now.choices) c.loop-self.last c.in_ok-try_after.field-0) c.loose-loose.ensures c.in_ok-try_after.ensures.tried) in
-    let next = patterns-next s formula vars here c.args.self.now.found.items c.loop-self.self.found.items c.loop-self.last c.loop-self.invariant.gathered was c.loop-self.invariant.there (ticks_in now.choices) tried
+    (subst (λ (q : Question). TriesAfter (IsPossibleIn q) was (ticks_in now.choices) c.loop-self.last c.in_ok-try_after.field-0)
+    c.loose-loose.ensures c.in_ok-try_after.ensures.tried) in
+    let next =
+    patterns-next s formula vars here c.args.self.now.found.items c.loop-self.self.found.items c.loop-self.last
+    c.loop-self.invariant.gathered was c.loop-self.invariant.there (ticks_in now.choices) tried
     c.gather_here.new.found.items c.in_ok-gather_here.ensures (ticks_in c.retract.new.self.choices) c.in-Some.tick c.in-Some.ensures.last in
     record {
-      stands = subst (λ (q : Question). IsStanding q.loose (setting_in q) q.formula.now q.vars c.retract.new.self) c.loose-loose.ensures c.in-Some.ensures.still;
+      stands =
+          subst (λ (q : Question). IsStanding q.loose (setting_in q) q.formula.now q.vars c.retract.new.self) c.loose-loose.ensures
+          c.in-Some.ensures.still;
       there = next.0;
       small = c.sized.ensures.small;
-      gathered = subst (λ (t : Tick). HasPatterns s formula vars here c.args.self.now.found.items (Some t) c.gather_here.new.found.items) (sym c.sized.ensures.same) next.2;
+      gathered =
+          subst (λ (t : Tick). HasPatterns s formula vars here c.args.self.now.found.items (Some t) c.gather_here.new.found.items)
+          (sym c.sized.ensures.same) next.2;
     }
 
 pub loop-self-smaller : goal.loop-self-smaller
@@ -40,10 +48,14 @@ loop-self-smaller c =
     let was = ticks_in c.loop-self.walk.choices in
     let tried : TriesAfter (IsPossible true s formula vars) was (ticks_in now.choices) c.loop-self.last true =
     subst (λ (b : Bool). TriesAfter (IsPossible true s formula vars) was (ticks_in now.choices) c.loop-self.last b) c.if-branch.true
-    (subst (λ (q : Question). TriesAfter (IsPossibleIn q) was (ticks_in now.choices) c.loop-self.last c.in_ok-try_after.field-0) c.loose-loose.ensures c.in_ok-try_after.ensures.tried) in
-    let next = patterns-next s formula vars here c.args.self.now.found.items c.loop-self.self.found.items c.loop-self.last c.loop-self.invariant.gathered was c.loop-self.invariant.there (ticks_in now.choices) tried
+    (subst (λ (q : Question). TriesAfter (IsPossibleIn q) was (ticks_in now.choices) c.loop-self.last c.in_ok-try_after.field-0)
+    c.loose-loose.ensures c.in_ok-try_after.ensures.tried) in
+    let next =
+    patterns-next s formula vars here c.args.self.now.found.items c.loop-self.self.found.items c.loop-self.last
+    c.loop-self.invariant.gathered was c.loop-self.invariant.there (ticks_in now.choices) tried
     c.gather_here.new.found.items c.in_ok-gather_here.ensures (ticks_in c.retract.new.self.choices) c.in-Some.tick c.in-Some.ensures.last in
-    left-falls c.loop-self.last c.sized.result c.loop-self.invariant.small c.sized.ensures.small (subst (IsAfter c.loop-self.last) (sym c.sized.ensures.same) next.1)
+    left-falls c.loop-self.last c.sized.result c.loop-self.invariant.small c.sized.ensures.small
+    (subst (IsAfter c.loop-self.last) (sym c.sized.ensures.same) next.1)
 
 pub returns-clause-more : goal.returns-clause-more
 returns-clause-more c =
@@ -55,6 +67,8 @@ returns-clause-more c =
     let was = ticks_in c.loop-self.walk.choices in
     let tried : TriesAfter (IsPossible true s formula vars) was (ticks_in now.choices) c.loop-self.last false =
     subst (λ (b : Bool). TriesAfter (IsPossible true s formula vars) was (ticks_in now.choices) c.loop-self.last b) c.if-branch.false
-    (subst (λ (q : Question). TriesAfter (IsPossibleIn q) was (ticks_in now.choices) c.loop-self.last c.in_ok-try_after.field-0) c.loose-loose.ensures c.in_ok-try_after.ensures.tried) in
+    (subst (λ (q : Question). TriesAfter (IsPossibleIn q) was (ticks_in now.choices) c.loop-self.last c.in_ok-try_after.field-0)
+    c.loose-loose.ensures c.in_ok-try_after.ensures.tried) in
     λ seen before. patterns-more s formula vars seen here c.args.self.now.found.items c.loop-self.self.found.items before
-    (patterns-end s formula vars here c.args.self.now.found.items c.loop-self.self.found.items c.loop-self.last c.loop-self.invariant.gathered was c.loop-self.invariant.there (ticks_in now.choices) tried)
+    (patterns-end s formula vars here c.args.self.now.found.items c.loop-self.self.found.items c.loop-self.last
+    c.loop-self.invariant.gathered was c.loop-self.invariant.there (ticks_in now.choices) tried)

@@ -1,3 +1,4 @@
+-- What the loops of `PatternsGatherGapQuestionProofState::gather` in src/patterns.rt keep true.
 use Rattle.std.proofs.Common.{◌≡◌, true}
 use Rattle.px_prover.specs.GapAsking.{gap_setting}
 use Rattle.px_prover.specs.Passed.{AreSmall}
@@ -11,7 +12,8 @@ invariant-loop-self l = record {
   stands : IsStanding true (gap_setting l.question) l.question.formula.now l.question.vars l.walk;
   there : ticks_in l.walk.choices ≡ ticks_in l.fn.walk.choices;
   small : AreSmall l.last;
-  gathered : HasPatterns (gap_setting l.question) l.question.formula.now l.question.vars (ticks_in l.fn.walk.choices) l.fn.self.found.items l.last l.self.found.items;
+  gathered : HasPatterns (gap_setting l.question) l.question.formula.now l.question.vars
+      (ticks_in l.fn.walk.choices) l.fn.self.found.items l.last l.self.found.items;
 }
 
 abbrev pub decreases-loop-self : goal.decreases-loop-self

@@ -1,3 +1,4 @@
+-- Proofs of the goals that `ProofStateWalkQuestion::is_finished` of src/walking.rt leaves open.
 use Rattle.std.proofs.Common.{◌≡◌, ℕ, arith, sym, ◌∙◌, true}
 use Rattle.std.specs.Prelude.{nat_eq}
 use Rattle.px_prover.specs.Asking.{setting_in}
@@ -12,7 +13,9 @@ zero-to n e = grind (arith, e)
 
 pub returns : goal.returns
 returns c =
-    let both = finished-is c.args._question.now.loose (setting_in c.args._question.now) c.args._question.now.formula.now c.args._question.now.vars c.args.self.now c.requires.stands in (
+    let both =
+    finished-is c.args._question.now.loose (setting_in c.args._question.now) c.args._question.now.formula.now c.args._question.now.vars
+    c.args.self.now c.requires.stands in (
       λ is. both.0 (sym c.first.ensures ∙ zero-from c.first.result is),
       λ finished. zero-to c.first.result (c.first.ensures ∙ both.1 finished),
     )

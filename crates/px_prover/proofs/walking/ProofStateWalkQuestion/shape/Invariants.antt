@@ -1,3 +1,4 @@
+-- What the loops of `ProofStateWalkQuestion::shape` in src/walking.rt keep true.
 use Rattle.std.proofs.Common.{◌≡◌, map, take}
 use Rattle.px_proof_state.specs.declared.open.Choice.{Choice}
 use Rattle.px_prover.proofs.walking.ProofStateWalkQuestion.shape.Given as goal

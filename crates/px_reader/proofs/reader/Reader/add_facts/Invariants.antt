@@ -1,3 +1,4 @@
+-- What the loops of `Reader::add_facts` in src/reader.rt keep true.
 use Rattle.px_reader.proofs.Common.{◌≡◌, ◌++◌, [], map, take, atom_set, atom_of, declared_of, signed_view}
 use Rattle.px_reader.proofs.reader.Reader.add_facts.Given as goal
 

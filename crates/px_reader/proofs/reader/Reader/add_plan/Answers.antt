@@ -1,4 +1,5 @@
-use Rattle.px_reader.proofs.Common.{◌≡◌, [], ◌∷◌, map, length, sym, ap, ◌∙◌, arith, common_steps, atom_of, variables_of, with_command, with_names, a_plan, declared_of, signed_view, text_of}
+-- Proofs of the goals that `Reader::add_plan` of src/reader.rt leaves open.
+use Rattle.px_reader.proofs.Common.{◌≡◌, [], ◌∷◌, map, length, sym, ap, ◌∙◌, arith, common_steps, atom_of, variable_names_of, with_command, with_names, a_plan, declared_of, signed_view, text_of}
 use Rattle.px_script.specs.Commands.{Command, Plan}
 use Rattle.px_reader.proofs.Facts.{map_map}
 use Rattle.std.proofs.lemmas.Result.{on_ok_weaker}
@@ -8,16 +9,16 @@ pub returns : goal.returns
 returns c =
     let d = declared_of c.args.self.now in
     let xs = map signed_view c.args.goal.now in
-    let vars : c.len.result ≡ length (variables_of xs)
+    let vars : c.len.result ≡ length (variable_names_of xs)
     = (let items : c.len.result ≡ length c.in_ok-variables.variables.items = grind (arith, common_steps) in items
     ∙ c.in_ok-variables.ensures.few) in
-    let atoms : c.from_vec.result ≡ map (atom_of d (variables_of xs)) xs =
+    let atoms : c.from_vec.result ≡ map (atom_of d (variable_names_of xs)) xs =
     c.from_vec.ensures ∙ c.in_ok-goal.ensures
     ∙ ap (λ vs. map (λ x. atom_of d vs (signed_view x)) c.args.goal.now)
     (ap (map text_of) c.deref.ensures.value ∙ c.in_ok-variables.ensures.names)
-    ∙ sym (map_map (atom_of d (variables_of xs)) signed_view c.args.goal.now) in
+    ∙ sym (map_map (atom_of d (variable_names_of xs)) signed_view c.args.goal.now) in
     let command : Plan c.in_ok-name.name c.from_vec.result c.len.result
-    ≡ Plan (length d.names.results) (map (atom_of d (variables_of xs)) xs) (length (variables_of xs)) =
+    ≡ Plan (length d.names.results) (map (atom_of d (variable_names_of xs)) xs) (length (variable_names_of xs)) =
     λ i. Plan (c.in_ok-name.ensures.number i) (atoms i) (vars i) in
     on_ok_weaker c.add_command.result (λ last.
     last ∙ ap (with_command (Plan c.in_ok-name.name c.from_vec.result c.len.result)) c.in_ok-name.ensures.declared

@@ -1,3 +1,4 @@
+-- What the loops of `Reader::atom` in src/reader.rt keep true.
 use Rattle.px_reader.proofs.Common.{◌≡◌, map, take, length, parameters_here, term_of, declared_of, argument_view, text_of}
 use Rattle.px_reader.proofs.reader.Reader.atom.Given as goal
 

@@ -1,3 +1,4 @@
+-- What the loops of `Reader::atom_edits` in src/reader.rt keep true.
 use Rattle.px_reader.proofs.Common.{◌≡◌, map, take, atom_edit_of, declared_of, signed_view}
 use Rattle.px_reader.proofs.reader.Reader.atom_edits.Given as goal
 

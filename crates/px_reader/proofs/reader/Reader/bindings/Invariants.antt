@@ -1,3 +1,4 @@
+-- What the loops of `Reader::bindings` in src/reader.rt keep true.
 use Rattle.px_reader.proofs.Common.{◌≡◌, map, take, binding_of, binding_pair, declared_of, binding_view}
 use Rattle.px_reader.proofs.reader.Reader.bindings.Given as goal
 

@@ -1,3 +1,4 @@
+-- Proofs of the goals that `Reader::declare` of src/reader.rt leaves open.
 use Rattle.px_reader.proofs.Common.{refl, at-most, arith, declared_of}
 use Rattle.px_reader.proofs.Fresh.{objects-named}
 use Rattle.px_reader.proofs.Right.{readable, facts-ground, axiom-plain}
@@ -63,4 +64,5 @@ disturb_rooms-requires c =
     let few = at-most 64 _ f.limits.1.0 in omega (arith, few)
 
 pub declare_names-requires-clause-named : goal.declare_names-requires-clause-named
-declare_names-requires-clause-named c = rw c.deref.ensures.value (objects-named c.in-Object.names.items (rw c.in-Object.is at c.requires.named).1)
+declare_names-requires-clause-named c =
+    rw c.deref.ensures.value (objects-named c.in-Object.names.items (rw c.in-Object.is at c.requires.named).1)

@@ -1,3 +1,4 @@
+-- Proofs of the goals that `Reader::declare_names` of src/reader.rt leaves open.
 use Rattle.px_reader.proofs.Common.{◌<◌, List, map, length, ap, ◌∙◌, Bor, ℕ, arith, common_steps, take_all, NameLists, with_more, text_of, Reader}
 use Rattle.px_reader.proofs.MoreNames.{more-none, next-fresh, one-more-name}
 use Rattle.px_reader.proofs.reader.Reader.declare_names.Goals as goal

@@ -1,3 +1,4 @@
+-- What the loops of `Reader::declare_names` in src/reader.rt keep true.
 use Rattle.px_reader.proofs.Common.{◌≡◌, map, take, with_more, text_of}
 use Rattle.px_reader.proofs.reader.Reader.declare_names.Given as goal
 

@@ -1,3 +1,4 @@
+-- Proofs of the goals that `Reader::finish` of src/reader.rt leaves open.
 use Rattle.px_reader.proofs.Common.{declared_of}
 use Rattle.px_reader.proofs.Finishing.{is-building, is-short, has-objects, is-valid}
 use Rattle.px_reader.proofs.reader.Reader.finish.Goals as goal

@@ -1,3 +1,4 @@
+-- Proofs of the goals that `Reader::has_unknown_name` of src/reader.rt leaves open.
 use Rattle.px_reader.proofs.Common.{refl, sym, ◌∙◌, line_of, declared_of, statement_view}
 use Rattle.px_reader.proofs.AtomTests.{names-lack}
 use Rattle.px_reader.proofs.reader.Reader.has_unknown_name.Goals as goal

@@ -1,3 +1,4 @@
+-- Proofs of the goals that `Reader::has_wrong_arity` of src/reader.rt leaves open.
 use Rattle.px_reader.proofs.Common.{◌∙◌, line_of, declared_of, statement_view}
 use Rattle.px_reader.proofs.AtomTests.{arities-differ}
 use Rattle.px_reader.proofs.reader.Reader.has_wrong_arity.Goals as goal

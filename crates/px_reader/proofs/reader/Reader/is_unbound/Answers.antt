@@ -1,3 +1,4 @@
+-- Proofs of the goals that `Reader::is_unbound` of src/reader.rt leaves open.
 use Rattle.px_reader.proofs.Common.{ap, ◌∙◌, not, list_any, takes, arguments_of, Manner, line_of, manner_view, declared_of, statement_view}
 use Rattle.px_reader.proofs.AtomTests.{arguments-any}
 use Rattle.px_reader.proofs.reader.Reader.is_unbound.Goals as goal

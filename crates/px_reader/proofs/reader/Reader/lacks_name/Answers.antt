@@ -1,3 +1,4 @@
+-- Proofs of the goals that `Reader::lacks_name` of src/reader.rt leaves open.
 use Rattle.px_reader.proofs.Common.{◌≡◌, true, sym, ◌∙◌, has_name, declared_of}
 use Rattle.px_reader.proofs.AtomTests.{places-lack, objects-lack}
 use Rattle.px_reader.proofs.reader.Reader.lacks_name.Goals as goal

@@ -1,3 +1,4 @@
+-- What the loops of `Reader::literals` in src/reader.rt keep true.
 use Rattle.px_reader.proofs.Common.{◌≡◌, map, take, literal_of, declared_of, signed_view, text_of}
 use Rattle.px_reader.proofs.reader.Reader.literals.Given as goal
 

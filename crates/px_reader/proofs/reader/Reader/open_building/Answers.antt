@@ -1,3 +1,4 @@
+-- Proofs of the goals that `Reader::open_building` of src/reader.rt leaves open.
 use Rattle.px_reader.proofs.Common.{refl, chars}
 use Rattle.unicode_ident.proofs.Computing.{unicode_ident}
 use Rattle.px_reader.proofs.reader.Reader.open_building.Goals as goal
@@ -21,4 +22,11 @@ pub declare_names-requires-3-clause-fresh : goal.declare_names-requires-3-clause
 declare_names-requires-3-clause-fresh c = rw (c.in_ok-declare_names-2.ensures, c.in_ok-declare_names.ensures) c.requires.operators
 
 pub returns : goal.returns
-returns c = rw (c.in_ok-extend_from_slice.ensures.items, c.new.ensures.items, c.in_ok-declare_names-3.ensures, c.in_ok-declare_names-2.ensures, c.in_ok-declare_names.ensures) refl
+returns c =
+    rw (
+      c.in_ok-extend_from_slice.ensures.items,
+      c.new.ensures.items,
+      c.in_ok-declare_names-3.ensures,
+      c.in_ok-declare_names-2.ensures,
+      c.in_ok-declare_names.ensures,
+    ) refl

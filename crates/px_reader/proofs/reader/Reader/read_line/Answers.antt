@@ -1,3 +1,4 @@
+-- Proofs of the goals that `Reader::read_line` of src/reader.rt leaves open.
 use Rattle.px_reader.proofs.Common.{sym, ◌∙◌, chars, lexemes_of, stage_view, declared_of, statement_view}
 use Rattle.std.proofs.lemmas.Str.{scalars-chars}
 use Rattle.px_reader.proofs.LineLemmas.{formed, named, ends-read, fails-form}

@@ -1,3 +1,4 @@
+-- Proofs of the goals that `Reader::read_statement` of src/reader.rt leaves open.
 use Rattle.px_reader.proofs.Common.{◌∙◌, sym, no-fault, stage_view, declared_of, statement_view}
 use Rattle.px_reader.proofs.Late.{early-all, early-right, early-some, few-facts, many-facts}
 use Rattle.px_reader.proofs.Fresh.{line-lists}

@@ -1,3 +1,4 @@
+-- Proofs of the goals that `Statement::varies` of src/statement.rt leaves open.
 use Rattle.px_reader.proofs.Common.{◌≡◌, true, false, refl, sym, ◌∙◌, list_any, arguments_of, is_variable, line_of, statement_view}
 use Rattle.px_reader.proofs.AtomTests.{arguments-any}
 use Rattle.px_reader.proofs.statement.Statement.varies.Goals as goal

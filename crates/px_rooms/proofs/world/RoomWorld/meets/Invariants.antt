@@ -1,3 +1,4 @@
+-- What the loops of `RoomWorld::meets` in src/world.rt keep true.
 use Rattle.std.specs.Prelude.{Contains}
 use Rattle.px_terms.specs.Operators.{atoms_of}
 use Rattle.px_rooms.specs.States.{rendering}

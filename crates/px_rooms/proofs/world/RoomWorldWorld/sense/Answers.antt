@@ -1,3 +1,4 @@
+-- Proofs of the goals that `RoomWorldWorld::sense` of src/world.rt leaves open.
 use Rattle.std.specs.Prelude.{◌≡◌, ◌≤◌, ◌+◌, length}
 use Rattle.std.proofs.Common.{ap, ◌∙◌, subst, arith}
 use Rattle.px_terms.specs.AtomSets.{atom_set}
@@ -6,11 +7,15 @@ use Rattle.px_rooms.proofs.Sensing.{all-spare, below, below-all, below-longer, b
 use Rattle.px_rooms.proofs.world.RoomWorldWorld.sense.Goals as goal
 
 pub loop-pred-init : goal.loop-pred-init
-loop-pred-init c = record { atoms = none-yet c.args.self.now c.args.into.now.atoms c.requires.empty; spare = omega arith; few = omega arith }
+loop-pred-init c =
+    record { atoms = none-yet c.args.self.now c.args.into.now.atoms c.requires.empty; spare = omega arith; few = omega arith }
 
 pub add_facts-requires : goal.add_facts-requires
 add_facts-requires c =
-    record { room = pred-room c.args.self.now c.loop-pred.pred c.args.into.now.spare c.loop-pred.into.spare c.known.ensures.state c.requires.room c.loop-pred.invariant.spare }
+    record {
+      room = pred-room c.args.self.now c.loop-pred.pred c.args.into.now.spare c.loop-pred.into.spare c.known.ensures.state
+          c.requires.room c.loop-pred.invariant.spare;
+    }
 
 pub loop-pred-preserved : goal.loop-pred-preserved
 loop-pred-preserved c =

@@ -1,3 +1,4 @@
+-- Proofs of the goals that `Explored::go_through` of src/breadth_first.rt leaves open.
 use Rattle.std.proofs.Common.{◌≡◌, ℕ, Bool, [], length, sym, ◌∙◌, subst, arith}
 use Rattle.px_gaps.specs.Outcomes.{AtLimit}
 use Rattle.px_gaps.specs.declared.ask_err.AskErr.{AskErr}
@@ -12,15 +13,21 @@ use Rattle.px_search.proofs.LoopLaws.{limit-of_node, node-done}
 use Rattle.px_search.proofs.breadth_first.Explored.go_through.Goals as goal
 
 pub begun_from-requires-clause-node : goal.begun_from-requires-clause-node
-begun_from-requires-clause-node c = here_of (task_for c.args.asked.now) c.args.self.now.notes.numbers c.args.self.now.nodes c.args.self.now.origins.items c.args.next [] c.node-key.result c.requires.going c.node-key.ensures
+begun_from-requires-clause-node c =
+    here_of (task_for c.args.asked.now) c.args.self.now.notes.numbers c.args.self.now.nodes c.args.self.now.origins.items c.args.next []
+    c.node-key.result c.requires.going c.node-key.ensures
 
 pub limit_at-requires : goal.limit_at-requires
 limit_at-requires c =
     let task = task_for c.args.asked.now in
     let old = c.args.self.now.notes in
     let new = c.begun_from.new.self in
-    let grown : HaveGrown task old new = subst (λ (e : AskErr). AtLimit e (λ formula shapes. HaveGrown task old new)) c.in-Err-ShapeLimit.field-0-is c.in-Err-ShapeLimit.ensures.notes in
-    let h = here_of (task_for c.args.asked.now) c.args.self.now.notes.numbers c.args.self.now.nodes c.args.self.now.origins.items c.args.next [] c.node-key.result c.requires.going c.node-key.ensures in
+    let grown : HaveGrown task old new =
+    subst (λ (e : AskErr). AtLimit e (λ formula shapes. HaveGrown task old new)) c.in-Err-ShapeLimit.field-0-is
+    c.in-Err-ShapeLimit.ensures.notes in
+    let h =
+    here_of (task_for c.args.asked.now) c.args.self.now.notes.numbers c.args.self.now.nodes c.args.self.now.origins.items c.args.next []
+    c.node-key.result c.requires.going c.node-key.ensures in
     (h.node, stands-grows old.numbers new.numbers c.node-key.result h.node grown.keeps h.stands)
 
 pub returns-in-Err-ShapeLimit-clause-ends : goal.returns-in-Err-ShapeLimit-clause-ends
@@ -28,19 +35,29 @@ returns-in-Err-ShapeLimit-clause-ends c =
     let task = task_for c.args.asked.now in
     let old = c.args.self.now.notes in
     let new = c.begun_from.new.self in
-    let grown : HaveGrown task old new = subst (λ (e : AskErr). AtLimit e (λ formula shapes. HaveGrown task old new)) c.in-Err-ShapeLimit.field-0-is c.in-Err-ShapeLimit.ensures.notes in
-    let h = here_of (task_for c.args.asked.now) c.args.self.now.notes.numbers c.args.self.now.nodes c.args.self.now.origins.items c.args.next [] c.node-key.result c.requires.going c.node-key.ensures in
+    let grown : HaveGrown task old new =
+    subst (λ (e : AskErr). AtLimit e (λ formula shapes. HaveGrown task old new)) c.in-Err-ShapeLimit.field-0-is
+    c.in-Err-ShapeLimit.ensures.notes in
+    let h =
+    here_of (task_for c.args.asked.now) c.args.self.now.notes.numbers c.args.self.now.nodes c.args.self.now.origins.items c.args.next []
+    c.node-key.result c.requires.going c.node-key.ensures in
     c.limit_at.ensures h.node (stands-grows old.numbers new.numbers c.node-key.result h.node grown.keeps h.stands)
-    (limit-of_node task old.numbers c.args.self.now.nodes c.args.self.now.origins.items c.args.next c.node-key.result c.in-Err-ShapeLimit.formula c.in-Err-ShapeLimit.shapes c.requires.going c.node-key.ensures
-    (subst (λ (e : AskErr). AtLimit e (LimitsAt task old.numbers c.node-key.result)) c.in-Err-ShapeLimit.field-0-is c.in-Err-ShapeLimit.ensures.limited))
+    (limit-of_node task old.numbers c.args.self.now.nodes c.args.self.now.origins.items c.args.next c.node-key.result
+    c.in-Err-ShapeLimit.formula c.in-Err-ShapeLimit.shapes c.requires.going c.node-key.ensures
+    (subst (λ (e : AskErr). AtLimit e (LimitsAt task old.numbers c.node-key.result)) c.in-Err-ShapeLimit.field-0-is
+    c.in-Err-ShapeLimit.ensures.limited))
 
 pub make_all-requires-clause-explored : goal.make_all-requires-clause-explored
 make_all-requires-clause-explored c = record { notes = c.in-Ok.ensures.notes.right; scene = c.in-Ok.ensures.scene }
 
 pub make_all-requires-clause-trying : goal.make_all-requires-clause-trying
 make_all-requires-clause-trying c =
-    let task = task_for c.args.asked.now in
-    (c.in-Ok.begun.is_all, trying-start task c.args.self.now.notes.numbers c.begun_from.new.self.numbers c.args.self.now.nodes c.args.self.now.origins.items c.args.next c.node-key.result c.in-Ok.begun.steps.items c.in-Ok.begun.is_all c.in-Ok.ensures.notes.keeps c.requires.going c.node-key.ensures c.in-Ok.ensures.steps)
+    let task = task_for c.args.asked.now in (
+      c.in-Ok.begun.is_all,
+      trying-start task c.args.self.now.notes.numbers c.begun_from.new.self.numbers c.args.self.now.nodes
+          c.args.self.now.origins.items c.args.next c.node-key.result c.in-Ok.begun.steps.items c.in-Ok.begun.is_all
+          c.in-Ok.ensures.notes.keeps c.requires.going c.node-key.ensures c.in-Ok.ensures.steps,
+    )
 
 pub returns-in-Solved-clause-gone : goal.returns-in-Solved-clause-gone
 returns-in-Solved-clause-gone c =
@@ -48,7 +65,8 @@ returns-in-Solved-clause-gone c =
     let before : Explored = record c.args.self.now { notes = c.begun_from.new.self; scene = c.begun_from.new.scene } in
     let after = c.make_all.new.self in
     let steps = c.in-Ok.begun.steps.items in
-    subst (ComesTo task after ((is_all : Bool) → TriesAt task before c.args.next steps is_all 0 → TriesAt task after c.args.next steps is_all (length steps))) c.in-Solved.is c.in_ok-progress.ensures.made
+    subst (ComesTo task after ((is_all : Bool) → TriesAt task before c.args.next steps is_all 0
+    → TriesAt task after c.args.next steps is_all (length steps))) c.in-Solved.is c.in_ok-progress.ensures.made
 
 pub returns-in-Full-clause-gone : goal.returns-in-Full-clause-gone
 returns-in-Full-clause-gone c =
@@ -56,7 +74,8 @@ returns-in-Full-clause-gone c =
     let before : Explored = record c.args.self.now { notes = c.begun_from.new.self; scene = c.begun_from.new.scene } in
     let after = c.make_all.new.self in
     let steps = c.in-Ok.begun.steps.items in
-    subst (ComesTo task after ((is_all : Bool) → TriesAt task before c.args.next steps is_all 0 → TriesAt task after c.args.next steps is_all (length steps))) c.in-Full.is c.in_ok-progress.ensures.made
+    subst (ComesTo task after ((is_all : Bool) → TriesAt task before c.args.next steps is_all 0
+    → TriesAt task after c.args.next steps is_all (length steps))) c.in-Full.is c.in_ok-progress.ensures.made
 
 pub returns-then-begun-clause-gone : goal.returns-then-begun-clause-gone
 returns-then-begun-clause-gone c =
@@ -64,9 +83,15 @@ returns-then-begun-clause-gone c =
     let before : Explored = record c.args.self.now { notes = c.begun_from.new.self; scene = c.begun_from.new.scene } in
     let after = c.make_all.new.self in
     let steps = c.in-Ok.begun.steps.items in
-    let trying = trying-start task c.args.self.now.notes.numbers c.begun_from.new.self.numbers c.args.self.now.nodes c.args.self.now.origins.items c.args.next c.node-key.result c.in-Ok.begun.steps.items c.in-Ok.begun.is_all c.in-Ok.ensures.notes.keeps c.requires.going c.node-key.ensures c.in-Ok.ensures.steps in
-    let made = subst (ComesTo task after ((is_all : Bool) → TriesAt task before c.args.next steps is_all 0 → TriesAt task after c.args.next steps is_all (length steps))) c.in-Unsolved.is c.in_ok-progress.ensures.made in
-    node-done task after.notes.numbers after.nodes after.origins.items c.args.next steps c.in-Ok.begun.is_all (length steps) (made c.in-Ok.begun.is_all trying) (omega arith) c.if-begun.true
+    let trying =
+    trying-start task c.args.self.now.notes.numbers c.begun_from.new.self.numbers c.args.self.now.nodes c.args.self.now.origins.items
+    c.args.next c.node-key.result c.in-Ok.begun.steps.items c.in-Ok.begun.is_all c.in-Ok.ensures.notes.keeps c.requires.going
+    c.node-key.ensures c.in-Ok.ensures.steps in
+    let made =
+    subst (ComesTo task after ((is_all : Bool) → TriesAt task before c.args.next steps is_all 0
+    → TriesAt task after c.args.next steps is_all (length steps))) c.in-Unsolved.is c.in_ok-progress.ensures.made in
+    node-done task after.notes.numbers after.nodes after.origins.items c.args.next steps c.in-Ok.begun.is_all (length steps)
+    (made c.in-Ok.begun.is_all trying) (omega arith) c.if-begun.true
 
 pub make_others-requires-clause-trying : goal.make_others-requires-clause-trying
 make_others-requires-clause-trying c =
@@ -74,8 +99,13 @@ make_others-requires-clause-trying c =
     let before : Explored = record c.args.self.now { notes = c.begun_from.new.self; scene = c.begun_from.new.scene } in
     let after = c.make_all.new.self in
     let steps = c.in-Ok.begun.steps.items in
-    let trying = trying-start task c.args.self.now.notes.numbers c.begun_from.new.self.numbers c.args.self.now.nodes c.args.self.now.origins.items c.args.next c.node-key.result c.in-Ok.begun.steps.items c.in-Ok.begun.is_all c.in-Ok.ensures.notes.keeps c.requires.going c.node-key.ensures c.in-Ok.ensures.steps in
-    let made = subst (ComesTo task after ((is_all : Bool) → TriesAt task before c.args.next steps is_all 0 → TriesAt task after c.args.next steps is_all (length steps))) c.in-Unsolved.is c.in_ok-progress.ensures.made in
+    let trying =
+    trying-start task c.args.self.now.notes.numbers c.begun_from.new.self.numbers c.args.self.now.nodes c.args.self.now.origins.items
+    c.args.next c.node-key.result c.in-Ok.begun.steps.items c.in-Ok.begun.is_all c.in-Ok.ensures.notes.keeps c.requires.going
+    c.node-key.ensures c.in-Ok.ensures.steps in
+    let made =
+    subst (ComesTo task after ((is_all : Bool) → TriesAt task before c.args.next steps is_all 0
+    → TriesAt task after c.args.next steps is_all (length steps))) c.in-Unsolved.is c.in_ok-progress.ensures.made in
     let from_is : c.len.result ≡ length steps = c.len.ensures ∙ c.in-Ok.begun.steps.ok.0 in (
       steps,
       c.in-Ok.begun.is_all,

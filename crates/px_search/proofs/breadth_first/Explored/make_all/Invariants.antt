@@ -1,3 +1,4 @@
+-- What the loops of `Explored::make_all` in src/breadth_first.rt keep true.
 use Rattle.std.proofs.Common.{◌≤◌, Bool, length}
 use Rattle.px_support.specs.Asking.{task_for}
 use Rattle.px_search.specs.Looping.{IsExploring, TriesAt}
@@ -7,5 +8,6 @@ abbrev pub invariant-loop-turn : goal.invariant-loop-turn
 invariant-loop-turn l = record {
   within : l.turn ≤ length l.steps.items;
   explored : IsExploring (task_for l.asked) l.self;
-  trying : (is_all : Bool) → TriesAt (task_for l.asked) l.initial.self l.next l.steps.items is_all l.from → TriesAt (task_for l.asked) l.self l.next l.steps.items is_all l.turn;
+  trying : (is_all : Bool) → TriesAt (task_for l.asked) l.initial.self l.next l.steps.items is_all l.from
+      → TriesAt (task_for l.asked) l.self l.next l.steps.items is_all l.turn;
 }

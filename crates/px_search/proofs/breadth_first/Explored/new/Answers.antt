@@ -1,4 +1,12 @@
+-- Proofs of the goals that `Explored::new` of src/breadth_first.rt leaves open.
 use Rattle.px_search.proofs.breadth_first.Explored.new.Goals as goal
 
 pub returns : goal.returns
-returns c = λ task never. record { notes = c.new-notes.ensures task never; scene = c.new-scene.ensures; nodes = c.new-nodes.ensures; origins = c.new-origins.ensures.items }
+returns c =
+    λ task never. record {
+      notes =
+          c.new-notes.ensures task never;
+      scene = c.new-scene.ensures;
+      nodes = c.new-nodes.ensures;
+      origins = c.new-origins.ensures.items;
+    }

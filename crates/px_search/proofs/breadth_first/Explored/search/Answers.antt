@@ -1,3 +1,4 @@
+-- Proofs of the goals that `Explored::search` of src/breadth_first.rt leaves open.
 use Rattle.std.proofs.Common.{◌∙◌, subst}
 use Rattle.px_support.specs.Asking.{task_for}
 use Rattle.px_search.specs.Asking.{IsTriedAt}
@@ -14,7 +15,9 @@ limit_at-requires c = (initial_node (task_for c.args.asked.now), c.in_ok-start.e
 
 pub returns-in-Answered-clause-outcome : goal.returns-in-Answered-clause-outcome
 returns-in-Answered-clause-outcome c =
-    start-found (task_for c.args.asked.now) c.start_key.new.numbers c.in_ok-start.start c.in_ok-tried.tried c.from_vec.result c.in_ok-start.ensures.start c.in_ok-tried.ensures c.in-Answered.is c.requires.asked.valid.nodes.0 (c.from_vec.ensures ∙ c.new.ensures.items)
+    start-found (task_for c.args.asked.now) c.start_key.new.numbers c.in_ok-start.start c.in_ok-tried.tried c.from_vec.result
+    c.in_ok-start.ensures.start c.in_ok-tried.ensures c.in-Answered.is c.requires.asked.valid.nodes.0
+    (c.from_vec.ensures ∙ c.new.ensures.items)
 
 pub search_from-requires-clause-tried : goal.search_from-requires-clause-tried
 search_from-requires-clause-tried c =
@@ -25,10 +28,17 @@ pub search_from-requires-clause-explored : goal.search_from-requires-clause-expl
 search_from-requires-clause-explored c =
     let task = task_for c.args.asked.now in
     let given = c.requires.explored in
-    record { notes = right-grows task c.args.self.now.notes c.start_key.new.numbers c.in_ok-start.ensures.keeps given.notes; scene = given.scene; nodes = given.nodes; origins = given.origins }
+    record {
+      notes = right-grows task c.args.self.now.notes c.start_key.new.numbers c.in_ok-start.ensures.keeps given.notes;
+      scene =
+          given.scene;
+      nodes = given.nodes;
+      origins = given.origins;
+    }
 
 pub returns-in-Limited-clause-ends : goal.returns-in-Limited-clause-ends
 returns-in-Limited-clause-ends c =
     let task = task_for c.args.asked.now in
     c.limit_at.ensures (initial_node task) c.in_ok-start.ensures.start
-    (start-limit task c.start_key.new.numbers c.in_ok-start.start c.in_ok-tried.tried c.in-Limited.formula c.in-Limited.shapes c.in_ok-start.ensures.start c.in_ok-tried.ensures c.in-Limited.is c.requires.asked.valid.nodes.0)
+    (start-limit task c.start_key.new.numbers c.in_ok-start.start c.in_ok-tried.tried c.in-Limited.formula c.in-Limited.shapes
+    c.in_ok-start.ensures.start c.in_ok-tried.ensures c.in-Limited.is c.requires.asked.valid.nodes.0)

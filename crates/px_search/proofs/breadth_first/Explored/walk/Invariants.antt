@@ -1,3 +1,4 @@
+-- What the loops of `Explored::walk` in src/breadth_first.rt keep true.
 use Rattle.std.proofs.Common.{◌-◌}
 use Rattle.px_support.specs.Asking.{task_for}
 use Rattle.px_search.specs.Looping.{GoesOn, IsExploring}

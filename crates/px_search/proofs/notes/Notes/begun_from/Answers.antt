@@ -1,3 +1,4 @@
+-- Proofs of the goals that `Notes::begun_from` of src/notes.rt leaves open.
 use Rattle.px_numbers.specs.NumberLaws.{stands-grows}
 use Rattle.px_base.proofs.Loops.{ok_map}
 use Rattle.px_support.specs.Asking.{task_for}
@@ -23,10 +24,14 @@ pub show-requires-clause-model : goal.show-requires-clause-model
 show-requires-clause-model c = (c.requires.node.node.model, c.requires.node.stands.model)
 
 pub steps_anew-requires-clause-node : goal.steps_anew-requires-clause-node
-steps_anew-requires-clause-node c = asked-grows (task_for c.args.asked.now) c.args.self.now.numbers c.show.new.self.numbers c.args.key c.in_ok-show.ensures.notes.keeps c.requires.node
+steps_anew-requires-clause-node c =
+    asked-grows (task_for c.args.asked.now) c.args.self.now.numbers c.show.new.self.numbers c.args.key c.in_ok-show.ensures.notes.keeps
+    c.requires.node
 
 pub returns-clause-notes : goal.returns-clause-notes
-returns-clause-notes c = answer-grown (task_for c.args.asked.now) c.args.self.now c.show.new.self c.steps_anew.new.self c.in_ok-show.ensures.notes c.steps_anew.result c.steps_anew.ensures.notes
+returns-clause-notes c =
+    answer-grown (task_for c.args.asked.now) c.args.self.now c.show.new.self c.steps_anew.new.self c.in_ok-show.ensures.notes
+    c.steps_anew.result c.steps_anew.ensures.notes
 
 pub returns-clause-scene : goal.returns-clause-scene
 returns-clause-scene c =
@@ -35,7 +40,8 @@ returns-clause-scene c =
     let new = c.steps_anew.new.self in
     let scene = c.show.new.scene in
     ok_answer (HaveGrown task mid new) (IsScene task new.numbers scene) c.steps_anew.result c.steps_anew.ensures.notes
-    (λ grown. scene-of task new.numbers c.args.key.model scene c.in_ok-show.ensures.number (scene_at-grows task mid.numbers new.numbers c.args.key.model scene grown.keeps c.in_ok-show.ensures.scene))
+    (λ grown. scene-of task new.numbers c.args.key.model scene c.in_ok-show.ensures.number
+    (scene_at-grows task mid.numbers new.numbers c.args.key.model scene grown.keeps c.in_ok-show.ensures.scene))
 
 pub returns-clause-steps : goal.returns-clause-steps
 returns-clause-steps c =
@@ -44,7 +50,8 @@ returns-clause-steps c =
     let mid = c.show.new.self.numbers in
     let new = c.steps_anew.new.self.numbers in
     ok_map (BeginsAt task mid new c.args.key) (BeginsAt task old new c.args.key)
-    (λ begun is node stands. is node (stands-grows old mid c.args.key node c.in_ok-show.ensures.notes.keeps stands)) c.steps_anew.result c.steps_anew.ensures.steps
+    (λ begun is node stands. is node (stands-grows old mid c.args.key node c.in_ok-show.ensures.notes.keeps stands)) c.steps_anew.result
+    c.steps_anew.ensures.steps
 
 pub returns-clause-limited : goal.returns-clause-limited
 returns-clause-limited c =

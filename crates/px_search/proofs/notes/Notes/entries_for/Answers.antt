@@ -1,3 +1,4 @@
+-- Proofs of the goals that `Notes::entries_for` of src/notes.rt leaves open.
 use Rattle.px_support.specs.Asking.{task_for}
 use Rattle.px_search.proofs.OfferLaws.{some-first}
 use Rattle.px_search.proofs.notes.Notes.entries_for.Goals as goal
@@ -8,7 +9,9 @@ relevant_first-requires-clause-never c = c.requires.notes.never_limited c.if-sel
 pub returns-then-self-clause-first : goal.returns-then-self-clause-first
 returns-then-self-clause-first c =
     let had = c.in_ok-first.ensures in
-    some-first (task_for c.args.asked.now) c.args.model.now.atoms c.args.wanted.now c.in_ok-first.first.entries.items c.in_ok-first.first.is_all had.sound had.order had.all had.others
+    some-first (task_for c.args.asked.now) c.args.model.now.atoms c.args.wanted.now c.in_ok-first.first.entries.items
+    c.in_ok-first.first.is_all had.sound had.order had.all had.others
 
 pub returns-then-self-clause-unlimited : goal.returns-then-self-clause-unlimited
-returns-then-self-clause-unlimited c = λ entry relevant. c.requires.notes.never_limited c.if-self.true c.args.model.now.atoms c.requires.model entry relevant.is_entry
+returns-then-self-clause-unlimited c =
+    λ entry relevant. c.requires.notes.never_limited c.if-self.true c.args.model.now.atoms c.requires.model entry relevant.is_entry

@@ -1,3 +1,4 @@
+-- Proofs of the goals that `Notes::goal_steps` of src/notes.rt leaves open.
 use Rattle.std.proofs.Common.{true, ◌∷◌, [], List, sym, subst}
 use Rattle.px_table.specs.declared.node.Node.{Node}
 use Rattle.px_gaps.specs.Known.{IsKnownOf, IsOpenWith}
@@ -16,14 +17,16 @@ use Rattle.px_search.proofs.notes.Notes.goal_steps.Goals as goal
 pub known_formula-requires-clause-no_answer : goal.known_formula-requires-clause-no_answer
 known_formula-requires-clause-no_answer c =
     let n = c.requires.node in
-    no_answer (task_for c.args.asked.now) n.0 c.args.scene.now.model.atoms n.3 n.2 (one_model c.args.self.now.numbers c.args.key.model c.args.scene.now.model.atoms n.0.model c.requires.scene.model_at n.1.model)
+    no_answer (task_for c.args.asked.now) n.0 c.args.scene.now.model.atoms n.3 n.2
+    (one_model c.args.self.now.numbers c.args.key.model c.args.scene.now.model.atoms n.0.model c.requires.scene.model_at n.1.model)
 
 pub unreachable-requires : goal.unreachable-requires
 unreachable-requires c =
     let task = task_for c.args.asked.now in
     let n = c.requires.node in
     let model = c.args.scene.now.model.atoms in
-    goal-answered task model (no_answer task n.0 model n.3 n.2 (one_model c.args.self.now.numbers c.args.key.model model n.0.model c.requires.scene.model_at n.1.model))
+    goal-answered task model (no_answer task n.0 model n.3 n.2
+    (one_model c.args.self.now.numbers c.args.key.model model n.0.model c.requires.scene.model_at n.1.model))
     (subst (IsKnownOf task.problem (goal_from task model ∷ [])) c.in-Applicable.is c.in_ok-known.ensures)
 
 pub returns-in-Limited-clause-limited : goal.returns-in-Limited-clause-limited
@@ -31,8 +34,10 @@ returns-in-Limited-clause-limited c =
     let task = task_for c.args.asked.now in
     let n = c.requires.node in
     let model = c.args.scene.now.model.atoms in
-    goal-each c.args.self.now.numbers c.args.key model n.0 n.1 n.2 c.requires.scene.model_at (λ (node : Node). LimitsNode task node c.in-Limited.formula c.in-Limited.shapes)
-    (limits-needs task (record { model = model; stack = [] }) c.in-Limited.formula c.in-Limited.shapes (subst (IsKnownOf task.problem (goal_from task model ∷ [])) c.in-Limited.is c.in_ok-known.ensures))
+    goal-each c.args.self.now.numbers c.args.key model n.0 n.1 n.2 c.requires.scene.model_at
+    (λ (node : Node). LimitsNode task node c.in-Limited.formula c.in-Limited.shapes)
+    (limits-needs task (record { model = model; stack = [] }) c.in-Limited.formula c.in-Limited.shapes
+    (subst (IsKnownOf task.problem (goal_from task model ∷ [])) c.in-Limited.is c.in_ok-known.ensures))
 
 pub returns-in-Closed-clause-steps : goal.returns-in-Closed-clause-steps
 returns-in-Closed-clause-steps c =
@@ -40,9 +45,12 @@ returns-in-Closed-clause-steps c =
     let kept = c.args.self.now.numbers in
     let n = c.requires.node in
     let model = c.args.scene.now.model.atoms in
-    goal-each kept c.args.key model n.0 n.1 n.2 c.requires.scene.model_at (λ (node : Node). IsBegunOn task kept node c.new.result.items true)
+    goal-each kept c.args.key model n.0 n.1 n.2 c.requires.scene.model_at
+    (λ (node : Node). IsBegunOn task kept node c.new.result.items true)
     (subst (λ (s : List Step). IsBegunOn task kept (record { model = model; stack = [] }) s true) (sym c.new.ensures.items)
-    (all-begun task kept (record { model = model; stack = [] }) [] true (gone-closed task kept (record { model = model; stack = [] }) (subst (IsKnownOf task.problem (goal_from task model ∷ [])) c.in-Closed.is c.in_ok-known.ensures))))
+    (all-begun task kept (record { model = model; stack = [] }) [] true
+    (gone-closed task kept (record { model = model; stack = [] })
+    (subst (IsKnownOf task.problem (goal_from task model ∷ [])) c.in-Closed.is c.in_ok-known.ensures))))
 
 pub pushes_to_goal-requires-clause-gaps : goal.pushes_to_goal-requires-clause-gaps
 pushes_to_goal-requires-clause-gaps c =
@@ -56,13 +64,18 @@ returns-in-Open-clause-steps c =
     let new = c.pushes_to_goal.new.self.numbers in
     let n = c.requires.node in
     let model = c.args.scene.now.model.atoms in
-    ok_map (λ begun. IsBegunOn task new (record { model = model; stack = [] }) begun.steps.items begun.is_all) (λ begun. (node : Node) → IsKeyOf c.args.self.now.numbers c.args.key node → IsBegunOn task new node begun.steps.items begun.is_all)
-    (λ begun is. goal-each c.args.self.now.numbers c.args.key model n.0 n.1 n.2 c.requires.scene.model_at (λ (node : Node). IsBegunOn task new node begun.steps.items begun.is_all) is) c.pushes_to_goal.result c.pushes_to_goal.ensures.steps
+    ok_map (λ begun. IsBegunOn task new (record { model = model; stack = [] }) begun.steps.items begun.is_all)
+    (λ begun. (node : Node) → IsKeyOf c.args.self.now.numbers c.args.key node → IsBegunOn task new node begun.steps.items begun.is_all)
+    (λ begun is. goal-each c.args.self.now.numbers c.args.key model n.0 n.1 n.2 c.requires.scene.model_at
+    (λ (node : Node). IsBegunOn task new node begun.steps.items begun.is_all) is) c.pushes_to_goal.result c.pushes_to_goal.ensures.steps
 
 pub returns-in-Open-clause-limited : goal.returns-in-Open-clause-limited
 returns-in-Open-clause-limited c =
     let task = task_for c.args.asked.now in
     let n = c.requires.node in
     let model = c.args.scene.now.model.atoms in
-    if_limit (LimitsNode task (record { model = model; stack = [] })) (λ formula shapes. (node : Node) → IsKeyOf c.args.self.now.numbers c.args.key node → LimitsNode task node formula shapes) c.pushes_to_goal.result c.pushes_to_goal.ensures.limited
-    (λ formula shapes limits. goal-each c.args.self.now.numbers c.args.key model n.0 n.1 n.2 c.requires.scene.model_at (λ (node : Node). LimitsNode task node formula shapes) limits)
+    if_limit (LimitsNode task (record { model = model; stack = [] }))
+    (λ formula shapes. (node : Node) → IsKeyOf c.args.self.now.numbers c.args.key node → LimitsNode task node formula shapes)
+    c.pushes_to_goal.result c.pushes_to_goal.ensures.limited
+    (λ formula shapes limits. goal-each c.args.self.now.numbers c.args.key model n.0 n.1 n.2 c.requires.scene.model_at
+    (λ (node : Node). LimitsNode task node formula shapes) limits)

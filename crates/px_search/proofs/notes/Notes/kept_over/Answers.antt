@@ -1,3 +1,4 @@
+-- Proofs of the goals that `Notes::kept_over` of src/notes.rt leaves open.
 use Rattle.std.proofs.Common.{◌∷◌, ◌∙◌, [], List, sym, subst}
 use Rattle.px_table.specs.declared.entry.Entry.{Entry}
 use Rattle.px_support.specs.Asking.{task_for}
@@ -23,14 +24,18 @@ returns-clause-notes c =
     let t = c.requires.here.top in
     let right = c.requires.notes in
     let begun : IsBegunOn task old.numbers (record { model = model; stack = t.entry ∷ [] }) c.args.alone.items c.args.is_all =
-    subst (λ (s : List Entry). IsBegunOn task old.numbers (record { model = model; stack = s }) c.args.alone.items c.args.is_all) (first-top task old.numbers here.place here.below model here.stack.now t) c.requires.alone in
+    subst (λ (s : List Entry). IsBegunOn task old.numbers (record { model = model; stack = s }) c.args.alone.items c.args.is_all)
+    (first-top task old.numbers here.place here.below model here.stack.now t) c.requires.alone in
     let offer : Offer = record { steps = c.from_vec-kept.result; is_all = c.args.is_all } in
     let kept : IsStepsAt task old.numbers here.place offer =
-    subst (λ (s : List Step). IsStepsAt task old.numbers here.place (record { steps = s; is_all = c.args.is_all })) (sym c.from_vec-kept.ensures) (model, t.entry, t.model_at, t.entry_at, begun) in
+    subst (λ (s : List Step). IsStepsAt task old.numbers here.place (record { steps = s; is_all = c.args.is_all }))
+    (sym c.from_vec-kept.ensures) (model, t.entry, t.model_at, t.entry_at, begun) in
     record {
       keeps = keeps_all_same old.numbers;
       right = record {
-        tops = each-more place_eq place_eq-decides (IsStepsAt task old.numbers) old.tops.entries c.insert.new.self.entries here.place offer right.tops kept c.in_ok-insert.ensures.entries;
+        tops =
+            each-more place_eq place_eq-decides (IsStepsAt task old.numbers) old.tops.entries c.insert.new.self.entries here.place offer
+            right.tops kept c.in_ok-insert.ensures.entries;
         wants = right.wants;
         results = right.results;
         never_limited = right.never_limited;
@@ -45,6 +50,8 @@ returns-clause-steps c =
     let model = here.scene.now.model.atoms in
     let t = c.requires.here.top in
     let begun : IsBegunOn task kept (record { model = model; stack = t.entry ∷ [] }) c.args.alone.items c.args.is_all =
-    subst (λ (s : List Entry). IsBegunOn task kept (record { model = model; stack = s }) c.args.alone.items c.args.is_all) (first-top task kept here.place here.below model here.stack.now t) c.requires.alone in
+    subst (λ (s : List Entry). IsBegunOn task kept (record { model = model; stack = s }) c.args.alone.items c.args.is_all)
+    (first-top task kept here.place here.below model here.stack.now t) c.requires.alone in
     begun-over task kept here.place here.below model here.stack.now t c.args.alone.items c.in_ok-steps.steps.items c.args.is_all begun
-    (λ entries moves stands are. c.in_ok-steps.ensures entries moves stands (subst (λ (s : List Step). AreStepsOf kept s moves) (sym (c.as_slice.ensures ∙ c.from_vec-kept.ensures)) are))
+    (λ entries moves stands are. c.in_ok-steps.ensures entries moves stands
+    (subst (λ (s : List Step). AreStepsOf kept s moves) (sym (c.as_slice.ensures ∙ c.from_vec-kept.ensures)) are))

@@ -1,3 +1,4 @@
+-- Proofs of the goals that `Notes::new` of src/notes.rt leaves open.
 use Rattle.px_search.specs.Notes.{IsResultAt, IsStepsAt}
 use Rattle.px_search.specs.Offers.{IsOfferAt}
 use Rattle.px_search.proofs.Pairs.{each-none}

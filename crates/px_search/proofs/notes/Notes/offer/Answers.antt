@@ -1,3 +1,4 @@
+-- Proofs of the goals that `Notes::offer` of src/notes.rt leaves open.
 use Rattle.std.proofs.Common.{◌∷◌, [], Bool, List, sym, subst}
 use Rattle.px_support.specs.Asking.{task_for}
 use Rattle.px_search.specs.Offers.{IsOffered, IsOfferAt}
@@ -18,4 +19,5 @@ returns-in_ok-copy-in-Some-clause-steps c =
     subst (λ (b : Bool). IsOffered task notes.numbers facts (want.atom ∷ []) copy.steps.items b) (sym c.in_ok-copy-in-Some.ensures.is_all)
     (subst (λ (s : List Step). IsOffered task notes.numbers facts (want.atom ∷ []) s offer.is_all) (sym c.in_ok-copy-in-Some.ensures.steps)
     (offered-here task notes.numbers want facts offer c.requires.part
-    (each-found want_eq want_eq-decides (IsOfferAt task notes.numbers) notes.wants.entries want offer c.requires.notes.wants c.in-Some.ensures.value)))
+    (each-found want_eq want_eq-decides (IsOfferAt task notes.numbers) notes.wants.entries want offer c.requires.notes.wants
+    c.in-Some.ensures.value)))

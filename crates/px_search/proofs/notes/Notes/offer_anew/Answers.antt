@@ -1,3 +1,4 @@
+-- Proofs of the goals that `Notes::offer_anew` of src/notes.rt leaves open.
 use Rattle.std.proofs.Common.{◌∙◌, ◌∷◌, [], List, sym, subst}
 use Rattle.px_support.specs.Asking.{task_for}
 use Rattle.px_search.specs.Offers.{IsOffered, IsOfferAt}
@@ -19,13 +20,17 @@ returns-in-Ok-insert-clause-notes c =
     let before = c.in-Ok.ensures.notes in
     let offer : Offer = record { steps = c.in_ok-steps.steps; is_all = is_all } in
     let here : IsOfferAt task new.numbers want offer =
-    offer-at task new.numbers want facts offer c.relevance_over_models.ensures c.requires.asked.valid c.requires.asked.tables (part-grows task old.numbers new.numbers before.keeps want.part facts c.requires.part)
-    (subst (λ (s : List Step). IsOffered task new.numbers facts (want.atom ∷ []) s is_all) (sym (c.in_ok-steps.ensures ∙ c.as_slice.ensures.value)) c.in-Ok.ensures.steps) in
+    offer-at task new.numbers want facts offer c.relevance_over_models.ensures c.requires.asked.valid c.requires.asked.tables
+    (part-grows task old.numbers new.numbers before.keeps want.part facts c.requires.part)
+    (subst (λ (s : List Step). IsOffered task new.numbers facts (want.atom ∷ []) s is_all)
+    (sym (c.in_ok-steps.ensures ∙ c.as_slice.ensures.value)) c.in-Ok.ensures.steps) in
     record {
       keeps = before.keeps;
       right = record {
         tops = before.right.tops;
-        wants = each-more want_eq want_eq-decides (IsOfferAt task new.numbers) new.wants.entries c.insert.new.self.entries want offer before.right.wants here c.in-Ok-insert.ensures.entries;
+        wants =
+            each-more want_eq want_eq-decides (IsOfferAt task new.numbers) new.wants.entries c.insert.new.self.entries want offer
+            before.right.wants here c.in-Ok-insert.ensures.entries;
         results = before.right.results;
         never_limited = before.right.never_limited;
       };

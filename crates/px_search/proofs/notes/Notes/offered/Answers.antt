@@ -1,3 +1,4 @@
+-- Proofs of the goals that `Notes::offered` of src/notes.rt leaves open.
 use Rattle.px_support.specs.Asking.{task_for}
 use Rattle.px_search.specs.Offers.{IsOfferedWhole}
 use Rattle.px_search.proofs.NoteLaws.{answer-grown}
@@ -5,7 +6,9 @@ use Rattle.px_search.proofs.OfferLaws.{if_some, offered-whole}
 use Rattle.px_search.proofs.notes.Notes.offered.Goals as goal
 
 pub returns-in-None-clause-notes : goal.returns-in-None-clause-notes
-returns-in-None-clause-notes c = answer-grown (task_for c.args.asked.now) c.args.self.now c.offered_each.new.self c.offered_anew.new.self c.in-Ok.ensures.notes c.offered_anew.result c.offered_anew.ensures.notes
+returns-in-None-clause-notes c =
+    answer-grown (task_for c.args.asked.now) c.args.self.now c.offered_each.new.self c.offered_anew.new.self c.in-Ok.ensures.notes
+    c.offered_anew.result c.offered_anew.ensures.notes
 
 pub returns-in-Some-clause-steps : goal.returns-in-Some-clause-steps
 returns-in-Some-clause-steps c =

@@ -1,3 +1,4 @@
+-- Proofs of the goals that `Notes::offered_each` of src/notes.rt leaves open.
 use Rattle.std.proofs.Common.{◌≡◌, ◌<◌, length, ◌∙◌, ◌∷◌, [], Bool, true, List, take, Some, slice_get, sym, ap, subst, arith}
 use Rattle.px_terms.specs.declared.atom.Atom.{Atom}
 use Rattle.px_ends.proofs.Frontier.{at_index}
@@ -22,21 +23,31 @@ loop-place-init c =
     }
 
 pub offer-requires-clause-part : goal.offer-requires-clause-part
-offer-requires-clause-part c = part-grows (task_for c.args.asked.now) c.args.self.now.numbers c.loop-place.self.numbers c.loop-place.invariant.grown.keeps c.args.scene.now.part c.args.scene.now.model.atoms c.requires.part
+offer-requires-clause-part c =
+    part-grows (task_for c.args.asked.now) c.args.self.now.numbers c.loop-place.self.numbers c.loop-place.invariant.grown.keeps
+    c.args.scene.now.part c.args.scene.now.model.atoms c.requires.part
 
 pub merged-requires-clause-first : goal.merged-requires-clause-first
 merged-requires-clause-first c =
     let task = task_for c.args.asked.now in
     let kept = c.offer.new.self.numbers in
     let facts = c.args.scene.now.model.atoms in
-    let before = whole-grows task c.loop-place.self.numbers kept facts (take c.loop-place.place c.args.gaps.now) c.loop-place.steps.items c.in-Ok.ensures.notes.keeps c.loop-place.invariant.whole in
-    (before.entries, subst (ArePushes kept before.entries) (sym c.deref.ensures.value) (whole-pushes task kept facts (take c.loop-place.place c.args.gaps.now) c.loop-place.steps.items before))
+    let before =
+    whole-grows task c.loop-place.self.numbers kept facts
+    (take c.loop-place.place c.args.gaps.now) c.loop-place.steps.items c.in-Ok.ensures.notes.keeps c.loop-place.invariant.whole in (
+      before.entries,
+      subst (ArePushes kept before.entries) (sym c.deref.ensures.value)
+          (whole-pushes task kept facts (take c.loop-place.place c.args.gaps.now) c.loop-place.steps.items before),
+    )
 
 pub merged-requires-clause-second : goal.merged-requires-clause-second
 merged-requires-clause-second c =
     let kept = c.offer.new.self.numbers in
-    let o = c.in-Ok.ensures.steps in
-    (o.entries, subst (ArePushes kept o.entries) (sym c.deref-in-loop-place.ensures.value) (record { ordered = o.first.ordered; steps_are = o.steps_are }))
+    let o = c.in-Ok.ensures.steps in (
+      o.entries,
+      subst (ArePushes kept o.entries) (sym c.deref-in-loop-place.ensures.value)
+          (record { ordered = o.first.ordered; steps_are = o.steps_are }),
+    )
 
 pub loop-place-preserved : goal.loop-place-preserved
 loop-place-preserved c =
@@ -49,16 +60,21 @@ loop-place-preserved c =
     let steps = c.in-Ok.begun.steps.items in
     let below : place < length gaps = omega (arith, c.loop-place-test.true) in
     let at : slice_get gaps place ≡ Some atom = at_index gaps place atom below ∙ ap Some (sym c.index-gaps-place.is) in
-    let o : IsOffered task kept facts (atom ∷ []) steps true = subst (λ (b : Bool). IsOffered task kept facts (atom ∷ []) steps b) c.if-not-begun.false c.in-Ok.ensures.steps in
+    let o : IsOffered task kept facts (atom ∷ []) steps true =
+    subst (λ (b : Bool). IsOffered task kept facts (atom ∷ []) steps b) c.if-not-begun.false c.in-Ok.ensures.steps in
     let here : IsOfferedWhole task kept facts (atom ∷ []) steps = (offered-whole task facts (atom ∷ []) kept steps).0 o in
-    let before : IsOfferedWhole task kept facts (take place gaps) c.loop-place.steps.items = whole-grows task c.loop-place.self.numbers kept facts (take place gaps) c.loop-place.steps.items c.in-Ok.ensures.notes.keeps c.loop-place.invariant.whole in
+    let before : IsOfferedWhole task kept facts (take place gaps) c.loop-place.steps.items =
+    whole-grows task c.loop-place.self.numbers kept facts
+    (take place gaps) c.loop-place.steps.items c.in-Ok.ensures.notes.keeps c.loop-place.invariant.whole in
     record {
       grown = grown-both task c.args.self.now c.loop-place.self c.offer.new.self c.loop-place.invariant.grown c.in-Ok.ensures.notes;
       whole = subst (λ (l : List Atom). IsOfferedWhole task kept facts l c.in_ok-steps.steps.items) (sym (take_one gaps place atom at))
           (whole-joined task kept facts (take place gaps) atom c.loop-place.steps.items steps c.in_ok-steps.steps.items before here
           (c.in_ok-steps.ensures before.entries here.entries
-          (subst (ArePushes kept before.entries) (sym c.deref.ensures.value) (whole-pushes task kept facts (take place gaps) c.loop-place.steps.items before))
-          (subst (ArePushes kept here.entries) (sym c.deref-in-loop-place.ensures.value) (whole-pushes task kept facts (atom ∷ []) steps here))));
+          (subst (ArePushes kept before.entries) (sym c.deref.ensures.value)
+          (whole-pushes task kept facts (take place gaps) c.loop-place.steps.items before))
+          (subst (ArePushes kept here.entries) (sym c.deref-in-loop-place.ensures.value)
+          (whole-pushes task kept facts (atom ∷ []) steps here))));
     }
 
 pub returns-in-Err-clause-notes : goal.returns-in-Err-clause-notes
@@ -67,7 +83,10 @@ returns-in-Err-clause-notes c =
     let old = c.args.self.now in
     let mid = c.loop-place.self in
     let new = c.offer.new.self in
-    at_limit (λ formula shapes. HaveGrown task mid new) (λ formula shapes. HaveGrown task old new) c.in-Err.error c.in-Err.ensures.notes (λ formula shapes grown. grown-both task old mid new c.loop-place.invariant.grown grown)
+    at_limit (λ formula shapes. HaveGrown task mid new) (λ formula shapes. HaveGrown task old new) c.in-Err.error c.in-Err.ensures.notes
+    (λ formula shapes grown. grown-both task old mid new c.loop-place.invariant.grown grown)
 
 pub returns-then-not-begun-clause-notes : goal.returns-then-not-begun-clause-notes
-returns-then-not-begun-clause-notes c = grown-both (task_for c.args.asked.now) c.args.self.now c.loop-place.self c.offer.new.self c.loop-place.invariant.grown c.in-Ok.ensures.notes
+returns-then-not-begun-clause-notes c =
+    grown-both (task_for c.args.asked.now) c.args.self.now c.loop-place.self c.offer.new.self c.loop-place.invariant.grown
+    c.in-Ok.ensures.notes

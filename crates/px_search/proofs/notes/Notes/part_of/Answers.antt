@@ -1,13 +1,16 @@
+-- Proofs of the goals that `Notes::part_of` of src/notes.rt leaves open.
 use Rattle.std.proofs.Common.{refl, inl, inr}
 use Rattle.px_support.specs.Asking.{task_for}
 use Rattle.px_search.proofs.NoteLaws.{grown-numbers}
 use Rattle.px_search.proofs.notes.Notes.part_of.Goals as goal
 
 pub returns-then-not-self-clause-part : goal.returns-then-not-self-clause-part
-returns-then-not-self-clause-part c = record { is_set = c.requires.model; part = c.args.model.now.atoms; part_at = c.requires.number; alike = inl refl }
+returns-then-not-self-clause-part c =
+    record { is_set = c.requires.model; part = c.args.model.now.atoms; part_at = c.requires.number; alike = inl refl }
 
 pub returns-clause-notes : goal.returns-clause-notes
-returns-clause-notes c = grown-numbers (task_for c.args.asked.now) c.args.self.now c.model_number.new.self c.in_ok-part.ensures.keeps c.requires.notes
+returns-clause-notes c =
+    grown-numbers (task_for c.args.asked.now) c.args.self.now c.model_number.new.self c.in_ok-part.ensures.keeps c.requires.notes
 
 pub returns-clause-part : goal.returns-clause-part
 returns-clause-part c = record {

@@ -1,3 +1,4 @@
+-- Proofs of the goals that `Notes::pushes_offered` of src/notes.rt leaves open.
 use Rattle.std.proofs.Common.{List, sym, subst}
 use Rattle.px_numbers.specs.NumberLaws.{stack_at-grows}
 use Rattle.px_support.specs.Asking.{task_for}
@@ -15,5 +16,7 @@ pub returns-clause-begun : goal.returns-clause-begun
 returns-clause-begun c = λ entries stands opens.
     let old = c.args.self.now.numbers in
     let new = c.offered.new.self.numbers in
-    begun-offered (task_for c.args.asked.now) new c.args.scene.now.model.atoms c.args.gaps.now entries c.in-Ok.begun.steps.items c.in_ok-steps.steps.items c.in-Ok.begun.is_all c.relevance_over_stacks.ensures opens c.in-Ok.ensures.steps
-    (λ moves are. c.in_ok-steps.ensures entries moves (stack_at-grows old new c.args.stack entries c.in-Ok.ensures.notes.keeps stands) (subst (λ (s : List Step). AreStepsOf new s moves) (sym c.as_slice.ensures.value) are))
+    begun-offered (task_for c.args.asked.now) new c.args.scene.now.model.atoms c.args.gaps.now entries c.in-Ok.begun.steps.items
+    c.in_ok-steps.steps.items c.in-Ok.begun.is_all c.relevance_over_stacks.ensures opens c.in-Ok.ensures.steps
+    (λ moves are. c.in_ok-steps.ensures entries moves (stack_at-grows old new c.args.stack entries c.in-Ok.ensures.notes.keeps stands)
+    (subst (λ (s : List Step). AreStepsOf new s moves) (sym c.as_slice.ensures.value) are))

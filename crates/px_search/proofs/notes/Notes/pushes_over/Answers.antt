@@ -1,3 +1,4 @@
+-- Proofs of the goals that `Notes::pushes_over` of src/notes.rt leaves open.
 use Rattle.std.proofs.Common.{◌∷◌, [], List, refl, sym, subst}
 use Rattle.px_table.specs.declared.entry.Entry.{Entry}
 use Rattle.px_gaps.specs.Outcomes.{AtLimit}
@@ -13,12 +14,14 @@ use Rattle.px_search.proofs.SceneLaws.{here-grows}
 use Rattle.px_search.proofs.notes.Notes.pushes_over.Goals as goal
 
 pub pushes_offered-requires-clause-notes : goal.pushes_offered-requires-clause-notes
-pushes_offered-requires-clause-notes c = right-grows (task_for c.args.asked.now) c.args.self.now c.pushed.new.self c.pushed.ensures.keeps c.requires.notes
+pushes_offered-requires-clause-notes c =
+    right-grows (task_for c.args.asked.now) c.args.self.now c.pushed.new.self c.pushed.ensures.keeps c.requires.notes
 
 pub pushes_offered-requires-clause-part : goal.pushes_offered-requires-clause-part
 pushes_offered-requires-clause-part c =
     let scene = c.args.here.now.scene.now in
-    part-grows (task_for c.args.asked.now) c.args.self.now.numbers c.pushed.new.self c.pushed.ensures.keeps scene.part scene.model.atoms c.requires.here.part
+    part-grows (task_for c.args.asked.now) c.args.self.now.numbers c.pushed.new.self c.pushed.ensures.keeps scene.part scene.model.atoms
+    c.requires.here.part
 
 pub pushes_offered-requires-clause-stack : goal.pushes_offered-requires-clause-stack
 pushes_offered-requires-clause-stack c =
@@ -31,7 +34,9 @@ kept_over-requires-clause-here c =
     let old = c.args.self.now in
     let mid : Notes = record old { numbers = c.pushed.new.self } in
     let new = c.pushes_offered.new.self in
-    let grown : HaveGrown task old new = grown-both task old mid new (grown-numbers task old c.pushed.new.self c.pushed.ensures.keeps c.requires.notes) c.in-Ok.ensures.notes in
+    let grown : HaveGrown task old new =
+    grown-both task old mid new (grown-numbers task old c.pushed.new.self c.pushed.ensures.keeps c.requires.notes) c.in-Ok.ensures.notes
+    in
     here-grows task old.numbers new.numbers c.args.here.now grown.keeps c.requires.here
 
 pub kept_over-requires-clause-alone : goal.kept_over-requires-clause-alone
@@ -43,8 +48,10 @@ kept_over-requires-clause-alone c =
     let old = c.args.self.now.numbers in
     let new = c.pushes_offered.new.self.numbers in
     let begun = c.in-Ok.begun in
-    subst (λ (s : List Entry). IsBegunOn task new (record { model = model; stack = s }) begun.steps.items begun.is_all) (sym (first-top task old here.place here.below model here.stack.now t))
-    (c.in-Ok.ensures.begun (t.entry ∷ []) (c.in_ok-alone.ensures.stack t.entry [] t.entry_at refl) (alone-top task old here.place here.below model here.stack.now t (Open c.args.gaps.now) c.requires.gaps))
+    subst (λ (s : List Entry). IsBegunOn task new (record { model = model; stack = s }) begun.steps.items begun.is_all)
+    (sym (first-top task old here.place here.below model here.stack.now t))
+    (c.in-Ok.ensures.begun (t.entry ∷ []) (c.in_ok-alone.ensures.stack t.entry [] t.entry_at refl)
+    (alone-top task old here.place here.below model here.stack.now t (Open c.args.gaps.now) c.requires.gaps))
 
 pub returns-in-Ok-clause-notes : goal.returns-in-Ok-clause-notes
 returns-in-Ok-clause-notes c =
@@ -52,7 +59,9 @@ returns-in-Ok-clause-notes c =
     let old = c.args.self.now in
     let mid : Notes = record old { numbers = c.pushed.new.self } in
     let new = c.pushes_offered.new.self in
-    let grown : HaveGrown task old new = grown-both task old mid new (grown-numbers task old c.pushed.new.self c.pushed.ensures.keeps c.requires.notes) c.in-Ok.ensures.notes in
+    let grown : HaveGrown task old new =
+    grown-both task old mid new (grown-numbers task old c.pushed.new.self c.pushed.ensures.keeps c.requires.notes) c.in-Ok.ensures.notes
+    in
     grown-both task old new c.kept_over.new.self grown c.in_ok-over-in-Ok.ensures.notes
 
 pub returns-in-Err-ShapeLimit-clause-notes : goal.returns-in-Err-ShapeLimit-clause-notes
@@ -62,6 +71,10 @@ returns-in-Err-ShapeLimit-clause-notes c =
     let mid : Notes = record old { numbers = c.pushed.new.self } in
     let new = c.pushes_offered.new.self in
     let kept = c.all_pushes.new.numbers in
-    let after : HaveGrown task mid new = subst (λ (e : AskErr). AtLimit e (λ formula shapes. HaveGrown task mid new)) c.in-Err-ShapeLimit.field-0-is c.in-Err-ShapeLimit.ensures.notes in
-    let grown : HaveGrown task old new = grown-both task old mid new (grown-numbers task old c.pushed.new.self c.pushed.ensures.keeps c.requires.notes) after in
-    any_answer c.all_pushes.result (grown-both task old new (record new { numbers = kept }) grown (grown-numbers task new kept c.all_pushes.ensures.keeps grown.right))
+    let after : HaveGrown task mid new =
+    subst (λ (e : AskErr). AtLimit e (λ formula shapes. HaveGrown task mid new)) c.in-Err-ShapeLimit.field-0-is
+    c.in-Err-ShapeLimit.ensures.notes in
+    let grown : HaveGrown task old new =
+    grown-both task old mid new (grown-numbers task old c.pushed.new.self c.pushed.ensures.keeps c.requires.notes) after in
+    any_answer c.all_pushes.result (grown-both task old new (record new { numbers = kept }) grown
+    (grown-numbers task new kept c.all_pushes.ensures.keeps grown.right))

@@ -1,3 +1,4 @@
+-- Proofs of the goals that `Notes::pushes_to_goal` of src/notes.rt leaves open.
 use Rattle.std.proofs.Common.{[], refl, subst}
 use Rattle.px_gaps.specs.Outcomes.{AtLimit}
 use Rattle.px_gaps.specs.declared.ask_err.AskErr.{AskErr}
@@ -18,5 +19,8 @@ returns-in-Err-ShapeLimit-clause-notes c =
     let old = c.args.self.now in
     let mid = c.pushes_offered.new.self in
     let kept = c.all_pushes.new.numbers in
-    let before : HaveGrown task old mid = subst (λ (e : AskErr). AtLimit e (λ formula shapes. HaveGrown task old mid)) c.in-Err-ShapeLimit.field-0-is c.in-Err-ShapeLimit.ensures.notes in
-    any_answer c.all_pushes.result (grown-both task old mid (record mid { numbers = kept }) before (grown-numbers task mid kept c.all_pushes.ensures.keeps before.right))
+    let before : HaveGrown task old mid =
+    subst (λ (e : AskErr). AtLimit e (λ formula shapes. HaveGrown task old mid)) c.in-Err-ShapeLimit.field-0-is
+    c.in-Err-ShapeLimit.ensures.notes in
+    any_answer c.all_pushes.result (grown-both task old mid (record mid { numbers = kept }) before
+    (grown-numbers task mid kept c.all_pushes.ensures.keeps before.right))

@@ -1,3 +1,4 @@
+-- Proofs of the goals that `Notes::result_at` of src/notes.rt leaves open.
 use Rattle.px_support.specs.Asking.{task_for}
 use Rattle.px_search.specs.Notes.{IsResultAt}
 use Rattle.px_search.proofs.NoteLaws.{place_eq, place_eq-decides, right-grows}
@@ -7,7 +8,8 @@ use Rattle.px_search.proofs.notes.Notes.result_at.Goals as goal
 pub returns-in-Some-clause-number : goal.returns-in-Some-clause-number
 returns-in-Some-clause-number c =
     let notes = c.args.self.now in
-    each-found place_eq place_eq-decides (IsResultAt (task_for c.args.asked.now) notes.numbers) notes.results.entries c.args.place c.in-Some.number.now c.requires.notes.results c.in-Some.ensures.value
+    each-found place_eq place_eq-decides (IsResultAt (task_for c.args.asked.now) notes.numbers) notes.results.entries c.args.place
+    c.in-Some.number.now c.requires.notes.results c.in-Some.ensures.value
 
 pub returns-in_ok-insert-in-None-clause-notes : goal.returns-in_ok-insert-in-None-clause-notes
 returns-in_ok-insert-in-None-clause-notes c =
@@ -20,7 +22,9 @@ returns-in_ok-insert-in-None-clause-notes c =
       right = record {
         tops = right.tops;
         wants = right.wants;
-        results = each-more place_eq place_eq-decides (IsResultAt task kept) old.results.entries c.insert.new.self.entries c.args.place c.in_ok-number-in-None.number right.results c.in_ok-number-in-None.ensures.number c.in_ok-insert-in-None.ensures.entries;
+        results =
+            each-more place_eq place_eq-decides (IsResultAt task kept) old.results.entries c.insert.new.self.entries c.args.place
+            c.in_ok-number-in-None.number right.results c.in_ok-number-in-None.ensures.number c.in_ok-insert-in-None.ensures.entries;
         never_limited = right.never_limited;
       };
     }

@@ -1,8 +1,11 @@
+-- Proofs of the goals that `Notes::scene_of` of src/notes.rt leaves open.
 use Rattle.px_numbers.specs.NumberLaws.{model_at-grows}
 use Rattle.px_search.proofs.notes.Notes.scene_of.Goals as goal
 
 pub returns-clause-scene : goal.returns-clause-scene
 returns-clause-scene c = record {
-  model_at = model_at-grows c.args.self.now.numbers c.part_of.new.self.numbers c.args.number c.in_ok-model.model.atoms c.in_ok-part.ensures.notes.keeps c.in_ok-model.ensures;
+  model_at =
+      model_at-grows c.args.self.now.numbers c.part_of.new.self.numbers c.args.number c.in_ok-model.model.atoms
+      c.in_ok-part.ensures.notes.keeps c.in_ok-model.ensures;
   part_at = c.in_ok-part.ensures.part;
 }

@@ -1,3 +1,4 @@
+-- Proofs of the goals that `Notes::top_steps` of src/notes.rt leaves open.
 use Rattle.std.proofs.Common.{true, ◌∙◌, List, take, sym, subst}
 use Rattle.px_table.specs.declared.node.Node.{Node}
 use Rattle.px_entries.specs.Entries.{IsEntry}
@@ -17,7 +18,8 @@ entry-top-requires c = some_top c.args.self.now.numbers c.requires.node.0.stack 
 
 pub known_top-requires-clause-entry : goal.known_top-requires-clause-entry
 known_top-requires-clause-entry c =
-    top_entry c.args.self.now.numbers (IsEntry c.args.asked.now.problem.now c.args.asked.now.tables.now) c.requires.node.0.stack c.args.frame c.entry-top.result.now c.requires.node.2 c.requires.node.3 c.entry-top.ensures
+    top_entry c.args.self.now.numbers (IsEntry c.args.asked.now.problem.now c.args.asked.now.tables.now) c.requires.node.0.stack
+    c.args.frame c.entry-top.result.now c.requires.node.2 c.requires.node.3 c.entry-top.ensures
 
 pub returns-in-Limited-clause-limited : goal.returns-in-Limited-clause-limited
 returns-in-Limited-clause-limited c =
@@ -26,10 +28,20 @@ returns-in-Limited-clause-limited c =
     let model = c.args.scene.now.model.atoms in
     let stack = c.as_slice.result.now in
     let n = c.requires.node in
-    let r : Read task kept c.args.key c.args.frame model stack = record { node = n.0; stands = n.1; top = n.3; model_at = c.requires.scene.model_at; stack_is = c.as_slice.ensures.value ∙ c.in_ok-stack.ensures n.0.stack n.1.stack } in
-    read-each task kept c.args.key c.args.frame model stack r (λ (node : Node). LimitsNode task node c.in-Limited.formula c.in-Limited.shapes)
+    let r : Read task kept c.args.key c.args.frame model stack =
+    record {
+      node = n.0;
+      stands = n.1;
+      top = n.3;
+      model_at = c.requires.scene.model_at;
+      stack_is = c.as_slice.ensures.value
+          ∙ c.in_ok-stack.ensures n.0.stack n.1.stack;
+    } in
+    read-each task kept c.args.key c.args.frame model stack r
+    (λ (node : Node). LimitsNode task node c.in-Limited.formula c.in-Limited.shapes)
     (limits-needs task (record { model = model; stack = stack }) c.in-Limited.formula c.in-Limited.shapes
-    (read-known task kept c.args.key c.args.frame model stack r c.entry-top.result.now (Limited c.in-Limited.formula c.in-Limited.shapes) c.in_ok-known.known c.entry-top.ensures c.in_ok-known.ensures c.in-Limited.is))
+    (read-known task kept c.args.key c.args.frame model stack r c.entry-top.result.now
+    (Limited c.in-Limited.formula c.in-Limited.shapes) c.in_ok-known.known c.entry-top.ensures c.in_ok-known.ensures c.in-Limited.is))
 
 pub kept_over-requires-clause-here : goal.kept_over-requires-clause-here
 kept_over-requires-clause-here c =
@@ -38,7 +50,15 @@ kept_over-requires-clause-here c =
     let model = c.args.scene.now.model.atoms in
     let stack = c.as_slice.result.now in
     let n = c.requires.node in
-    let r : Read task kept c.args.key c.args.frame model stack = record { node = n.0; stands = n.1; top = n.3; model_at = c.requires.scene.model_at; stack_is = c.as_slice.ensures.value ∙ c.in_ok-stack.ensures n.0.stack n.1.stack } in
+    let r : Read task kept c.args.key c.args.frame model stack =
+    record {
+      node = n.0;
+      stands = n.1;
+      top = n.3;
+      model_at = c.requires.scene.model_at;
+      stack_is = c.as_slice.ensures.value
+          ∙ c.in_ok-stack.ensures n.0.stack n.1.stack;
+    } in
     record { top = read-top task kept c.args.key c.args.frame model stack r; part = c.requires.scene.part_at }
 
 pub kept_over-requires-clause-alone : goal.kept_over-requires-clause-alone
@@ -48,10 +68,21 @@ kept_over-requires-clause-alone c =
     let model = c.args.scene.now.model.atoms in
     let stack = c.as_slice.result.now in
     let n = c.requires.node in
-    let r : Read task kept c.args.key c.args.frame model stack = record { node = n.0; stands = n.1; top = n.3; model_at = c.requires.scene.model_at; stack_is = c.as_slice.ensures.value ∙ c.in_ok-stack.ensures n.0.stack n.1.stack } in
-    let known = read-known task kept c.args.key c.args.frame model stack r c.entry-top.result.now Closed c.in_ok-known.known c.entry-top.ensures c.in_ok-known.ensures c.in-Closed.is in
+    let r : Read task kept c.args.key c.args.frame model stack =
+    record {
+      node = n.0;
+      stands = n.1;
+      top = n.3;
+      model_at = c.requires.scene.model_at;
+      stack_is = c.as_slice.ensures.value
+          ∙ c.in_ok-stack.ensures n.0.stack n.1.stack;
+    } in
+    let known =
+    read-known task kept c.args.key c.args.frame model stack r c.entry-top.result.now Closed c.in_ok-known.known c.entry-top.ensures
+    c.in_ok-known.ensures c.in-Closed.is in
     subst (λ (s : List Step). IsBegunOn task kept (record { model = model; stack = take 1 stack }) s true) (sym c.new-nothing.ensures.items)
-    (alone-closed task kept (read-place task kept c.args.key c.args.frame model stack r) c.args.frame.below model stack (read-top task kept c.args.key c.args.frame model stack r) true known)
+    (alone-closed task kept (read-place task kept c.args.key c.args.frame model stack r) c.args.frame.below model stack
+    (read-top task kept c.args.key c.args.frame model stack r) true known)
 
 pub returns-in-Closed-clause-steps : goal.returns-in-Closed-clause-steps
 returns-in-Closed-clause-steps c =
@@ -61,8 +92,18 @@ returns-in-Closed-clause-steps c =
     let model = c.args.scene.now.model.atoms in
     let stack = c.as_slice.result.now in
     let n = c.requires.node in
-    let r : Read task kept c.args.key c.args.frame model stack = record { node = n.0; stands = n.1; top = n.3; model_at = c.requires.scene.model_at; stack_is = c.as_slice.ensures.value ∙ c.in_ok-stack.ensures n.0.stack n.1.stack } in
-    read-each task kept c.args.key c.args.frame model stack r (λ (node : Node). IsBegunOn task new node c.in_ok-none-in-Closed.none.steps.items c.in_ok-none-in-Closed.none.is_all) c.in_ok-none-in-Closed.ensures.steps
+    let r : Read task kept c.args.key c.args.frame model stack =
+    record {
+      node = n.0;
+      stands = n.1;
+      top = n.3;
+      model_at = c.requires.scene.model_at;
+      stack_is = c.as_slice.ensures.value
+          ∙ c.in_ok-stack.ensures n.0.stack n.1.stack;
+    } in
+    read-each task kept c.args.key c.args.frame model stack r
+    (λ (node : Node). IsBegunOn task new node c.in_ok-none-in-Closed.none.steps.items c.in_ok-none-in-Closed.none.is_all)
+    c.in_ok-none-in-Closed.ensures.steps
 
 pub kept_over-requires-in-Applicable-clause-alone : goal.kept_over-requires-in-Applicable-clause-alone
 kept_over-requires-in-Applicable-clause-alone c =
@@ -71,10 +112,22 @@ kept_over-requires-in-Applicable-clause-alone c =
     let model = c.args.scene.now.model.atoms in
     let stack = c.as_slice.result.now in
     let n = c.requires.node in
-    let r : Read task kept c.args.key c.args.frame model stack = record { node = n.0; stands = n.1; top = n.3; model_at = c.requires.scene.model_at; stack_is = c.as_slice.ensures.value ∙ c.in_ok-stack.ensures n.0.stack n.1.stack } in
-    let known = read-known task kept c.args.key c.args.frame model stack r c.entry-top.result.now Applicable c.in_ok-known.known c.entry-top.ensures c.in_ok-known.ensures c.in-Applicable.is in
-    subst (λ (s : List Step). IsBegunOn task kept (record { model = model; stack = take 1 stack }) s true) (sym c.in_ok-only-in-Applicable.ensures)
-    (alone-applicable task kept (read-place task kept c.args.key c.args.frame model stack r) c.args.frame.below model stack (read-top task kept c.args.key c.args.frame model stack r) true known)
+    let r : Read task kept c.args.key c.args.frame model stack =
+    record {
+      node = n.0;
+      stands = n.1;
+      top = n.3;
+      model_at = c.requires.scene.model_at;
+      stack_is = c.as_slice.ensures.value
+          ∙ c.in_ok-stack.ensures n.0.stack n.1.stack;
+    } in
+    let known =
+    read-known task kept c.args.key c.args.frame model stack r c.entry-top.result.now Applicable c.in_ok-known.known c.entry-top.ensures
+    c.in_ok-known.ensures c.in-Applicable.is in
+    subst (λ (s : List Step). IsBegunOn task kept (record { model = model; stack = take 1 stack }) s true)
+    (sym c.in_ok-only-in-Applicable.ensures)
+    (alone-applicable task kept (read-place task kept c.args.key c.args.frame model stack r) c.args.frame.below model stack
+    (read-top task kept c.args.key c.args.frame model stack r) true known)
 
 pub returns-in-Applicable-clause-steps : goal.returns-in-Applicable-clause-steps
 returns-in-Applicable-clause-steps c =
@@ -84,8 +137,18 @@ returns-in-Applicable-clause-steps c =
     let model = c.args.scene.now.model.atoms in
     let stack = c.as_slice.result.now in
     let n = c.requires.node in
-    let r : Read task kept c.args.key c.args.frame model stack = record { node = n.0; stands = n.1; top = n.3; model_at = c.requires.scene.model_at; stack_is = c.as_slice.ensures.value ∙ c.in_ok-stack.ensures n.0.stack n.1.stack } in
-    read-each task kept c.args.key c.args.frame model stack r (λ (node : Node). IsBegunOn task new node c.in_ok-apply-in-Applicable.apply.steps.items c.in_ok-apply-in-Applicable.apply.is_all) c.in_ok-apply-in-Applicable.ensures.steps
+    let r : Read task kept c.args.key c.args.frame model stack =
+    record {
+      node = n.0;
+      stands = n.1;
+      top = n.3;
+      model_at = c.requires.scene.model_at;
+      stack_is = c.as_slice.ensures.value
+          ∙ c.in_ok-stack.ensures n.0.stack n.1.stack;
+    } in
+    read-each task kept c.args.key c.args.frame model stack r
+    (λ (node : Node). IsBegunOn task new node c.in_ok-apply-in-Applicable.apply.steps.items c.in_ok-apply-in-Applicable.apply.is_all)
+    c.in_ok-apply-in-Applicable.ensures.steps
 
 pub pushes_over-requires-clause-here : goal.pushes_over-requires-clause-here
 pushes_over-requires-clause-here c =
@@ -94,7 +157,15 @@ pushes_over-requires-clause-here c =
     let model = c.args.scene.now.model.atoms in
     let stack = c.as_slice.result.now in
     let n = c.requires.node in
-    let r : Read task kept c.args.key c.args.frame model stack = record { node = n.0; stands = n.1; top = n.3; model_at = c.requires.scene.model_at; stack_is = c.as_slice.ensures.value ∙ c.in_ok-stack.ensures n.0.stack n.1.stack } in
+    let r : Read task kept c.args.key c.args.frame model stack =
+    record {
+      node = n.0;
+      stands = n.1;
+      top = n.3;
+      model_at = c.requires.scene.model_at;
+      stack_is = c.as_slice.ensures.value
+          ∙ c.in_ok-stack.ensures n.0.stack n.1.stack;
+    } in
     record { top = read-top task kept c.args.key c.args.frame model stack r; part = c.requires.scene.part_at }
 
 pub pushes_over-requires-clause-gaps : goal.pushes_over-requires-clause-gaps
@@ -104,9 +175,18 @@ pushes_over-requires-clause-gaps c =
     let model = c.args.scene.now.model.atoms in
     let stack = c.as_slice.result.now in
     let n = c.requires.node in
-    let r : Read task kept c.args.key c.args.frame model stack = record { node = n.0; stands = n.1; top = n.3; model_at = c.requires.scene.model_at; stack_is = c.as_slice.ensures.value ∙ c.in_ok-stack.ensures n.0.stack n.1.stack } in
+    let r : Read task kept c.args.key c.args.frame model stack =
+    record {
+      node = n.0;
+      stands = n.1;
+      top = n.3;
+      model_at = c.requires.scene.model_at;
+      stack_is = c.as_slice.ensures.value
+          ∙ c.in_ok-stack.ensures n.0.stack n.1.stack;
+    } in
     subst (IsOpenWith task.problem (needs_with task model stack)) (sym c.as_slice-in-Open.ensures)
-    (read-known task kept c.args.key c.args.frame model stack r c.entry-top.result.now (Open c.in-Open.gaps) c.in_ok-known.known c.entry-top.ensures c.in_ok-known.ensures c.in-Open.is)
+    (read-known task kept c.args.key c.args.frame model stack r c.entry-top.result.now
+    (Open c.in-Open.gaps) c.in_ok-known.known c.entry-top.ensures c.in_ok-known.ensures c.in-Open.is)
 
 pub returns-clause-steps : goal.returns-clause-steps
 returns-clause-steps c =
@@ -116,9 +196,19 @@ returns-clause-steps c =
     let model = c.args.scene.now.model.atoms in
     let stack = c.as_slice.result.now in
     let n = c.requires.node in
-    let r : Read task kept c.args.key c.args.frame model stack = record { node = n.0; stands = n.1; top = n.3; model_at = c.requires.scene.model_at; stack_is = c.as_slice.ensures.value ∙ c.in_ok-stack.ensures n.0.stack n.1.stack } in
-    ok_map (λ begun. IsBegunOn task new (record { model = model; stack = stack }) begun.steps.items begun.is_all) (BeginsAt task kept new c.args.key)
-    (λ begun is. read-each task kept c.args.key c.args.frame model stack r (λ (node : Node). IsBegunOn task new node begun.steps.items begun.is_all) is) c.pushes_over.result c.pushes_over.ensures.steps
+    let r : Read task kept c.args.key c.args.frame model stack =
+    record {
+      node = n.0;
+      stands = n.1;
+      top = n.3;
+      model_at = c.requires.scene.model_at;
+      stack_is = c.as_slice.ensures.value
+          ∙ c.in_ok-stack.ensures n.0.stack n.1.stack;
+    } in
+    ok_map (λ begun. IsBegunOn task new (record { model = model; stack = stack }) begun.steps.items begun.is_all)
+    (BeginsAt task kept new c.args.key)
+    (λ begun is. read-each task kept c.args.key c.args.frame model stack r
+    (λ (node : Node). IsBegunOn task new node begun.steps.items begun.is_all) is) c.pushes_over.result c.pushes_over.ensures.steps
 
 pub returns-clause-limited : goal.returns-clause-limited
 returns-clause-limited c =
@@ -127,6 +217,16 @@ returns-clause-limited c =
     let model = c.args.scene.now.model.atoms in
     let stack = c.as_slice.result.now in
     let n = c.requires.node in
-    let r : Read task kept c.args.key c.args.frame model stack = record { node = n.0; stands = n.1; top = n.3; model_at = c.requires.scene.model_at; stack_is = c.as_slice.ensures.value ∙ c.in_ok-stack.ensures n.0.stack n.1.stack } in
-    if_limit (LimitsNode task (record { model = model; stack = stack })) (LimitsAt task kept c.args.key) c.pushes_over.result c.pushes_over.ensures.limited
-    (λ formula shapes limits. read-each task kept c.args.key c.args.frame model stack r (λ (node : Node). LimitsNode task node formula shapes) limits)
+    let r : Read task kept c.args.key c.args.frame model stack =
+    record {
+      node = n.0;
+      stands = n.1;
+      top = n.3;
+      model_at = c.requires.scene.model_at;
+      stack_is = c.as_slice.ensures.value
+          ∙ c.in_ok-stack.ensures n.0.stack n.1.stack;
+    } in
+    if_limit (LimitsNode task (record { model = model; stack = stack }))
+    (LimitsAt task kept c.args.key) c.pushes_over.result c.pushes_over.ensures.limited
+    (λ formula shapes limits. read-each task kept c.args.key c.args.frame model stack r
+    (λ (node : Node). LimitsNode task node formula shapes) limits)

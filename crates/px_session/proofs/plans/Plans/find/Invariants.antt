@@ -1,3 +1,4 @@
+-- What the loops of `Plans::find` in src/plans.rt keep true.
 use Rattle.px_library.proofs.Finding.{IsOtherBefore}
 use Rattle.px_session.proofs.plans.Plans.find.Given as goal
 

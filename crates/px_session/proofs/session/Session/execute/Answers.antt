@@ -1,5 +1,6 @@
+-- Proofs of the goals that `Session::execute` of src/session.rt leaves open.
 use Rattle.std.proofs.Common.{◌≡◌, ◌+◌, ◌<◌, All, Contains, flat_map, get_or, length, map, take, refl, sym, subst, arith}
-use Rattle.px_printer.specs.Replies.{IsNamed}
+use Rattle.px_printer.specs.Replies.{IsReplyNamed}
 use Rattle.px_reader.specs.CommandViews.{command_view}
 use Rattle.px_script.specs.Ranges.{result_given}
 use Rattle.px_session.specs.KeptSessions.{IsRunnable}
@@ -39,7 +40,7 @@ returns-clause-named c =
     let tellable = at-place (IsTellable c.self.inside.problem
     (length c.self.inside.names.results)) c.self.inside.commands c.as_slice.result.now c.args.k
     c.index-as_slice-k.result c.self.invariant.tellable c.as_slice.ensures below c.index-as_slice-k.is in
-    subst (λ (s : SessionValue). IsNamed s.names c.in_ok-reply.reply) c.self.view_is
+    subst (λ (s : SessionValue). IsReplyNamed s.names c.in_ok-reply.reply) c.self.view_is
     (named-after c.self.inside.building (held.the_view c.self.inside)
     (command_view c.index-as_slice-k.result) c.in_ok-reply.reply c.run_command.new.state c.self.invariant tellable
     c.in_ok-reply.ensures.lawful)

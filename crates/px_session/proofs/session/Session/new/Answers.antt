@@ -1,3 +1,4 @@
+-- Proofs of the goals that `Session::new` of src/session.rt leaves open.
 use Rattle.std.proofs.Common.{◌<◌, List, map, length, sym, ◌∙◌, subst}
 use Rattle.std.specs.Prelude.{Option}
 use Rattle.px_world.specs.declared.thing.Thing.{Thing}

@@ -1,3 +1,4 @@
+-- Proofs of the goals that `AtomWorldWorld::sense` of src/atom_world.rt leaves open.
 use Rattle.std.proofs.Common.{◌++◌, [], ◌∷◌, take, sym, ap, ◌∙◌, arith}
 use Rattle.std.proofs.lemmas.List.{take_all, take_more}
 use Rattle.px_base.specs.Sets.{set_of}
@@ -18,7 +19,8 @@ loop-atom-preserved c =
     record {
       atoms = c.insert_spare.ensures.atoms ∙ ap (with_atom c.atom-item.result) c.loop-atom.invariant.atoms
           ∙ set_of-push atom_cmp atom_cmp-total atom_cmp-same (take c.loop-atom.atom-index items) c.atom-item.result
-          ∙ ap atom_set (ap (λ a. take c.loop-atom.atom-index items ++ a ∷ []) c.atom-item.is ∙ sym (take_more items c.loop-atom.atom-index _ c.loop-atom-test.true));
+          ∙ ap atom_set (ap (λ a. take c.loop-atom.atom-index items ++ a ∷ []) c.atom-item.is
+          ∙ sym (take_more items c.loop-atom.atom-index _ c.loop-atom-test.true));
       spare = omega arith;
     }
 
@@ -26,4 +28,5 @@ pub returns-clause-atoms : goal.returns-clause-atoms
 returns-clause-atoms c =
     let items = c.atoms-atoms.result.now in
     c.loop-atom.invariant.atoms ∙ ap atom_set (take_all c.loop-atom.atom-index items (omega (arith, c.loop-atom-test.false)))
-    ∙ ap atom_set c.atoms-atoms.ensures.value ∙ set_of-sorted atom_cmp c.self.inside.atoms.atoms c.atoms-atoms.ensures.model.ascending ∙ ap (λ (w : AtomWorldValue). w.atoms) c.self.view_is
+    ∙ ap atom_set c.atoms-atoms.ensures.value ∙ set_of-sorted atom_cmp c.self.inside.atoms.atoms c.atoms-atoms.ensures.model.ascending
+    ∙ ap (λ (w : AtomWorldValue). w.atoms) c.self.view_is

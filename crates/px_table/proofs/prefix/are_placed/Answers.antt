@@ -1,8 +1,0 @@
-use Rattle.std.specs.Prelude.{slice_index}
-use Rattle.px_table.specs.Prefixes.{IsPlaced}
-use Rattle.px_table.proofs.PrefixSteps.{each_next}
-use Rattle.px_table.proofs.prefix.are_placed.Goals as goal
-
-pub loop-parameter-preserved : goal.loop-parameter-preserved
-loop-parameter-preserved c =
-    each_next (λ v. IsPlaced c.args.problem.now c.args.table.now c.args.prefix v (slice_index c.args.sigma.now v)) c.loop-parameter.parameter c.loop-parameter.invariant (c.is_placed.ensures.0 c.if-not-is_placed.false)
