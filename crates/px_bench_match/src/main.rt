@@ -42,14 +42,14 @@ use walking::{links, links_and_gifts, links_and_walker, links_apart, links_met, 
 
 /// A problem with its facts and a table.
 #[derive(Drop)]
-struct Scene {
+struct TableScene {
     problem: Problem,
     model: Model,
     table: Table,
 }
 
 /// Returns the kernel that is found in the scene.
-fn found(alloc: Global, scene: &Scene) -> Option<u32> {
+fn found(alloc: Global, scene: &TableScene) -> Option<u32> {
     if !is_valid(&scene.problem) || !check_table(&scene.problem, &scene.table) {
         return None;
     }
@@ -80,8 +80,8 @@ fn walked(alloc: Global, are_changes: bool) -> Result<Option<u32>, NoMemory> {
 }
 
 /// Returns a scene of 256 objects.
-fn scene_of(alloc: Global, model: Model, table: Table) -> Result<Scene, NoMemory> {
-    Ok(Scene {
+fn scene_of(alloc: Global, model: Model, table: Table) -> Result<TableScene, NoMemory> {
+    Ok(TableScene {
         problem: problem_of(alloc, 256)?,
         model,
         table,

@@ -58,7 +58,7 @@ fn large_problems(alloc: Global) -> Result<Asked, NoMemory> {
 
 /// What a line asks.
 #[derive(Clone, Copy)]
-enum Question {
+enum LineQuestion {
     Macros,
     Robot,
     Box,
@@ -67,18 +67,18 @@ enum Question {
 }
 
 /// Returns what the line asks, if it is a question.
-fn question_of(line: &str) -> Option<Question> {
+fn question_of(line: &str) -> Option<LineQuestion> {
     match line {
-        "macros" => return Some(Question::Macros),
-        "robot" => return Some(Question::Robot),
-        "box" => return Some(Question::Box),
+        "macros" => return Some(LineQuestion::Macros),
+        "robot" => return Some(LineQuestion::Robot),
+        "box" => return Some(LineQuestion::Box),
         _ => {}
     }
     let (word, number) = line.split_once(' ')?;
     let objects = number.parse().ok()?;
     match word {
-        "pushes" => Some(Question::Pushes(objects)),
-        "gaps" => Some(Question::Gaps(objects)),
+        "pushes" => Some(LineQuestion::Pushes(objects)),
+        "gaps" => Some(LineQuestion::Gaps(objects)),
         _ => None,
     }
 }
@@ -175,18 +175,18 @@ fn answer(rt: &HostRuntime, asked: &Asked, line: &str) -> io::Result<()> {
     let problem = &asked.problem;
     let model = &asked.model;
     match question_of(line) {
-        Some(Question::Macros) => print_pushes(rt, count_macros(alloc, asked)),
-        Some(Question::Robot) => {
+        Some(LineQuestion::Macros) => print_pushes(rt, count_macros(alloc, asked)),
+        Some(LineQuestion::Robot) => {
             print_pushes(
                 rt,
                 count_pushes(alloc, problem, model, asked.for_robot, &[]),
             )
         }
-        Some(Question::Box) => {
+        Some(LineQuestion::Box) => {
             print_pushes(rt, count_pushes(alloc, problem, model, asked.for_box, &[]))
         }
-        Some(Question::Pushes(objects)) => print_pushes(rt, pushes_of_things(alloc, objects)),
-        Some(Question::Gaps(objects)) => print_gaps(rt, gaps_of_things(alloc, objects)),
+        Some(LineQuestion::Pushes(objects)) => print_pushes(rt, pushes_of_things(alloc, objects)),
+        Some(LineQuestion::Gaps(objects)) => print_gaps(rt, gaps_of_things(alloc, objects)),
         None => println!(rt; "no question"),
     }
 }

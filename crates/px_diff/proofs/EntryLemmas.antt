@@ -26,8 +26,7 @@ module _ (problem : Problem) (tables : List Table) (wanted : List Atom) (stack :
       → Gathering W old new
   entries_less V W old new f g =
       record {
-        kept =
-            g.kept;
+        kept = g.kept;
         only = g.only;
         all = λ entry w p. g.all entry (f entry w) p;
         unlimited = λ entry w r. g.unlimited entry (f entry w) r;
@@ -38,10 +37,8 @@ module _ (problem : Problem) (tables : List Table) (wanted : List Atom) (stack :
       → ((entry : Entry) → IsRelevant problem tables wanted stack entry → W entry → V entry) → Gathering V old new → Gathering W old new
   entries_relevant V W old new f g =
       record {
-        kept =
-            g.kept;
-        only =
-            g.only;
+        kept = g.kept;
+        only = g.only;
         all = λ entry w p. g.all entry (f entry p.relevant w) p;
         unlimited = λ entry w r. g.unlimited entry (f entry r w) r;
       }

@@ -18,8 +18,7 @@ module _ (problem : Problem) (tables : List Table) (wanted : List Atom) (stack :
       → Gathers problem tables wanted stack model V old new → Gathers problem tables wanted stack model W old new
   gathers_less V W old new f g =
       record {
-        kept =
-            g.kept;
+        kept = g.kept;
         only = g.only;
         all = λ inst w p. g.all inst (f inst w) p;
         unlimited = λ inst w r. g.unlimited inst (f inst w) r;

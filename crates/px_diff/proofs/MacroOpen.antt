@@ -127,12 +127,9 @@ module _ (problem : Problem) (valid : IsValid problem) (apart : ¬ AxiomsMention
           (λ k d below. atom_of-is_ground problem _ (literals k d below)) all.0 all.1 in
           gaps-open problem needed (answer-decided (setting_of problem left) formula) [] there.0
           (record {
-            count =
-                refl;
-            below =
-                λ k d below. absurd (omega (arith, below));
-            proved =
-                there.1;
+            count = refl;
+            below = λ k d below. absurd (omega (arith, below));
+            proved = there.1;
             low = subst (λ (n : ℕ). n ≤ problem.height) (sym there.2) all.2;
           })
 

@@ -50,8 +50,7 @@ answer-decided s formula =
         [],
         one.0,
         record {
-          count =
-              refl;
+          count = refl;
           below = λ k d within. absurd (omega (arith, within));
           proved = one.1.0;
           low = one.1.1;
@@ -83,8 +82,7 @@ module _ (problem : Problem) (valid : IsValid problem) where
       (λ k d below. atom_of-is_ground problem _ (literals k d below)) list.1 list.2.proved in
       gaps-open problem (needed_from formula others) (answer-decided (setting_of problem others) formula) list.0 made.0
       (record {
-        count =
-            list.2.count;
+        count = list.2.count;
         below = list.2.below;
         proved = made.1;
         low = subst (λ (n : ℕ). n ≤ problem.height) (sym made.2) list.2.low;
@@ -151,10 +149,8 @@ relevance-over_models = record {
   );
   pushable = λ problem tables wanted stack facts others entry are. (
     λ p. record {
-      relevant =
-          p.relevant;
-      open_entry =
-          entry-alike problem are.valid tables facts others entry are.learned are.alike p.relevant.is_entry p.open_entry;
+      relevant = p.relevant;
+      open_entry = entry-alike problem are.valid tables facts others entry are.learned are.alike p.relevant.is_entry p.open_entry;
     },
     λ p. record {
       relevant = p.relevant;

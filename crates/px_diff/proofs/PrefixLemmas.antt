@@ -66,10 +66,8 @@ module _ (problem : Problem) (table : Table) (sigma : List ℕ) (model : List At
       Contains-first (record { formula = initial_atoms table sigma row; vars = 0; facts = facts })
           (row_obligations problem table sigma (left step facts) (suc row) steps),
       record {
-        facts =
-            facts;
-        among =
-            among;
+        facts = facts;
+        among = among;
         set = set;
         same = ap (λ (n : ℕ). record { formula = initial_atoms table sigma n; vars = 0; facts = facts }) here;
       },

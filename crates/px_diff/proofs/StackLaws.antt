@@ -43,8 +43,7 @@ relevance-over_stacks = record {
       record { question = l.question; asked = l.asked; met = l.met },
     ),
     λ l. record {
-      entry =
-          l.0;
+      entry = l.0;
       relevant = over-stack problem tables wanted stack l.0 l.2 l.1;
       question = l.3.question;
       asked = l.3.asked;

@@ -244,7 +244,7 @@ fn pushable_for(asker: &mut Asker, request: &Request) -> Result<Vec<Entry>, AskE
 
 // `relevant` promises the same, but only of the entries.
 /// Returns what `relevant` does, with the number of questions that it asks the prover. The number is measured: it begins with 0,
-/// and the clause `counted` of each of the two private methods that ask (`Asker::gap_patterns` and `Asker::prove`) says that
+/// and the clause `counted` of each of the two methods that ask (`Asker::gap_patterns` and `Asker::prove`) says that
 /// it asks one more, up to the greatest number of 64 bits. What is asked of each MACROP by itself isn't counted. No clause of this
 /// call speaks of the number.
 ///

@@ -17,8 +17,7 @@ module _ (task : Task) where
   gone earlier last moves stop = (
     λ h. (h.least, h.early earlier last stop),
     λ h. record {
-      least =
-          h.0;
+      least = h.0;
       early = λ e l s. subst (λ (x : List Move). IsMadeFrom moves x) (same_stop task earlier e last l stop s) h.1;
     },
   )

@@ -206,8 +206,7 @@ not_there = record {
   lists = [] ∷ [];
   whole =
       record {
-        beginning =
-            begins without_p;
+        beginning = begins without_p;
         every = λ moves least. subst (Contains ([] ∷ [])) (no_moves moves least.made) (Contains-first [] []);
       };
   unsolved =

@@ -134,8 +134,7 @@ module _ (problem : Problem) (facts others : List Atom) (alike : DecideAlike pro
         objects,
         made.0,
         record {
-          count =
-              list.count;
+          count = list.count;
           below = list.below;
           proved = made.1;
           low = subst (λ (n : ℕ). n ≤ problem.height) (sym made.2) list.low;

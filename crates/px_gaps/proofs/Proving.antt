@@ -135,8 +135,7 @@ module _ (s : Setting) where
       → ((q : Atom) (shapes : List (List Tick)) → IsKind q → ¬ IsLimited s (q ∷ []) 0 shapes) → FindsProvable s IsKind old old
   finds-none IsKind old none few =
       record {
-        exact =
-            λ q. (λ there. inl there, λ h. elim h [ inl before ↦ before | inr is ↦ absurd (none q is.0 is.1) ]);
+        exact = λ q. (λ there. inl there, λ h. elim h [ inl before ↦ before | inr is ↦ absurd (none q is.0 is.1) ]);
         unlimited = few;
       }
 

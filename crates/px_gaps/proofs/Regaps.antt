@@ -53,8 +53,7 @@ module _ (axioms : List Clause) (old new : Rules) (allows : AllowsBesideGaps old
       proved.0,
       record {
         axiom_at = proved.1.axiom_at;
-        terms =
-            proved.1.terms;
+        terms = proved.1.terms;
         choices = λ k d below. allows.choices _ (proved.1.choices k d below);
         literal_at = proved.1.literal_at;
       },

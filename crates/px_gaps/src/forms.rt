@@ -42,10 +42,7 @@ fn form_of(atom: &Atom) -> Atom
     for (k, term) in args.iter().enumerate() {
         terms[k] = named(args, *term);
     }
-    match Atom::new(atom.pred(), &terms[..args.len()]) {
-        Some(form) => form,
-        None => unreachable!(),
-    }
+    Atom::of(atom.pred(), &terms[..args.len()])
 }
 
 /// Adds the forms of the atoms.

@@ -27,7 +27,7 @@ use Rattle.px_table.specs.declared.table.Table.{Table}
 use Rattle.px_table.specs.Marks.{step_at}
 use Rattle.px_table.specs.Supports.{ProvesEachOf, RowsProve}
 use Rattle.px_table.specs.Tables.{IsStepOf, IsTable, rows_of}
-use Rattle.px_table.proofs.Choosing.{length-variables}
+use Rattle.px_terms.proofs.VariableLemmas.{length-variables}
 use Rattle.px_replay.specs.FreshVariables.{all_fresh_in, fresh_in, fresh_variables, is_object}
 use Rattle.px_replay.specs.Opened.{add_at, atom_in, first_of_rows, first_own, goal_objects, goal_opened, opened_args, opened_goal, opened_row, opened_rows, opened_steps, opened_terms, rows_opened, step_variables, steps_opened}
 use Rattle.px_replay.specs.Replay.{opened, all_opened}

@@ -30,7 +30,7 @@ use Rattle.px_table.specs.Marks.{IsNamed, mark_of, marks_from, row_leaves, row_m
 use Rattle.px_table.specs.Supports.{ProvesEachOf, RowsProve, variables}
 use Rattle.px_table.specs.Tables.{IsTableInRange, IsStepOf, IsTable, rows_of}
 use Rattle.px_table.specs.UnderLaws.{adds-under, from_map, precondition-under, step_at-map}
-use Rattle.px_table.proofs.Choosing.{length-variables}
+use Rattle.px_terms.proofs.VariableLemmas.{length-variables}
 use Rattle.px_table.specs.RowLaws.{first_row}
 use Rattle.px_replay.specs.FreshVariables.{fresh_in, is_object}
 use Rattle.px_replay.specs.Opened.{add_at, first_of_rows, first_own, goal_objects, named_args, named_goal, opened_args, opened_goal, opened_row, opened_rows, opened_steps, row_pairs, rows_opened, rows_pairs, step_variables, steps_opened}
@@ -206,10 +206,8 @@ module _ (One : Term → Type 0) (problem : Problem) (valid : IsValid problem) (
       (Contains-mapped (substitute_atom names) (leaf_atoms (leaves_of open_d)) leaf.atom
       (Contains-mapped (λ (l : Leaf). l.atom) (leaves_of open_d) leaf has))) in (
         record {
-          proves =
-              proves;
-          terms =
-              conclusion-names problem valid params (leaf_atoms (leaves_of new_d)) (positive_of (substitute_atom names b)) new_d proves;
+          proves = proves;
+          terms = conclusion-names problem valid params (leaf_atoms (leaves_of new_d)) (positive_of (substitute_atom names b)) new_d proves;
         },
         row-proved (first + fresh_in d) atoms opens row p.1 alike.1
             (All-back IsNameUnder (terms_of open_d) (flat_map terms_of (opened_row named (first + fresh_in d) row)) are)
@@ -490,8 +488,7 @@ module _ (problem : Problem) (valid : IsValid problem) (plan general : Table) (n
       let from = from_plan mark has in
       let plan_is = plan_named from.2 from.0 from.3 in
       subst (IsNamed problem general.steps) from.4 record {
-        earlier =
-            plan_is.earlier;
+        earlier = plan_is.earlier;
         initial = plan_is.initial;
         added = opened-named from.2 from.1 from.0 from.3;
       }

@@ -28,7 +28,7 @@ use Rattle.px_table.specs.Marks.{IsKept, IsNamed, marks_from}
 use Rattle.px_table.specs.Supports.{IsProofOf, ProvesEachOf, RowsProve, Supports, variables}
 use Rattle.px_table.specs.Tables.{IsTable, rows_of}
 use Rattle.px_table.specs.UnderLaws.{IsNamed-under, precondition-under}
-use Rattle.px_table.proofs.Choosing.{length-variables}
+use Rattle.px_terms.proofs.VariableLemmas.{length-variables}
 use Rattle.px_replay.proofs.GoalSteps.{read-variable}
 use Rattle.px_general.proofs.Reading.{less_or_not, read-left, read-map, read-past, read-right}
 use Rattle.px_general.proofs.Under.{from_marks-under}

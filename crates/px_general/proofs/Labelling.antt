@@ -31,7 +31,7 @@ use Rattle.px_table.specs.OnceLaws.{Contains-each_once, Contains-from_each_once}
 use Rattle.px_terms.specs.Substitution.{variables_from}
 use Rattle.px_table.specs.Supports.{RowsProve, variables}
 use Rattle.px_table.specs.Tables.{IsTable, rows_of}
-use Rattle.px_table.proofs.Choosing.{length-variables}
+use Rattle.px_terms.proofs.VariableLemmas.{length-variables}
 use Rattle.px_general.specs.General.{Generalises, is_parameter, row_terms}
 use Rattle.px_general.specs.Naming.{args_of_leaves, AreLabels, AreNamed, IsBuilt, IsResolved, is_variable_term, leaf_terms, roots_of, walked_terms}
 use Rattle.px_replay.specs.Opened.{goal_objects, opened_terms, replay_pairs, rows_opened, step_variables, steps_opened}

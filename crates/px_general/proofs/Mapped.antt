@@ -87,8 +87,7 @@ module _ (f g h : Term → Term) where
     derivation-by : (d : Derivation) → Agree (terms_of d) → derivation_by f (derivation_by g d) ≡ derivation_by h d
     derivation-by (fact leaf) each =
         ap (λ (args : List Term). fact (record {
-          column =
-              leaf.column;
+          column = leaf.column;
           index = leaf.index;
           atom = record { pred = leaf.atom.pred; args = args };
         })) (args-by leaf.atom.args each)
@@ -148,8 +147,7 @@ mutual
   derivation-same : (d : Derivation) → derivation_by (λ t. t) d ≡ d
   derivation-same (fact leaf) =
       ap (λ (args : List Term). fact (record {
-        column =
-            leaf.column;
+        column = leaf.column;
         index = leaf.index;
         atom = record { pred = leaf.atom.pred; args = args };
       })) (args-same leaf.atom.args)

@@ -11,7 +11,7 @@ use Rattle.px_table.specs.Once.{each_once}
 use Rattle.px_table.specs.OnceLaws.{Contains-from_each_once}
 use Rattle.px_terms.specs.Substitution.{variables_from}
 use Rattle.px_table.specs.Supports.{variables}
-use Rattle.px_table.proofs.Choosing.{length-variables}
+use Rattle.px_terms.proofs.VariableLemmas.{length-variables}
 use Rattle.px_general.specs.General.{is_parameter}
 use Rattle.px_general.proofs.Marked.{filter-by, each_once-by}
 use Rattle.px_general.proofs.Reading.{item-left, variables-have}

@@ -237,8 +237,7 @@ shared problem plan one other valid is_table proper is_one is_other =
     let supports = is_one.sound new (kernel_under one new 1) (steps_under one new) (goal_under one new) (rows_under one new)
     (record {
       count = length-numbers problem.objects one.params;
-      proper =
-          new_is_proper;
+      proper = new_is_proper;
       steps_are = refl;
       goal_is = refl;
       rows_are = refl;

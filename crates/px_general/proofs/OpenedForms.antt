@@ -15,7 +15,7 @@ use Rattle.px_proof.specs.Proves.{Proves, ProvesEach, from_atoms}
 use Rattle.px_proof.specs.Substitution.{derivation_under}
 use Rattle.px_terms.specs.Substitution.{variables_from}
 use Rattle.px_table.specs.UnderLaws.{from_map}
-use Rattle.px_table.proofs.Choosing.{length-variables}
+use Rattle.px_terms.proofs.VariableLemmas.{length-variables}
 use Rattle.px_replay.specs.FreshVariables.{fresh_in}
 use Rattle.px_replay.specs.Replay.{pairs_of, HasForm, HaveForms, opened, all_opened, own_terms}
 use Rattle.px_general.proofs.Matching.{IsAlike, alike_parts, Matches, matches_from}

@@ -16,7 +16,7 @@ use Rattle.px_table.specs.declared.table.Table.{Table}
 use Rattle.px_table.specs.Kernels.{goal_under, rows_under, steps_under}
 use Rattle.px_table.specs.Supports.{variables}
 use Rattle.px_table.specs.Tables.{IsStepOf, IsTable, rows_of}
-use Rattle.px_table.proofs.Choosing.{length-variables}
+use Rattle.px_terms.proofs.VariableLemmas.{length-variables}
 use Rattle.px_replay.proofs.GoalSteps.{read-variable}
 use Rattle.px_general.specs.General.{step_terms, goal_terms, row_terms}
 use Rattle.px_general.proofs.Mapped.{atom_by, instance_by, rows_by, rows-under, steps-by, goal-by, rows-by, steps-same, goal-same, rows-same}

@@ -70,8 +70,7 @@ supports = record {
   prove = (tt, (tt, ([], refl, (is_proof, tt))));
   named =
       one (IsNamed touching other_steps) its_mark (record {
-        earlier =
-            omega arith;
+        earlier = omega arith;
         initial = λ e. absurd (omega (arith, e));
         added = λ _. (touch (Obj 1), refl, refl);
       });

@@ -214,8 +214,7 @@ unused = record {
 pub danger_sensed : DangerSensed
 danger_sensed =
     record {
-      one_object =
-          one_object;
+      one_object = one_object;
       next_object = next_object;
       higher = higher;
       unused = unused;

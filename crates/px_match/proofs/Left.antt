@@ -3,10 +3,10 @@ use Rattle.std.specs.Prelude.{◌≡◌, ℕ, Bool, None, Some, Option, List, le
 use Rattle.std.proofs.Common.{arith}
 use Rattle.px_match.specs.Asking.{IsFitFor, IsLeft}
 use Rattle.px_match.specs.Reasons.{Agree, Grown, object_at}
-use Rattle.px_match.specs.declared.question.Question.{Question}
+use Rattle.px_match.specs.declared.question.KernelQuestion.{KernelQuestion}
 use Rattle.px_match.proofs.Floors.{agree_before}
 
-module _ (question : Question) (work : List ℕ) (place later : ℕ) where
+module _ (question : KernelQuestion) (work : List ℕ) (place later : ℕ) where
   pub left_itself : (cells : List Bool) (from : ℕ) → IsLeft question cells work place later from (Some from)
   left_itself cells from = record { at_most = λ objects answer agree same at_least. at_least }
 

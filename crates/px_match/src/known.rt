@@ -5,7 +5,7 @@ ghost use Rattle.px_table.specs.Kernels.{IsInstantiation, IsProper};
 ghost use Rattle.px_table.specs.Tables.{IsTable};
 ghost use Rattle.px_match.specs.Asking.{AreProperFrom, IsQuestion};
 
-use crate::question::Question;
+use crate::question::KernelQuestion;
 use px_table::{Table, proper};
 use px_terms::Problem;
 
@@ -19,7 +19,7 @@ pub fn goal_number(problem: &Problem, table: &Table, objects: &[u32]) -> u32
 }
 
 /// Returns whether the kernel's instance with these objects is proper.
-pub fn is_proper(question: &Question, work: &[u32]) -> bool
+pub fn is_proper(question: &KernelQuestion, work: &[u32]) -> bool
     requires asked { IsQuestion question.now }
     requires work { IsInstantiation question.now.problem.now question.now.table.now work.now }
     ensures { IsTrue result ↔ IsProper question.now.problem.now question.now.table.now work.now question.now.number }

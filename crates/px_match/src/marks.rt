@@ -5,11 +5,11 @@ ghost use Rattle.px_match.specs.Asking.{IsFitFor, IsMarkOf, IsQuestion};
 ghost use Rattle.px_match.specs.Reasons.{IsAtMost, IsSameBefore, object_at};
 
 use crate::filling::least;
-use crate::question::Question;
+use crate::question::KernelQuestion;
 use px_table::Mark;
 
 /// Returns the mark of that number, if the kernel has it.
-pub fn mark_of<'a>(question: &Question<'a>, number: usize) -> Option<&'a Mark>
+pub fn mark_of<'a>(question: &KernelQuestion<'a>, number: usize) -> Option<&'a Mark>
     ensures { IfSome result (λ mark. IsMarkOf question.now number mark.now) }
 {
     let mark = question.table.marks.as_slice().get(number)?;
@@ -21,7 +21,7 @@ pub fn mark_of<'a>(question: &Question<'a>, number: usize) -> Option<&'a Mark>
 
 /// Returns the least object from `from` on that the mark of that number allows at the place, given the objects before.
 pub fn least_of(
-    question: &Question,
+    question: &KernelQuestion,
     work: &[u32],
     place: usize,
     from: u32,

@@ -5,7 +5,7 @@ ghost use Rattle.px_match.specs.Asking.{IsFitFor, IsLeft, IsTried};
 ghost use Rattle.px_match.specs.Reasons.{Agree, Grown, IsBlamed, IsNear, object_at};
 
 use crate::marks::{least_of, mark_of};
-use crate::question::Question;
+use crate::question::KernelQuestion;
 use crate::reasons::blame;
 use px_terms::Term;
 
@@ -41,7 +41,7 @@ fn blame_if(cells: &mut [bool], params: usize, place: usize, terms: &[Term], is_
 /// Returns the least object from `from` on that the mark of that number allows at the later place, whatever stands between.
 // Alike: `least_left_by_marks`, which asks the marks in turn; the parameters and clauses of `is_none_left` are like them, too.
 fn least_left(
-    question: &Question,
+    question: &KernelQuestion,
     cells: &mut [bool],
     work: &[u32],
     place: usize,
@@ -69,7 +69,7 @@ fn least_left(
 /// Returns the least object from `from` on that all marks with the parameter of the later place, in turn, allow there.
 #[tactic(auto, using(crate::proofs::Left::left_itself, crate::proofs::Left::left_then))]
 fn least_left_by_marks(
-    question: &Question,
+    question: &KernelQuestion,
     cells: &mut [bool],
     work: &[u32],
     place: usize,
@@ -101,7 +101,7 @@ fn least_left_by_marks(
 /// Returns whether no object is left for the later place.
 #[tactic(auto, using(crate::proofs::Left::left_itself, crate::proofs::Left::left_then, crate::proofs::Left::none_left))]
 fn is_none_left(
-    question: &Question,
+    question: &KernelQuestion,
     cells: &mut [bool],
     work: &[u32],
     place: usize,
@@ -130,7 +130,12 @@ fn is_none_left(
 
 /// Returns whether no object is left for a later place. Reasons are recorded only where that is so.
 // Alike: `has_clash`. `true` from either says that the object of the place is in no answer, for another reason.
-pub fn has_meeting(question: &Question, cells: &mut [bool], work: &[u32], place: usize) -> bool
+pub fn has_meeting(
+    question: &KernelQuestion,
+    cells: &mut [bool],
+    work: &[u32],
+    place: usize,
+) -> bool
     requires { IsTried question.now work.now place }
     ensures grown { Grown cells.old cells.new }
     ensures never { IsTrue result → (objects : List ℕ) → IsFitFor question.now objects

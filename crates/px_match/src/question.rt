@@ -6,7 +6,7 @@ use px_terms::Problem;
 
 /// What is looked for: objects for the parameters of the table, such that kernel `number` holds in the model.
 #[derive(Drop)]
-pub struct Question<'a> {
+pub struct KernelQuestion<'a> {
     pub problem: &'a Problem,
     pub table: &'a Table,
     pub bound: &'a [(u32, u32)],

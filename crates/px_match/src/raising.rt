@@ -9,7 +9,7 @@ ghost use Rattle.px_match.specs.Reasons.{Agree, Grown, IsAtMost, IsChanged, IsRe
 use crate::hints::MarkClash;
 use crate::marks::{least_of, mark_of};
 use crate::meeting::has_meeting;
-use crate::question::Question;
+use crate::question::KernelQuestion;
 use crate::reasons::{blame, make_stale_after};
 use px_ops::schema_of;
 use px_table::atom_with;
@@ -53,7 +53,7 @@ fn least_bound(bound: &[(u32, u32)], place: usize, from: u32) -> Option<u32>
 /// Returns the first object from that of the place on that the mark of that number allows.
 // Alike: `raise_by_marks` and `raise`, since each is a part of the next.
 fn raise_by_mark(
-    question: &Question,
+    question: &KernelQuestion,
     cells: &mut [bool],
     work: &[u32],
     place: usize,
@@ -77,7 +77,7 @@ fn raise_by_mark(
 
 /// Returns the first object from that of the place on that the first mark which passes over one allows.
 fn raise_by_marks(
-    question: &Question,
+    question: &KernelQuestion,
     cells: &mut [bool],
     work: &[u32],
     place: usize,
@@ -101,7 +101,7 @@ fn raise_by_marks(
 
 /// Returns the pattern over the table's parameters, if it and the mark have all their parameters up to the place and it deletes the mark.
 fn deleting(
-    question: &Question,
+    question: &KernelQuestion,
     work: &[u32],
     place: usize,
     clash: &MarkClash,
@@ -138,7 +138,7 @@ fn deleting(
 }
 
 /// Returns whether a step deletes a mark, whatever the objects after the place are.
-fn has_clash(question: &Question, cells: &mut [bool], work: &[u32], place: usize) -> bool
+fn has_clash(question: &KernelQuestion, cells: &mut [bool], work: &[u32], place: usize) -> bool
     requires { IsTried question.now work.now place }
     ensures grown { Grown cells.old cells.new }
     ensures never { IsTrue result → (objects : List ℕ) → IsFitFor question.now objects
@@ -158,7 +158,7 @@ fn has_clash(question: &Question, cells: &mut [bool], work: &[u32], place: usize
 }
 
 /// Returns the first object from that of the place on that isn't passed over at once.
-fn raise(question: &Question, cells: &mut [bool], work: &[u32], place: usize) -> Option<u32>
+fn raise(question: &KernelQuestion, cells: &mut [bool], work: &[u32], place: usize) -> Option<u32>
     requires { IsTried question.now work.now place }
     ensures grown { Grown cells.old cells.new }
     ensures raised { IsRaised question.now cells.new work.now place (object_at work.now place) result }
@@ -200,7 +200,7 @@ fn put_object(cells: &mut [bool], work: &mut [u32], place: usize, object: u32)
 /// Puts the object at the place, and returns the first object from it on that isn't passed over at once.
 #[tactic(auto, using(crate::proofs::Floors::unchanged))]
 pub fn try_object(
-    question: &Question,
+    question: &KernelQuestion,
     cells: &mut [bool],
     work: &mut [u32],
     place: usize,

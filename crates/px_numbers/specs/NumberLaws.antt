@@ -37,8 +37,7 @@ model-grows : (old new : List Atom) (numbers : List ℕ) (model : List Atom) →
     → IsModelOf new numbers model
 model-grows old new numbers model keeps is = record {
   is_set = is.is_set;
-  numbers_are =
-      numbers-grow old new numbers model keeps is.numbers_are;
+  numbers_are = numbers-grow old new numbers model keeps is.numbers_are;
 }
 
 pub model_at-grows : (old new : Kept) (number : ℕ) (model : List Atom) → KeepsAll old new → IsModelAt old number model

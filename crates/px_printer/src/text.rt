@@ -1,5 +1,5 @@
 //! The texts of replies. Each kind of line has one function that appends it, and each list of lines one loop.
-ghost use Rattle.std.specs.Prelude.{◌≡◌, ◌∷◌, [], ◌++◌, All, IfOk, OnOk, codes, map, string_bytes};
+ghost use Rattle.std.specs.Prelude.{◌≡◌, ◌∷◌, [], ◌++◌, All, IfOk, OnOk, codes, length, map, string_bytes};
 ghost use Rattle.std.specs.Fmt.{decimal};
 ghost use Rattle.px_printer.specs.Texts.{IsNamedAtom, IsNamedInstance, atom_text, instance_text, indented_line, text_line, numbered_lines, indented_lines};
 ghost use Rattle.px_printer.specs.Replies.{IsReplyNamed, reply_text};
@@ -34,28 +34,17 @@ fn push_reply(text: &mut String, reply: &Reply, names: &Names) -> Result<(), All
 {
     match reply {
         Reply::Plan { name, moves, steps } => {
-            let name = names.text(Kind::Result, *name);
-            let count = steps.len();
+            let (name, count) = (names.text(Kind::Result, *name), steps.len());
             write!(text, "plan {name} {count} steps {moves} moves\n")?;
             push_steps(text, steps.as_slice(), names)
         }
-        Reply::Exhausted { name } => {
-            let name = names.text(Kind::Result, *name);
-            write!(text, "exhausted {name}\n")
-        }
+        Reply::Exhausted { name } => push_name(text, "exhausted", names.text(Kind::Result, *name)),
         Reply::NodeLimit { name, nodes, moves } => {
-            let name = names.text(Kind::Result, *name);
-            let count = nodes.count();
+            let (name, count) = (names.text(Kind::Result, *name), nodes.count());
             write!(text, "nodelimit {name} {count} nodes {moves} moves\n")
         }
-        Reply::ShapeLimit {
-            name,
-            node: _,
-            formula: _,
-            shapes,
-        } => {
-            let name = names.text(Kind::Result, *name);
-            let count = shapes.len();
+        Reply::ShapeLimit { name, shapes, .. } => {
+            let (name, count) = (names.text(Kind::Result, *name), shapes.len());
             write!(text, "shapelimit {name} {count} shapes\n")
         }
         Reply::Learned {
@@ -71,21 +60,20 @@ fn push_reply(text: &mut String, reply: &Reply, names: &Names) -> Result<(), All
         }
         Reply::Noted { count } => write!(text, "noted {count}\n"),
         Reply::Ran { name, turns } => {
-            let name = names.text(Kind::Result, *name);
-            write!(text, "run {name}\n")?;
+            push_name(text, "run", names.text(Kind::Result, *name))?;
             push_turns(text, turns.as_slice(), names)
         }
-        Reply::FactsAre { atoms } => {
-            let count = atoms.len();
-            write!(text, "facts {count}\n")?;
-            push_atoms(text, atoms.as_slice(), names)
-        }
-        Reply::Unknown { name } => {
-            let name = names.text(Kind::Result, *name);
-            write!(text, "unknown {name}\n")
-        }
+        Reply::FactsAre { atoms } => push_facts(text, atoms.as_slice(), names),
+        Reply::Unknown { name } => push_name(text, "unknown", names.text(Kind::Result, *name)),
         Reply::UnknownParam { param } => write!(text, "unknown p{param}\n"),
     }
+}
+
+/// Appends the line of a word and a name.
+fn push_name(text: &mut String, word: &str, name: &str) -> Result<(), AllocError>
+    ensures { OnOk result (string_bytes text.new ≡ string_bytes text.old ++ text_line (word.now ∷ name.now ∷ [])) }
+{
+    write!(text, "{word} {name}\n")
 }
 
 /// Appends the line of a table that was learned.
@@ -131,6 +119,17 @@ fn push_step(
         params: 0,
     };
     write!(text, "  {number} {step}\n")
+}
+
+/// Appends the number of the atoms, and a line for each.
+fn push_facts(text: &mut String, atoms: &[Atom], names: &Names) -> Result<(), AllocError>
+    requires { All (IsNamedAtom names.now) atoms.now }
+    ensures { OnOk result (string_bytes text.new ≡ string_bytes text.old ++ (text_line (codes "facts" ∷ decimal (length atoms.now) ∷ [])
+        ++ indented_lines (map (atom_text names.now 0) atoms.now))) }
+{
+    let count = atoms.len();
+    write!(text, "facts {count}\n")?;
+    push_atoms(text, atoms, names)
 }
 
 /// Appends a line for each atom.

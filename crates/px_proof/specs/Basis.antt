@@ -9,8 +9,7 @@ abbrev pub over_names : ℕ → ℕ → Rules
 over_names objects params = record {
   IsChoice = IsObjectOrParameter objects params;
   IsFact = λ leaf. All (IsObjectOrParameter objects params) leaf.atom.args;
-  IsGap =
-      λ atom. ⊥;
+  IsGap = λ atom. ⊥;
   IsOpen = ⊥;
 }
 

@@ -101,8 +101,7 @@ module _ (axioms : List Clause) (old new : Rules) (allows : Allows old new) (shi
       record {
         axiom_at = proved.1.axiom_at;
         terms = proved.1.terms;
-        choices =
-            λ k d below. allows.choices _ (proved.1.choices k d below);
+        choices = λ k d below. allows.choices _ (proved.1.choices k d below);
         literal_at = proved.1.literal_at;
       },
       each_grafted (lit ∷ path) (parts_of proved.0.lits theta place) ds parts has rise proved.2,

@@ -92,8 +92,7 @@ module _ (problem : Problem) (params : ℕ) (valid_axioms : All (IsAxiomOf probl
   terms_of_problem gaps path lit d here proved =
       let in_range : Rules = record {
         IsChoice = IsTermOf problem params;
-        IsFact =
-            λ leaf. All (IsTermOf problem params) leaf.atom.args;
+        IsFact = λ leaf. All (IsTermOf problem params) leaf.atom.args;
         IsGap = λ atom. All (IsTermOf problem params) atom.args;
         IsOpen = Unit {0};
       }

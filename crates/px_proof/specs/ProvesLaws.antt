@@ -47,8 +47,7 @@ module _ (axioms : List Clause) (old new : Rules) (allows : Allows old new) wher
       record {
         axiom_at = proved.1.axiom_at;
         terms = proved.1.terms;
-        choices =
-            λ k d below. allows.choices _ (proved.1.choices k d below);
+        choices = λ k d below. allows.choices _ (proved.1.choices k d below);
         literal_at = proved.1.literal_at;
       },
       each_by (lit ∷ path) (parts_of proved.0.lits theta place) parts facts proved.2,

@@ -36,8 +36,7 @@ pub way-start : (old : ProofStateValue) (goal : OpenGoal) (from : ℕ) → goal.
     → IsOnTheWayUp old goal from old goal.above 0
 way-start old goal from older =
     record {
-      same =
-          refl;
+      same = refl;
       within = older;
       short = omega (arith, older);
       path = refl;

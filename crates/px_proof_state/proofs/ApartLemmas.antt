@@ -63,10 +63,8 @@ followed-atom sigma a ends args terms k p args_are pred_is all ends_are same =
     (ap (substitute_atom sigma) ends_are
     ∙ (λ i. record { pred = pred_is i; args = map (substitute sigma) (take (all_back i) terms) })
     ∙ (λ i. record {
-      pred =
-          a.pred;
-      args =
-          (sym same ∙ ap (λ n. map (substitute sigma) (take n args)) all ∙ ap (map (substitute sigma)) (take-length args ∙ args_are)) i;
+      pred = a.pred;
+      args = (sym same ∙ ap (λ n. map (substitute sigma) (take n args)) all ∙ ap (map (substitute sigma)) (take-length args ∙ args_are)) i;
     }))
   where
     all_back : length args ≡ k

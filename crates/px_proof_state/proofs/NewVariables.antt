@@ -39,10 +39,6 @@ pub lits_variables : (m n : ℕ) → m ≡ n → (ls : List Lit) → ArePlainBel
 lits_variables m n same ls below = λ k d within. lit_variables m n same (get_or ls k d) (below k d within)
 
 -- the numbers of the new variables
-pub length-variables : (first count : ℕ) → length (variables_from first count) ≡ count
-length-variables first zero = refl
-length-variables first (suc count) = ap suc (length-variables (suc first) count)
-
 pub variables-more : (first count : ℕ) → variables_from first (suc count) ≡ variables_from first count ++ Var (first + count) ∷ []
 variables-more first zero = ap (λ (k : ℕ). Var k ∷ []) (omega arith)
 variables-more first (suc count) =

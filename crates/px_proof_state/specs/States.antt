@@ -43,8 +43,7 @@ abbrev pub retracted : ProofStateValue → Choice → List Choice → ProofState
 retracted v choice choices = record {
   changes = take choice.mark v.changes;
   goals = take choice.goals v.goals;
-  first =
-      choice.first;
+  first = choice.first;
   choices = choices;
 }
 

@@ -17,10 +17,7 @@ pub(crate) fn followed(bind: &Bind, atom: &Atom) -> Atom
     for (place, term) in args.iter().enumerate() {
         terms[place] = bind.resolve(*term);
     }
-    match Atom::new(atom.pred(), &terms[..args.len()]) {
-        Some(ends) => ends,
-        None => unreachable!(),
-    }
+    Atom::of(atom.pred(), &terms[..args.len()])
 }
 
 /// Returns whether the terms are two different objects.

@@ -33,8 +33,7 @@ module _ (objects : ℕ) (Over : ℕ → Term → Type 0) (terms : AreTerms obje
   pub goal-more_of : (m n : ℕ) → m ≤ n → (g : Goal) → HasGoalTerms (Over m) g → HasGoalTerms (Over n) g
   goal-more_of m n more g over =
       record {
-        lit =
-            lit-more_of m n more g.lit over.lit;
+        lit = lit-more_of m n more g.lit over.lit;
         path = all-weaker (IsLitOf (Over m)) (IsLitOf (Over n)) g.path (lit-more_of m n more) over.path;
       }
 
@@ -60,8 +59,7 @@ module _ (loose : Bool) (s : Setting) (valid : IsSetting s) (Over : ℕ → Term
     fact-over i (Some a) closing e fact_in is =
         let same : record { equal_to = positive_of a; parts = [] } ≡ closing = some_same is in
         rw (← same) (record {
-          equal_to =
-              all-weaker (Over 0) (Over (n + 0)) a.args (terms.more 0 (n + 0) (omega arith)) (fact_in a e);
+          equal_to = all-weaker (Over 0) (Over (n + 0)) a.args (terms.more 0 (n + 0) (omega arith)) (fact_in a e);
           parts = tt;
         })
 

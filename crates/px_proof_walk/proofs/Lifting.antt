@@ -19,6 +19,7 @@ use Rattle.px_proof.specs.Proves.{instance_of, parts_of}
 use Rattle.px_question.specs.Settings.{Setting}
 use Rattle.px_question.specs.Answers.{object_terms}
 use Rattle.px_terms.specs.Substitution.{variables_from}
+use Rattle.px_terms.proofs.VariableLemmas.{length-variables}
 use Rattle.px_proof_walk.specs.Pending.{Goal, Closing, Solves, Runs, Pending, open_after, fresh_of, vars_of, closing_of, closing_at, by_fact, by_ancestor, by_literal, by_step, has_room, goals_below}
 use Rattle.px_proof_walk.specs.Scope.{IsSetting}
 
@@ -124,10 +125,6 @@ new_objects : (old theta rest : List ℕ)
 new_objects old theta rest =
     rw (objects-append old (theta ++ rest), objects-append theta rest, ← length-objects old, ← length-objects theta)
     (new_variables (object_terms old) (object_terms theta) (object_terms rest))
-
-length-variables : (first count : ℕ) → length (variables_from first count) ≡ count
-length-variables first zero = refl
-length-variables first (suc count) = ap suc (length-variables (suc first) count)
 
 module _ (loose : Bool) (s : Setting) (valid : IsSetting s) (old theta rest chosen : List ℕ) (tick : Tick) (goal : Goal)
     (splits : chosen ≡ theta ++ rest) (long : length theta ≡ fresh_of s tick) where

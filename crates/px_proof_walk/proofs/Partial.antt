@@ -37,8 +37,7 @@ only-open (Gap ∷ shape) only = absurd only
 padded-more : (t : Tick) (shape : List Tick) → IsClosing t → IsPadded shape → IsPadded (t ∷ shape)
 padded-more t shape closing rest =
     record {
-      front =
-          t ∷ rest.front;
+      front = t ∷ rest.front;
       count = rest.count;
       some_open = rest.some_open;
       is = ap (λ ts. t ∷ ts) rest.is;
@@ -50,8 +49,7 @@ padded [] unfinished = absurd unfinished
 padded (Open ∷ shape) unfinished =
     let rest =
     only-open shape unfinished in record {
-      front =
-          [];
+      front = [];
       count = suc rest.0;
       some_open = omega arith;
       is = ap (λ ts. Open ∷ ts) rest.1;

@@ -107,8 +107,7 @@ pub goals-over : (s : Setting) (vars : ℕ) (formula : List Atom) → AllByRecur
 goals-over s vars [] scoped = tt
 goals-over s vars (a ∷ formula) scoped = (
   record {
-    lit =
-        all-weaker (IsObjectOrParameter s.objects vars) (IsPlainBelow vars) a.args (scoped-below s.objects vars) scoped.0;
+    lit = all-weaker (IsObjectOrParameter s.objects vars) (IsPlainBelow vars) a.args (scoped-below s.objects vars) scoped.0;
     path = tt;
   },
   goals-over s vars formula scoped.1,

@@ -69,8 +69,7 @@ module _ (loose : Bool) (s : Setting) (formula : List Atom) (vars : ℕ) (ticks 
           none-agree loose s formula vars ticks old old stands (Step k p) goal goals open_is
           (record {
             equal_to = new_literal (variables_of old.changes) clause p;
-            parts =
-                goals_below goal (parts_of clause.lits (variables_from (variables_of old.changes) clause.vars) p);
+            parts = goals_below goal (parts_of clause.lits (variables_from (variables_of old.changes) clause.vars) p);
           })
           (step-closing loose s (variables_of old.changes) goal k p clause at room within)
           (rw lit_is at (never clause at start begins p after within (rw budget_is (true-room goal clause room))))
@@ -119,8 +118,7 @@ module _ (loose : Bool) (s : Setting) (formula : List Atom) (vars : ℕ) (ticks 
         before = λ q after before. none-agree loose s formula vars ticks old old stands (Step k q) goal goals open_is
             (record {
               equal_to = new_literal (variables_of old.changes) clause q;
-              parts =
-                  goals_below goal (parts_of clause.lits (variables_from (variables_of old.changes) clause.vars) q);
+              parts = goals_below goal (parts_of clause.lits (variables_from (variables_of old.changes) clause.vars) q);
             })
             (step-closing loose s (variables_of old.changes) goal k q clause at room (omega (arith, before, found.2)))
             (rw lit_is at (found.4 q after before found.3.0));

@@ -35,8 +35,7 @@ module _ (s : Setting) (formula : List Atom) (vars : ℕ) (asked : IsProperQuest
   pub decided-without_few : length formula ≡ 0 → 0 < s.limit → AreFewGapShapes s formula vars
   decided-without_few empty some =
       record {
-        seen =
-            [];
+        seen = [];
         fewer = some;
         all = λ shape partial. absurd (go formula empty shape partial.1.0 partial.1.1 partial.1.2 partial.1.3 partial.0);
       }

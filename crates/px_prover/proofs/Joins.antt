@@ -7,7 +7,7 @@ use Rattle.std.proofs.lemmas.List.Folds.{Any-from_list_any, list_any-append, lis
 use Rattle.px_prover.specs.Asking.{setting_in}
 use Rattle.px_prover.specs.Standing.{ticks_in}
 use Rattle.px_prover.specs.Tries.{IsReadyIn, TriesSince}
-use Rattle.px_prover.specs.declared.question.Question.{Question}
+use Rattle.px_prover.specs.declared.question.ProofQuestion.{ProofQuestion}
 use Rattle.px_prover.proofs.Since.{fact-join, ancestor-join, axiom-join, gap-none, gap-closed}
 use Rattle.px_proof.specs.declared.shape.Tick.{Tick}
 use Rattle.px_proof.specs.declared.shape.Tick.TheVariants.{Fact, Anc, Step, Gap}
@@ -22,7 +22,7 @@ use Rattle.px_proof_state.specs.declared.open.OpenGoal.{OpenGoal}
 use Rattle.px_terms.specs.declared.atom.Atom.{Atom}
 use Rattle.px_terms.specs.declared.problem.Schema.{Schema}
 
-module _ (q : Question) (old mid : ProofStateValue) (goal : OpenGoal) where
+module _ (q : ProofQuestion) (old mid : ProofStateValue) (goal : OpenGoal) where
   -- a state that is the same is ready too
   pub ready-same : mid ≡ old → IsReadyIn q old goal → IsReadyIn q mid goal
   ready-same same ready = subst (λ (v : ProofStateValue). IsReadyIn q v goal) (sym same) ready
@@ -108,7 +108,7 @@ third-off false b c e = refl
 all-on : (a b c : Bool) → a ≡ true → b ≡ true → c ≡ true → (a && b && c) ≡ true
 all-on a b c e f g = rw (e, f, g) refl
 
-module _ (q : Question) (old : ProofStateValue) (goal : OpenGoal) (ready : IsReadyIn q old goal) where
+module _ (q : ProofQuestion) (old : ProofStateValue) (goal : OpenGoal) (ready : IsReadyIn q old goal) where
   pub gap-not_loose : q.loose ≡ false → TriesSince q Gap old old false
   gap-not_loose e =
       gap-none q.loose (setting_in q) q.formula.now q.vars (ticks_in old.choices) old goal ready

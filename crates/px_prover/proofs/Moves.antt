@@ -44,8 +44,7 @@ module _ (loose : Bool) (s : Setting) (formula : List Atom) (vars : ℕ) where
       → IsReadyToTry loose s formula vars (ticks_in v.choices) v goal
   standing-ready v goal standing some at room =
       record {
-        asked =
-            standing.asked;
+        asked = standing.asked;
         sound = standing-sound v standing;
         some = some;
         at = at;

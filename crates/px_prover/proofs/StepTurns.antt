@@ -31,8 +31,7 @@ pub step-closing : (loose : Bool) (s : Setting) (n : ℕ) (goal : Goal) (number 
     → slice_get s.axioms number ≡ Some clause → has_room goal clause ≡ true → place < length clause.lits
     → closing_at loose s n goal (Step number place)
     ≡ Some (record {
-      equal_to =
-          new_literal n clause place;
+      equal_to = new_literal n clause place;
       parts = goals_below goal (parts_of clause.lits (variables_from n clause.vars) place);
     })
 step-closing loose s n goal number place clause is room within =
@@ -89,8 +88,7 @@ module _ (loose : Bool) (s : Setting) (formula : List Atom) (vars : ℕ) (ticks 
   is : closing_at loose s (variables_of old.changes) goal (Step number place)
       ≡ Some (record {
         equal_to = new_literal (variables_of old.changes) clause place;
-        parts =
-            goals_below goal (parts_of clause.lits (variables_from (variables_of old.changes) clause.vars) place);
+        parts = goals_below goal (parts_of clause.lits (variables_from (variables_of old.changes) clause.vars) place);
       })
   is = step-closing loose s (variables_of old.changes) goal number place clause axiom_is room within
 
@@ -107,8 +105,7 @@ module _ (loose : Bool) (s : Setting) (formula : List Atom) (vars : ℕ) (ticks 
       stands-longer loose s formula vars ticks old new stands (Step number place) goal goals open_is
       (record {
         equal_to = new_literal (variables_of old.changes) clause place;
-        parts =
-            goals_below goal (parts_of clause.lits (variables_from (variables_of old.changes) clause.vars) place);
+        parts = goals_below goal (parts_of clause.lits (variables_from (variables_of old.changes) clause.vars) place);
       })
       is
       (rw lit_is at (closes.is_match.agree refl))
@@ -121,8 +118,7 @@ module _ (loose : Bool) (s : Setting) (formula : List Atom) (vars : ℕ) (ticks 
       none-agree loose s formula vars ticks old new stands (Step number place) goal goals open_is
       (record {
         equal_to = new_literal (variables_of old.changes) clause place;
-        parts =
-            goals_below goal (parts_of clause.lits (variables_from (variables_of old.changes) clause.vars) place);
+        parts = goals_below goal (parts_of clause.lits (variables_from (variables_of old.changes) clause.vars) place);
       })
       is
       (rw lit_is at (closes.is_match.never refl))

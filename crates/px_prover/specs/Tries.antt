@@ -2,7 +2,7 @@
 use Rattle.std.specs.Prelude.{◌≡◌, ◌⊎◌, ℕ, ◌-◌, ◌<◌, ◌≤◌, Bool, true, false, Option, Some, List, [], ◌∷◌, ◌++◌, length, take, slice_get}
 use Rattle.px_prover.specs.Asking.{setting_in}
 use Rattle.px_prover.specs.Standing.{ticks_in, IsProperQuestion, IsSound}
-use Rattle.px_prover.specs.declared.question.Question.{Question}
+use Rattle.px_prover.specs.declared.question.ProofQuestion.{ProofQuestion}
 use Rattle.px_proof.specs.Shapes.{TickBefore}
 use Rattle.px_proof.specs.declared.shape.Tick.{Tick}
 use Rattle.px_question.specs.Settings.{Setting}
@@ -45,12 +45,12 @@ pub record TriesAmong (Counts : Tick → Type 0) (loose : Bool) (s : Setting) (f
   pub no_more : found ≡ false → (new ≡ old) × ((u : Tick) → Counts u → ¬ IsPossible loose s formula vars (ticks ++ u ∷ []))
 
 -- the goal is the first open one of a sound state of the question, with room for one more tick
-abbrev pub IsReadyIn : Question → ProofStateValue → OpenGoal → Type 0
+abbrev pub IsReadyIn : ProofQuestion → ProofStateValue → OpenGoal → Type 0
 IsReadyIn q old goal = IsReadyToTry q.loose (setting_in q) q.formula.now q.vars (ticks_in old.choices) old goal
 
-abbrev pub TriesSince : Question → Tick → ProofStateValue → ProofStateValue → Bool → Type 0
+abbrev pub TriesSince : ProofQuestion → Tick → ProofStateValue → ProofStateValue → Bool → Type 0
 TriesSince q start old new found = TriesAmong (IsSince start) q.loose (setting_in q) q.formula.now q.vars (ticks_in old.choices) old new
     found
 
-abbrev pub TriesLater : Question → Option Tick → ProofStateValue → ProofStateValue → Bool → Type 0
+abbrev pub TriesLater : ProofQuestion → Option Tick → ProofStateValue → ProofStateValue → Bool → Type 0
 TriesLater q last old new found = TriesAmong (IsAfter last) q.loose (setting_in q) q.formula.now q.vars (ticks_in old.choices) old new found

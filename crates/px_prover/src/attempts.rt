@@ -2,14 +2,18 @@
 ghost use Rattle.std.specs.Prelude.{IfOk};
 ghost use Rattle.px_prover.specs.Tries.{IsReadyIn, TriesSince, TriesLater};
 
-use crate::question::Question;
+use crate::question::ProofQuestion;
 use px_base::NoMemory;
 use px_ops::is_added;
 use px_proof::Tick;
 use px_proof_state::{OpenGoal, ProofState, close_by_gap, try_ancestors, try_axioms, try_facts};
 
 /// Closes the first goal by a gap, if that is allowed.
-fn try_gap(state: &mut ProofState, question: &Question, goal: &OpenGoal) -> Result<bool, NoMemory>
+fn try_gap(
+    state: &mut ProofState,
+    question: &ProofQuestion,
+    goal: &OpenGoal,
+) -> Result<bool, NoMemory>
     requires { IsReadyIn question.now state.old goal.now }
     ensures { IfOk result (λ found. TriesSince question.now Tick.Gap state.old state.new found) }
 {
@@ -28,7 +32,7 @@ fn try_gap(state: &mut ProofState, question: &Question, goal: &OpenGoal) -> Resu
 /// Closes the first goal by the first literal of an axiom from that place on, or by a gap.
 fn try_since_axiom(
     state: &mut ProofState,
-    question: &Question,
+    question: &ProofQuestion,
     goal: &OpenGoal,
     from: usize,
     place: usize,
@@ -48,7 +52,7 @@ fn try_since_axiom(
 /// Closes the first goal by the first ancestor from that number on, or by what comes after ancestors.
 fn try_since_ancestor(
     state: &mut ProofState,
-    question: &Question,
+    question: &ProofQuestion,
     goal: &OpenGoal,
     from: usize,
 ) -> Result<bool, NoMemory>
@@ -66,7 +70,7 @@ fn try_since_ancestor(
 /// Closes the first goal by the first fact from that number on, or by what comes after facts.
 fn try_since_fact(
     state: &mut ProofState,
-    question: &Question,
+    question: &ProofQuestion,
     goal: &OpenGoal,
     from: usize,
 ) -> Result<bool, NoMemory>
@@ -84,7 +88,7 @@ fn try_since_fact(
 /// Closes the first goal by the least tick after the last one that was tried.
 pub(crate) fn try_later(
     state: &mut ProofState,
-    question: &Question,
+    question: &ProofQuestion,
     goal: &OpenGoal,
     last: Option<Tick>,
 ) -> Result<bool, NoMemory>

@@ -15,7 +15,7 @@ ghost use Rattle.px_prover.specs.Standing.{ticks_in, IsStanding};
 
 use crate::building::{build, least_objects};
 use crate::outcome::{Answer, ProveErr};
-use crate::question::Question;
+use crate::question::ProofQuestion;
 use px_base::{NoMemory, Sequence};
 use px_ops::Model;
 use px_proof_state::ProofState;
@@ -24,7 +24,7 @@ use px_terms::{Atom, Problem};
 use std::alloc::Global;
 
 /// Returns the answer of a state in which no place is open.
-fn answer(alloc: Global, question: &Question, state: &ProofState) -> Result<Answer, NoMemory>
+fn answer(alloc: Global, question: &ProofQuestion, state: &ProofState) -> Result<Answer, NoMemory>
     requires strict { question.now.loose ≡ false }
     requires stands { IsStanding question.now.loose (setting_in question.now) question.now.formula.now question.now.vars state.now }
     requires first { ComesFirst (IsPossibleIn question.now) (IsFinishedIn question.now) question.now.problem.now.shapes
@@ -78,7 +78,7 @@ pub fn prove(
     ensures few_shapes { result ≡ Err ProveErr.Unprovable → AreFewShapes (setting_of problem.now model.now.atoms) formula.now vars }
     ensures limited { IfShapeLimit result (IsLimited (setting_of problem.now model.now.atoms) formula.now vars) }
 {
-    let question = Question {
+    let question = ProofQuestion {
         problem,
         formula,
         vars,

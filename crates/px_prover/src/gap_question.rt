@@ -2,7 +2,7 @@
 ghost use Rattle.std.specs.Prelude.{◌≡◌, true};
 ghost use Rattle.px_prover.specs.Passed.{IsSmall};
 
-use crate::question::Question;
+use crate::question::ProofQuestion;
 use px_base::NoMemory;
 use px_proof::{Shape, Tick};
 use px_proof_state::ProofState;
@@ -20,7 +20,7 @@ pub(crate) struct GapQuestion<'a> {
 
 impl<'a> GapQuestion<'a> {
     /// Returns the question whose walk visits finished lists, too.
-    pub(crate) fn loose(&self) -> Question<'a>
+    pub(crate) fn loose(&self) -> ProofQuestion<'a>
         ensures { result ≡ record {
           problem = self.now.problem;
           formula = self.now.formula;
@@ -30,7 +30,7 @@ impl<'a> GapQuestion<'a> {
           loose = true;
         } }
     {
-        Question {
+        ProofQuestion {
             problem: self.problem,
             formula: self.formula,
             vars: self.vars,

@@ -3,7 +3,7 @@ use px_terms::{Atom, Problem};
 
 /// What is asked: a formula over `vars` variables, of a problem and the facts of a model.
 #[derive(Clone, Copy)]
-pub(crate) struct Question<'a> {
+pub(crate) struct ProofQuestion<'a> {
     pub problem: &'a Problem,
     pub formula: &'a [Atom],
     pub vars: u32,

@@ -3,7 +3,7 @@ ghost use Rattle.std.specs.Prelude.{◌≡◌, ◌≤◌, ◌++◌, ◌∷◌, [
 ghost use Rattle.px_proof_state.specs.Arena.{goals_at, AreOlder};
 
 use crate::attempts::try_later;
-use crate::question::Question;
+use crate::question::ProofQuestion;
 use px_base::{NoMemory, push};
 use px_proof::{Shape, Tick};
 use px_proof_state::ProofState;
@@ -24,7 +24,7 @@ fn push_open(state: &ProofState, ticks: &mut Vec<Tick>) -> Result<(), NoMemory>
     Ok(())
 }
 
-impl<'a> Walk<Question<'a>> for ProofState {
+impl<'a> Walk<ProofQuestion<'a>> for ProofState {
     ghost use Rattle.px_prover.specs.Asking.{setting_in, IsPossibleIn, IsFinishedIn, shape_in};
     ghost use Rattle.px_prover.specs.Standing.{ticks_in, IsStanding};
     ghost use Rattle.px_prover.specs.Shorter.{possible-shorter};
@@ -43,7 +43,11 @@ impl<'a> Walk<Question<'a>> for ProofState {
 
     ghost most = { λ q. q.problem.now.shapes };
 
-    fn try_after(&mut self, question: &Question<'a>, last: Option<Tick>) -> Result<bool, NoMemory> {
+    fn try_after(
+        &mut self,
+        question: &ProofQuestion<'a>,
+        last: Option<Tick>,
+    ) -> Result<bool, NoMemory> {
         let place = self.first();
         if place == 0 {
             return Ok(false);
@@ -52,15 +56,15 @@ impl<'a> Walk<Question<'a>> for ProofState {
         try_later(self, question, &goal, last)
     }
 
-    fn retract(&mut self, _question: &Question<'a>) -> Option<Tick> {
+    fn retract(&mut self, _question: &ProofQuestion<'a>) -> Option<Tick> {
         self.retract_last()
     }
 
-    fn is_finished(&self, _question: &Question<'a>) -> bool {
+    fn is_finished(&self, _question: &ProofQuestion<'a>) -> bool {
         self.first() == 0
     }
 
-    fn shape(&self, _question: &Question<'a>) -> Result<Shape, NoMemory> {
+    fn shape(&self, _question: &ProofQuestion<'a>) -> Result<Shape, NoMemory> {
         let mut ticks = Vec::new(*self.allocator());
         for choice in self.choices() {
             push(&mut ticks, choice.tick)?;

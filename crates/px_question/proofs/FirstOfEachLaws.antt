@@ -201,8 +201,7 @@ module _ (s : Setting) (atom : Atom) (atoms : List Atom) (d : Derivation) (ds : 
   alone [] (also e none) is =
       core s _ d e (ticks_of ds) (all_choices_of ds) first.finished.proved.0 is.proved.0
       (first.least [] (also e ds) (record {
-        count =
-            refl;
+        count = refl;
         below = is.below;
         proved = (is.proved.0, first.finished.proved.1);
         low = omega (arith, is.low, first.finished.low);
@@ -212,8 +211,7 @@ module _ (s : Setting) (atom : Atom) (atoms : List Atom) (d : Derivation) (ds : 
   front_first = record {
     finished =
         record {
-          count =
-              refl;
+          count = refl;
           below = first.finished.below;
           proved = (first.finished.proved.0, tt);
           low = omega (arith, first.finished.low);
@@ -226,8 +224,7 @@ module _ (s : Setting) (atom : Atom) (atoms : List Atom) (d : Derivation) (ds : 
   later (n ∷ ns) es is = absurd (omega (arith, is.count))
   later [] es is =
       elim (first.least [] (also d es) (record {
-        count =
-            refl;
+        count = refl;
         below = is.below;
         proved = (first.finished.proved.0, is.proved);
         low = omega (arith, is.low, first.finished.low);
@@ -291,10 +288,8 @@ module _ (s : Setting) (atom : Atom) (atoms : List Atom) (d : Derivation) (ds : 
     finished =
         record {
           count = refl;
-          below =
-              front.finished.below;
-          proved =
-              (front.finished.proved.0, rest.finished.proved);
+          below = front.finished.below;
+          proved = (front.finished.proved.0, rest.finished.proved);
           low = omega (arith, front.finished.low, rest.finished.low);
         };
     least = together;

@@ -100,8 +100,7 @@ finite-proofs s =
 pub finite-gaps : (s : Setting) → IsFinite (loose_gaps_in s) s.objects
 finite-gaps s =
     record {
-      choices =
-          λ t h. h;
+      choices = λ t h. h;
       chosen = λ t h. h;
       facts = listed-leaves s.facts;
       gaps = λ atom. contains_decided s.added atom.pred;

@@ -96,8 +96,7 @@ pub opened_steps-more : (first k : ℕ) (steps : List OpInst) (d : OpInst) → k
     → opened_steps first (take (k + 1) steps)
     ≡ opened_steps first (take k steps)
     ++ record {
-      op =
-          (get_or steps k d).op;
+      op = (get_or steps k d).op;
       args = variables_from (first + step_variables (take k steps)) (length ((get_or steps k d).args));
     } ∷ []
 opened_steps-more first k [] d below = absurd (omega (arith, below))

@@ -14,7 +14,7 @@ use Rattle.px_proof.specs.declared.proof.Proof.{Proof}
 use Rattle.px_proof.specs.ProofTerm.{derivation_of}
 use Rattle.px_table.specs.declared.table.Table.{Table}
 use Rattle.px_table.specs.Tables.{IsStepOf, IsTable, rows_of}
-use Rattle.px_table.proofs.Choosing.{length-variables}
+use Rattle.px_terms.proofs.VariableLemmas.{length-variables}
 use Rattle.px_replay.specs.FreshOf.{row_fresh}
 use Rattle.px_replay.specs.FreshVariables.{fresh_in, fresh_variables}
 use Rattle.px_replay.specs.Opened.{goal_objects, opened_steps, step_variables, steps_opened}

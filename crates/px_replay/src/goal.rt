@@ -61,10 +61,7 @@ fn named_atom(names: &[Term], own: u32, first: u32, atom: &Atom) -> Atom
     let args = atom.args();
     let mut terms = [Term::Any; 6];
     name_each(names, own, first, args, &mut terms);
-    match Atom::new(atom.pred(), &terms[..args.len()]) {
-        Some(made) => made,
-        None => unreachable!(),
-    }
+    Atom::of(atom.pred(), &terms[..args.len()])
 }
 
 /// Writes the terms for the arguments to the front of `into`.

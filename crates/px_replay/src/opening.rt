@@ -37,10 +37,7 @@ pub fn variables(alloc: Global, first: u32, count: u32) -> Result<Vec<Term>, NoM
 fn no_atom() -> Atom
     ensures { result ≡ spec_no_atom }
 {
-    match Atom::new(0, &[]) {
-        Some(atom) => atom,
-        None => unreachable!(),
-    }
+    Atom::of(0, &[])
 }
 
 /// Returns the add of that number of the step of that number, or an atom without arguments where there is none.
@@ -107,10 +104,7 @@ fn fresh_atom(alloc: Global, first: u32, atom: &Atom) -> Result<Atom, NoMemory>
     ensures { IfOk result (λ made. made ≡ record { pred = atom.now.pred; args = variables_from first (length atom.now.args) }) }
 {
     let terms = variables(alloc, first, atom.args().len() as u32)?;
-    match Atom::new(atom.pred(), &terms) {
-        Some(made) => Ok(made),
-        None => unreachable!(),
-    }
+    Ok(Atom::of(atom.pred(), &terms))
 }
 
 /// Returns the proof with fresh variables from number `next` on for all that its form leaves open.

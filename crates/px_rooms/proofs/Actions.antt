@@ -145,10 +145,8 @@ module _ (state : RoomState) (is : IsRoomState state) where
   go-to-door : (d r s : ℕ) → IsMet state (instance_of_action (act.GoToDoor d r s)) → ActionLeaves state (act.GoToDoor d r s)
   go-to-door d r s met =
       record {
-        left =
-            beside-left state d is (inr (between-door state d r s (connects-fact state d r s (met 1 any (omega arith)))));
-        facts =
-            beside-facts state d;
+        left = beside-left state d is (inr (between-door state d r s (connects-fact state d r s (met 1 any (omega arith)))));
+        facts = beside-facts state d;
       }
 
   turn-open : (d : ℕ) → IsDoorAt state.things d → ActionLeaves state (act.Open d)
@@ -164,8 +162,7 @@ module _ (state : RoomState) (is : IsRoomState state) where
   go-through : (d r s : ℕ) → IsMet state (instance_of_action (act.GoThrough d r s)) → ActionLeaves state (act.GoThrough d r s)
   go-through d r s met =
       record {
-        left =
-            into-left state s is (between-room state d r s is (connects-fact state d r s (met 0 any (omega arith))));
+        left = into-left state s is (between-room state d r s is (connects-fact state d r s (met 0 any (omega arith))));
         facts = into-facts state s;
       }
 

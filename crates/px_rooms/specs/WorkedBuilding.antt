@@ -29,8 +29,7 @@ standing robot_room robot_beside is_open box_room box_beside =
     record {
       robot_room = robot_room;
       robot_beside = robot_beside;
-      things =
-          a_room ∷ a_room ∷ a_door 1 2 is_open ∷ a_box box_room box_beside ∷ [];
+      things = a_room ∷ a_room ∷ a_door 1 2 is_open ∷ a_box box_room box_beside ∷ [];
     }
 
 -- ---- what actions and edits give

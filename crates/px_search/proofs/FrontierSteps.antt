@@ -155,6 +155,7 @@ module _ {N M : Type 0} (may : N → M → Type 0) (after : N → M → N) (befo
         later_untried i n e (inl h) = omega (arith, place-within found next p at)
         later_untried i n e (inr h) = omega (arith, place-within found next p at, h.0)
 
+        -- Alike: that of the step which adds nothing to what was found, where another list covers the new one.
         new_covered : (i : ℕ) (r : List M) (n : M) → slice_get found i ≡ Some r → i ≡ next → m ≡ n
             → (q' : List M) × Contains (found ++ (p ++ m ∷ []) ∷ []) q'
             × (goes may after before start order same q' ≡ after (goes may after before start order same r) n)

@@ -199,10 +199,8 @@ module _ (task : Task) where
     begun =
         record {
           moves = t.begun.moves;
-          are =
-              t.begun.are;
-          every =
-              t.begun.every;
+          are = t.begun.are;
+          every = t.begun.every;
           steps_are = steps-grow old new steps t.begun.moves keeps t.begun.steps_are;
           unlimited = t.begun.unlimited;
         };

@@ -195,8 +195,7 @@ joining-turned : (kept : Kept) (firsts seconds : List Entry) (first second made 
     → Joining kept seconds firsts second first made
 joining-turned kept firsts seconds first second made j =
     record {
-      done =
-          j.done;
+      done = j.done;
       rest = j.others;
       others = j.rest;
       are = are_joining-turned kept firsts seconds j.done j.rest j.others first second made j.are;

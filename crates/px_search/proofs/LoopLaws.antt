@@ -174,8 +174,7 @@ module _ (task : Task) where
           → ((node : Node) → IsKeyOf kept there node → IsTriedAt task node tried) → tried ≡ Answered → IsReached task kept made
       step-reached made tried is room says same =
           record {
-            earlier =
-                step-earlier made is;
+            earlier = step-earlier made is;
             traced = step-trace made is;
             found = λ moves traced. step-found made tried moves is room says same traced;
           }

@@ -58,10 +58,8 @@ module _ (task : Task) (old new : Kept) (keeps : KeepsAll old new) where
     keeps.entries place.entry entry entry_at,
     record {
       moves = begun.moves;
-      are =
-          begun.are;
-      every =
-          begun.every;
+      are = begun.are;
+      every = begun.every;
       steps_are = steps-grow old new offer.steps begun.moves keeps begun.steps_are;
       unlimited = begun.unlimited;
     },
@@ -71,8 +69,7 @@ module _ (task : Task) (old new : Kept) (keeps : KeepsAll old new) where
       → IsOffered task new facts wanted steps is_all
   offered-grows facts wanted steps is_all o =
       record {
-        entries =
-            o.entries;
+        entries = o.entries;
         first = o.first;
         steps_are = steps-grow old new steps (map Push o.entries) keeps o.steps_are;
         unlimited = o.unlimited;

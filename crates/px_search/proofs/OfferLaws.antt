@@ -129,15 +129,13 @@ module _ (task : Task) (facts wanted : List Atom) where
       ↔ IsOfferedWhole task kept facts wanted steps
   offered-whole kept steps = (
     λ o. record {
-      entries =
-          o.entries;
+      entries = o.entries;
       whole = first-whole o.entries o.first o.unlimited;
       ordered = o.first.ordered;
       steps_are = o.steps_are;
     },
     λ w. record {
-      entries =
-          w.entries;
+      entries = w.entries;
       first = whole-first w.entries true w.whole.exact w.ordered;
       steps_are = w.steps_are;
       unlimited = w.whole.unlimited;
@@ -171,8 +169,7 @@ module _ (problem : Problem) (tables : List Table) (facts : List Atom) (entry : 
     relevant =
         record {
           is_entry = p.relevant.is_entry;
-          fresh =
-              p.relevant.fresh;
+          fresh = p.relevant.fresh;
           atom = p.relevant.atom;
           is_wanted = more p.relevant.atom p.relevant.is_wanted;
           added = p.relevant.added;
@@ -201,8 +198,7 @@ module _ (problem : Problem) (tables : List Table) (facts : List Atom) (entry : 
       of p has = record {
         relevant =
             record {
-              is_entry =
-                  p.relevant.is_entry;
+              is_entry = p.relevant.is_entry;
               fresh = p.relevant.fresh;
               atom = p.relevant.atom;
               is_wanted = has;
@@ -242,16 +238,14 @@ whole-more task facts ws atom es fs gs before here is = record {
   exact = exact-more task.problem task.tables facts ws atom es fs gs before.exact here.exact is;
   unlimited = λ entry relevant. elim (Contains-append_cases ws (atom ∷ []) relevant.atom relevant.is_wanted) [
     | inl left ↦ before.unlimited entry (record {
-      is_entry =
-          relevant.is_entry;
+      is_entry = relevant.is_entry;
       fresh = relevant.fresh;
       atom = relevant.atom;
       is_wanted = left;
       added = relevant.added;
     })
     | inr right ↦ here.unlimited entry (record {
-      is_entry =
-          relevant.is_entry;
+      is_entry = relevant.is_entry;
       fresh = relevant.fresh;
       atom = relevant.atom;
       is_wanted = right;

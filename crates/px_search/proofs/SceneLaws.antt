@@ -16,8 +16,7 @@ module _ (task : Task) where
   scene_at-grows old new number scene keeps is =
       record {
         model_at = model_at-grows old new number scene.model.atoms keeps is.model_at;
-        part_at =
-            part-grows task old new keeps scene.part scene.model.atoms is.part_at;
+        part_at = part-grows task old new keeps scene.part scene.model.atoms is.part_at;
       }
 
   pub scene-grows : (old new : Kept) (scene : Scene) → KeepsAll old new → IsScene task old scene → IsScene task new scene

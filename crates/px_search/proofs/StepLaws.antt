@@ -88,8 +88,7 @@ tried_at task kept key node built tried stands none built_at is =
 pub asked-grows : (task : Task) (old new : Kept) (key : NodeKey) → KeepsAll old new → IsAskedAt task old key → IsAskedAt task new key
 asked-grows task old new key keeps asked =
     record {
-      node =
-          asked.node;
+      node = asked.node;
       stands = stands-grows old new key asked.node keeps asked.stands;
       entries = asked.entries;
       tried = asked.tried;

@@ -143,10 +143,8 @@ module _ (task : Task) (model : List Atom) (entry : Entry) (below : List Entry) 
   relevant_alone e r =
       record {
         is_entry = r.is_entry;
-        fresh =
-            λ has. r.fresh (subst (Contains (entry ∷ below)) (Contains-one entry e has) (Contains-first entry below));
-        gap =
-            r.gap;
+        fresh = λ has. r.fresh (subst (Contains (entry ∷ below)) (Contains-one entry e has) (Contains-first entry below));
+        gap = r.gap;
         is_gap = r.is_gap;
         added = r.added;
       }

@@ -23,8 +23,7 @@ pub whole-grows : (task : Task) (old new : Kept) (facts wanted : List Atom) (ste
     → IsOfferedWhole task old facts wanted steps → IsOfferedWhole task new facts wanted steps
 whole-grows task old new facts wanted steps keeps w =
     record {
-      entries =
-          w.entries;
+      entries = w.entries;
       whole = w.whole;
       ordered = w.ordered;
       steps_are = steps-grow old new steps (map Push w.entries) keeps w.steps_are;

@@ -127,8 +127,7 @@ module _ (problem : Problem) (learned : Learned) (is : IsLearnedOf problem learn
   -- what the next step needs is found
   pub next-findable : (old : Walk) (place : ℕ) (within : Within) → place < learned.prefix → IsWithin problem learned old place within
       → IsFindable problem (record {
-        formula =
-            initial_atoms learned.table.now learned.sigma.now (place + 1);
+        formula = initial_atoms learned.table.now learned.sigma.now (place + 1);
         vars = 0;
         facts = within.facts.atoms;
       })
@@ -137,8 +136,7 @@ module _ (problem : Problem) (learned : Learned) (is : IsLearnedOf problem learn
       let all = subst (needs_from problem learned place within.facts.atoms) left.1 going.findable in
       let here =
       All-head (IsFindable problem) (record {
-        formula =
-            initial_atoms learned.table.now learned.sigma.now (suc place);
+        formula = initial_atoms learned.table.now learned.sigma.now (suc place);
         vars = 0;
         facts = within.facts.atoms;
       })
@@ -146,8 +144,7 @@ module _ (problem : Problem) (learned : Learned) (is : IsLearnedOf problem learn
       (drop (suc place) (steps_in learned))) all in
       let number : suc place ≡ place + 1 = omega arith in
       subst (λ (n : ℕ). IsFindable problem (record {
-        formula =
-            initial_atoms learned.table.now learned.sigma.now n;
+        formula = initial_atoms learned.table.now learned.sigma.now n;
         vars = 0;
         facts = within.facts.atoms;
       })) number here
@@ -161,8 +158,7 @@ module _ (problem : Problem) (learned : Learned) (is : IsLearnedOf problem learn
       drop-at (rows_of learned.table.now.proofs) place taken.row taken.row_at in
       let needs =
       All-tail (IsFindable problem) (record {
-        formula =
-            initial_atoms learned.table.now learned.sigma.now (suc place);
+        formula = initial_atoms learned.table.now learned.sigma.now (suc place);
         vars = 0;
         facts = within.facts.atoms;
       })

@@ -19,6 +19,7 @@ use Rattle.px_terms.specs.Validity.{IsAtomOf, IsTermOf}
 use Rattle.px_table.specs.Choices.{atom_by, choice_of, chosen_or_any, first_answer, term_beside, term_by}
 use Rattle.px_table.specs.Supports.{variables}
 use Rattle.px_table.specs.Conclusions.{AreConclusions, IsConclusion}
+use Rattle.px_terms.proofs.VariableLemmas.{length-variables}
 use Rattle.px_table.proofs.Loops.{zip_at}
 
 -- ---- steps of the loops
@@ -120,10 +121,6 @@ choice_at first (suc count) zero v goal atoms below is =
     ap (λ n. chosen_or_any (choice_of n goal atoms)) (let e : first ≡ v = omega arith in e)
 choice_at first (suc count) (suc j) v goal atoms below is =
     choice_at (suc first) count j v goal atoms (omega (arith, below)) (omega (arith, is))
-
-pub length-variables : (first count : ℕ) → length (variables_from first count) ≡ count
-length-variables first zero = refl
-length-variables first (suc count) = ap suc (length-variables (suc first) count)
 
 variable_at : (first count j v : ℕ) → j < count → v ≡ first + j → get_or (variables_from first count) j Any ≡ Var v
 variable_at first zero j v below is = absurd (omega (arith, below))

@@ -134,8 +134,7 @@ module _ (objects params : ℕ) (axioms : List Clause) where
     fits_used path lit number theta place parts h = (
       clause_at axioms number,
       record {
-        axiom_at =
-            slice_get-read axioms number (record { vars = 0; lits = [] }) h.0;
+        axiom_at = slice_get-read axioms number (record { vars = 0; lits = [] }) h.0;
         terms = h.1.0;
         choices = h.1.1.0;
         literal_at = h.1.1.1.0;
@@ -286,8 +285,7 @@ named-decides problem steps mark =
 pub tables_are_decided : TablesAreDecided
 tables_are_decided problem table =
     Decides-like (is_table problem table) (λ h. record {
-      in_range =
-          h.0;
+      in_range = h.0;
       prove = h.1.0;
       marks = h.1.1.0;
       atoms = h.1.1.1.0;

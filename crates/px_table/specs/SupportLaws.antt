@@ -184,8 +184,7 @@ module _ (problem : Problem) (atoms : List Atom) where
       record {
         axiom_at = proved.1.axiom_at;
         terms = proved.1.terms;
-        choices =
-            terms-are_names problem theta (All-front (IsTermOf problem 0) theta (all_terms_of parts) all);
+        choices = terms-are_names problem theta (All-front (IsTermOf problem 0) theta (all_terms_of parts) all);
         literal_at = proved.1.literal_at;
       },
       each_over_problem (lit ∷ path) (parts_of proved.0.lits theta place) parts
@@ -270,8 +269,7 @@ pub support_table : (problem : Problem) → IsValid problem → (atoms : List At
       steps = steps;
       goal = goal;
       goal_vars = goal_vars;
-      marks =
-          marks_from 1 (rows_of support);
+      marks = marks_from 1 (rows_of support);
       proofs = support;
     })
 support_table problem valid atoms steps goal goal_vars support supports instances goal_atoms are short = record {

@@ -37,10 +37,7 @@ pub fn atom_with(sigma: &[u32], atom: &Atom) -> Atom
     let args = atom.args();
     let mut terms = [Term::Any; 6];
     write_under(sigma, args, &mut terms);
-    match Atom::new(atom.pred(), &terms[..args.len()]) {
-        Some(made) => made,
-        None => unreachable!(),
-    }
+    Atom::of(atom.pred(), &terms[..args.len()])
 }
 
 /// Returns the operator instance with the objects of `sigma` for the parameters.

@@ -62,8 +62,7 @@ given_derivations problem atom is = record {
   prove = ([], refl, (given_proof problem atom (atom_of-is_ground problem atom is), tt));
   named =
       one (IsNamed problem []) (given_mark atom) (record {
-        earlier =
-            omega arith;
+        earlier = omega arith;
         initial = λ _. refl;
         added = λ later. absurd (omega (arith, later));
       });

@@ -223,8 +223,7 @@ deleted atom of holds =
 breaks : Described (lamp_with []) switch_on dark broken
 breaks =
     record {
-      kept =
-          λ _ atom of holds stays. absurd (stays (deleted atom of holds));
+      kept = λ _ atom of holds stays. absurd (stays (deleted atom of holds));
       added = λ _. one (Holds broken) (on (Obj 0)) (0, omega arith, refl);
     }
 

@@ -44,8 +44,7 @@ lamp_with axioms = record {
   axioms = axioms;
   schemas = switch_schema ∷ [];
   height = 1;
-  nodes =
-      1;
+  nodes = 1;
   shapes = 2;
 }
 

@@ -139,8 +139,7 @@ deleted atom of holds =
 pub natural : Described two_names drop_first apart apart_after
 natural = record {
   kept = λ _ atom of holds stays. absurd (stays (deleted atom of holds));
-  added =
-      λ _ k d below. absurd (omega (arith, below));
+  added = λ _ k d below. absurd (omega (arith, below));
 }
 
 pub merged_names : MergedNamesFact

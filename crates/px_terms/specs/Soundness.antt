@@ -1,4 +1,4 @@
--- Steps whose preconditions are in the successive models carry the facts to the goal.
+-- The facts carry to the goal the steps whose preconditions are in the successive models.
 use Rattle.std.specs.Prelude.{◌≡◌, List, [], ◌∷◌, length, All, Contains, slice_index_or}
 use Rattle.std.proofs.Common.{refl, inl, inr, arith}
 use Rattle.std.proofs.lemmas.List.Elements.{All-head, All-tail}

@@ -48,10 +48,8 @@ is_axiom = record { vars = omega arith; lits = both (λ lit. IsAtomOf guarded 0 
 is_clause : IsClause p_or_not_q
 is_clause =
     record {
-      size =
-          (omega arith, omega arith);
-      plain =
-          both (λ lit. All (IsPlainBelow 0) lit.atom.args) (All-nothing (IsPlainBelow 0)) (All-nothing (IsPlainBelow 0));
+      size = (omega arith, omega arith);
+      plain = both (λ lit. All (IsPlainBelow 0) lit.atom.args) (All-nothing (IsPlainBelow 0)) (All-nothing (IsPlainBelow 0));
     }
 
 valid : IsValid guarded

@@ -21,6 +21,6 @@ loop-place-preserved c = record {
 
 pub returns : goal.returns
 returns c = λ sigma fits.
-    followed-atom sigma c.args.atom.now c.in-Some.ends c.args-args.result.now c.loop-place.terms c.loop-place.place c.pred.result
+    followed-atom sigma c.args.atom.now c.of.result c.args-args.result.now c.loop-place.terms c.loop-place.place c.pred.result
     c.args-args.ensures.value c.pred.ensures (omega (arith, c.loop-place-test.false, c.loop-place.invariant.within))
-    c.in-Some.ensures.value (c.loop-place.invariant.same sigma fits)
+    c.of.ensures (c.loop-place.invariant.same sigma fits)

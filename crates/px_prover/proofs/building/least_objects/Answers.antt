@@ -10,8 +10,7 @@ loop-variable-preserved c =
     c.loop-variable.invariant.long c.loop-variable.invariant.each
     (record {
       root = c.resolve-root.result;
-      is_root =
-          c.resolve-root.ensures.root;
+      is_root = c.resolve-root.ensures.root;
       same = c.resolve-root.ensures.value;
       object_is = c.object_of.ensures;
     }) c.in_ok-push.ensures.ok in

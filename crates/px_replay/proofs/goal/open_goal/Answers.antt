@@ -1,7 +1,7 @@
 -- Proofs of the goals that `open_goal` of src/goal.rt leaves open.
 use Rattle.std.proofs.Common.{◌≡◌, ◌∙◌, ap, length, arith}
 use Rattle.px_base.proofs.Loops.{ok_map}
-use Rattle.px_table.proofs.Choosing.{length-variables}
+use Rattle.px_terms.proofs.VariableLemmas.{length-variables}
 use Rattle.px_replay.specs.Opened.{named_goal, opened_goal}
 use Rattle.px_replay.proofs.GoalSteps.{goal-opened}
 use Rattle.px_replay.proofs.goal.open_goal.Goals as goal

@@ -1,6 +1,6 @@
 -- Proofs of the goals that `open_step` of src/opening.rt leaves open.
 use Rattle.std.proofs.Common.{◌≤◌, ap, length, arith}
-use Rattle.px_table.proofs.Choosing.{length-variables}
+use Rattle.px_terms.proofs.VariableLemmas.{length-variables}
 use Rattle.px_replay.proofs.opening.open_step.Goals as goal
 
 pub unreachable-requires : goal.unreachable-requires

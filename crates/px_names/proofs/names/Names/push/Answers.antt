@@ -10,8 +10,7 @@ invariant_of-self c =
     pushed c.push.result kind.Object _ _ c.args.name.now c.push.ensures.added c.push.ensures.kept c.self.invariant.objects
     c.requires.named (search rules) (search rules) in
     record {
-      objects =
-          one;
+      objects = one;
       predicates = c.self.invariant.predicates;
       operators = c.self.invariant.operators;
       results = c.self.invariant.results;
@@ -23,8 +22,7 @@ invariant_of-self-in-Predicate c =
     pushed c.push-in-Predicate.result kind.Predicate _ _ c.args.name.now c.push-in-Predicate.ensures.added
     c.push-in-Predicate.ensures.kept c.self.invariant.predicates c.requires.named (search rules) (search rules) in
     record {
-      objects =
-          c.self.invariant.objects;
+      objects = c.self.invariant.objects;
       predicates = one;
       operators = c.self.invariant.operators;
       results = c.self.invariant.results;
@@ -36,8 +34,7 @@ invariant_of-self-in-Operator c =
     pushed c.push-in-Operator.result kind.Operator _ _ c.args.name.now c.push-in-Operator.ensures.added c.push-in-Operator.ensures.kept
     c.self.invariant.operators c.requires.named (search rules) (search rules) in
     record {
-      objects =
-          c.self.invariant.objects;
+      objects = c.self.invariant.objects;
       predicates = c.self.invariant.predicates;
       operators = one;
       results = c.self.invariant.results;
@@ -49,8 +46,7 @@ invariant_of-self-in-Result c =
     pushed c.push-in-Result.result kind.Result _ _ c.args.name.now c.push-in-Result.ensures.added c.push-in-Result.ensures.kept
     c.self.invariant.results c.requires.named (search rules) (search rules) in
     record {
-      objects =
-          c.self.invariant.objects;
+      objects = c.self.invariant.objects;
       predicates = c.self.invariant.predicates;
       operators = c.self.invariant.operators;
       results = one;

@@ -6,8 +6,7 @@ use Rattle.px_numbers.proofs.first_nodes.FirstNodes.new.Goals as goal
 pub invariant_of-result : goal.invariant_of-result
 invariant_of-result c =
     record {
-      few =
-          c.requires.count;
+      few = c.requires.count;
       stand = nodes_stand c.args.numbers c.sound.ensures.descending c.args.keys c.requires.stand.0 c.requires.stand.1;
     }
 

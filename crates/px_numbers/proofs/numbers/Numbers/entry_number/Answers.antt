@@ -20,8 +20,7 @@ invariant_of-self c = record {
 pub returns-clause-keeps : goal.returns-clause-keeps
 returns-clause-keeps c =
     subst (λ (k : Kept). KeepsAll k (record {
-      atoms =
-          c.self.inside.atoms;
+      atoms = c.self.inside.atoms;
       lists = c.self.inside.lists;
       entries = c.intern.new.self;
       frames = c.self.inside.stacks;

@@ -21,8 +21,7 @@ returns c =
     subst (λ (k : Kept). IfOk c.model_of.result (λ built. IsModelAt k c.args.number built.atoms)) c.self.view_is
     (ok_map (λ built. IsModelOf c.self.inside.atoms c.list.result.now built.atoms)
     (λ built. IsModelAt (record {
-      atoms =
-          c.self.inside.atoms;
+      atoms = c.self.inside.atoms;
       lists = c.self.inside.lists;
       entries = c.self.inside.entries;
       frames = c.self.inside.stacks;

@@ -23,8 +23,7 @@ invariant_of-self-2 c = record {
 pub returns-clause-keeps : goal.returns-clause-keeps
 returns-clause-keeps c =
     subst (λ (k : Kept). KeepsAll k (record {
-      atoms =
-          c.numbers_of.new.index;
+      atoms = c.numbers_of.new.index;
       lists = c.intern.new.self;
       entries = c.self.inside.entries;
       frames = c.self.inside.stacks;

@@ -31,8 +31,7 @@ pub returns-clause-keeps : goal.returns-clause-keeps
 returns-clause-keeps c =
     let frame : Frame = record { entry = c.args.entry; below = c.args.below } in
     subst (λ (k : Kept). KeepsAll k (record {
-      atoms =
-          c.self.inside.atoms;
+      atoms = c.self.inside.atoms;
       lists = c.self.inside.lists;
       entries = c.self.inside.entries;
       frames = c.intern.new.self;

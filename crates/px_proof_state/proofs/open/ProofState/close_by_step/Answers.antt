@@ -91,10 +91,8 @@ returns-in-Ok-false c =
       opened = λ is_found. absurd (cc);
       unchanged =
           λ is_not. λ i. record {
-            changes =
-                matched.same refl i;
-            goals =
-                c.self.inside.goals.items;
+            changes = matched.same refl i;
+            goals = c.self.inside.goals.items;
             first = c.self.inside.first;
             choices = reverse c.self.inside.choices.items;
           };

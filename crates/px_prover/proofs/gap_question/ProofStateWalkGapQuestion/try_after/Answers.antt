@@ -4,7 +4,7 @@ use Rattle.px_proof.specs.declared.shape.Tick.{Tick}
 use Rattle.px_prover.specs.Asking.{setting_in, IsPossibleIn}
 use Rattle.px_prover.specs.GapAsking.{gap_setting}
 use Rattle.px_prover.specs.Standing.{ticks_in, IsStanding}
-use Rattle.px_prover.specs.declared.question.Question.{Question}
+use Rattle.px_prover.specs.declared.question.ProofQuestion.{ProofQuestion}
 use Rattle.px_prover.proofs.Moves.{finished-is}
 use Rattle.px_prover.proofs.Passing.{HasPassed, left-falls, passed-found, passed-next}
 use Rattle.px_proof_walk.specs.Order.{IsAfter, TriesAfter}
@@ -20,10 +20,10 @@ returns-then-first-gt0-clause-tried c =
     let was = ticks_in c.loop-self.self.choices in
     let tried : TriesAfter (IsPossible true s formula vars) was (ticks_in now.choices) c.loop-self.after true =
     subst (λ (b : Bool). TriesAfter (IsPossible true s formula vars) was (ticks_in now.choices) c.loop-self.after b) c.if-branch.true
-    (subst (λ (q : Question). TriesAfter (IsPossibleIn q) was (ticks_in now.choices) c.loop-self.after c.in_ok-try_after.field-0)
+    (subst (λ (q : ProofQuestion). TriesAfter (IsPossibleIn q) was (ticks_in now.choices) c.loop-self.after c.in_ok-try_after.field-0)
     c.loose-loose.ensures c.in_ok-try_after.ensures.tried) in
     let stands : IsStanding true s formula vars now =
-    subst (λ (q : Question). IsStanding q.loose (setting_in q) q.formula.now q.vars now) c.loose-loose.ensures
+    subst (λ (q : ProofQuestion). IsStanding q.loose (setting_in q) q.formula.now q.vars now) c.loose-loose.ensures
     c.in_ok-try_after.ensures.still in
     passed-found s formula vars (ticks_in c.args.self.now.choices) c.args.last c.loop-self.after c.loop-self.invariant.passed was
     (ticks_in now.choices) c.loop-self.invariant.there tried
@@ -40,10 +40,10 @@ loop-self-preserved c =
     let was = ticks_in c.loop-self.self.choices in
     let tried : TriesAfter (IsPossible true s formula vars) was (ticks_in now.choices) c.loop-self.after true =
     subst (λ (b : Bool). TriesAfter (IsPossible true s formula vars) was (ticks_in now.choices) c.loop-self.after b) c.if-branch.true
-    (subst (λ (q : Question). TriesAfter (IsPossibleIn q) was (ticks_in now.choices) c.loop-self.after c.in_ok-try_after.field-0)
+    (subst (λ (q : ProofQuestion). TriesAfter (IsPossibleIn q) was (ticks_in now.choices) c.loop-self.after c.in_ok-try_after.field-0)
     c.loose-loose.ensures c.in_ok-try_after.ensures.tried) in
     let stands : IsStanding true s formula vars now =
-    subst (λ (q : Question). IsStanding q.loose (setting_in q) q.formula.now q.vars now) c.loose-loose.ensures
+    subst (λ (q : ProofQuestion). IsStanding q.loose (setting_in q) q.formula.now q.vars now) c.loose-loose.ensures
     c.in_ok-try_after.ensures.still in
     let next =
     passed-next s formula vars here c.args.last c.loop-self.after c.loop-self.invariant.passed was
@@ -52,7 +52,7 @@ loop-self-preserved c =
     (ticks_in c.retract.new.self.choices) c.in-Some.tick c.in-Some.ensures.last in
     record {
       stands =
-          subst (λ (q : Question). IsStanding q.loose (setting_in q) q.formula.now q.vars c.retract.new.self) c.loose-loose.ensures
+          subst (λ (q : ProofQuestion). IsStanding q.loose (setting_in q) q.formula.now q.vars c.retract.new.self) c.loose-loose.ensures
           c.in-Some.ensures.still;
       there = next.0;
       small = c.sized.ensures.small;
@@ -69,10 +69,10 @@ loop-self-smaller c =
     let was = ticks_in c.loop-self.self.choices in
     let tried : TriesAfter (IsPossible true s formula vars) was (ticks_in now.choices) c.loop-self.after true =
     subst (λ (b : Bool). TriesAfter (IsPossible true s formula vars) was (ticks_in now.choices) c.loop-self.after b) c.if-branch.true
-    (subst (λ (q : Question). TriesAfter (IsPossibleIn q) was (ticks_in now.choices) c.loop-self.after c.in_ok-try_after.field-0)
+    (subst (λ (q : ProofQuestion). TriesAfter (IsPossibleIn q) was (ticks_in now.choices) c.loop-self.after c.in_ok-try_after.field-0)
     c.loose-loose.ensures c.in_ok-try_after.ensures.tried) in
     let stands : IsStanding true s formula vars now =
-    subst (λ (q : Question). IsStanding q.loose (setting_in q) q.formula.now q.vars now) c.loose-loose.ensures
+    subst (λ (q : ProofQuestion). IsStanding q.loose (setting_in q) q.formula.now q.vars now) c.loose-loose.ensures
     c.in_ok-try_after.ensures.still in
     let next =
     passed-next s formula vars here c.args.last c.loop-self.after c.loop-self.invariant.passed was

@@ -4,7 +4,7 @@ use Rattle.px_proof.specs.declared.shape.Tick.{Tick}
 use Rattle.px_prover.specs.Asking.{setting_in, IsPossibleIn}
 use Rattle.px_prover.specs.GapAsking.{gap_setting}
 use Rattle.px_prover.specs.Standing.{ticks_in, IsStanding}
-use Rattle.px_prover.specs.declared.question.Question.{Question}
+use Rattle.px_prover.specs.declared.question.ProofQuestion.{ProofQuestion}
 use Rattle.px_prover.proofs.Passing.{left-falls}
 use Rattle.px_prover.proofs.PatternPassing.{HasPatterns, patterns-end, patterns-more, patterns-next}
 use Rattle.px_proof_walk.specs.Order.{IsAfter, TriesAfter}
@@ -21,7 +21,7 @@ loop-self-preserved c =
     let was = ticks_in c.loop-self.walk.choices in
     let tried : TriesAfter (IsPossible true s formula vars) was (ticks_in now.choices) c.loop-self.last true =
     subst (λ (b : Bool). TriesAfter (IsPossible true s formula vars) was (ticks_in now.choices) c.loop-self.last b) c.if-branch.true
-    (subst (λ (q : Question). TriesAfter (IsPossibleIn q) was (ticks_in now.choices) c.loop-self.last c.in_ok-try_after.field-0)
+    (subst (λ (q : ProofQuestion). TriesAfter (IsPossibleIn q) was (ticks_in now.choices) c.loop-self.last c.in_ok-try_after.field-0)
     c.loose-loose.ensures c.in_ok-try_after.ensures.tried) in
     let next =
     patterns-next s formula vars here c.args.self.now.found.items c.loop-self.self.found.items c.loop-self.last
@@ -29,7 +29,7 @@ loop-self-preserved c =
     c.gather_here.new.found.items c.in_ok-gather_here.ensures (ticks_in c.retract.new.self.choices) c.in-Some.tick c.in-Some.ensures.last in
     record {
       stands =
-          subst (λ (q : Question). IsStanding q.loose (setting_in q) q.formula.now q.vars c.retract.new.self) c.loose-loose.ensures
+          subst (λ (q : ProofQuestion). IsStanding q.loose (setting_in q) q.formula.now q.vars c.retract.new.self) c.loose-loose.ensures
           c.in-Some.ensures.still;
       there = next.0;
       small = c.sized.ensures.small;
@@ -48,7 +48,7 @@ loop-self-smaller c =
     let was = ticks_in c.loop-self.walk.choices in
     let tried : TriesAfter (IsPossible true s formula vars) was (ticks_in now.choices) c.loop-self.last true =
     subst (λ (b : Bool). TriesAfter (IsPossible true s formula vars) was (ticks_in now.choices) c.loop-self.last b) c.if-branch.true
-    (subst (λ (q : Question). TriesAfter (IsPossibleIn q) was (ticks_in now.choices) c.loop-self.last c.in_ok-try_after.field-0)
+    (subst (λ (q : ProofQuestion). TriesAfter (IsPossibleIn q) was (ticks_in now.choices) c.loop-self.last c.in_ok-try_after.field-0)
     c.loose-loose.ensures c.in_ok-try_after.ensures.tried) in
     let next =
     patterns-next s formula vars here c.args.self.now.found.items c.loop-self.self.found.items c.loop-self.last
@@ -67,7 +67,7 @@ returns-clause-more c =
     let was = ticks_in c.loop-self.walk.choices in
     let tried : TriesAfter (IsPossible true s formula vars) was (ticks_in now.choices) c.loop-self.last false =
     subst (λ (b : Bool). TriesAfter (IsPossible true s formula vars) was (ticks_in now.choices) c.loop-self.last b) c.if-branch.false
-    (subst (λ (q : Question). TriesAfter (IsPossibleIn q) was (ticks_in now.choices) c.loop-self.last c.in_ok-try_after.field-0)
+    (subst (λ (q : ProofQuestion). TriesAfter (IsPossibleIn q) was (ticks_in now.choices) c.loop-self.last c.in_ok-try_after.field-0)
     c.loose-loose.ensures c.in_ok-try_after.ensures.tried) in
     λ seen before. patterns-more s formula vars seen here c.args.self.now.found.items c.loop-self.self.found.items before
     (patterns-end s formula vars here c.args.self.now.found.items c.loop-self.self.found.items c.loop-self.last

@@ -4,8 +4,7 @@ use Rattle.px_search.proofs.breadth_first.Explored.new.Goals as goal
 pub returns : goal.returns
 returns c =
     λ task never. record {
-      notes =
-          c.new-notes.ensures task never;
+      notes = c.new-notes.ensures task never;
       scene = c.new-scene.ensures;
       nodes = c.new-nodes.ensures;
       origins = c.new-origins.ensures.items;

@@ -30,8 +30,7 @@ search_from-requires-clause-explored c =
     let given = c.requires.explored in
     record {
       notes = right-grows task c.args.self.now.notes c.start_key.new.numbers c.in_ok-start.ensures.keeps given.notes;
-      scene =
-          given.scene;
+      scene = given.scene;
       nodes = given.nodes;
       origins = given.origins;
     }

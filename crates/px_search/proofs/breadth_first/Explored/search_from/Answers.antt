@@ -22,8 +22,7 @@ pub walk-requires-clause-explored : goal.walk-requires-clause-explored
 walk-requires-clause-explored c =
     let given = c.requires.explored in
     record {
-      notes =
-          given.notes;
+      notes = given.notes;
       scene = scene-start (task_for c.args.asked.now) c.args.self.now.notes.numbers c.args.self.now.scene given.scene;
     }
 

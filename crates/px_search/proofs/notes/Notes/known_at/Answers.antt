@@ -52,8 +52,7 @@ returns-in-Some c =
     let frame = c.in-Some.frame in
     let r : Read task kept c.args.key frame model n.node.stack =
     record {
-      node =
-          n.node;
+      node = n.node;
       stands = n.stands;
       top = c.in-Some.ensures.top n.node.stack n.stands.stack;
       model_at = c.requires.model;

@@ -1,4 +1,4 @@
--- Proofs of the goals that `ProofStateWalkQuestion::try_after` of src/walking.rt leaves open.
+-- Proofs of the goals that `ProofStateWalkProofQuestion::try_after` of src/walking.rt leaves open.
 use Rattle.std.proofs.Common.{arith}
 use Rattle.px_prover.specs.Asking.{setting_in, IsPossibleIn}
 use Rattle.px_prover.specs.Standing.{ticks_in, IsStanding}
@@ -6,7 +6,7 @@ use Rattle.px_prover.specs.Tries.{TriesLater}
 use Rattle.px_prover.proofs.Moves.{standing-sound, standing-ready, finished-tried, later-tried, later-standing}
 use Rattle.px_proof_state.proofs.Trying.{if_ok}
 use Rattle.px_proof_walk.specs.Order.{TriesAfter}
-use Rattle.px_prover.proofs.walking.ProofStateWalkQuestion.try_after.Goals as goal
+use Rattle.px_prover.proofs.walking.ProofStateWalkProofQuestion.try_after.Goals as goal
 
 pub returns-then-place-eq0-clause-tried : goal.returns-then-place-eq0-clause-tried
 returns-then-place-eq0-clause-tried c =

@@ -1,8 +1,8 @@
--- Proofs of the goals that `ProofStateWalkQuestion::shape` of src/walking.rt leaves open.
+-- Proofs of the goals that `ProofStateWalkProofQuestion::shape` of src/walking.rt leaves open.
 use Rattle.std.proofs.Common.{arith, ◌∙◌}
 use Rattle.px_prover.specs.Asking.{setting_in}
 use Rattle.px_prover.proofs.Moves.{standing-sound, shape-made}
-use Rattle.px_prover.proofs.walking.ProofStateWalkQuestion.shape.Goals as goal
+use Rattle.px_prover.proofs.walking.ProofStateWalkProofQuestion.shape.Goals as goal
 
 pub push_open-requires-clause-arena : goal.push_open-requires-clause-arena
 push_open-requires-clause-arena c =

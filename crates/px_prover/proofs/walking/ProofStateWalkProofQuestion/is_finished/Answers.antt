@@ -1,9 +1,9 @@
--- Proofs of the goals that `ProofStateWalkQuestion::is_finished` of src/walking.rt leaves open.
+-- Proofs of the goals that `ProofStateWalkProofQuestion::is_finished` of src/walking.rt leaves open.
 use Rattle.std.proofs.Common.{◌≡◌, ℕ, arith, sym, ◌∙◌, true}
 use Rattle.std.specs.Prelude.{nat_eq}
 use Rattle.px_prover.specs.Asking.{setting_in}
 use Rattle.px_prover.proofs.Moves.{finished-is}
-use Rattle.px_prover.proofs.walking.ProofStateWalkQuestion.is_finished.Goals as goal
+use Rattle.px_prover.proofs.walking.ProofStateWalkProofQuestion.is_finished.Goals as goal
 
 zero-from : (n : ℕ) → nat_eq n 0 ≡ true → n ≡ 0
 zero-from n e = grind (arith, e)
