@@ -29,9 +29,9 @@ const LIMIT: usize = 1_048_576;
 /// Does all that the program does: `words` are those of the command line, without the program's name. `run` reads a script from the
 /// source and answers it; `demo ROOMS SEED` makes a script, and sums up the replies to it; any other words are `Usage`.
 ///
-/// For every script, with or without a building, the transcript holds one lawful reply for each command (`right`). So each plan that a
-/// reply prints carries the world's atoms to its goal, each table that is kept carries the steps that are left from each proper instance
-/// of each of its kernels, PLANEX acts by the highest kernel that fits, and the replies that no plan was found, that a limit was met or
+/// For every script, with or without a building, the transcript holds one lawful reply for each command (`right`). So the world's atoms
+/// carry the steps of each plan that a reply prints to its goal, each proper instance of each kernel of each table that is kept carries
+/// the steps that are left, PLANEX acts by the highest kernel that fits, and the replies that no plan was found, that a limit was met or
 /// that no kernel fits come exactly where their definitions hold (`carries`; laws of `px_session`).
 #[tactic(auto, using(crate::proofs::Carried::is_carried))]
 pub fn planex_main<'a, S: Source, K: Sink>(

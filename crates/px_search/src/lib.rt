@@ -6,8 +6,8 @@
 //! - [`search`] asks for a valid problem, a goal over at most 12 variables, an object where there is a variable, and learned tables
 //!   (`AreLearned` of `px_entries`). What it answers is stated over the task of these (`task_of` of `px_ends`).
 //! - It answers a plan: the moves to the first solved node, by the fewest moves (`IsFound`), the steps that they take, and the rows
-//!   of the table of the moves (`MovesRows`). The rows are a support of the steps, which carry the initial model to the goal
-//!   (`Supports`, `Carries`): `build` of `px_table` makes the plan's table of them.
+//!   of the table of the moves (`MovesRows`). The rows are a support of the steps, and the initial model carries these to the
+//!   goal (`Supports`, `Carries`): `build` of `px_table` makes the plan's table of them.
 //! - Or `Exhausted`, where no list of moves reaches a solved node and all nodes fit the limit (`IsExhausted`); `NodeLimit` with the
 //!   first nodes themselves (`IsNodeLimit`); `ShapeLimit` with the node of a question that meets the limit of shapes, the formula
 //!   and its first shapes (`IsShapeLimit`); or `NoMemory`.
