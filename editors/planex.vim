@@ -1,6 +1,6 @@
 " Syntax of planex scripts. Copy to ~/.vim/syntax/planex.vim, and to ~/.vim/ftdetect/planex.vim the line
 "   autocmd BufRead,BufNewFile *.planex setfiletype planex
-" So that :make jumps to a refusal: set makeprg=./planex\ run\ <\ % errorformat=%f:%l:\ %m
+" So that :make lists the faults of a script and jumps to them: set makeprg=./planex\ check-script\ % errorformat=%f:%l:\ %m
 if exists('b:current_syntax')
   finish
 endif
