@@ -4,7 +4,31 @@ import unicodedata
 
 from refusals.words import ATOMS, BLOCKS, BUILDING_PREDICATES, COMMAND, WORDS
 
-TOKEN = re.compile(r'(?P<variable>\?[^\W\d]\w*)|(?P<number>[0-9]+)|(?P<name>[^\W\d]\w*)|(?P<sign>[(),~$+=-])')
+SIGNS = '(),~$+=-'
+DIGITS, ASCII_NAME = re.compile('[0-9]*'), re.compile('[A-Za-z_][A-Za-z0-9_]*')
+
+
+def name_end(text, start, begun=False):
+    """Where the name ends that begins at a place of a text, or before it; the place if none does. By Unicode's classes, which Python's
+    identifiers have."""
+    match = ASCII_NAME.match(text, start)
+    end = match.end() if match else start
+    while end < len(text) and (('_' if begun or end > start else '') + text[end]).isidentifier():
+        end += 1
+    return end
+
+
+def token(text, start):
+    """The kind and the end of the token at a place of a text. If there is none, the kind is None, and the end that of what stands there."""
+    number = DIGITS.match(text, start).end()
+    if number > start:
+        end = name_end(text, number, begun=True)
+        return ('number' if end == number else None), end
+    variable = text[start] == '?'
+    end = name_end(text, start + variable)
+    if end > start + variable:
+        return ('variable' if variable else 'name'), end
+    return ('sign' if text[start] in SIGNS else None), start + 1
 
 
 def code_point(char):
@@ -31,16 +55,14 @@ class Line:
         self.text, self.tokens, self.bad = text.split('#')[0].strip(' \t\r'), [], None
         position = 0
         while position < len(self.text) and self.bad is None:
-            match = TOKEN.match(self.text, position)
-            if not match:
-                self.bad = self.text[position]
-            elif match.lastgroup == 'number' and re.match(r'\w', self.text[match.end():]):
-                self.bad = re.match(r'\w+', self.text[position:]).group()
+            kind, end = token(self.text, position)
+            if kind:
+                self.tokens.append((kind, self.text[position:end]))
             else:
-                self.tokens.append((match.lastgroup, match.group()))
-                position = match.end()
-                while position < len(self.text) and self.text[position] in ' \t\r':
-                    position += 1
+                self.bad = self.text[position:end]
+            while end < len(self.text) and self.text[end] in ' \t\r':
+                end += 1
+            position = end
         self.word = self.tokens[0][1] if self.tokens else ''
         self.names = [text for kind, text in self.tokens[1:] if kind == 'name']
         self.variables = [text for kind, text in self.tokens if kind == 'variable']
