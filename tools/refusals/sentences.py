@@ -50,7 +50,9 @@ def unknown_in_atom(line, known, name, kind):
     if near:
         return declared + near
     if in_block:
-        return f'{declared}: {known.operator} has ' + (f'the parameters {", ".join(known.parameters)}' if known.parameters else 'none')
+        if known.parameters:
+            return f'{declared}: take the parameter {" or ".join(known.parameters)}, or declare the object before'
+        return f'{declared}: make it a parameter, as {known.operator}({name}), or declare the object before'
     return declared + ('' if known.has_building else f': declare it by object {name}, or ask for any by ?{name}' if line.word == 'plan'
                        else f': declare it by object {name}')
 
@@ -77,7 +79,7 @@ def unknown_result(line, known):
     names, what = (known.plans, 'plan') if line.word == 'learn' else (known.results, 'result')
     if name in names:
         return None
-    listed = f': the earlier ones are {", ".join(list(names)[:8])}' if names else f': no earlier line gives a {what}'
+    listed = f': take {" or ".join(list(names)[:8])}' if names else ': a plan line before gives one'
     return f'{name} is no {what} of an earlier line' + (meant(name, names) or listed)
 
 
@@ -137,8 +139,10 @@ def arity(line, known, limit):
         wanted = known.arities.get(predicate, len(arguments))
         if len(arguments) != wanted:
             plural = '' if len(arguments) == 1 else 's'
-            return (f'{predicate} has {len(arguments)} argument{plural} here, and {wanted} where line {known.predicates[predicate]} '
-                    'declares it')
+            here = f'{predicate} has {len(arguments)} argument{plural} here, and {wanted} '
+            if known.has_building:
+                return here + 'in every building'
+            return here + f'where line {known.predicates[predicate]} declares it: change one of them'
     return None
 
 
