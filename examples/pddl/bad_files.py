@@ -1,4 +1,5 @@
 """The table of bad files: what is changed in a good pair of files, and the messages with which from-pddl refuses it."""
+import re
 
 DOMAIN = """(define (domain d)
   (:requirements :strips :typing)
@@ -16,6 +17,10 @@ PROBLEM = """(define (problem one)
   (:init (p a))
   (:goal (and (q a c))))
 """
+
+# What follows a message that something isn't taken, and those that limits are passed.
+PAGE = ' (docs/PDDL.md, "What isn\'t taken")'
+LIMITS = '\nfrom-pddl: docs/PDDL.md, "What isn\'t taken", says what can be done about limits'
 
 # Name, the text that is replaced in the domain or the problem, its replacement, and the message.
 EDITS = [
@@ -42,7 +47,7 @@ EDITS = [
     ('an unknown type of an object', 't - thing', 't - thong', 'p:3:25: unknown type thong'),
     ('an unknown type of a parameter', ':parameters (?x - box)', ':parameters (?x - crate)', 'd:7:23: unknown type crate'),
     ('an unknown type above', 'box - thing thing', 'box - thing', 'd:3:17: unknown type thing'),
-    ('a cyclic type', 'box - thing thing', 'box - thing thing - box', 'd:3:11: the type box is below itself, or below such a type'),
+    ('a cyclic type', 'box - thing thing', 'box - thing thing - box', 'd:3:11: the type box is below itself'),
     ('a type twice', 'box - thing thing', 'box - thing thing box', 'd:3:29: the type box is declared twice'),
     ('an object twice', 'a - box t', 'a a - box t', 'p:3:15: the object a is declared twice'),
     ('a constant as an object', 'a - box t', 'a c - box t', 'p:3:15: the object c is declared twice'),
@@ -60,30 +65,51 @@ EDITS = [
     ('an object of another type', '(:init (p a))', '(:init (p t))', 'p:4:13: t is of the type thing, and p takes box here'),
     ('a parameter of another type', '(?x - box)\n', '(?x - thing)\n', 'd:8:27: ?x is of the type thing, and p takes box here'),
     # Features that aren't taken
-    ('a requirement', ':typing)', ':typing :adl)', 'd:2:34: not taken: the requirement :adl'),
-    ('equality as a requirement', ':typing)', ':typing :equality)', 'd:2:34: not taken: the requirement :equality'),
-    ('a negative precondition', '(and (p ?x))', '(and (not (p ?x)))', 'd:8:24: not taken: a negative condition (not ..)'),
-    ('a negative goal', '(and (q a c))', '(not (q a c))', 'p:5:10: not taken: a negative condition (not ..)'),
-    ('a disjunction', '(and (p ?x))', '(or (p ?x) (p c))', 'd:8:19: not taken: a disjunction (or ..)'),
-    ('an implication', '(and (p ?x))', '(imply (p ?x) (p c))', 'd:8:19: not taken: an implication (imply ..)'),
-    ('a universal condition', '(and (p ?x))', '(forall (?y) (p ?x))', 'd:8:19: not taken: a universal condition (forall ..)'),
+    ('an unknown requirement', ':typing)', ':typing :more)', 'd:2:34: unknown requirement :more: leave it out'),
+    ('a negated conjunction', '(and (p ?x))', '(not (and (p ?x) (p c)))',
+     'd:8:24: not taken: a disjunction (not (and ..); write an action, or a problem, for each part'),
+    ('a disjunction', '(and (p ?x))', '(or (p ?x) (p c))',
+     'd:8:19: not taken: a disjunction (or ..); write an action, or a problem, for each part'),
+    ('an implication', '(and (p ?x))', '(imply (p ?x) (p c))',
+     'd:8:19: not taken: an implication (imply ..); write an action for each of the two cases'),
+    ('a universal condition', '(and (p ?x))', '(forall (?y) (p ?x))',
+     'd:8:19: not taken: a universal condition (forall ..); write the condition of each object'),
     ('an existential precondition', '(and (p ?x))', '(exists (?y) (p ?x))',
-     'd:8:19: not taken: an existential condition other than at the top of the goal (exists ..)'),
-    ('an existential condition inside a goal', '(and (q a c))', '(and (exists (?y) (q ?y c)))',
-     'p:5:15: not taken: an existential condition other than at the top of the goal (exists ..)'),
-    ('equality', '(and (p ?x))', '(and (= ?x c))', 'd:8:24: not taken: equality (= ..)'),
-    ('a conditional effect', '(and (q ?x c)', '(and (when (p c) (q ?x c))', 'd:9:18: not taken: a conditional effect (when ..)'),
-    ('an effect for all', '(and (q ?x c)', '(and (forall (?y) (q ?x ?y))', 'd:9:18: not taken: a universal condition (forall ..)'),
-    ('an effect on a number', '(and (q ?x c)', '(and (increase (cost) 1)', 'd:9:18: not taken: numbers (increase ..)'),
-    ('a number in the facts', '(:init (p a))', '(:init (p a) (= (cost) 0))', 'p:4:16: not taken: numbers (= ..)'),
-    ('functions', '  (:action go', '  (:functions (cost))\n  (:action go', 'd:6:3: not taken: numbers (:functions)'),
-    ('a metric', '  (:init', '  (:metric minimize (cost))\n  (:init', 'p:4:3: not taken: a metric'),
+     'd:8:19: not taken: an existential condition other than at the top of the goal (exists ..); make its variables parameters, '
+     'or move it to the top'),
+    ('a negated existential condition', '(and (q a c))', '(not (exists (?y) (q ?y c)))',
+     'p:5:15: not taken: an existential condition other than at the top of the goal (exists ..); make its variables parameters, '
+     'or move it to the top'),
+    ('equality in an effect', '(and (q ?x c)', '(and (= ?x c)',
+     'd:9:18: not taken: equality in an effect (= ..); it has its place in conditions'),
+    ('equality of three', '(and (p ?x))', '(= ?x c c)', 'd:8:19: (= TERM TERM) is wanted'),
+    ('a conditional effect', '(and (q ?x c)', '(and (when (p c) (q ?x c))',
+     'd:9:18: not taken: a conditional effect (when ..); write an action for each of the two cases'),
+    ('an effect for all', '(and (q ?x c)', '(and (forall (?y) (q ?x ?y))',
+     'd:9:18: not taken: an effect for all (forall ..); write an effect of each object, or an action for each'),
+    ('an effect on a number', '(and (q ?x c)', '(and (increase (fuel) 1)',
+     'd:9:18: not taken: numbers (increase ..); write amounts as objects, with a predicate that says which comes next'),
+    ('a number in a condition', '(and (p ?x))', '(= (fuel ?x) 1)',
+     'd:8:19: not taken: numbers (= ..); write amounts as objects, with a predicate that says which comes next'),
+    ('an effect on the cost', '(and (q ?x c)', '(and (increase (total-cost) 1)',
+     'd:9:18: not taken: costs (increase (total-cost) ..); --ignore-costs leaves them out'),
+    ('a cost in the facts', '(:init (p a))', '(:init (p a) (= (total-cost) 0))',
+     'p:4:16: not taken: costs (= ..); --ignore-costs leaves them out'),
+    ('a metric', '  (:init', '  (:metric minimize (total-cost))\n  (:init',
+     'p:4:3: not taken: costs (:metric ..); --ignore-costs leaves them out'),
     ('an axiom of PDDL', '  (:action go', '  (:derived (p ?x) (q ?x c))\n  (:action go',
-     'd:6:3: not taken: axioms of PDDL (:derived)'),
-    ('a durative action', '(:action go', '(:durative-action go', 'd:6:3: not taken: durative actions'),
-    ('a timed literal', '(:init (p a))', '(:init (at 5 (p a)))', 'p:4:10: not taken: a timed literal (at ..)'),
-    ('a union of types', 'a - box t', 'a - (either box thing) t', 'p:3:17: not taken: a type with (either'),
-    ('a negative fact', '(:init (p a))', '(:init (p a) (not (p c)))', 'p:4:16: not taken: a negative condition (not ..)'),
+     'd:6:3: not taken: axioms of PDDL (:derived); let the actions add and delete what would follow'),
+    ('a durative action', '(:action go', '(:durative-action go',
+     'd:6:3: not taken: durative actions; write plain actions: a script has no time'),
+    ('a timed literal', '(:init (p a))', '(:init (at 5 (p a)))',
+     'p:4:10: not taken: a timed literal (at ..); write plain actions: a script has no time'),
+    ('a union of types where one of them is wanted', 'a - box t', 'a - (either box thing) t',
+     'p:4:13: a is of the type (either box thing), and p takes box here'),
+    ('an unknown type in a union', 'a - box t', 'a - (either box crate) t', 'p:3:29: unknown type crate'),
+    ('no union of types', 'a - box t', 'a - (or box thing) t', 'p:3:17: a type is a name, or (either NAME ..)'),
+    ('a fact that is also none', '(:init (p a))', '(:init (p a) (not (p a)))', 'p:4:21: this is both a fact and none'),
+    ('a goal of equal terms alone', '(and (q a c))', '(= a a)',
+     'p:5:10: the goal is empty: each state meets it, and a goal of a script has at least one atom'),
     ('an empty goal', '(and (q a c))', '(and)',
      'p:5:10: the goal is empty: each state meets it, and a goal of a script has at least one atom'),
 ]
@@ -93,7 +119,7 @@ def edited():
     for name, old, new, wanted in EDITS:
         if old not in DOMAIN + PROBLEM:
             raise ValueError(f'{name}: the text {old!r} stands in neither file')
-        yield name, DOMAIN.replace(old, new, 1), PROBLEM.replace(old, new, 1), [], wanted
+        yield name, DOMAIN.replace(old, new, 1), PROBLEM.replace(old, new, 1), [], wanted + (PAGE if ': not taken: ' in wanted else '')
 
 
 def many(form, count):
@@ -103,17 +129,18 @@ def many(form, count):
 def limits():
     """A pair of files for each limit that a translation can pass, each by one."""
     def row(name, domain, problem, wanted, options=()):
-        yield name, '(define (domain d)\n' + domain + ')\n', '(define (problem one) (:domain d)\n' + problem + ')\n', options, wanted
+        yield name, '(define (domain d)\n' + domain + ')\n', '(define (problem one) (:domain d)\n' + problem + ')\n', options, (
+            wanted + (LIMITS if re.match(r'\w+:\d', wanted) and ': limit ' in wanted else ''))
 
     goal = '\n(:init) (:goal (p))'
     yield from row('limit 1', f'(:predicates (p) ({"q" * 65}))', goal,
                    f'd:2:19: limit 1, bytes of a name ({"q" * 65}): 65, and at most 64')
     yield from row('limit 2', '(:predicates (p))', f'(:objects {many("o{}", 257)})' + goal,
-                   'p:2:1181: limit 2, objects: 257, and at most 256')
+                   'p:2:1181: limit 2, objects: 257, and at most 256, and from version 2 on 1024')
     yield from row('limit 3', f'(:predicates (p) {many("(q{})", 64)})', goal, 'd:2:387: limit 3, predicates: 65, and at most 64')
     yield from row('limit 3 by a type',
                    f'(:types t) (:predicates (p) {many("(q{})", 63)})\n(:action a :parameters (?x - t) :effect (p))',
-                   '(:objects o - t)' + goal, 'd:1:17: limit 3, predicates, with those of types: 65, and at most 64')
+                   '(:objects o - t)' + goal, 'd:1:17: limit 3, predicates, with those of types and conditions: 65, and at most 64')
     yield from row('limit 4', f'(:predicates (p) (q {many("?x{}", 7)}))', goal,
                    'd:2:19: limit 4, arguments of a predicate (q): 7, and at most 6')
     yield from row('limit 7', '(:predicates (p ?x))', f'(:objects o) (:init) (:goal (exists ({many("?x{}", 13)}) '
@@ -127,10 +154,17 @@ def limits():
                        goal, f'd:3:10: limit 10, atoms of a list ({word} of a): 17, and at most 16')
     yield from row('limit 11', '(:predicates (p) (q ?x ?y ?z))', f'(:objects {many("o{}", 8)}) (:goal (p))\n(:init (p) '
                    + ' '.join(f'(q o{n // 64} o{n // 8 % 8} o{n % 8})' for n in range(512)) + ')',
-                   'p:3:1: limit 11, different facts: 513, and at most 512')
+                   'p:3:1: limit 11, different facts: 513, and at most 512, and from version 2 on 1024')
     yield from row('limit 11 by unequal objects', '(:predicates (p))\n(:action a :parameters (?x ?y))',
                    f'(:objects {many("o{}", 24)})' + goal,
-                   'p:3:1: limit 11, different facts, with those of types and unequal objects: 552, and at most 512', ['--distinct'])
+                   'p:3:1: limit 11, different facts, with those of types, complements and unequal objects: 552, and at most 512, '
+                   'and from version 2 on 1024', ['--distinct'])
+    yield from row('limit 11 by complements', '(:predicates (p) (q ?x ?y))\n(:action a :parameters (?x ?y) :precondition (not (q ?x ?y)))',
+                   f'(:objects {many("o{}", 24)})' + goal,
+                   'p:3:1: limit 11, different facts, with those of types, complements and unequal objects: 576, and at most 512, '
+                   'and from version 2 on 1024')
+    yield from row('limit 16 of version 3', '(:predicates (p))', goal, 'from-pddl: limit 16, nodes: 1000001, and 1 to 1000000 may be given',
+                   ['--script', '3', '--nodes', '1000001'])
     yield from row('limit 12', f'(:predicates {many("(q{})", 17)})', f'(:init) (:goal (and {many("(q{})", 17)}))',
                    'p:2:9: limit 12, atoms of a goal: 17, and at most 16')
     yield from row('limit 16', '(:predicates (p))', goal, 'from-pddl: limit 16, nodes: 50001, and 1 to 50000 may be given',

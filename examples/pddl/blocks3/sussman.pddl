@@ -1,0 +1,5 @@
+(define (problem sussman)
+  (:domain blocks-three)
+  (:objects a b c)
+  (:init (on c a) (on-table a) (on-table b) (clear c) (clear b))
+  (:goal (and (on a b) (on b c))))

@@ -1,0 +1,5 @@
+(define (problem get-paid)
+  (:domain briefcase-world)
+  (:objects home office - place dictionary paycheck - thing)
+  (:init (case-at home) (at dictionary home) (at paycheck home) (in paycheck))
+  (:goal (and (at paycheck home) (at dictionary office) (case-at home))))

@@ -1,0 +1,6 @@
+(define (problem one-child)
+  (:domain child-snack)
+  (:objects child1 - child bread1 - bread-portion content1 - content-portion tray1 - tray table1 - place sandw1 - sandwich)
+  (:init (at tray1 kitchen) (at_kitchen_bread bread1) (at_kitchen_content content1) (no_gluten_bread bread1)
+         (no_gluten_content content1) (allergic_gluten child1) (waiting child1 table1) (notexist sandw1))
+  (:goal (and (served child1))))

@@ -1,0 +1,5 @@
+(define (problem three-cars)
+  (:domain ferry)
+  (:objects north south east - place red blue green - auto)
+  (:init (at-ferry south) (at red north) (at blue north) (at green east) (empty-ferry))
+  (:goal (and (at red south) (at blue east) (at green north))))

@@ -1,0 +1,10 @@
+; Two suits of two cards in two columns.
+(define (problem two-suits)
+  (:domain freecell)
+  (:objects club0 club1 club2 heart0 heart1 heart2 - card club heart - suit n0 n1 n2 - num)
+  (:init (successor n1 n0) (successor n2 n1) (cellspace n1) (colspace n0)
+         (value club0 n0) (value club1 n1) (value club2 n2) (suit club0 club) (suit club1 club) (suit club2 club)
+         (value heart0 n0) (value heart1 n1) (value heart2 n2) (suit heart0 heart) (suit heart1 heart) (suit heart2 heart)
+         (home club0) (home heart0) (canstack club1 heart2) (canstack heart1 club2)
+         (clear heart2) (on heart2 club1) (bottomcol club1) (clear club2) (on club2 heart1) (bottomcol heart1))
+  (:goal (and (home club2) (home heart2))))

@@ -1,0 +1,5 @@
+(define (problem four-balls)
+  (:domain gripper)
+  (:objects kitchen hall - room ball1 ball2 ball3 ball4 - ball left right - gripper)
+  (:init (at-robby kitchen) (at ball1 kitchen) (at ball2 kitchen) (at ball3 kitchen) (at ball4 kitchen) (free left) (free right))
+  (:goal (and (at ball1 hall) (at ball2 hall) (at ball3 hall) (at ball4 hall))))

@@ -1,0 +1,7 @@
+(define (problem three-discs)
+  (:domain hanoi)
+  (:objects d1 d2 d3 peg1 peg2 peg3)
+  (:init (smaller d1 peg1) (smaller d1 peg2) (smaller d1 peg3) (smaller d2 peg1) (smaller d2 peg2) (smaller d2 peg3)
+         (smaller d3 peg1) (smaller d3 peg2) (smaller d3 peg3) (smaller d1 d2) (smaller d1 d3) (smaller d2 d3)
+         (clear peg2) (clear peg3) (clear d1) (on d3 peg1) (on d2 d3) (on d1 d2))
+  (:goal (and (on d3 peg3) (on d2 d3) (on d1 d2))))

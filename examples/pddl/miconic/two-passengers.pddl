@@ -1,0 +1,6 @@
+(define (problem two-passengers)
+  (:domain miconic)
+  (:objects p0 p1 - passenger f0 f1 f2 f3 - floor)
+  (:init (above f0 f1) (above f0 f2) (above f0 f3) (above f1 f2) (above f1 f3) (above f2 f3)
+         (origin p0 f1) (destin p0 f2) (origin p1 f3) (destin p1 f1) (lift-at f0))
+  (:goal (and (served p0) (served p1))))

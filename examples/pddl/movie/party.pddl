@@ -1,0 +1,7 @@
+(define (problem party)
+  (:domain movie-strips)
+  (:objects c1 d1 p1 z1 k1 c2 d2 p2 z2 k2 c3 d3 p3 z3 k3)
+  (:init (chips c1) (dip d1) (pop p1) (cheese z1) (crackers k1) (chips c2) (dip d2) (pop p2) (cheese z2)
+         (crackers k2) (chips c3) (dip d3) (pop p3) (cheese z3) (crackers k3)
+         (counter-at-other-than-two-hours))
+  (:goal (and (movie-rewound) (counter-at-zero) (have-chips) (have-dip) (have-pop) (have-cheese) (have-crackers))))

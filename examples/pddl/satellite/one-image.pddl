@@ -1,0 +1,6 @@
+(define (problem one-image)
+  (:domain satellite)
+  (:objects satellite0 - satellite instrument0 - instrument thermograph0 - mode groundstation star phenomenon - direction)
+  (:init (supports instrument0 thermograph0) (calibration_target instrument0 groundstation) (on_board instrument0 satellite0)
+         (power_avail satellite0) (pointing satellite0 star))
+  (:goal (and (have_image phenomenon thermograph0))))

@@ -1,0 +1,5 @@
+(define (problem one-person)
+  (:domain zeno-travel)
+  (:objects plane1 - aircraft person1 - person city0 city1 - city fl0 fl1 fl2 - flevel)
+  (:init (at plane1 city0) (fuel-level plane1 fl2) (at person1 city0) (next fl0 fl1) (next fl1 fl2))
+  (:goal (and (at person1 city1))))
