@@ -187,7 +187,7 @@ class Strips:
             for choice in choices:
                 product *= len(choice)
             if product > GREATEST_PRODUCT:
-                raise Refused(atom.place, f'limit 11, different facts: {product} may say where this is false; write a predicate of your own')
+                raise Refused(atom.place, f'limit 11, different facts: {product} atoms may be false here, and at most 512')
             for chosen in itertools.product(*choices):
                 values = dict(zip(names, chosen))
                 arguments = tuple(values[name] for name in atom.arguments)
