@@ -126,12 +126,14 @@ def many(form, count):
     return ' '.join(form.format(number) for number in range(count))
 
 
+def row(name, domain, problem, wanted, options=()):
+    """A row of a pair of files that pass a limit."""
+    domain, problem = '(define (domain d)\n' + domain + ')\n', '(define (problem one) (:domain d)\n' + problem + ')\n'
+    yield name, domain, problem, options, wanted + (LIMITS if re.match(r'\w+:\d', wanted) and ': limit ' in wanted else '')
+
+
 def limits():
     """A pair of files for each limit that a translation can pass, each by one."""
-    def row(name, domain, problem, wanted, options=()):
-        yield name, '(define (domain d)\n' + domain + ')\n', '(define (problem one) (:domain d)\n' + problem + ')\n', options, (
-            wanted + (LIMITS if re.match(r'\w+:\d', wanted) and ': limit ' in wanted else ''))
-
     goal = '\n(:init) (:goal (p))'
     yield from row('limit 1', f'(:predicates (p) ({"q" * 65}))', goal,
                    f'd:2:19: limit 1, bytes of a name ({"q" * 65}): 65, and at most 64')
@@ -152,6 +154,11 @@ def limits():
     for part, word, form in (('precondition', 'pre', '(q{})'), ('effect', 'add', '(q{})'), ('effect', 'delete', '(not (q{}))')):
         yield from row(f'limit 10, {word}', f'(:predicates (p) {many("(q{})", 17)})\n(:action a :{part} (and {many(form, 17)}))',
                        goal, f'd:3:10: limit 10, atoms of a list ({word} of a): 17, and at most 16')
+
+
+def limits_of_facts():
+    """The like for facts, goals and nodes, and for two limits at once."""
+    goal = '\n(:init) (:goal (p))'
     yield from row('limit 11', '(:predicates (p) (q ?x ?y ?z))', f'(:objects {many("o{}", 8)}) (:goal (p))\n(:init (p) '
                    + ' '.join(f'(q o{n // 64} o{n // 8 % 8} o{n % 8})' for n in range(512)) + ')',
                    'p:3:1: limit 11, different facts: 513, and at most 512, and from version 2 on 1024')
@@ -180,3 +187,4 @@ def rows():
     """Name, domain, problem, options and the messages of each row."""
     yield from edited()
     yield from limits()
+    yield from limits_of_facts()
