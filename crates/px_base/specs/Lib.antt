@@ -1,5 +1,6 @@
 -- The files of definitions and laws.
 pub mod Answers
+pub mod Bounds
 pub mod Counting
 pub mod formers
 pub mod ListLaws

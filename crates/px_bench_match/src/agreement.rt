@@ -5,7 +5,7 @@ ghost use Rattle.px_table.specs.Tables.{IsTable};
 
 use crate::cases::Case;
 use crate::dice::Dice;
-use crate::drawing::{Letters, draw_changes, draw_problem, draw_table};
+use crate::drawing::{Letters, draw_changes, draw_problem, draw_sorts, draw_table};
 use crate::plain::slow_best;
 use crate::sensing::{ROOM, sense};
 use crate::walking::change;
@@ -156,8 +156,11 @@ fn compare_bound(
 fn agree_of(alloc: Global, seed: u64, tally: &mut Tally) -> Result<(), NoMemory> {
     let mut dice = Dice::new(seed);
     let objects = 1 + dice.roll(3);
-    let problem = draw_problem(alloc, &mut dice, objects)?;
-    let table = draw_table(alloc, &mut dice, &problem)?;
+    let mut problem = draw_problem(alloc, &mut dice, objects)?;
+    let mut table = draw_table(alloc, &mut dice, &problem)?;
+    problem.sorts = 2;
+    problem.object_sorts = draw_sorts(alloc, &mut dice, objects)?;
+    table.param_sorts = draw_sorts(alloc, &mut dice, table.params)?;
     if !is_valid(&problem) || !check_table(&problem, &table) {
         return Ok(());
     }

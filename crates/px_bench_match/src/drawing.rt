@@ -3,6 +3,7 @@ ghost use Rattle.std.specs.Prelude.{◌≡◌, ◌≤◌, IfOk};
 
 use crate::dice::Dice;
 use crate::tables::table_of;
+use crate::walking::LIMITS;
 use px_base::Sequence;
 use px_proof::{Leaf, Proof};
 use px_table::{Row, Table};
@@ -100,13 +101,10 @@ fn draw_schema(alloc: Global, dice: &mut Dice, op: u32, objects: u32) -> Result<
         is_wild: true,
         ..plain
     };
-    Ok(Schema {
-        op,
-        params,
-        pre: Sequence::from_vec(draw_atoms(alloc, dice, plain, 2)?),
-        del: Sequence::from_vec(draw_atoms(alloc, dice, wild, 1)?),
-        add: Sequence::from_vec(draw_atoms(alloc, dice, plain, 2)?),
-    })
+    let pre = draw_atoms(alloc, dice, plain, 2)?;
+    let del = draw_atoms(alloc, dice, wild, 1)?;
+    let add = draw_atoms(alloc, dice, plain, 2)?;
+    Schema::without_sorts(alloc, op, params, &pre, &del, &add)
 }
 
 /// Draws a problem of this number of objects and three operators.
@@ -118,15 +116,18 @@ pub fn draw_problem(alloc: Global, dice: &mut Dice, objects: u32) -> Result<Prob
     for op in 0..3u32 {
         schemas.push(draw_schema(alloc, dice, op, objects)?)?;
     }
-    Ok(Problem {
-        objects,
-        arities: Sequence::from_slice(alloc, &[2u8, 1, 1, 0])?,
-        axioms: ClauseArena::new(alloc),
-        schemas: Sequence::from_vec(schemas),
-        height: 8,
-        nodes: 100,
-        shapes: 100,
-    })
+    let schemas = Sequence::from_vec(schemas);
+    let axioms = ClauseArena::new(alloc);
+    Problem::without_sorts(alloc, objects, &[2, 1, 1, 0], axioms, schemas, LIMITS)
+}
+
+/// Draws `count` sorts, of which there are two, or none.
+pub fn draw_sorts(alloc: Global, dice: &mut Dice, count: u32) -> Result<Sequence<u32>, NoMemory> {
+    let mut sorts = Vec::new(alloc);
+    for _place in 0..count {
+        sorts.push(dice.roll(4).saturating_sub(1))?;
+    }
+    Ok(Sequence::from_vec(sorts))
 }
 
 /// Returns the fact that the atom is: one of those given, or there at first.

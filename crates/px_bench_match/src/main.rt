@@ -13,7 +13,7 @@
 //! - `sensings`: the same, and a hundred sensings more, before each of which one atom changes. The answer is how many of these find
 //!   a kernel.
 //! - `agree FROM COUNT`: the matcher beside a plain one that tries all lists of objects in order, over COUNT small random tables
-//!   from that seed on, each with twelve models. The answer is how often both said the same, and how often there was a kernel.
+//!   with sorts from that seed on, each with twelve models. The answer is how often both said the same, and how often there was a kernel.
 //! - `agree NAME`: the same over one table of `cases`, with all its atoms, after each of them went, and after each came back:
 //!   `merged` (a parameter twice in a mark, and in several), `wild` (a step that deletes by the wild card), `objects` (objects in
 //!   marks), `free` (parameters in no mark, one of them bound), `bare` (a kernel without marks).

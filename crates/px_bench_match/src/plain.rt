@@ -113,6 +113,20 @@ fn extends(bind: &[(u32, u32)], objects: &[u32]) -> bool {
     true
 }
 
+/// Returns whether each object has the sort of its parameter, where that has one.
+fn have_sorts(problem: &Problem, table: &Table, objects: &[u32]) -> bool {
+    let sorts = problem.object_sorts.as_slice();
+    for (at, object) in objects.iter().enumerate() {
+        if let Some(wanted) = table.param_sorts.as_slice().get(at)
+            && *wanted > 0
+            && sorts.get(*object as usize) != Some(wanted)
+        {
+            return false;
+        }
+    }
+    true
+}
+
 /// Goes on to the next list of objects up to the last one; returns false after the last list.
 fn step(objects: &mut [u32], last: u32) -> bool {
     for at in (0..objects.len()).rev() {
@@ -138,6 +152,7 @@ fn finds(
     for _turn in 0..1_000_000u32 {
         if extends(bind, objects)
             && holds(table, number, objects, model.atoms())
+            && have_sorts(problem, table, objects)
             && is_proper(problem, table, number, objects)
         {
             return true;

@@ -65,14 +65,15 @@ pub fn table_of(
     } else {
         Sequence::from_vec(Vec::new(alloc))
     };
-    Ok(Table {
+    Table::without_sorts(
+        alloc,
         params,
-        steps: Sequence::from_vec(steps),
+        Sequence::from_vec(steps),
         goal,
-        goal_vars: 0,
-        marks: found,
-        proofs: Sequence::from_vec(rows),
-    })
+        0,
+        found,
+        Sequence::from_vec(rows),
+    )
 }
 
 /// Returns the table of twelve pairs of 24 parameters.

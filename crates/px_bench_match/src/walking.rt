@@ -2,8 +2,15 @@
 
 use px_base::Sequence;
 use px_ops::Model;
-use px_terms::{Atom, ClauseArena, NoMemory, Problem, Schema, Term, is_ground};
+use px_terms::{Atom, ClauseArena, Limits, NoMemory, Problem, Schema, Term, is_ground};
 use std::alloc::Global;
+
+/// The limits of all problems of this program.
+pub const LIMITS: Limits = Limits {
+    height: 8,
+    nodes: 100,
+    shapes: 100,
+};
 
 /// Each object is followed by the next one.
 const NEXT: u32 = 0;
@@ -62,35 +69,24 @@ const Y: Term = Term::Var(1);
 
 /// Returns SPOIL(x), which needs GIVEN(x), deletes WANTED(x) and adds SPOILED(x).
 fn spoil(alloc: Global) -> Result<Schema, NoMemory> {
-    Ok(Schema {
-        op: SPOIL,
-        params: 1,
-        pre: Sequence::from_slice(alloc, &[given(X)])?,
-        del: Sequence::from_slice(alloc, &[wanted(X)])?,
-        add: Sequence::from_slice(alloc, &[spoiled(X)])?,
-    })
+    Schema::without_sorts(alloc, SPOIL, 1, &[given(X)], &[wanted(X)], &[spoiled(X)])
 }
 
 /// Returns WALK(x,y), which needs AT(x) and NEXT(x,y), deletes AT(x) and adds AT(y).
 fn walk(alloc: Global) -> Result<Schema, NoMemory> {
-    Ok(Schema {
-        op: WALK,
-        params: 2,
-        pre: Sequence::from_slice(alloc, &[at(X), next(X, Y)])?,
-        del: Sequence::from_slice(alloc, &[at(X)])?,
-        add: Sequence::from_slice(alloc, &[at(Y)])?,
-    })
+    Schema::without_sorts(alloc, WALK, 2, &[at(X), next(X, Y)], &[at(X)], &[at(Y)])
 }
 
 /// Returns LOSE(x), which needs GIVEN(x), deletes NEXT(x,$) and adds SPOILED(x).
 fn lose(alloc: Global) -> Result<Schema, NoMemory> {
-    Ok(Schema {
-        op: LOSE,
-        params: 1,
-        pre: Sequence::from_slice(alloc, &[given(X)])?,
-        del: Sequence::from_slice(alloc, &[next(X, Term::Any)])?,
-        add: Sequence::from_slice(alloc, &[spoiled(X)])?,
-    })
+    Schema::without_sorts(
+        alloc,
+        LOSE,
+        1,
+        &[given(X)],
+        &[next(X, Term::Any)],
+        &[spoiled(X)],
+    )
 }
 
 /// Returns the problem of this number of objects, these relations and these operators.
@@ -99,15 +95,16 @@ pub fn problem_of(alloc: Global, objects: u32) -> Result<Problem, NoMemory> {
     schemas.push(spoil(alloc)?)?;
     schemas.push(walk(alloc)?)?;
     schemas.push(lose(alloc)?)?;
-    Ok(Problem {
+    let schemas = Sequence::from_vec(schemas);
+    let axioms = ClauseArena::new(alloc);
+    Problem::without_sorts(
+        alloc,
         objects,
-        arities: Sequence::from_slice(alloc, &[2u8, 2, 2, 1, 1, 1, 1])?,
-        axioms: ClauseArena::new(alloc),
-        schemas: Sequence::from_vec(schemas),
-        height: 8,
-        nodes: 100,
-        shapes: 100,
-    })
+        &[2, 2, 2, 1, 1, 1, 1],
+        axioms,
+        schemas,
+        LIMITS,
+    )
 }
 
 /// Takes the atom from the model, or puts it in where it isn't there.

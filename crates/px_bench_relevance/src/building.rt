@@ -2,7 +2,7 @@
 
 use px_base::Sequence;
 use px_ops::Model;
-use px_terms::{Atom, ClauseArena, NoMemory, Problem, Schema, Term, is_ground};
+use px_terms::{Atom, ClauseArena, Limits, NoMemory, Problem, Schema, Term, is_ground};
 use std::alloc::Global;
 
 const INROOM: u32 = 0;
@@ -29,25 +29,6 @@ const X: Term = Term::Var(2);
 
 const Y: Term = Term::Var(3);
 
-// As in `px_rooms`, which has this function for its own operators, with a contract.
-/// Returns the operator of that number.
-pub fn schema_of(
-    alloc: Global,
-    op: u32,
-    params: u32,
-    pre: &[Atom],
-    del: &[Atom],
-    add: &[Atom],
-) -> Result<Schema, NoMemory> {
-    Ok(Schema {
-        op,
-        params,
-        pre: Sequence::from_slice(alloc, pre)?,
-        del: Sequence::from_slice(alloc, del)?,
-        add: Sequence::from_slice(alloc, add)?,
-    })
-}
-
 /// Returns the problem of these objects, predicates, axioms and operators, with limits that no benchmark meets.
 pub fn problem_of(
     alloc: Global,
@@ -56,15 +37,13 @@ pub fn problem_of(
     axioms: ClauseArena,
     schemas: Vec<Schema>,
 ) -> Result<Problem, NoMemory> {
-    Ok(Problem {
-        objects,
-        arities: Sequence::from_slice(alloc, arities)?,
-        axioms,
-        schemas: Sequence::from_vec(schemas),
+    let limits = Limits {
         height: 4,
         nodes: 10000,
         shapes: 10000,
-    })
+    };
+    let schemas = Sequence::from_vec(schemas);
+    Problem::without_sorts(alloc, objects, arities, axioms, schemas, limits)
 }
 
 // The parameters of both operators are a box, a door, and the rooms before and behind it.
@@ -85,7 +64,7 @@ fn push_through(alloc: Global, op: u32) -> Result<Schema, NoMemory> {
         Atom::of(NEXTTO, &[B, Term::Any]),
     ];
     let add = [Atom::of(INROOM, &[ROBOT, Y]), Atom::of(INROOM, &[B, Y])];
-    schema_of(alloc, op, 4, &pre, &del, &add)
+    Schema::without_sorts(alloc, op, 4, &pre, &del, &add)
 }
 
 /// Returns the operator of pushing a box to a door.
@@ -98,7 +77,7 @@ fn push_to_door(alloc: Global, op: u32) -> Result<Schema, NoMemory> {
     ];
     let del = [Atom::of(NEXTTO, &[B, Term::Any])];
     let add = [Atom::of(NEXTTO, &[B, D])];
-    schema_of(alloc, op, 4, &pre, &del, &add)
+    Schema::without_sorts(alloc, op, 4, &pre, &del, &add)
 }
 
 pub fn building(alloc: Global) -> Result<Problem, NoMemory> {

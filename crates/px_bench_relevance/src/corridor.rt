@@ -2,7 +2,7 @@
 //! from one room to the next, and has a key; the last door has two. A learned table has the robot go through twelve doors.
 ghost use Rattle.std.specs.Prelude.{◌≤◌, length};
 
-use crate::building::{insert, problem_of, schema_of};
+use crate::building::{insert, problem_of};
 use px_base::Sequence;
 use px_ops::Model;
 use px_proof::{Leaf, Proof};
@@ -43,7 +43,7 @@ fn pass(alloc: Global) -> Result<Schema, NoMemory> {
         Atom::of(CONNECTS, &[door, from, to]),
         Atom::of(KEY, &[key, door]),
     ];
-    schema_of(alloc, 0, 4, &pre, &[robot_in(Term::Any)], &[robot_in(to)])
+    Schema::without_sorts(alloc, 0, 4, &pre, &[robot_in(Term::Any)], &[robot_in(to)])
 }
 
 pub fn corridor(alloc: Global) -> Result<Problem, NoMemory> {
@@ -147,12 +147,13 @@ pub fn long_way(alloc: Global) -> Result<Table, NoMemory> {
     ];
     let leaves = [leaf(DOORS, goal[0]), leaf(0, goal[1])];
     put_row(alloc, &mut rows, &mut marks, DOORS + 1, &leaves)?;
-    Ok(Table {
-        params: 39,
-        steps: Sequence::from_vec(steps),
-        goal: Sequence::from_slice(alloc, &goal)?,
-        goal_vars: 0,
-        marks: Sequence::from_vec(marks),
-        proofs: Sequence::from_vec(rows),
-    })
+    Table::without_sorts(
+        alloc,
+        39,
+        Sequence::from_vec(steps),
+        Sequence::from_slice(alloc, &goal)?,
+        0,
+        Sequence::from_vec(marks),
+        Sequence::from_vec(rows),
+    )
 }

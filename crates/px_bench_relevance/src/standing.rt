@@ -1,6 +1,6 @@
 //! What stands on what. An operator puts one thing on another, a second one does so where the lower thing stands on a third
 //! one, and an axiom says that standing on is transitive.
-use crate::building::{problem_of, schema_of};
+use crate::building::problem_of;
 use px_terms::{Atom, ClauseArena, Lit, NoMemory, Problem, Schema, Term, are_plain_below};
 use std::alloc::Global;
 
@@ -44,7 +44,7 @@ fn transitive(alloc: Global) -> Result<ClauseArena, NoMemory> {
 
 /// Returns the operator of that number, which puts one thing on another.
 fn put_on(alloc: Global, op: u32, params: u32, pre: &[Atom]) -> Result<Schema, NoMemory> {
-    schema_of(alloc, op, params, pre, &[], &[Atom::of(ON, &[X, Y])])
+    Schema::without_sorts(alloc, op, params, pre, &[], &[Atom::of(ON, &[X, Y])])
 }
 
 /// Returns the problem of this number of things.

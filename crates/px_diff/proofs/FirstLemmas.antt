@@ -117,7 +117,8 @@ module _ (problem : Problem) (tables : List Table) (wanted : List Atom) (stack :
 
       others : (entry : Entry) → Pushable entry → Answer entry
       others (Op inst) p =
-          elim (b.others inst (covers.all inst p.relevant.is_entry (operator_adds problem tables wanted stack model inst p.relevant)) p) [
+          let adds_one = operator_adds problem tables wanted stack model inst p.relevant in
+          elim (b.others inst (covers.all inst p.relevant.is_entry.of adds_one) p) [
             | inl there ↦ inl (Contains-mapped Op found inst there)
             | inr later ↦ inr (after-all (Op inst) (λ other has. All-at (λ (e : OpInst). instance_cmp e inst ≡ Less) found other later has))
           ]

@@ -11,6 +11,7 @@ mod RowAnswerLemmas
 mod RowSplitting
 mod FittingLemmas
 mod GatherLemmas
+mod SortedLemmas
 mod WholeLemmas
 mod FirstOrder
 mod FirstLemmas

@@ -17,7 +17,6 @@ use Rattle.px_terms.specs.declared.atom.Atom.{Atom}
 use Rattle.px_terms.specs.declared.instance.OpInst.{OpInst}
 use Rattle.px_terms.specs.declared.problem.Problem.{Problem}
 use Rattle.px_terms.specs.declared.problem.Schema.{Schema}
-use Rattle.px_proof.specs.Derivation.{height}
 use Rattle.px_proof.specs.Literals.{positive_of}
 use Rattle.px_proof.specs.PlaceLaws.{Contains-mapped}
 use Rattle.px_question.specs.Settings.{Setting, setting_of}

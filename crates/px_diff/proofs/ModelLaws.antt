@@ -129,7 +129,7 @@ module _ (problem : Problem) (valid : IsValid problem) where
       → IsOpen problem (obligations_of problem tables facts entry) → IsOpen problem (obligations_of problem tables others entry)
   entry-alike tables facts others (Op inst) learned alike is_entry is_open =
       open_one problem others inst (open-alike (precondition problem inst) facts others
-      (precondition-is_of problem inst valid is_entry) alike (one_open problem facts inst is_open))
+      (precondition-is_of problem inst valid is_entry.of) alike (one_open problem facts inst is_open))
   entry-alike tables facts others (Macro number prefix sigma) learned alike (table, at, m) is_open =
       let same = sym (table_is tables number table at) in
       rows-alike (table_at tables number) prefix sigma

@@ -270,20 +270,28 @@ module _ (problem : Problem) (valid : IsValid problem) (model : List Atom) (part
 -- ---- from choices of objects to instances
 
 module _ (problem : Problem) (partial : PartialInstance) (lists : List GapList) (provable : List Atom) (choices : List (List ℕ))
-    (choices_are : (objects : List ℕ) → Contains choices objects ↔ IsChosenIn lists provable objects) where
-  pub chosen-for : ((list : GapList) → Contains lists list → Fills problem partial (instance_by partial list.objects) list.objects)
-      → All (AreObjectsFor problem partial) choices
-  chosen-for fills = All-each (AreObjectsFor problem partial) choices (λ objects has.
-      let one = (choices_are objects).0 has in
-      let here = fills one.0 one.1 in
-      subst (AreObjectsFor problem partial) one.2.0 (record { count = here.count; below = here.below }))
+    (Fits : List ℕ → Type 0)
+    (choices_are : (objects : List ℕ) → Contains choices objects ↔ (IsChosenIn lists provable objects × Fits objects))
+    (fills : (list : GapList) → Contains lists list → Fills problem partial (instance_by partial list.objects) list.objects) where
+  for-list : (list : GapList) → Contains lists list → AreObjectsFor problem partial list.objects
+  for-list list has = let here = fills list has in record { count = here.count; below = here.below }
 
-  pub chosen-open : (IsWanted : OpInst → Type 0) (inst : OpInst)
-      → OneOf choices (λ objects. (instance_by partial objects ≡ inst) × IsWanted inst)
+  pub chosen-for : All (AreObjectsFor problem partial) choices
+  chosen-for = All-each (AreObjectsFor problem partial) choices (λ objects has.
+      let one = ((choices_are objects).0 has).0 in
+      subst (AreObjectsFor problem partial) one.2.0 (for-list one.0 one.1))
+
+  -- objects whose instance is wanted fit
+  pub chosen-open : (IsWanted : OpInst → Type 0)
+      → ((objects : List ℕ) → AreObjectsFor problem partial objects → IsWanted (instance_by partial objects) → Fits objects)
+      → (inst : OpInst) → OneOf choices (λ objects. (instance_by partial objects ≡ inst) × IsWanted inst)
       ↔ (IsOpenIn partial lists provable inst × IsWanted inst)
-  chosen-open IsWanted inst = (
+  chosen-open IsWanted fit inst = (
     λ one.
-        let list = (choices_are one.0).0 one.1 in
+        let list = ((choices_are one.0).0 one.1).0 in
         ((list.0, list.1, (ap (instance_by partial) list.2.0 ∙ one.2.0, list.2.1)), one.2.1),
-    λ h. (h.0.0.objects, (choices_are h.0.0.objects).1 (h.0.0, h.0.1, (refl, h.0.2.1)), (h.0.2.0, h.1)),
+    λ h.
+        let list = h.0.0 in
+        let fits = fit list.objects (for-list list h.0.1) (subst IsWanted (sym h.0.2.0) h.1) in
+        (list.objects, (choices_are list.objects).1 ((list, h.0.1, (refl, h.0.2.1)), fits), (h.0.2.0, h.1)),
   )

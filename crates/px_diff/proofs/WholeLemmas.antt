@@ -50,11 +50,11 @@ module _ (problem : Problem) (tables : List Table) (wanted : List Atom) (stack :
     all = λ entry (inst, same) p.
         let here = subst (IsPushable problem tables wanted stack model) (sym same) p in
         subst (Contains (map Op found)) same (Contains-mapped Op found inst
-        (gathers.all inst (covers.all inst here.relevant.is_entry (operator_adds inst here.relevant)) here));
+        (gathers.all inst (covers.all inst here.relevant.is_entry.of (operator_adds inst here.relevant)) here));
     unlimited = λ entry (inst, same) relevant.
         let here = subst (IsRelevant problem tables wanted stack) (sym same) relevant in
         subst (λ (e : Entry). AreUnlimited problem (obligations_of problem tables model e)) same
-        (gathers.unlimited inst (covers.all inst here.is_entry (operator_adds inst here)) here);
+        (gathers.unlimited inst (covers.all inst here.is_entry.of (operator_adds inst here)) here);
   }
 
   pub either : (entry : Entry) → IsOperatorEntry entry ⊎ IsMacroEntry entry

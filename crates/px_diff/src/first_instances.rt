@@ -21,6 +21,7 @@ fn least_of(problem: &Problem, partial: &PartialInstance) -> OpInst
     requires partial { IsPartialInstance problem.now partial.now }
     ensures { (full : InstanceValue) → StandsFor problem.now partial.now full → IsNotAfter result full }
 {
+    // what stands behind a reference is known to be in range once it is read
     let _objects = problem.objects;
     filled(partial, &[0; 8][..partial.vars as usize])
 }

@@ -106,6 +106,7 @@ pub fn relevant_first(
     ensures others { IfOk result (λ first. (entry : EntryValue) → IsPushable problem.now tables.now wanted.now [] model.now.atoms entry
         → Contains first.entries.items entry ⊎ All (λ kept. order_of_entries kept entry ≡ Less) first.entries.items) }
 {
+    // `atoms` says that these are a model, ascending and each once, on which the proof of what follows rests
     let _facts = model.atoms();
     let mut asker = Asker::new(alloc);
     let request = Request {

@@ -5,7 +5,8 @@
 //! - [`relevant`] takes wanted atoms, as `gaps` of `px_gaps` gives them, the entries that are on the stack, a world model, and
 //!   the learned tables. It returns the entries that may be pushed, in order, each once: those that aren't on the stack, add a
 //!   wanted atom, and are open, which is to say that each formula that they need has an answer or a gap. An entry is an instance
-//!   of an operator, or a MACROP of a table. The tables have to be learned ones, as for `known_entry` of `px_entries`.
+//!   of an operator, whose objects fit its parameters, or a MACROP of a table. The tables have to be learned ones, as for
+//!   `known_entry` of `px_entries`.
 //! - It has a valid problem as its condition. It stops with `AskErr::ShapeLimit` of `px_gaps` where a question meets the shape
 //!   limit. This error has the formula at which it does, which is the question's own or one atom that a gap would close, and the first
 //!   shapes. `relevant` asks, of each entry that isn't on the stack and adds a wanted atom, whether each formula that it needs has
@@ -33,6 +34,10 @@
 //! the question is therefore only about the other atoms of the precondition (`rest`). Else it is about the whole precondition.
 //! Where it meets the limit, the first variable is bound to each object in turn, and each of these narrower matches is asked in
 //! the same way. That ends where a question answers, or where no variable is left.
+//!
+//! Where an object stands at a place of another sort, nothing is asked, and where an object is chosen for a variable or a parameter, those
+//! of another sort are passed over (`sorted`). A question with variables may range over such objects; where it meets the limit it answers
+//! nothing, and in the end only instances are asked about that fit.
 //!
 //! Then it matches what the steps of each table add with the wanted atoms (`macro_matches` of `px_entries`), for each number of
 //! first steps. One question of gaps is asked for each row, from the whole model (`row_questions`). A MACROP's row is proved
@@ -64,6 +69,7 @@ mod request;
 mod rest;
 mod row_choices;
 mod row_questions;
+mod sorted;
 
 pub use first::First;
 pub use firsts::relevant_first;

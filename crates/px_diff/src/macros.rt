@@ -21,6 +21,7 @@ use crate::relevance::is_stacked;
 use crate::request::Request;
 use crate::row_choices::TableChoices;
 use crate::row_questions::choices_of_rows;
+use crate::sorted::{parameter_sort, steps_may_fit};
 use px_base::push;
 use px_entries::{
     add_wanted, first_terms, first_unbound, known_entry, macro_matches, merged, objects_of,
@@ -28,7 +29,7 @@ use px_entries::{
 };
 use px_gaps::{AskErr, Asker, Known, bound, unbound};
 use px_table::{Entry, Table, is_macro};
-use px_terms::{Atom, NoMemory, OpInst, Problem, Sequence, Term};
+use px_terms::{Atom, NoMemory, OpInst, Problem, Sequence, Term, fits_sort};
 use std::alloc::Global;
 
 /// Returns the entry of the first steps with these objects.
@@ -102,6 +103,7 @@ fn keep_relevant(
     if !front.facts_suffice {
         return keep_known(found, front, entry);
     }
+    // `atoms` says that these are a model, ascending and each once, on which the proof of what follows rests
     let _facts = front.request.model.atoms();
     match are_settled_marks(front, sigma)? {
         Some(true) => {
@@ -132,7 +134,7 @@ fn keep_open(found: &mut Vec<Entry>, front: &Front, sigma: &[u32]) -> Result<(),
 }
 
 /// Adds those of the entries of the first steps, with the objects that are chosen, that may be pushed. Each recursive call has one
-/// parameter without an object less.
+/// parameter without an object less. An object of another sort than its places have is passed over.
 fn keep_all(found: &mut Vec<Entry>, front: &Front, terms: &[Term]) -> Result<(), AskErr>
     requires front { IsMacroFront front.now }
     requires binding { IsBinding front.now.request.problem.now.objects terms.now }
@@ -140,6 +142,9 @@ fn keep_all(found: &mut Vec<Entry>, front: &Front, terms: &[Term]) -> Result<(),
         (IsMacroBy front.now.request.problem.now.objects front.now.number front.now.count terms.now) found.old.items found.new.items) }
     ensures limited { IfLimit result (LimitsFor front.now.request) }
 {
+    if !steps_may_fit(front, terms) {
+        return Ok(());
+    }
     let parameter = match first_unbound(terms) {
         Some(parameter) => parameter,
         None => {
@@ -147,7 +152,12 @@ fn keep_all(found: &mut Vec<Entry>, front: &Front, terms: &[Term]) -> Result<(),
             return keep_open(found, front, sigma.as_slice());
         }
     };
-    for object in 0..front.request.problem.objects {
+    let problem = front.request.problem;
+    let sort = parameter_sort(front, parameter);
+    for object in 0..problem.objects {
+        if !fits_sort(problem.object_sorts.as_slice(), sort, object) {
+            continue;
+        }
         let next = bound(front.alloc, terms, parameter, object)?;
         keep_all(found, front, &next)?;
     }

@@ -28,9 +28,10 @@ use crate::measured::Measured;
 use crate::relevance::is_relevant;
 use crate::request::Request;
 use crate::rest::rest_answer;
+use crate::sorted::{may_fit, variable_sorts};
 use px_base::push;
 use px_entries::{PartialInstance, bound_instance, filled, matches_of};
-use px_gaps::{AskErr, Asker, Bounds, GapAnswer, ask_gaps, choices_of};
+use px_gaps::{AskErr, Asker, Bounds, GapAnswer, Sorting, ask_gaps, choices_of};
 use px_ops::{Model, precondition_of};
 use px_prover::ProveErr;
 use px_table::{Entry, Table};
@@ -127,14 +128,20 @@ fn keep_open(
         ↔ (Contains found.old.items inst ⊎ (IsOpenIn partial.now (lists_of request.now.problem.now.objects answer.now.patterns.items)
         answer.now.provable.atoms inst × IsRelevantFor request.now inst))) }
 {
-    let limit = request.problem.objects;
-    let choices = choices_of(alloc, limit, &answer.patterns, &answer.provable)?;
+    let problem = request.problem;
+    let sorts = variable_sorts(problem, partial);
+    let sorting = Sorting {
+        object_sorts: problem.object_sorts.as_slice(),
+        wanted: &sorts,
+    };
+    let limit = problem.objects;
+    let choices = choices_of(alloc, limit, &sorting, &answer.patterns, &answer.provable)?;
     keep_choices(found, request, partial, &choices)
 }
 
 /// Adds the instances that the partial one stands for and that may be pushed: by one question, about the rest of what it needs or about
 /// all of it, where this decides all of them, else in the same way for each object that its first variable may be. Each recursive call has
-/// one variable less.
+/// one variable less. Nothing is asked where an object stands at a place of another sort.
 pub fn gather(
     asker: &mut Asker,
     found: &mut Vec<OpInst>,
@@ -148,7 +155,11 @@ pub fn gather(
     ensures gathers { OnOk result (GathersFor request.now (StandsFor request.now.problem.now partial.now) found.old.items found.new.items) }
     ensures limited { IfLimit result (LimitsFor request.now) }
 {
+    // `atoms` says that these are a model, ascending and each once, on which the proof of what follows rests
     let _facts = request.model.atoms();
+    if !may_fit(request.problem, partial) {
+        return Ok(());
+    }
     let formula = precondition_of(asker.alloc, request.problem, &partial.inst)?;
     match rest_answer(asker, request, bounds, &formula, partial.vars)? {
         Some(answer) => {

@@ -6,7 +6,7 @@ ghost use Rattle.px_diff.specs.Requests.{IsRelevantFor};
 use crate::request::Request;
 use px_entries::add_wanted;
 use px_table::Entry;
-use px_terms::OpInst;
+use px_terms::{OpInst, fits};
 
 /// Returns whether the entry is on the stack.
 pub fn is_stacked(stack: &[Entry], entry: &Entry) -> bool
@@ -15,12 +15,16 @@ pub fn is_stacked(stack: &[Entry], entry: &Entry) -> bool
     stack.contains(entry)
 }
 
-/// Returns whether the instance is relevant: not on the stack, and adding one of the wanted atoms.
+/// Returns whether the instance is relevant: it fits, isn't on the stack, and adds one of the wanted atoms.
 pub fn is_relevant(request: &Request, inst: &OpInst) -> bool
     requires problem { IsValid request.now.problem.now }
     requires inst { IsInstanceOf request.now.problem.now inst.now }
     ensures { IsTrue result ↔ IsRelevantFor request.now inst.now }
 {
+    let does_fit = fits(request.problem, inst);
+    if !does_fit {
+        return false;
+    }
     if is_stacked(request.stack, &Entry::Op(*inst)) {
         return false;
     }

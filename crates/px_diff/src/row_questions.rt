@@ -23,6 +23,7 @@ ghost use Rattle.px_entries.specs.Parameters.{FitsTerms};
 ghost use Rattle.px_diff.specs.RowQuestions.{AreAskedOf, AreInstancesKnown, AreRowsKnown, CanAskRows, FitsOne, IsRowAnswer, IsRowKnown, Widens};
 
 use crate::row_choices::{RowChoices, TableChoices};
+use crate::sorted::row_may_fit;
 use px_base::push;
 use px_entries::{is_initial, merged, row_formula};
 use px_gaps::{Asker, bound, forms_of, open_variable};
@@ -269,7 +270,8 @@ fn ask_choices(
     }
 }
 
-/// Adds what is known of the row with the objects that are chosen: choices for the parameters, and terms at which it meets the limit. Each
+/// Adds what is known of the row with the objects that are chosen: choices for the parameters, and terms at which it meets the limit. Of
+/// an object of another sort than its places have nothing is asked: its terms are kept beside these, and no MACROP comes of them. Each
 /// recursive call has one parameter without an object less.
 fn add_choices(
     asker: &mut Asker,
@@ -285,6 +287,10 @@ fn add_choices(
     ensures known { OnOk result (AreAskedOf (setting_of question.now.problem.now question.now.model.now.atoms) question.now.table.now
         question.now.row (ExtendsTerms question.now.problem.now.objects terms.now) choices.new.items limited.new.items) }
 {
+    if !row_may_fit(question.problem, question.table, question.row, terms) {
+        let kept = Sequence::from_slice(asker.alloc, terms)?;
+        return push(limited, kept);
+    }
     if ask_choices(asker, choices, question, terms)? {
         return Ok(());
     }
@@ -334,6 +340,7 @@ pub fn choices_of_rows(
         found.choices found.limited) }
     ensures facts { IsModel model.now.atoms }
 {
+    // `atoms` says that these are a model, which the contract hands on
     let _known = model.atoms();
     let mut rows = Vec::new(asker.alloc);
     let mut limited_rows = Vec::new(asker.alloc);

@@ -8,7 +8,7 @@ use px_entries::are_learned;
 use px_gaps::{AskErr, gaps};
 use px_ops::Model;
 use px_prover::ProveErr;
-use px_samples::{atom, model_of, o, opening, rooms, v};
+use px_samples::{atom, is_in, model_of, o, opening, rooms, sorted_rooms, v};
 use px_table::Entry;
 use px_terms::{Atom, Problem, is_valid};
 use std::alloc::Global;
@@ -268,4 +268,23 @@ fn gaps_and_pushes_of_a_transitive_axiom(rt: HostRuntime) {
     };
     let found = pushes_of(alloc, &rt, &case);
     assert!(&rt; has_count(&found, 31));
+}
+
+/// Returns what may be pushed for the robot to be in room 3, where only the box can be pushed, and with how many questions.
+fn pushes_in_sorted_rooms(alloc: Global, rt: &impl Abort, more: u8) -> Measured {
+    let problem = sorted_rooms(alloc, more).expect(rt, "memory");
+    let model = opening(alloc).expect(rt, "memory");
+    assert!(rt; is_valid(&problem));
+    assert!(rt; are_learned(&problem, &[]));
+    let found = relevant_measured(alloc, &problem, &[is_in(o(0), o(3))], &[], &model, &[]);
+    found.ok().expect(rt, "an answer")
+}
+
+/// Objects that don't fit cost no question.
+#[test]
+fn objects_that_do_not_fit_are_not_asked_about(rt: HostRuntime) {
+    let few = pushes_in_sorted_rooms(rt.alloc(), &rt, 0);
+    let many = pushes_in_sorted_rooms(rt.alloc(), &rt, 193);
+    assert!(&rt; few.entries.len() == 2 && many.entries.as_slice() == few.entries.as_slice());
+    assert!(&rt; many.questions == few.questions);
 }

@@ -75,14 +75,16 @@ fn table_of(
     rows: Rows,
 ) -> Table {
     let Rows { proofs, marks } = rows;
-    Table {
+    let table = Table::without_sorts(
+        alloc,
         params,
-        steps: Sequence::from_slice(alloc, steps).expect(rt, "memory"),
-        goal: Sequence::from_slice(alloc, goal).expect(rt, "memory"),
+        Sequence::from_slice(alloc, steps).expect(rt, "memory"),
+        Sequence::from_slice(alloc, goal).expect(rt, "memory"),
         goal_vars,
-        marks: Sequence::from_vec(marks),
-        proofs: Sequence::from_vec(proofs),
-    }
+        Sequence::from_vec(marks),
+        Sequence::from_vec(proofs),
+    );
+    table.expect(rt, "memory")
 }
 
 /// Returns the table of both operators one after the other: the second row needs atom 1, given at first, and atom 2, which the first step

@@ -6,3 +6,4 @@ pub mod Exclusion
 pub mod ByStop
 pub mod MadeOne
 pub mod Smallest
+pub mod Operators

@@ -233,4 +233,13 @@ tables_are_one task moves one other is is_other =
     let goal_vars = is.goal_vars ∙ sym is_other.goal_vars in
     let marks = is.marks ∙ ap (marks_from 1) rows ∙ sym is_other.marks in
     let proofs = proofs-one one.proofs other.proofs rows in
-    λ i. record { params = params i; steps = steps i; goal = goal i; goal_vars = goal_vars i; marks = marks i; proofs = proofs i }
+    let sorts = is.param_sorts ∙ sym is_other.param_sorts in
+    λ i. record {
+      params = params i;
+      steps = steps i;
+      goal = goal i;
+      goal_vars = goal_vars i;
+      marks = marks i;
+      proofs = proofs i;
+      param_sorts = sorts i;
+    }

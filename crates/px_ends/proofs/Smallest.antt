@@ -1,4 +1,4 @@
--- What the smallest searches come to.
+-- What the smallest searches come to that push nothing, and what is asked about at most one atom.
 use Rattle.std.specs.Prelude.{◌≡◌, ◌⊎◌, ◌<◌, ◌≤◌, ℕ, Some, List, [], ◌∷◌, ◌++◌, slice_get, Contains}
 use Rattle.std.proofs.Common.{zero, suc, refl, sym, ap, ◌∙◌, subst, inl, inr, arith}
 use Rattle.std.proofs.lemmas.List.Elements.{All-nil}
@@ -6,6 +6,7 @@ use Rattle.px_base.specs.ListLaws.{Contains-first, Contains-none, Contains-one}
 use Rattle.px_terms.specs.declared.atom.Atom.{Atom}
 use Rattle.px_terms.specs.declared.instance.OpInst.{OpInst}
 use Rattle.px_terms.specs.declared.problem.Problem.{Problem}
+use Rattle.px_terms.specs.declared.problem.Schema.{Schema}
 use Rattle.px_terms.specs.MergedNamesLaws.{one}
 use Rattle.px_proof.specs.declared.proof.Leaf.{Leaf}
 use Rattle.px_proof.specs.declared.shape.Tick.{Tick}
@@ -14,25 +15,20 @@ use Rattle.px_proof.specs.Derivation.{Derivation, Derivations, fact, ancestor, s
 use Rattle.px_proof.specs.LayerLaws.{derivation_of-fact}
 use Rattle.px_proof.specs.Proves.{Rules}
 use Rattle.px_proof.specs.Shapes.{IsUnfinished, ShapeBefore, ticks_of}
-use Rattle.px_question.specs.Answers.{AtMost, IsFirst, IsList, all_choices_of}
-use Rattle.px_question.specs.Gaps.{IsLooseGap}
-use Rattle.px_question.specs.Limits.{AreFewGapShapes, AreFewShapes, AreFewerThan, IsPartialShape}
-use Rattle.px_question.specs.Settings.{loose_gaps_in, proofs_in, setting_of}
+use Rattle.px_question.specs.Answers.{AtMost, IsFirst, IsList, IsProvable, all_choices_of}
+use Rattle.px_question.specs.Limits.{AreFewShapes, AreFewerThan, IsPartialShape}
+use Rattle.px_question.specs.Settings.{Setting, loose_gaps_in, proofs_in, setting_of}
 use Rattle.px_question.proofs.DeterminedLaws.{few_or_limited}
-use Rattle.px_table.specs.declared.entry.Entry.{Entry}
-use Rattle.px_table.specs.declared.entry.Entry.TheVariants.{Op, Macro}
 use Rattle.px_table.specs.declared.entry.Move.{Move}
-use Rattle.px_table.specs.declared.entry.Move.TheVariants.{Apply, Push}
 use Rattle.px_table.specs.declared.table.Table.{Table}
 use Rattle.px_table.specs.Marks.{marks_from, step_at}
-use Rattle.px_entries.specs.Entries.{IsEntry}
 use Rattle.px_gaps.specs.Needs.{HasAnswer, Obligation}
-use Rattle.px_gaps.specs.Questions.{FindingGaps, MeetsLimit, Proving, Question}
-use Rattle.px_ends.specs.Ends.{AreMoves, BeginsWith, IsExhausted, IsFound, IsLeastList, IsStop, IsUnlimited, node_of}
+use Rattle.px_gaps.specs.Questions.{AsksOf, FindingGaps, MeetsLimit, Proving, Question}
+use Rattle.px_ends.specs.Ends.{BeginsWith, IsFound, IsLeastList, IsStop, IsUnlimited, node_of}
 use Rattle.px_ends.specs.Made.{IsFirstRow, IsSource, IsTableOfMoves}
 use Rattle.px_ends.specs.Order.{IsBefore}
-use Rattle.px_ends.specs.Tasks.{AsksAt, IsSolved, Task, goal_from, initial_node, task_of}
-use Rattle.px_ends.specs.WorkedEnds.{EndFacts, idle, p, p_at_once}
+use Rattle.px_ends.specs.Tasks.{IsSolved, Task, goal_from, initial_node, task_of}
+use Rattle.px_ends.specs.WorkedEnds.{idle, p, p_at_once, plain_problem}
 use Rattle.px_ends.proofs.MoveLaws.{order}
 
 -- ---- the initial node
@@ -78,156 +74,124 @@ found_at_once task some solved below = record { unlimited = unlimited; earlier =
 
 -- ---- nothing to reach
 
-no_shape : (problem : Problem) (facts : List Atom) (shape : List Tick)
-    → ¬ IsPartialShape (proofs_in (setting_of problem facts)) (setting_of problem facts) [] 0 shape
-no_shape problem facts shape (unfinished, (objects, none, is, same)) = subst IsUnfinished (sym same) unfinished
-no_shape problem facts shape (unfinished, (objects, also d ds, is, same)) = is.proved
+no_shape : (rules : Rules) (s : Setting) (shape : List Tick) → ¬ IsPartialShape rules s [] 0 shape
+no_shape rules s shape (unfinished, (objects, none, is, same)) = subst IsUnfinished (sym same) unfinished
+no_shape rules s shape (unfinished, (objects, also d ds, is, same)) = is.proved
 
-nothing_to_reach : (problem : Problem) (tables : List Table) (initial : List Atom) → 1 ≤ problem.nodes → 2 ≤ problem.shapes
+pub nothing_to_reach : (problem : Problem) (tables : List Table) (initial : List Atom) → 1 ≤ problem.nodes → 2 ≤ problem.shapes
     → IsFound (task_of problem tables initial [] 0) []
 nothing_to_reach problem tables initial some shapes =
     found_at_once (task_of problem tables initial [] 0) some
     (refl, ([], none, record { count = refl; below = All-nil (λ (n : ℕ). n < problem.objects); proved = tt; low = omega arith }))
     (λ formula kept met. few_or_limited.proofs (setting_of problem initial) [] 0 kept few met.1)
   where
-    few : AreFewShapes (setting_of problem initial) [] 0
-    few = record { seen = []; fewer = omega (arith, shapes); all = λ shape is. absurd (no_shape problem initial shape is) }
+    setting : Setting
+    setting = setting_of problem initial
 
--- ---- P alone, without axioms and operators
+    few : AreFewShapes setting [] 0
+    few = record { seen = []; fewer = omega (arith, shapes); all = λ shape is. absurd (no_shape (proofs_in setting) setting shape is) }
+
+-- ---- at most one atom, without axioms
 
 abbrev open_one : List Tick
 open_one = tick.Open ∷ []
 
--- its only unfinished list is open
-only_open : (rules : Rules) → ((atom : Atom) → ¬ rules.IsGap atom) → (facts : List Atom) (shape : List Tick)
-    → IsPartialShape rules (setting_of idle facts) (p ∷ []) 0 shape → open_one ≡ shape
-only_open rules no_gap facts shape (unfinished, (objects, none, is, same)) = absurd is.proved
-only_open rules no_gap facts shape (unfinished, (objects, also d (also e ds), is, same)) = absurd is.proved.1
-only_open rules no_gap facts shape (unfinished, (objects, also (fact leaf) none, is, same)) =
+-- the only unfinished list of one atom is open
+only_open : (schemas : List Schema) (nodes : ℕ) (facts : List Atom) (atom : Atom) (rules : Rules) (shape : List Tick)
+    → IsPartialShape rules (setting_of (plain_problem schemas nodes) facts) (atom ∷ []) 0 shape → open_one ≡ shape
+only_open schemas nodes facts atom rules shape (unfinished, (objects, none, is, same)) = absurd is.proved
+only_open schemas nodes facts atom rules shape (unfinished, (objects, also d (also e ds), is, same)) = absurd is.proved.1
+only_open schemas nodes facts atom rules shape (unfinished, (objects, also (fact leaf) none, is, same)) =
     absurd (subst IsUnfinished (sym same) unfinished)
-only_open rules no_gap facts shape (unfinished, (objects, also (ancestor i) none, is, same)) = let at = is.proved.0 in absurd (cc)
-only_open rules no_gap facts shape (unfinished, (objects, also (step number theta place parts) none, is, same)) =
+only_open schemas nodes facts atom rules shape (unfinished, (objects, also (ancestor i) none, is, same)) =
+    let at = is.proved.0 in absurd (cc)
+only_open schemas nodes facts atom rules shape (unfinished, (objects, also (step number theta place parts) none, is, same)) =
     let at = is.proved.0.1.axiom_at in absurd (cc)
-only_open rules no_gap facts shape (unfinished, (objects, also (gap atom) none, is, same)) = absurd (no_gap atom is.proved.0.1)
-only_open rules no_gap facts shape (unfinished, (objects, also open_place none, is, same)) = same
+only_open schemas nodes facts atom rules shape (unfinished, (objects, also (gap closed) none, is, same)) =
+    absurd (subst IsUnfinished (sym same) unfinished)
+only_open schemas nodes facts atom rules shape (unfinished, (objects, also open_place none, is, same)) = same
 
-few_of : (rules : Rules) → ((atom : Atom) → ¬ rules.IsGap atom) → (facts : List Atom)
-    → AreFewerThan (IsPartialShape rules (setting_of idle facts) (p ∷ []) 0) 2
-few_of rules no_gap facts = record {
+-- no atom or one
+abbrev pub IsSmall : List Atom → Type 0
+IsSmall [] = Unit {0}
+IsSmall (atom ∷ []) = Unit {0}
+IsSmall (atom ∷ other ∷ atoms) = ⊥
+
+few_shapes : (schemas : List Schema) (nodes : ℕ) (facts formula : List Atom) (rules : Rules) → IsSmall formula
+    → AreFewerThan (IsPartialShape rules (setting_of (plain_problem schemas nodes) facts) formula 0) 2
+few_shapes schemas nodes facts [] rules small = record {
+  seen = [];
+  fewer = omega arith;
+  all = λ shape is. absurd (no_shape rules (setting_of (plain_problem schemas nodes) facts) shape is);
+}
+few_shapes schemas nodes facts (atom ∷ []) rules small = record {
   seen = open_one ∷ [];
   fewer = omega arith;
-  all = λ shape is. subst (Contains (open_one ∷ [])) (only_open rules no_gap facts shape is) (Contains-first open_one []);
+  all = λ shape is.
+      subst (Contains (open_one ∷ [])) (only_open schemas nodes facts atom rules shape is) (Contains-first open_one []);
 }
+few_shapes schemas nodes facts (atom ∷ other ∷ atoms) rules small = absurd small
 
-few_shapes : (facts : List Atom) → AreFewShapes (setting_of idle facts) (p ∷ []) 0
-few_shapes facts = few_of (proofs_in (setting_of idle facts)) (λ atom h. h) facts
+-- the formula, proved from the facts
+abbrev pub needed_from : List Atom → List Atom → Obligation
+needed_from facts formula = record { formula = formula; vars = 0; facts = facts }
 
-few_gap_shapes : (facts : List Atom) → AreFewGapShapes (setting_of idle facts) (p ∷ []) 0
-few_gap_shapes facts = few_of (loose_gaps_in (setting_of idle facts)) (λ atom h. Contains-none atom.pred h) facts
+-- no question about at most one atom meets the limit
+pub proving_below : (schemas : List Schema) (nodes : ℕ) (facts formula : List Atom) → IsSmall formula → (kept : List Atom)
+    (shapes : List (List Tick)) → ¬ MeetsLimit (plain_problem schemas nodes) (Proving (needed_from facts formula)) kept shapes
+proving_below schemas nodes facts formula small kept shapes met =
+    let setting : Setting = setting_of (plain_problem schemas nodes) facts in
+    few_or_limited.proofs setting formula 0 shapes (few_shapes schemas nodes facts formula (proofs_in setting) small) met.1
+
+gaps_below : (schemas : List Schema) (nodes : ℕ) (facts formula : List Atom) → IsSmall formula → (kept : List Atom)
+    (shapes : List (List Tick)) → ¬ MeetsLimit (plain_problem schemas nodes) (FindingGaps (needed_from facts formula)) kept shapes
+gaps_below schemas nodes facts formula small kept shapes met =
+    let setting : Setting = setting_of (plain_problem schemas nodes) facts in
+    few_or_limited.gaps_below setting formula 0 kept shapes
+    (record {
+      shapes = few_shapes schemas nodes facts formula (loose_gaps_in setting) small;
+      atoms = λ atom loose. inr (few_shapes schemas nodes facts (atom ∷ []) (proofs_in setting) tt);
+    }) met
+
+pub small_below : (schemas : List Schema) (nodes : ℕ) (facts formula : List Atom) → IsSmall formula → (question : Question)
+    → AsksOf (plain_problem schemas nodes) (needed_from facts formula ∷ []) question → (kept : List Atom) (shapes : List (List Tick))
+    → ¬ MeetsLimit (plain_problem schemas nodes) question kept shapes
+small_below schemas nodes facts formula small question (zero, needed, within, is, asks) kept shapes met = of_needed asks
+  where
+    of_needed : ¬ ((question ≡ Proving needed) ⊎ ((¬ HasAnswer (plain_problem schemas nodes) needed) × (question ≡ FindingGaps needed)))
+    of_needed (inl proving) =
+        proving_below schemas nodes facts formula small kept shapes
+        (subst (λ (q : Question). MeetsLimit (plain_problem schemas nodes) q kept shapes) (proving ∙ ap Proving (sym is)) met)
+    of_needed (inr finding) =
+        gaps_below schemas nodes facts formula small kept shapes
+        (subst (λ (q : Question). MeetsLimit (plain_problem schemas nodes) q kept shapes) (finding.1 ∙ ap FindingGaps (sym is)) met)
+small_below schemas nodes facts formula small question (suc k, needed, within, is, asks) kept shapes met = omega (arith, within)
 
 -- P where it is a fact
-abbrev p_leaf : Leaf
+abbrev pub p_leaf : Leaf
 p_leaf = record { column = 0; index = 0; atom = p }
 
 abbrev from_p : Task
 from_p = task_of idle [] (p ∷ []) (p ∷ []) 0
 
-p_proof : IsList (proofs_in (setting_of idle (p ∷ []))) (setting_of idle (p ∷ [])) (p ∷ []) 0 [] (also (fact p_leaf) none)
-p_proof = record { count = refl; below = All-nil (λ (n : ℕ). n < 0); proved = ((refl, (refl, refl)), tt); low = omega arith }
+pub p_proof : (schemas : List Schema) (nodes : ℕ) → IsList (proofs_in (setting_of (plain_problem schemas nodes) (p ∷ [])))
+    (setting_of (plain_problem schemas nodes) (p ∷ [])) (p ∷ []) 0 [] (also (fact p_leaf) none)
+p_proof schemas nodes = record { count = refl; below = All-nil (λ (n : ℕ). n < 0); proved = ((refl, (refl, refl)), tt); low = omega arith }
 
-there : IsFound from_p []
+pub there : IsFound from_p []
 there =
-    found_at_once from_p (omega arith) (refl, ([], also (fact p_leaf) none, p_proof))
-    (λ formula kept met. few_or_limited.proofs (setting_of idle (p ∷ [])) (p ∷ []) 0 kept (few_shapes (p ∷ [])) met.1)
+    found_at_once from_p (omega arith) (refl, ([], also (fact p_leaf) none, p_proof [] 1))
+    (proving_below [] 1 (p ∷ []) (p ∷ []) tt)
 
--- ---- P where it is none
-
-abbrev without_p : Task
-without_p = task_of idle [] [] (p ∷ []) 0
-
-no_entry : (entry : Entry) → ¬ IsEntry idle [] entry
-no_entry (Op inst) is = let within = is.op in omega (arith, within)
-no_entry (Macro number prefix sigma) is = let at = is.1 in cc
-
-no_moves : (moves : List Move) → AreMoves without_p moves → [] ≡ moves
-no_moves [] can = refl
-no_moves (Apply ∷ moves) can = absurd (can.0.0 refl)
-no_moves (Push entry ∷ moves) can = absurd (no_entry entry can.0.0.is_entry)
-
--- no loose gap proof of P is finished, since nothing adds it
-no_loose : (objects : List ℕ) (ds : Derivations) → ¬ IsList (loose_gaps_in (setting_of idle [])) (setting_of idle []) (p ∷ []) 0 objects ds
-no_loose objects none is = is.proved
-no_loose objects (also d (also e ds)) is = is.proved.1
-no_loose objects (also (fact leaf) none) is = let at = is.proved.0.1.1 in cc
-no_loose objects (also (ancestor i) none) is = let at = is.proved.0 in cc
-no_loose objects (also (step number theta place parts) none) is = let at = is.proved.0.1.axiom_at in cc
-no_loose objects (also (gap atom) none) is = Contains-none atom.pred is.proved.0.1
-no_loose objects (also open_place none) is = is.proved.0
-
--- Alike: `no_loose` above, by other rules: the cases compute only where the rules are known
-no_proof : (objects : List ℕ) (ds : Derivations) → ¬ IsList (proofs_in (setting_of idle [])) (setting_of idle []) (p ∷ []) 0 objects ds
-no_proof objects none is = is.proved
-no_proof objects (also d (also e ds)) is = is.proved.1
-no_proof objects (also (fact leaf) none) is = let at = is.proved.0.1.1 in cc
-no_proof objects (also (ancestor i) none) is = let at = is.proved.0 in cc
-no_proof objects (also (step number theta place parts) none) is = let at = is.proved.0.1.axiom_at in cc
-no_proof objects (also (gap atom) none) is = is.proved.0.1
-no_proof objects (also open_place none) is = is.proved.0
-
--- what is asked about the goal stays below the limit
-asked_below : (question : Question) → AsksAt without_p (initial_node without_p) question → (formula : List Atom) (shapes : List (List Tick))
-    → ¬ MeetsLimit idle question formula shapes
-asked_below question (inr relevant) formula shapes met = no_entry relevant.0 relevant.1.is_entry
-asked_below question (inl (zero, needed, within, is, asks)) formula shapes met = of_goal asks
-  where
-    of_goal : ¬ ((question ≡ Proving needed) ⊎ ((¬ HasAnswer idle needed) × (question ≡ FindingGaps needed)))
-    of_goal (inl proving) =
-        proved (subst (λ (n : Obligation). MeetsLimit idle (Proving n) formula shapes) (sym is)
-        (subst (λ (q : Question). MeetsLimit idle q formula shapes) proving met))
-      where
-        proved : ¬ MeetsLimit idle (Proving (goal_from without_p [])) formula shapes
-        proved m = few_or_limited.proofs (setting_of idle []) (p ∷ []) 0 shapes (few_shapes []) m.1
-    of_goal (inr finding) =
-        found (subst (λ (n : Obligation). MeetsLimit idle (FindingGaps n) formula shapes) (sym is)
-        (subst (λ (q : Question). MeetsLimit idle q formula shapes) finding.1 met))
-      where
-        no_gap : (atom : Atom) → ¬ IsLooseGap (setting_of idle []) (p ∷ []) 0 atom
-        no_gap atom loose = no_loose loose.0 loose.1 loose.2
-
-        found : ¬ MeetsLimit idle (FindingGaps (goal_from without_p [])) formula shapes
-        found m =
-            few_or_limited.gaps_below (setting_of idle []) (p ∷ []) 0 formula shapes
-            (record { shapes = few_gap_shapes []; atoms = λ atom loose. absurd (no_gap atom loose) }) m
-asked_below question (inl (suc k, needed, within, is, asks)) formula shapes met = omega (arith, within)
-
-not_there : IsExhausted without_p
-not_there = record {
-  unlimited = unlimited;
-  lists = [] ∷ [];
-  whole =
-      record {
-        beginning = begins without_p;
-        every = λ moves least. subst (Contains ([] ∷ [])) (no_moves moves least.made) (Contains-first [] []);
-      };
-  unsolved =
-      λ moves can solved. unsolved_there (subst (λ (ms : List Move). IsSolved without_p (node_of without_p ms))
-      (sym (no_moves moves can)) solved);
-  room = omega arith;
-}
-  where
-    unsolved_there : ¬ IsSolved without_p (initial_node without_p)
-    unsolved_there solved = no_proof solved.1.0 solved.1.1 solved.1.2
-
-    unlimited : IsUnlimited without_p
-    unlimited moves question formula shapes (inl (gone, asks)) met =
-        asked_below question (subst (λ (ms : List Move). AsksAt without_p (node_of without_p ms) question)
-        (sym (no_moves moves gone.least.made)) asks) formula shapes met
-    unlimited moves question formula shapes (inr (tested, is)) met =
-        let same : Proving (goal_from without_p []) ≡ question =
-        ap (λ (ms : List Move). Proving (goal_from without_p (node_of without_p ms).model)) (no_moves moves tested.least.made)
-        ∙ sym is in
-        few_or_limited.proofs (setting_of idle []) (p ∷ []) 0 shapes (few_shapes [])
-        (subst (λ (q : Question). MeetsLimit idle q formula shapes) (sym same) met).1
+-- no atom is proved from no facts
+pub no_proof : (schemas : List Schema) (nodes : ℕ) (atom : Atom) → ¬ IsProvable (setting_of (plain_problem schemas nodes) []) atom
+no_proof schemas nodes atom (objects, none, is) = is.proved
+no_proof schemas nodes atom (objects, also d (also e ds), is) = is.proved.1
+no_proof schemas nodes atom (objects, also (fact leaf) none, is) = let at = is.proved.0.1.1 in cc
+no_proof schemas nodes atom (objects, also (ancestor i) none, is) = let at = is.proved.0 in cc
+no_proof schemas nodes atom (objects, also (step number theta place parts) none, is) = let at = is.proved.0.1.axiom_at in cc
+no_proof schemas nodes atom (objects, also (gap closed) none, is) = is.proved.0.1
+no_proof schemas nodes atom (objects, also open_place none, is) = is.proved.0
 
 -- ---- the table
 
@@ -236,7 +200,7 @@ first_place zero atom at = refl
 first_place (suc k) atom at = absurd (cc)
 
 p_first : IsFirst (setting_of idle (p ∷ [])) (p ∷ []) 0 [] (also (fact p_leaf) none)
-p_first = record { finished = p_proof; least = least }
+p_first = record { finished = p_proof [] 1; least = least }
   where
     least : (others : List ℕ) (es : Derivations)
         → IsList (proofs_in (setting_of idle (p ∷ []))) (setting_of idle (p ∷ [])) (p ∷ []) 0 others es
@@ -266,7 +230,7 @@ p_row = (
   ((p_leaf ∷ [], refl, one (IsSource idle []) p_leaf p_source, refl), tt),
 )
 
-table_there : IsTableOfMoves from_p [] p_at_once
+pub table_there : IsTableOfMoves from_p [] p_at_once
 table_there = record {
   params = refl;
   steps = refl;
@@ -274,7 +238,5 @@ table_there = record {
   goal_vars = refl;
   rows = (fact p_leaf ∷ [], p_row, ap (λ (d : Derivation). (d ∷ []) ∷ []) (derivation_of-fact p_leaf));
   marks = ap (λ (d : Derivation). marks_from 1 ((d ∷ []) ∷ [])) (sym (derivation_of-fact p_leaf));
+  param_sorts = refl;
 }
-
-pub end_facts : EndFacts
-end_facts = record { nothing_to_reach = nothing_to_reach; there = there; table_there = table_there; not_there = not_there }

@@ -107,3 +107,4 @@ pub record IsTableOfMoves (task : Task) (moves : List Move) (table : Table) : Ty
   pub goal_vars : table.goal_vars ≡ task.vars
   pub rows : MovesRows task (initial_node task) [] moves (rows_of table.proofs)
   pub marks : table.marks ≡ marks_from 1 (rows_of table.proofs)
+  pub param_sorts : table.param_sorts ≡ []

@@ -152,7 +152,7 @@ module _ (problem : Problem) (adds : All (λ (schema : Schema). EachHasFew probl
     never-limited tables rows facts ascends (Op inst) is =
         all-unlimited (obligations_of problem tables facts (Op inst)) (λ needed has.
         subst (λ (o : Obligation). (o.vars ≡ 0) × IsAtomSet o.facts × HasFew problem o.formula) (Contains-one _ needed has)
-        (refl, ascends, precondition-few inst is))
+        (refl, ascends, precondition-few inst is.of))
     never-limited tables rows facts ascends (Macro number prefix sigma) (table, at, m) =
         subst (λ (t : Table). AreUnlimited problem (row_needs problem t sigma facts (take prefix (steps_under t sigma))))
         (sym (table_is tables number table at))

@@ -19,7 +19,7 @@ use Rattle.px_terms.specs.declared.term.Term.{Term}
 use Rattle.px_terms.specs.declared.term.Term.TheVariants.{Obj, Var, Any}
 use Rattle.px_table.specs.Kernels.{atom_under, instance_under, steps_under}
 use Rattle.px_table.specs.Prefixes.{IsMacro}
-use Rattle.px_table.specs.Tables.{IsStepOf, IsTable}
+use Rattle.px_table.specs.Tables.{IsStepOf, IsTable, empty_table}
 use Rattle.px_table.specs.UnderLaws.{step_under-objects}
 use Rattle.px_base.specs.declared.no_memory.NoMemory.{NoMemory}
 use Rattle.px_table.specs.declared.entry.Entry.TheVariants.{Macro}
@@ -201,9 +201,8 @@ pub macro-known : (problem : Problem) (tables : List Table) (model : List Atom) 
     → IfOk result (IsKnownOf problem (row_needs problem table slice model (take prefix (steps_under table slice))))
     → IfOk result (IsKnownOf problem (obligations_of problem tables model (Macro number prefix sigma)))
 macro-known problem tables model number prefix sigma slice table result slice_is below is known =
-    let no_table : Table = record { params = 0; steps = []; goal = []; goal_vars = 0; marks = []; proofs = [] } in
     let found : table_at tables number ≡ table =
-    ap (λ (o : Option Table). unwrap_or o no_table) (slice_get_read tables (length tables) number table refl below is) in
+    ap (λ (o : Option Table). unwrap_or o empty_table) (slice_get_read tables (length tables) number table refl below is) in
     subst (λ (t : Table). IfOk result (IsKnownOf problem (row_needs problem t sigma model (take prefix (steps_under t sigma))))) (sym found)
     (subst (λ (s : List ℕ). IfOk result (IsKnownOf problem (row_needs problem table s model (take prefix (steps_under table s))))) slice_is
     known)

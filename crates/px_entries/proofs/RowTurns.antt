@@ -5,6 +5,7 @@ use Rattle.std.specs.Prelude.{filter, map, not, unwrap_or}
 use Rattle.std.proofs.Math.Seq.{take-append_seam}
 use Rattle.std.proofs.lemmas.List.Folds.{list_any-append}
 use Rattle.px_table.specs.declared.table.Table.{Table}
+use Rattle.px_table.specs.Tables.{empty_table}
 use Rattle.px_terms.specs.Operators.{deletes}
 use Rattle.px_terms.specs.declared.atom.Atom.{Atom}
 use Rattle.px_terms.specs.declared.instance.OpInst.{OpInst}
@@ -83,4 +84,4 @@ module _ (problem : Problem) (table : Table) (sigma : List ℕ) (model : List At
 
 pub table_is : (tables : List Table) (number : ℕ) (table : Table) → slice_get tables number ≡ Some table → table_at tables number ≡ table
 table_is tables number table at =
-    ap (λ o. unwrap_or o (record { params = 0; steps = []; goal = []; goal_vars = 0; marks = []; proofs = [] })) at
+    ap (λ o. unwrap_or o empty_table) at

@@ -7,21 +7,21 @@ use Rattle.px_terms.specs.declared.atom.Atom.{Atom}
 use Rattle.px_terms.specs.declared.instance.OpInst.{OpInst}
 use Rattle.px_terms.specs.declared.problem.Problem.{Problem}
 use Rattle.px_terms.specs.Operators.{precondition, deletes}
-use Rattle.px_terms.specs.Validity.{IsInstanceOf}
+use Rattle.px_terms.specs.Sorts.{IsWellSortedInstance}
 use Rattle.px_table.specs.declared.entry.Entry.{Entry}
 use Rattle.px_table.specs.declared.entry.Entry.TheVariants.{Op, Macro}
 use Rattle.px_table.specs.declared.mark.Mark.{Mark}
 use Rattle.px_table.specs.declared.table.Table.{Table}
 use Rattle.px_table.specs.Kernels.{atom_under, steps_under}
 use Rattle.px_table.specs.Prefixes.{IsMacro}
+use Rattle.px_table.specs.Tables.{empty_table}
 use Rattle.px_gaps.specs.Needs.{Obligation}
 
 -- ---- what an entry does
 
 -- the learned table of that number, counted from 0; past the last one a table without steps
 abbrev pub table_at : List Table → ℕ → Table
-table_at tables number = unwrap_or (slice_get tables number) (record
-    { params = 0; steps = []; goal = []; goal_vars = 0; marks = []; proofs = [] })
+table_at tables number = unwrap_or (slice_get tables number) empty_table
 
 -- the steps that applying the entry takes: the instance alone, or the table's first steps with the objects for its parameters
 abbrev pub effect_of : List Table → Entry → List OpInst
@@ -54,8 +54,8 @@ obligations_of problem tables model (Macro number prefix sigma) =
 
 -- ---- which entries there are
 
--- an instance of one of the problem's operators over its objects, or a MACROP of one of the tables
+-- an instance of one of the problem's operators over its objects, each of which fits its parameter, or a MACROP of one of the tables
 abbrev pub IsEntry : Problem → List Table → Entry → Type 0
-IsEntry problem tables (Op inst) = IsInstanceOf problem inst
+IsEntry problem tables (Op inst) = IsWellSortedInstance problem inst
 IsEntry problem tables (Macro number prefix sigma) = (table : Table) × (slice_get tables number ≡ Some table)
     × IsMacro problem table prefix sigma

@@ -6,7 +6,7 @@ ghost use Rattle.px_entries.specs.Entries.{IsEntry};
 ghost use Rattle.px_entries.specs.Learned.{AreLearned};
 
 use px_table::{Entry, Table, check_table, is_macro};
-use px_terms::{Problem, is_instance_of};
+use px_terms::{Problem, fits, is_instance_of};
 
 /// Returns whether they are at most 32 tables for the problem, of at most 64 steps each. Entries may be taken from such tables.
 /// Does not allocate.
@@ -21,7 +21,8 @@ pub fn are_learned(problem: &Problem, tables: &[Table]) -> bool
     all_short && tables.iter().all(|table| check_table(problem, table))
 }
 
-/// Returns whether it is an entry: an instance of an operator over the problem's objects, or a MACROP of one of the tables.
+/// Returns whether it is an entry: an instance of an operator over the problem's objects, each of which fits its parameter, or a MACROP of
+/// one of the tables.
 /// Does not allocate.
 pub fn is_entry(problem: &Problem, tables: &[Table], entry: &Entry) -> bool
     requires problem { IsValid problem.now }
@@ -29,7 +30,7 @@ pub fn is_entry(problem: &Problem, tables: &[Table], entry: &Entry) -> bool
     ensures { IsTrue result ↔ IsEntry problem.now tables.now entry.now }
 {
     match entry {
-        Entry::Op(inst) => is_instance_of(problem, inst),
+        Entry::Op(inst) => is_instance_of(problem, inst) && fits(problem, inst),
         Entry::Macro {
             number,
             prefix,

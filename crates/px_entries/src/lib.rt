@@ -3,7 +3,7 @@
 //!
 //! # Calling it
 //!
-//! - An entry is an instance of an operator, or a MACROP, the first steps of a learned table with objects for its parameters
+//! - An entry is an instance of an operator whose objects fit, or a MACROP, the first steps of a learned table with objects for its parameters
 //!   (Fikes, Hart and Nilsson 1972). The tables have to be learned ones (`AreLearned`: at most 32, of at most 64 steps, which
 //!   `check_table` of `px_table` accepts), as [`are_learned`] tests, and the entry has to be one, as [`is_entry`] tests.
 //! - [`known_entry`] says what is known of an entry in a world model: that it can be applied, that it is open, with the gaps,

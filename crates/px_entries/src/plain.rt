@@ -3,7 +3,8 @@
 //! no other.
 ghost use Rattle.std.specs.Prelude.{◌≡◌, ◌⊎◌, ◌↔◌, ◌∷◌, [], All, Contains, IfOk, IfSome, IsTrue, MatchBool, OnOk};
 ghost use Rattle.px_terms.specs.Instances.{IsGround};
-ghost use Rattle.px_terms.specs.Validity.{IsValid, IsAtomOf, IsInstanceOf};
+ghost use Rattle.px_terms.specs.Sorts.{IsWellSortedInstance};
+ghost use Rattle.px_terms.specs.Validity.{IsValid, IsAtomOf};
 ghost use Rattle.px_terms.specs.declared.atom.Atom.{Atom as AtomValue};
 ghost use Rattle.px_table.specs.declared.entry.Entry.{Entry as EntryValue};
 ghost use Rattle.px_entries.specs.Entries.{IsEntry, obligations_of};
@@ -185,7 +186,7 @@ fn known_instance(
     model: &Model,
 ) -> Result<Option<Known>, NoMemory>
     requires problem { IsValid problem.now }
-    requires inst { IsInstanceOf problem.now inst.now }
+    requires inst { IsWellSortedInstance problem.now inst.now }
     requires never { IsNeverLimited problem.now tables.now }
     ensures { IfOk result (λ found. IfSome found (IsKnownOf problem.now
         (obligations_of problem.now tables.now model.now.atoms (EntryValue.Op inst.now)))) }
@@ -193,6 +194,7 @@ fn known_instance(
     if axioms_mention_addable(problem) {
         return Ok(None);
     }
+    // `atoms` says that these are a model, ascending and each once, on which the proof of what follows rests
     let _facts = model.atoms();
     let formula = precondition_of(alloc, problem, inst)?;
     known_plain(alloc, problem, &formula, model)

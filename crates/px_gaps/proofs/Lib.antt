@@ -8,6 +8,7 @@ pub mod KnownSteps
 pub mod Limits
 pub mod GapLemmas
 pub mod Choosing
+pub mod SortedChoices
 mod FormLemmas
 pub mod Describing
 mod Parting

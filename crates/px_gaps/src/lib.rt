@@ -14,7 +14,8 @@
 //! - All of these have a valid problem as their condition, and a formula of the problem's atoms over its variables.
 //! - Crates above ask through an [`Asker`], which counts the questions. [`ask_gaps`] asks one question of gaps, of at most 4,096
 //!   variables, and returns the gap patterns with those of their atoms that are provable ([`GapAnswer`]). [`choices_of`] gives
-//!   the objects for the variables under which a pattern closes none of these. [`is_provable`] asks about one atom.
+//!   the objects for the variables that fit their sorts ([`Sorting`]) and under which a pattern closes none of these.
+//!   [`is_provable`] asks about one atom.
 //! - [`Bounds`] says by the numbers of shapes of each predicate that a formula stays below the limit, whatever the facts are.
 //!   [`is_concluded`] says whether an axiom concludes a predicate, and [`forms_of`] gives the atoms of patterns, one of those that
 //!   differ only by the names of their variables.
@@ -36,7 +37,7 @@
 //! in turn (`asking`). Then no gap list is written out. Objects are chosen variable by variable, and a choice is given up as
 //! soon as an atom of the pattern has a proof (`bindings`); atoms that share no variable are tried apart (`apart`). So `gaps` finds the
 //! atoms that a pattern closes together with none that is provable (`missing`), and callers get the objects for the formula's variables
-//! under which a pattern closes no provable atom (`choices`).
+//! under which a pattern closes no provable atom (`choices`). There objects of another sort than a variable has to have are passed over.
 //!
 //! The number of shapes is counted predicate by predicate (`bounds`): an atom is closed by a fact or a gap in at most two ways,
 //! and by each Horn axiom that concludes it in as many ways as the atoms that are then to be proved, if the axiom has no
@@ -58,6 +59,7 @@ mod knowing;
 mod known;
 mod laws;
 mod missing;
+mod sorting;
 
 pub use ask_err::AskErr;
 pub use asker::Asker;
@@ -72,3 +74,4 @@ pub use gap_answer::{GapAnswer, ask_gaps};
 pub use knowing::{known_formula, try_formula};
 pub use known::{Known, Tried};
 pub use laws::addable_alike;
+pub use sorting::{Sorting, sort_of};

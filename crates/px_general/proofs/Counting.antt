@@ -32,7 +32,7 @@ use Rattle.px_replay.specs.FreshVariables.{all_fresh_in, fresh_in, fresh_variabl
 use Rattle.px_replay.specs.Opened.{add_at, atom_in, first_of_rows, first_own, goal_objects, goal_opened, opened_args, opened_goal, opened_row, opened_rows, opened_steps, opened_terms, rows_opened, step_variables, steps_opened}
 use Rattle.px_replay.specs.Replay.{opened, all_opened}
 use Rattle.px_replay.specs.Replaying.{ArePlainAtoms, CanReplayRows, PlanForms, RowForms}
-use Rattle.px_general.proofs.Labelling.{plan-own}
+use Rattle.px_general.proofs.PlanInstance.{plan-own}
 use Rattle.px_general.proofs.Opening.{zero_test}
 use Rattle.px_general.proofs.OpenedForms.{form-opened}
 use Rattle.px_replay.proofs.ReplaySteps.{below_under}

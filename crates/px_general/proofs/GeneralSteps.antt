@@ -4,6 +4,7 @@ use Rattle.std.proofs.Common.{zero, suc, refl, sym, ap, ◌∙◌, subst, inl, i
 use Rattle.std.proofs.lemmas.List.Elements.{All-nil, All-cons, All-append, All-replicate}
 use Rattle.std.proofs.lemmas.List.{length-map}
 use Rattle.std.proofs.lemmas.List.Sums.{sum_by-cons}
+use Rattle.px_base.specs.Bounds.{u32_max}
 use Rattle.px_terms.specs.declared.atom.Atom.{Atom}
 use Rattle.px_terms.specs.declared.instance.OpInst.{OpInst}
 use Rattle.px_terms.specs.declared.problem.Problem.{Problem}
@@ -27,7 +28,7 @@ use Rattle.px_replay.specs.FreshVariables.{fresh_variables}
 use Rattle.px_replay.specs.Opened.{goal_objects, goal_opened, opened_terms, replay_pairs, rows_opened, rows_pairs, step_variables, steps_opened}
 use Rattle.px_replay.specs.Replaying.{CanReplayRows, IsReplayOf}
 use Rattle.px_replay.proofs.RowSteps.{plan_forms-length}
-use Rattle.px_general.specs.General.{Generalises, row_terms, step_terms}
+use Rattle.px_general.specs.General.{Generalises, KeepsPlan, row_terms, step_terms}
 use Rattle.px_general.specs.Naming.{AreLabels, HasRootsBelow, IsBuilt, IsMadeOf, IsResolved, IsSolutionOf, is_unlabelled, leaf_terms, unlabelled, walked_terms}
 use Rattle.px_general.proofs.Counting.{can_replay}
 use Rattle.px_general.proofs.Labelling.{general-is, leaf_terms-among}
@@ -155,7 +156,7 @@ module _ (problem : Problem) (plan : Table) (valid : IsValid problem) (is_table 
   -- all together
   pub made_general : (general : Table) (resolved labels : List Term) → IsSolutionOf (replay_pairs problem plan) count resolved
       → length labels ≡ length resolved → AreLabels resolved labels general.params (walked_terms problem plan)
-      → IsBuilt problem plan general (map (substitute labels) resolved) → Generalises problem plan general
+      → IsBuilt problem plan general (map (substitute labels) resolved) → Generalises problem plan general × KeepsPlan problem plan general
   made_general general resolved labels solution long are built =
       let changes = solution.0 in
       let solved = solution.1 in
@@ -204,10 +205,10 @@ module _ (problem : Problem) (plan : Table) (steps : List OpInst) (goal : List A
       objects_are
 
   pub built_is : (first : ℕ) (general : Table) (names : List Term) → first ≡ step_variables plan.steps
-      → IsMadeOf steps (rows_of rows) first plan general names → IsBuilt problem plan general names
+      → IsMadeOf problem steps (rows_of rows) first plan general names → IsBuilt problem plan general names
   built_is first general names first_is made =
-      subst (λ (n : ℕ). IsMadeOf (steps_opened plan) (rows_opened problem plan) n plan general names) first_is
-      (back (λ s g r. IsMadeOf s r first plan general names) made)
+      subst (λ (n : ℕ). IsMadeOf problem (steps_opened plan) (rows_opened problem plan) n plan general names) first_is
+      (back (λ s g r. IsMadeOf problem s r first plan general names) made)
 
 pub length-resolved : (pairs : List (Atom × Atom)) (count : ℕ) (resolved : List Term) → IsSolutionOf pairs count resolved
     → length resolved ≡ count
@@ -224,7 +225,7 @@ variables_all n m ts same all = variables-below m ts (subst (λ (k : ℕ). All (
 
 pub few_rows : (problem : Problem) (plan : Table) (rows : List (List Proof)) (changes : List Change) → IsTable problem plan
     → rows_of rows ≡ rows_opened problem plan
-    → CanReplayRows problem (steps_opened plan) (goal_opened plan) (rows_opened problem plan) changes → length rows ≤ 4294967295
+    → CanReplayRows problem (steps_opened plan) (goal_opened plan) (rows_opened problem plan) changes → length rows ≤ u32_max
 few_rows problem plan rows changes is_table rows_are can =
     let long = plan_forms-length problem (steps_opened plan) (goal_opened plan) (rows_opened problem plan) can.forms in
     omega (arith, is_table.in_range.short, long, length-opened_steps 0 plan.steps, ap length rows_are, length-map rows (map derivation_of))

@@ -41,10 +41,12 @@ use Rattle.px_general.proofs.Assembling.{add_at-is}
 use Rattle.px_general.proofs.Opening.{zero_test}
 use Rattle.px_general.proofs.OpenedForms.{form-opened}
 use Rattle.px_general.proofs.Reading.{Contains-flat_map, read-left, read-map, read-right}
+use Rattle.px_general.proofs.PlanInstance.{keeps-plan}
 use Rattle.px_general.proofs.Proving.{conclusion-names, proves-from_pairs}
 use Rattle.px_general.proofs.Shaped.{slot-name}
 use Rattle.px_general.proofs.Solving.{AreAlike, count-object, count-variable, goal_opened-alike, preconditions-alike}
 use Rattle.px_general.proofs.Under.{from_marks-under, rows_terms-under}
+use Rattle.px_general.proofs.WellSortedGeneral.{well_sorted-general}
 use Rattle.px_general.proofs.Marked.{mark_by, mark_terms-in, row_mark-leaf}
 
 -- ---- leaves and marks of the opened plan
@@ -519,6 +521,9 @@ module _ (problem : Problem) (valid : IsValid problem) (plan general : Table) (n
     marks = replayed.marks;
     atoms = All-each (λ (m : Mark). IsAtomOf problem general.params m.atom) general.marks mark-is_of;
     named = All-each (IsNamed problem general.steps) general.marks mark-named;
+    sorted =
+        well_sorted-general problem valid plan general is_table no_params
+        (keeps-plan problem plan is_table no_params general names roots replayed) in-range.steps replayed.sorts;
   }
 
 pub general-is_table : (problem : Problem) → IsValid problem → (plan general : Table) (names roots : List Term) → IsTable problem plan

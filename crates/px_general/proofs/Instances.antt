@@ -1,5 +1,5 @@
 -- A proper plan is an instance of itself, so what generalises it has a proper instance.
-use Rattle.std.specs.Prelude.{◌≡◌, ◌-◌, ℕ, List, [], ◌∷◌, map, length, All}
+use Rattle.std.specs.Prelude.{◌≡◌, ℕ, List, [], ◌∷◌, ◌++◌, map, All}
 use Rattle.std.proofs.Common.{refl, sym, ap, ◌∙◌, subst, arith}
 use Rattle.std.proofs.lemmas.List.Elements.{All-head, All-tail, All-contains_itself}
 use Rattle.px_terms.specs.declared.atom.Atom.{Atom}
@@ -15,10 +15,11 @@ use Rattle.px_table.specs.Supports.{variables}
 use Rattle.px_table.specs.SupportShapes.{shape_of_support, without_object}
 use Rattle.px_table.specs.Tables.{IsTable, rows_of}
 use Rattle.px_replay.proofs.GoalSteps.{read-variable}
-use Rattle.px_general.specs.General.{Generalises, shape_of_table}
+use Rattle.px_general.specs.General.{Generalises, IsTableInstance, shape_of_table}
 use Rattle.px_general.proofs.Solving.{atom_without}
 use Rattle.px_general.proofs.Shaped.{ops-under, rows_skeletons-under}
 use Rattle.px_general.proofs.InstanceSupports.{instance_supports}
+use Rattle.px_general.proofs.WellSortedGeneral.{own_steps-fit}
 
 module _ (problem : Problem) (plan : Table) (is_table : IsTable problem plan) (no_params : plan.params ≡ 0) where
   term-same : (t : Term) → IsTermOf problem plan.goal_vars t → without_object (substitute (variables plan.goal_vars) t) ≡ without_object t
@@ -50,12 +51,14 @@ module _ (problem : Problem) (plan : Table) (is_table : IsTable problem plan) (n
       let rows = rows_skeletons-under [] (rows_of plan.proofs) in
       λ i. record { operators = ops i; goal = goal i; rows = rows i }
 
-  -- so what generalises it has a proper instance
+  -- so what generalises it has a proper instance, by objects that fit
   pub has_instance : IsProper problem plan [] 1 → (general : Table) → Generalises problem plan general
-      → (objects : List ℕ) × (length objects ≡ general.params) × IsProper problem general objects 1
+      → (objects : List ℕ)
+      × IsTableInstance problem (problem.object_sorts ++ []) general objects (kernel_under plan [] 1) (steps_under plan [])
+      (goal_under plan []) (rows_under plan [])
   has_instance proper general is =
       let supports =
       instance_supports problem plan is_table [] (sym no_params) proper (kernel_under plan [] 1)
       (All-contains_itself (kernel_under plan [] 1)) in
-      let found = is.all (kernel_under plan [] 1) (steps_under plan []) (goal_under plan []) (rows_under plan []) supports own-shape in
-      (found.0, found.1.count, found.1.proper)
+      is.all [] (kernel_under plan [] 1) (steps_under plan []) (goal_under plan []) (rows_under plan []) supports
+      (own_steps-fit problem plan is_table no_params []) own-shape

@@ -1,11 +1,10 @@
 -- Labels that are given along the walk make the opened plan the general table.
-use Rattle.std.specs.Prelude.{◌≡◌, ◌↔◌, ◌+◌, ◌<◌, ℕ, true, Some, List, [], ◌∷◌, map, length, filter, flat_map, slice_get, slice_index_or, All, Contains}
+use Rattle.std.specs.Prelude.{◌≡◌, ◌↔◌, ◌<◌, ℕ, true, Some, List, [], ◌∷◌, map, length, filter, flat_map, slice_get, slice_index_or, All, Contains}
 use Rattle.std.proofs.Common.{zero, suc, refl, sym, ap, ◌∙◌, subst, inl, inr, arith}
 use Rattle.std.proofs.lemmas.Bool.Decides.{nat_tests}
 use Rattle.std.proofs.lemmas.List.{length-map}
 use Rattle.std.proofs.lemmas.List.Elements.{Contains-append_right, Contains-append_cases}
 use Rattle.px_base.specs.ListLaws.{All-at, All-each, Contains-first, Contains-later, Contains-filter}
-use Rattle.px_terms.specs.declared.atom.Atom.{Atom}
 use Rattle.px_terms.specs.declared.instance.OpInst.{OpInst}
 use Rattle.px_terms.specs.declared.problem.Problem.{Problem}
 use Rattle.px_terms.specs.declared.term.Term.{Term}
@@ -13,7 +12,7 @@ use Rattle.px_terms.specs.declared.term.Term.TheVariants.{Obj, Var, Any as WildC
 use Rattle.px_terms.specs.Language.{substitute, IsPlainBelow}
 use Rattle.px_terms.specs.Order.{term_eq}
 use Rattle.px_terms.specs.OrderLaws.{term_eq-decides}
-use Rattle.px_terms.specs.Validity.{IsAtomOf, IsTermOf, IsValid}
+use Rattle.px_terms.specs.Validity.{IsValid}
 use Rattle.px_unify.specs.declared.change.Change.{Change}
 use Rattle.px_unify.specs.Changes.{Fits, HasSolutions, IsRoot, MakesEachEqual, variables_of}
 use Rattle.px_proof.specs.declared.proof.Leaf.{Leaf}
@@ -21,30 +20,27 @@ use Rattle.px_proof.specs.Derivation.{Derivation, terms_of}
 use Rattle.px_base.specs.Answers.{some_same}
 use Rattle.px_proof.specs.PlaceLaws.{Contains-mapped, slice_get-read, slice_get-within}
 use Rattle.px_proof.specs.Proves.{IsObjectOrParameter}
-use Rattle.px_proof.specs.ProvesLaws.{name_of_term}
 use Rattle.px_proof.specs.SubstitutionLaws.{substitute_twice, terms_twice}
 use Rattle.px_table.specs.declared.table.Table.{Table}
 use Rattle.px_table.specs.KernelLaws.{Contains-from_map}
-use Rattle.px_table.specs.Marks.{IsNamed, row_leaves}
+use Rattle.px_table.specs.Marks.{row_leaves}
 use Rattle.px_table.specs.Once.{each_once}
 use Rattle.px_table.specs.OnceLaws.{Contains-each_once, Contains-from_each_once}
 use Rattle.px_terms.specs.Substitution.{variables_from}
-use Rattle.px_table.specs.Supports.{RowsProve, variables}
-use Rattle.px_table.specs.Tables.{IsTable, rows_of}
+use Rattle.px_table.specs.Supports.{variables}
+use Rattle.px_table.specs.Tables.{IsTable}
 use Rattle.px_terms.proofs.VariableLemmas.{length-variables}
-use Rattle.px_general.specs.General.{Generalises, is_parameter, row_terms}
+use Rattle.px_general.specs.General.{Generalises, KeepsPlan, is_parameter, row_terms}
 use Rattle.px_general.specs.Naming.{args_of_leaves, AreLabels, AreNamed, IsBuilt, IsResolved, is_variable_term, leaf_terms, roots_of, walked_terms}
 use Rattle.px_replay.specs.Opened.{goal_objects, opened_terms, replay_pairs, rows_opened, step_variables, steps_opened}
 use Rattle.px_replay.proofs.GoalSteps.{read-variable}
 use Rattle.px_general.specs.Replayed.{IsReplayed}
-use Rattle.px_general.proofs.Assembling.{IsSolution, own_terms-solve}
 use Rattle.px_general.proofs.MostGeneral.{is_most_general, same_list}
 use Rattle.px_general.proofs.Numbering.{walks-number}
 use Rattle.px_general.proofs.Reading.{All-flat_map, Contains-flat_map, read-map}
 use Rattle.px_general.proofs.Opening.{read-at}
-use Rattle.px_general.proofs.Solving.{objects_among, objects_among-all, own_of_goal}
+use Rattle.px_general.proofs.PlanInstance.{keeps-plan, plan-own}
 use Rattle.px_general.proofs.Together.{generalises}
-use Rattle.px_general.proofs.Under.{rows_terms-allowed, rows_terms-under, steps_terms-under}
 use Rattle.px_general.proofs.Marked.{each_once-by, filter-by, row_leaf-terms}
 
 place_of : (xs : List Term) (x : Term) → Contains xs x → (p : ℕ) × (slice_get xs p ≡ Some x)
@@ -184,68 +180,6 @@ leaf_terms-among P rows all = All-flat_map P (λ (row : List Derivation). args_o
     All-each P leaf.atom.args (λ t here. All-at P (row_terms rows) t all
     (Contains-flat_map (flat_map terms_of) rows row t has (row_leaf-terms row leaf t there here)))))
 
--- ---- the plan's own terms are objects of the problem
-
-steps_terms-names : (problem : Problem) (steps : List OpInst) → All (λ (inst : OpInst). All (IsTermOf problem 0) inst.args) steps
-    → All (IsObjectOrParameter problem.objects 0) (flat_map (λ (inst : OpInst). inst.args) steps)
-steps_terms-names problem steps all = All-flat_map (IsObjectOrParameter problem.objects 0) (λ (inst : OpInst). inst.args) steps (λ s has.
-    All-each (IsObjectOrParameter problem.objects 0) s.args (λ t there. name_of_term problem 0 t
-    (All-at (IsTermOf problem 0) s.args t (All-at (λ (inst : OpInst). All (IsTermOf problem 0) inst.args) steps s all has) there)))
-
-own_of_goal-names : (problem : Problem) (vars : ℕ) (goal : List Atom) → All (IsAtomOf problem vars) goal
-    → All (IsObjectOrParameter problem.objects 0) (own_of_goal goal)
-own_of_goal-names problem vars goal all =
-    All-flat_map (IsObjectOrParameter problem.objects 0) (λ (atom : Atom). objects_among atom.args) goal (λ a has.
-    objects_among-all (IsObjectOrParameter problem.objects 0) a.args
-    (λ n there. All-at (IsTermOf problem vars) a.args (Obj n) (All-at (IsAtomOf problem vars) goal a all has).1 there))
-
-module _ (problem : Problem) (plan : Table) (is_table : IsTable problem plan) (no_params : plan.params ≡ 0) where
-  plan_prove : RowsProve (IsObjectOrParameter problem.objects 0) problem 0 plan.steps plan.goal plan.goal_vars (rows_of plan.proofs)
-  plan_prove =
-      subst (λ (n : ℕ). RowsProve (IsObjectOrParameter problem.objects n) problem n plan.steps plan.goal plan.goal_vars
-      (rows_of plan.proofs)) no_params
-      is_table.prove
-
-  plan_solution : (terms : List Term) × IsSolution problem plan plan.steps plan.goal (rows_of plan.proofs) terms
-  plan_solution = (
-    _,
-    own_terms-solve problem plan is_table no_params (IsObjectOrParameter problem.objects 0) plan.steps plan.goal
-        (rows_of plan.proofs) plan_prove
-        (λ k d below. (is_table.in_range.steps k d below).count)
-        (subst (All (IsNamed problem plan.steps)) is_table.marks is_table.named) refl,
-  )
-
-  own-names : (own : List Term) → IsSolution problem plan plan.steps plan.goal (rows_of plan.proofs) own → (t : Term)
-      → Contains (opened_terms problem plan) t → IsObjectOrParameter problem.objects 0 (substitute own t)
-  own-names own solution t has = elim (Contains-append_cases (flat_map (λ (inst : OpInst). inst.args) (steps_opened plan)) _ t has) [
-    | inl in_steps ↦
-        All-at (IsObjectOrParameter problem.objects 0) (flat_map (λ (inst : OpInst). inst.args) plan.steps) (substitute own t)
-        (steps_terms-names problem plan.steps (λ k d below. subst
-        (λ (n : ℕ). All (IsTermOf problem n) ((slice_index_or plan.steps k d).args)) no_params
-        (is_table.in_range.steps k d below).terms))
-        (subst (λ (l : List Term). Contains l (substitute own t))
-        (sym (steps_terms-under own (steps_opened plan)) ∙ ap (flat_map (λ (inst : OpInst). inst.args)) solution.steps_are)
-        (Contains-mapped (substitute own) _ t in_steps))
-    | inr later ↦ elim (Contains-append_cases (variables_from (step_variables plan.steps) (goal_objects plan.goal))
-        (flat_map (flat_map terms_of) (rows_opened problem plan)) t later) [
-          | inl in_goal ↦
-              All-at (IsObjectOrParameter problem.objects 0) (own_of_goal plan.goal) (substitute own t)
-              (own_of_goal-names problem (plan.params + plan.goal_vars) plan.goal is_table.in_range.goal)
-              (subst (λ (l : List Term). Contains l (substitute own t)) solution.objects_are (Contains-mapped (substitute own) _ t in_goal))
-          | inr in_rows ↦
-              All-at (IsObjectOrParameter problem.objects 0) (flat_map (flat_map terms_of) (rows_of plan.proofs)) (substitute own t)
-              (rows_terms-allowed (IsObjectOrParameter problem.objects 0) problem 0 plan.goal plan.goal_vars plan.steps
-              (rows_of plan.proofs) plan_prove)
-              (subst (λ (l : List Term). Contains l (substitute own t))
-              (sym (rows_terms-under own (rows_opened problem plan)) ∙ ap (flat_map (flat_map terms_of)) solution.rows_are)
-              (Contains-mapped (substitute own) _ t in_rows))
-        ]
-  ]
-
-  pub plan-own : (terms : List Term) × MakesEachEqual (replay_pairs problem plan) terms
-      × ((t : Term) → Contains (opened_terms problem plan) t → IsObjectOrParameter problem.objects 0 (substitute terms t))
-  plan-own = (plan_solution.0, plan_solution.1.equal, own-names plan_solution.0 plan_solution.1)
-
 -- ---- all together
 
 module _ (problem : Problem) (plan general : Table) (changes : List Change) (resolved labels : List Term) (valid : IsValid problem)
@@ -339,10 +273,14 @@ module _ (problem : Problem) (plan general : Table) (changes : List Change) (res
     goal_vars = built.goal_vars;
     rows = built.rows_are;
     marks = built.marks_are;
+    sorts = built.sorts_are;
   }
 
-  -- it is the general table
-  pub general-is : Generalises problem plan general
-  general-is = generalises problem plan general the_names the_roots valid is_table no_params replayed
-      (walks-number problem plan general the_names the_roots is_table no_params replayed
-      (walk-numbered resolved labels general.params (walked_terms problem plan) are))
+  -- it is the general table, and keeps the plan
+  pub general-is : Generalises problem plan general × KeepsPlan problem plan general
+  general-is = (
+    generalises problem plan general the_names the_roots valid is_table no_params replayed
+        (walks-number problem plan general the_names the_roots is_table no_params replayed
+        (walk-numbered resolved labels general.params (walked_terms problem plan) are)),
+    keeps-plan problem plan is_table no_params general the_names the_roots replayed,
+  )

@@ -19,6 +19,7 @@ pub mod Numbering
 pub mod OneGeneral
 pub mod OpenedForms
 pub mod Opening
+pub mod PlanInstance
 pub mod Proving
 pub mod Reading
 pub mod Renaming
@@ -27,5 +28,7 @@ pub mod Solving
 pub mod SupportInstances
 pub mod Together
 pub mod Touching
+pub mod TouchingAnswer
 pub mod Under
 pub mod WalkSteps
+pub mod WellSortedGeneral

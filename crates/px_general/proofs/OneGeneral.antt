@@ -1,9 +1,10 @@
 -- A plan that is proper has at most one general table: each of two is the other with its parameters renamed, and as these are numbered
 -- by first occurrence, none is renamed.
 use Rattle.std.specs.Prelude.{◌≡◌, ◌+◌, ◌-◌, ◌<◌, ℕ, List, [], ◌∷◌, ◌++◌, map, length, filter, slice_index, Contains}
-use Rattle.std.proofs.Common.{refl, sym, ap, ◌∙◌, subst, inl, inr, arith}
+use Rattle.std.proofs.Common.{zero, suc, refl, sym, ap, ◌∙◌, subst, inl, inr, arith}
 use Rattle.std.proofs.lemmas.List.{map-append}
 use Rattle.std.proofs.lemmas.List.Elements.{All-contains_itself, Contains-append_right, Contains-append_cases}
+use Rattle.px_terms.specs.declared.instance.OpInst.{OpInst}
 use Rattle.px_terms.specs.declared.problem.Problem.{Problem}
 use Rattle.px_terms.specs.declared.term.Term.{Term}
 use Rattle.px_terms.specs.declared.term.Term.TheVariants.{Obj, Var, Any as WildCard}
@@ -19,6 +20,7 @@ use Rattle.px_table.specs.Marks.{marks_from}
 use Rattle.px_table.specs.Once.{each_once}
 use Rattle.px_table.specs.Supports.{variables}
 use Rattle.px_table.specs.Tables.{IsTable, rows_of}
+use Rattle.px_table.specs.WellSorted.{ParametersFit, sorts_by_places}
 use Rattle.px_general.specs.General.{Generalises, GeneralIsOne, goal_terms, is_parameter, row_terms, step_terms, terms_in}
 use Rattle.px_general.proofs.Deleting.{new-proper}
 use Rattle.px_general.proofs.Instances.{has_instance}
@@ -26,7 +28,7 @@ use Rattle.px_general.proofs.Mapped.{goal-by, goal-same, goal_terms-by, instance
 use Rattle.px_general.proofs.Marked.{mark_by, mark_terms, mark_terms-in, marks-by}
 use Rattle.px_general.proofs.Numbered.{numbers-stay, parameter-occurs}
 use Rattle.px_general.proofs.Reading.{flat_map-mapped, item-left, less_or_not, lists-one, lt-false, lt-true}
-use Rattle.px_general.proofs.Renaming.{IsTableBy, above-back, below-back, is_renamed, length-numbers, numbers_from, of-goal, of-rows, of-steps, put-own, put-parameter, put-past, read_back, renamed, term_of_more}
+use Rattle.px_general.proofs.Renaming.{IsTableBy, above-back, below-back, is_renamed, length-numbers, numbers_from, of-goal, of-rows, of-steps, put-own, put-parameter, put-past, read-numbers, read_back, renamed, term_of_more}
 
 -- the terms of a table's steps, goal and proofs
 abbrev own_terms : Table → List Term
@@ -204,8 +206,9 @@ module _ (problem : Problem) (one other : Table) (is_one : IsTable problem one) 
         ∙ ap (λ n. Var (n + (v - one.params))) (sym numbers.0))
   ]
 
-  pub same_tables : one.goal_vars ≡ other.goal_vars → one ≡ other
-  same_tables goal_vars =
+  pub same_tables : one.goal_vars ≡ other.goal_vars → one.param_sorts ≡ sorts_by_places problem one.steps one.params
+      → other.param_sorts ≡ sorts_by_places problem other.steps other.params → one ≡ other
+  same_tables goal_vars sorts_one sorts_other =
       let steps : one.steps ≡ other.steps =
       sym (steps-by there (λ t. t) (λ t. t) one.steps
       (λ t has. left t (term_of_more problem one.params one.goal_vars t (of-steps problem one is_one t has))) ∙ steps-same one.steps)
@@ -221,9 +224,36 @@ module _ (problem : Problem) (one other : Table) (is_one : IsTable problem one) 
       let marks : one.marks ≡ other.marks = is_one.marks ∙ ap (marks_from 1) rows ∙ sym is_other.marks in
       let proofs : one.proofs ≡ other.proofs = proofs-one one.proofs other.proofs rows in
       let params = numbers.0 in
-      λ i. record { params = params i; steps = steps i; goal = goal i; goal_vars = goal_vars i; marks = marks i; proofs = proofs i }
+      let sorts : one.param_sorts ≡ other.param_sorts =
+      sorts_one ∙ ap (λ (s : List OpInst). sorts_by_places problem s one.params) steps ∙ ap (sorts_by_places problem other.steps) params
+      ∙ sym sorts_other in
+      λ i. record {
+        params = params i;
+        steps = steps i;
+        goal = goal i;
+        goal_vars = goal_vars i;
+        marks = marks i;
+        proofs = proofs i;
+        param_sorts = sorts i;
+      }
 
 -- ---- the law
+
+-- what stands behind a list
+read-behind : (sorts more : List ℕ) (n v : ℕ) → n ≡ length sorts → slice_index (sorts ++ more) (n + v) ≡ slice_index more v
+read-behind [] more n v count = ap (slice_index more) (omega (arith, count))
+read-behind (s ∷ sorts) more zero v count = absurd (omega (arith, count))
+read-behind (s ∷ sorts) more (suc n) v count =
+    let later : suc n + v ≡ suc (n + v) = omega arith in
+    ap (slice_index (s ∷ (sorts ++ more))) later ∙ read-behind sorts more n v (omega (arith, count))
+
+-- new objects fit where they have just the sorts of the parameters
+new-fit : (problem : Problem) → IsValid problem → (table : Table)
+    → ParametersFit (problem.object_sorts ++ table.param_sorts) table (numbers_from problem.objects table.params)
+new-fit problem valid table v below other =
+    ap (slice_index (problem.object_sorts ++ table.param_sorts))
+    (read-numbers problem.objects table.params v (omega (arith, below, length-numbers problem.objects table.params)))
+    ∙ read-behind problem.object_sorts table.param_sorts problem.objects v (sym valid.sorts.0)
 
 -- the instance of the one by new objects is an instance of the other
 shared : (problem : Problem) (plan one other : Table) → IsValid problem → IsTable problem plan → IsProper problem plan [] 1
@@ -233,10 +263,12 @@ shared : (problem : Problem) (plan one other : Table) → IsValid problem → Is
 shared problem plan one other valid is_table proper is_one is_other =
     let new : List ℕ = numbers_from problem.objects one.params in
     let own = has_instance problem plan is_table is_one.no_params proper one is_one in
-    let new_is_proper = new-proper problem valid one is_one.table own.0 own.1 own.2 in
-    let supports = is_one.sound new (kernel_under one new 1) (steps_under one new) (goal_under one new) (rows_under one new)
+    let new_is_proper = new-proper problem valid one is_one.table own.0 own.1.count own.1.proper in
+    let supports =
+    is_one.sound one.param_sorts new (kernel_under one new 1) (steps_under one new) (goal_under one new) (rows_under one new)
     (record {
       count = length-numbers problem.objects one.params;
+      fitting = new-fit problem valid one;
       proper = new_is_proper;
       steps_are = refl;
       goal_is = refl;
@@ -244,7 +276,8 @@ shared problem plan one other valid is_table proper is_one is_other =
       kernel = All-contains_itself (kernel_under one new 1);
     }) in
     let found =
-    is_other.all (kernel_under one new 1) (steps_under one new) (goal_under one new) (rows_under one new) supports.0 supports.1 in (
+    is_other.all one.param_sorts (kernel_under one new 1) (steps_under one new) (goal_under one new) (rows_under one new) supports.0
+    supports.1 supports.2 in (
       found.0,
       found.1.count,
       is_renamed problem one other is_one.table is_other.table found.0 found.1.count found.1.steps_are
@@ -256,4 +289,4 @@ general_is_one problem plan one other valid is_table proper is_one is_other =
     let back = shared problem plan one other valid is_table proper is_one is_other in
     let by = shared problem plan other one valid is_table proper is_other is_one in
     same_tables problem one other is_one.table is_other.table by.0 back.0 by.1 back.1 by.2 back.2 is_one.numbered is_other.numbered
-    (is_one.goal_vars ∙ sym is_other.goal_vars)
+    (is_one.goal_vars ∙ sym is_other.goal_vars) is_one.sorts is_other.sorts

@@ -12,7 +12,8 @@ use Rattle.px_terms.specs.declared.term.Term.{Term}
 use Rattle.px_terms.specs.declared.term.Term.TheVariants.{Obj, Var, Any as WildCard}
 use Rattle.px_terms.specs.Language.{substitute, IsObject}
 use Rattle.px_terms.specs.Substitution.{substitute_atom, substitute_instance, variables_from}
-use Rattle.px_terms.specs.Validity.{IsAtomOf, IsTermOf}
+use Rattle.px_terms.specs.Sorts.{IsWellSortedBy}
+use Rattle.px_terms.specs.Validity.{IsAtomOf, IsTermOf, IsValid}
 use Rattle.px_proof.specs.Derivation.{Derivation, Derivations, fact, ancestor, step, gap, open_place, none, also, skeleton, skeletons}
 use Rattle.px_proof.specs.Proves.{IsObjectOrParameter}
 use Rattle.px_proof.specs.Substitution.{derivation_under}
@@ -22,6 +23,7 @@ use Rattle.px_table.specs.Kernels.{goal_under, rows_under, steps_under}
 use Rattle.px_table.specs.Supports.{Supports, variables}
 use Rattle.px_table.specs.SupportShapes.{shape_of_support, without_object}
 use Rattle.px_table.specs.Tables.{IsTable, rows_of}
+use Rattle.px_table.specs.WellSortedLaws.{steps-fit}
 use Rattle.px_general.specs.General.{shape_of_table, IsSoundFor}
 use Rattle.px_replay.specs.FreshVariables.{fresh_in, is_object}
 use Rattle.px_replay.specs.Opened.{goal_objects, named_args, named_goal, opened_row, opened_rows, opened_steps, opened_terms, rows_opened, step_variables, steps_opened}
@@ -74,7 +76,7 @@ module _ (named : ℕ → ℕ → Atom) where
   row_skeletons-opened first (d ∷ row) =
       let one = skeleton-opened first d in let rest = row_skeletons-opened (first + fresh_in d) row in λ i. one i ∷ rest i
 
-  rows_skeletons-opened : (first : ℕ) (rows : List (List Derivation))
+  pub rows_skeletons-opened : (first : ℕ) (rows : List (List Derivation))
       → map (map skeleton) (opened_rows named first rows) ≡ map (map skeleton) rows
   rows_skeletons-opened first [] = refl
   rows_skeletons-opened first (row ∷ rows) =
@@ -165,20 +167,25 @@ instance-shaped problem plan general names roots is_table no_params replayed obj
     ∙ rows_skeletons-under names (rows_opened problem plan) ∙ rows_skeletons-opened _ _ (rows_of plan.proofs) in
     λ i. record { operators = ops i; goal = goals i; rows = rows i }
 
-pub sound_for : (problem : Problem) (plan general : Table) (names roots : List Term) → IsTable problem plan → plan.params ≡ 0
-    → IsReplayed problem plan general names roots → IsTable problem general → IsSoundFor problem plan general
-sound_for problem plan general names roots is_table no_params replayed is_general objects atoms steps goal rows is =
+pub sound_for : (problem : Problem) → IsValid problem → (plan general : Table) (names roots : List Term) → IsTable problem plan
+    → plan.params ≡ 0 → IsReplayed problem plan general names roots → IsTable problem general → IsSoundFor problem plan general
+sound_for problem valid plan general names roots is_table no_params replayed is_general more objects atoms steps goal rows is =
+    let sorts : List ℕ = problem.object_sorts ++ more in
     let supports : Supports problem atoms (steps_under general objects) (goal_under general objects) plan.goal_vars
     (rows_under general objects) =
     subst (λ (n : ℕ). Supports problem atoms (steps_under general objects) (goal_under general objects) n (rows_under general objects))
     replayed.goal_vars
     (instance_supports problem general is_general objects is.count is.proper atoms is.kernel) in
+    let fit = steps-fit problem general more objects valid is_general is.count is.fitting in
     let shaped = instance-shaped problem plan general names roots is_table no_params replayed objects is.count in
-    subst (λ (s : List OpInst). Supports problem atoms s goal plan.goal_vars rows × (shape_of_support s goal rows ≡ shape_of_table plan))
+    subst (λ (s : List OpInst). Supports problem atoms s goal plan.goal_vars rows × All (IsWellSortedBy sorts problem) s
+    × (shape_of_support s goal rows ≡ shape_of_table plan))
     (sym is.steps_are)
     (subst (λ (g : List Atom). Supports problem atoms (steps_under general objects) g plan.goal_vars rows
+    × All (IsWellSortedBy sorts problem) (steps_under general objects)
     × (shape_of_support (steps_under general objects) g rows ≡ shape_of_table plan)) (sym is.goal_is)
     (subst (λ (r : List (List Derivation)). Supports problem atoms (steps_under general objects)
     (goal_under general objects) plan.goal_vars r
+    × All (IsWellSortedBy sorts problem) (steps_under general objects)
     × (shape_of_support (steps_under general objects) (goal_under general objects) r ≡ shape_of_table plan)) (sym is.rows_are)
-    (supports, shaped)))
+    (supports, fit, shaped)))

@@ -12,6 +12,7 @@ use Rattle.px_terms.specs.declared.term.Term.{Term}
 use Rattle.px_terms.specs.declared.term.Term.TheVariants.{Obj, Var, Any as WildCard}
 use Rattle.px_terms.specs.Language.{substitute, IsObject}
 use Rattle.px_terms.specs.Substitution.{substitute_atom, substitute_instance, variables_from}
+use Rattle.px_terms.specs.Sorts.{IsWellSortedBy}
 use Rattle.px_terms.specs.Validity.{IsAtomOf, IsTermOf, IsGroundInstanceOf}
 use Rattle.px_proof.specs.Derivation.{Derivation, terms_of}
 use Rattle.px_proof.specs.PlaceLaws.{All-front, All-back, Contains-mapped}
@@ -25,6 +26,7 @@ use Rattle.px_table.specs.Marks.{IsKept, marks_from}
 use Rattle.px_table.specs.Supports.{Supports, variables}
 use Rattle.px_table.specs.SupportShapes.{SupportShape, shape_of_support, without_object}
 use Rattle.px_table.specs.Tables.{IsTable, rows_of}
+use Rattle.px_table.specs.WellSortedLaws.{places-fit}
 use Rattle.px_general.specs.General.{IsGeneralFor, IsTableInstance, shape_of_table}
 use Rattle.px_replay.specs.FreshVariables.{is_object}
 use Rattle.px_replay.specs.Opened.{goal_objects, named_args, named_goal, opened_terms, rows_opened, step_variables, steps_opened}
@@ -132,26 +134,56 @@ module _ (problem : Problem) (vars params : ℕ) (terms names values : List Term
       (λ v low high. at v (omega (arith, low)) (omega (arith, high, counted))) in
       λ i. record { pred = sym (ap (λ (x : Atom). x.pred) both.0) i; args = args i } ∷ rest i
 
+-- ---- the opened plan under a solution
+
+-- what holds of all terms of the steps, the goal and the proofs holds of those of the opened plan under the terms
+pub own-all : (P : Term → Type 0) (problem : Problem) (plan : Table) (steps : List OpInst) (goal : List Atom)
+    (rows : List (List Derivation)) (own : List Term) → IsSolution problem plan steps goal rows own
+    → All P (flat_map (λ (inst : OpInst). inst.args) steps) → All P (own_of_goal goal) → All P (flat_map (flat_map terms_of) rows)
+    → (t : Term) → Contains (opened_terms problem plan) t → P (substitute own t)
+own-all P problem plan steps goal rows own solution of_steps of_goal of_rows t has =
+    elim (Contains-append_cases (flat_map (λ (inst : OpInst). inst.args) (steps_opened plan)) _ t has) [
+      | inl in_steps ↦
+          All-at P (flat_map (λ (inst : OpInst). inst.args) steps) (substitute own t) of_steps
+          (subst (λ (l : List Term). Contains l (substitute own t))
+          (sym (steps_terms-under own (steps_opened plan)) ∙ ap (flat_map (λ (inst : OpInst). inst.args)) solution.steps_are)
+          (Contains-mapped (substitute own) _ t in_steps))
+      | inr later ↦ elim (Contains-append_cases (variables_from (step_variables plan.steps) (goal_objects plan.goal))
+          (flat_map (flat_map terms_of) (rows_opened problem plan)) t later) [
+            | inl in_goal ↦
+                All-at P (own_of_goal goal) (substitute own t) of_goal
+                (subst (λ (l : List Term). Contains l (substitute own t)) solution.objects_are
+                (Contains-mapped (substitute own) _ t in_goal))
+            | inr in_rows ↦
+                All-at P (flat_map (flat_map terms_of) rows) (substitute own t) of_rows
+                (subst (λ (l : List Term). Contains l (substitute own t))
+                (sym (rows_terms-under own (rows_opened problem plan)) ∙ ap (flat_map (flat_map terms_of)) solution.rows_are)
+                (Contains-mapped (substitute own) _ t in_rows))
+          ]
+    ]
+
 -- ---- the instance
 
+-- the steps, the goal and the proofs are the table's with these objects for its parameters
+pub record AreUnder (table : Table) (objects : List ℕ) (steps : List OpInst) (goal : List Atom) (rows : List (List Derivation)) : Type 0
+  where
+    pub count : length objects ≡ table.params
+    pub steps_are : steps ≡ steps_under table objects
+    pub goal_is : goal ≡ goal_under table objects
+    pub rows_are : rows ≡ rows_under table objects
+
+-- Where terms make the opened plan these steps, this goal and these proofs, and all of them are objects, the general table is these with
+-- the objects that the terms give the roots.
 module _ (problem : Problem) (plan general : Table) (names roots : List Term) (is_table : IsTable problem plan)
     (no_params : plan.params ≡ 0) (replayed : IsReplayed problem plan general names roots)
-    (atoms : List Atom) (steps : List OpInst) (goal : List Atom) (rows : List (List Derivation))
-    (support : Supports problem atoms steps goal plan.goal_vars rows) (shape : shape_of_support steps goal rows ≡ shape_of_table plan) where
-  have_arguments : All (HasItsArguments problem) steps
-  have_arguments k d below = (support.instances k d below).count
-
-  abbrev own : List Term
-  own = solution_terms problem plan is_table no_params IsObject steps goal rows support.prove have_arguments support.named shape
-
-  solution : IsSolution problem plan steps goal rows own
-  solution = own_terms-solve problem plan is_table no_params IsObject steps goal rows support.prove have_arguments support.named shape
-
+    (steps : List OpInst) (goal : List Atom) (rows : List (List Derivation)) (own : List Term)
+    (solution : IsSolution problem plan steps goal rows own) (same_goal : map atom_without goal ≡ map atom_without plan.goal)
+    (own-objects : (t : Term) → Contains (opened_terms problem plan) t → IsObject (substitute own t)) where
   -- what the parameters stand for
-  abbrev values : List Term
+  abbrev pub values : List Term
   values = map (substitute own) roots
 
-  abbrev objects : List ℕ
+  abbrev pub objects : List ℕ
   objects = map number_of values
 
   abbrev step_terms : List Term
@@ -166,41 +198,19 @@ module _ (problem : Problem) (plan general : Table) (names roots : List Term) (i
   agree : All (Agrees own values names) (opened_terms problem plan)
   agree = All-each (Agrees own values names) (opened_terms problem plan) (λ t has. replayed.most_general.factors own solution.equal t has)
 
-  -- each term of the opened plan is an object in the support
-  own-objects : (t : Term) → Contains (opened_terms problem plan) t → IsObject (substitute own t)
-  own-objects t has = elim (Contains-append_cases step_terms (goal_slots ++ row_terms) t has) [
-    | inl in_steps ↦
-        All-at IsObject (flat_map (λ (inst : OpInst). inst.args) steps) (substitute own t)
-        (steps_terms-objects problem steps support.instances)
-        (subst (λ (l : List Term). Contains l (substitute own t))
-        (sym (steps_terms-under own (steps_opened plan)) ∙ ap (flat_map (λ (inst : OpInst). inst.args)) solution.steps_are)
-        (Contains-mapped (substitute own) step_terms t in_steps))
-    | inr later ↦ elim (Contains-append_cases goal_slots row_terms t later) [
-      | inl in_goal ↦
-          All-at IsObject (own_of_goal goal) (substitute own t) (own_of_goal-are goal)
-          (subst (λ (l : List Term). Contains l (substitute own t)) solution.objects_are
-          (Contains-mapped (substitute own) goal_slots t in_goal))
-      | inr in_rows ↦
-          All-at IsObject (flat_map (flat_map terms_of) rows) (substitute own t)
-          (rows_terms-allowed IsObject problem 0 goal plan.goal_vars steps rows support.prove)
-          (subst (λ (l : List Term). Contains l (substitute own t))
-          (sym (rows_terms-under own (rows_opened problem plan)) ∙ ap (flat_map (flat_map terms_of)) solution.rows_are)
-          (Contains-mapped (substitute own) row_terms t in_rows))
-    ]
-  ]
-
   values-count : length values ≡ general.params
   values-count = length-map roots (substitute own) ∙ replayed.count
 
-  values-objects : All IsObject values
-  values-objects = All-places IsObject values WildCard (λ v below.
+  -- what holds of all terms of the opened plan under the own terms holds of the values
+  pub values-all : (P : Term → Type 0) → ((t : Term) → Contains (opened_terms problem plan) t → P (substitute own t)) → All P values
+  values-all P each = All-places P values WildCard (λ v below.
       let used = replayed.used v (omega (arith, below, values-count)) in
       let value : substitute own used.0 ≡ slice_index_or values v WildCard =
       replayed.most_general.factors own solution.equal used.0 used.1 ∙ ap (substitute values) used.2 in
-      subst IsObject value (own-objects used.0 used.1))
+      subst P value (each used.0 used.1))
 
   values-are : map Obj objects ≡ values
-  values-are = numbers-back values values-objects
+  values-are = numbers-back values (values-all IsObject own-objects)
 
   steps-are : steps ≡ steps_under general objects
   steps-are =
@@ -233,40 +243,79 @@ module _ (problem : Problem) (plan general : Table) (names roots : List Term) (i
       let goal_are : All (IsAtomOf problem plan.goal_vars) plan.goal =
       subst (λ (n : ℕ). All (IsAtomOf problem n) plan.goal) (omega (arith, no_params)) is_table.in_range.goal in
       sym (named_goal-is problem plan.goal_vars general.params own names values values-count (step_variables plan.steps) plan.goal goal
-      (ap (λ (s : SupportShape). s.goal) shape) goal_are solution.objects slot-named)
+      same_goal goal_are solution.objects slot-named)
       ∙ ap (λ l. map (substitute_atom (l ++ variables plan.goal_vars))
       (named_goal names general.params (step_variables plan.steps) plan.goal)) (sym values-are)
       ∙ ap (λ n. map (substitute_atom (map Obj objects ++ variables n))
       (named_goal names general.params (step_variables plan.steps) plan.goal)) (sym replayed.goal_vars)
       ∙ ap (map (substitute_atom (map Obj objects ++ variables general.goal_vars))) (sym replayed.goal)
 
-  -- the instance of each mark of the general table is a mark of the support
-  mark-there : (mark : Mark) → Contains general.marks mark → Contains (marks_from 1 rows) (mark_under objects mark)
-  mark-there mark has =
-      subst (λ (r : List (List Derivation)). Contains (marks_from 1 r) (mark_under objects mark)) (sym rows-are)
-      (marks-under (map Obj objects) 1 (rows_of general.proofs) mark (subst (λ (l : List Mark). Contains l mark) replayed.marks has))
+  pub are-under : AreUnder general objects steps goal rows
+  are-under =
+      record { count = length-map values number_of ∙ values-count; steps_are = steps-are; goal_is = goal-is; rows_are = rows-are }
 
-  support-is_instance : IsTableInstance problem general objects atoms steps goal rows
+-- ---- of a support
+
+module _ (problem : Problem) (plan general : Table) (names roots : List Term) (is_table : IsTable problem plan)
+    (no_params : plan.params ≡ 0) (replayed : IsReplayed problem plan general names roots)
+    (sorts : List ℕ) (atoms : List Atom) (steps : List OpInst) (goal : List Atom) (rows : List (List Derivation))
+    (support : Supports problem atoms steps goal plan.goal_vars rows) (fit : All (IsWellSortedBy sorts problem) steps)
+    (shape : shape_of_support steps goal rows ≡ shape_of_table plan) where
+  have_arguments : All (HasItsArguments problem) steps
+  have_arguments k d below = (support.instances k d below).count
+
+  abbrev its_own : List Term
+  its_own = solution_terms problem plan is_table no_params IsObject steps goal rows support.prove have_arguments support.named shape
+
+  its_solution : IsSolution problem plan steps goal rows its_own
+  its_solution = own_terms-solve problem plan is_table no_params IsObject steps goal rows support.prove have_arguments support.named shape
+
+  its_goal : map atom_without goal ≡ map atom_without plan.goal
+  its_goal = ap (λ (s : SupportShape). s.goal) shape
+
+  its-objects : (t : Term) → Contains (opened_terms problem plan) t → IsObject (substitute its_own t)
+  its-objects =
+      own-all IsObject problem plan steps goal rows its_own its_solution (steps_terms-objects problem steps support.instances)
+      (own_of_goal-are goal) (rows_terms-allowed IsObject problem 0 goal plan.goal_vars steps rows support.prove)
+
+  abbrev its_objects : List ℕ
+  its_objects =
+      objects problem plan general names roots is_table no_params replayed steps goal rows its_own its_solution its_goal its-objects
+
+  its : AreUnder general its_objects steps goal rows
+  its = are-under problem plan general names roots is_table no_params replayed steps goal rows its_own its_solution its_goal its-objects
+
+  -- the instance of each mark of the general table is a mark of the support
+  mark-there : (mark : Mark) → Contains general.marks mark → Contains (marks_from 1 rows) (mark_under its_objects mark)
+  mark-there mark has =
+      subst (λ (r : List (List Derivation)). Contains (marks_from 1 r) (mark_under its_objects mark)) (sym its.rows_are)
+      (marks-under (map Obj its_objects) 1 (rows_of general.proofs) mark (subst (λ (l : List Mark). Contains l mark) replayed.marks has))
+
+  support-is_instance : IsTableInstance problem sorts general its_objects atoms steps goal rows
   support-is_instance = record {
-    count = length-map values number_of ∙ values-count;
-    proper = All-each (λ mark. IsKept problem (steps_under general objects) 1 (mark_under objects mark)) general.marks
-        (λ mark has. subst (λ (l : List OpInst). IsKept problem l 1 (mark_under objects mark)) steps-are
-        (All-at (IsKept problem steps 1) (marks_from 1 rows) (mark_under objects mark) support.kept (mark-there mark has)));
-    steps_are = steps-are;
-    goal_is = goal-is;
-    rows_are = rows-are;
-    kernel = All-each (Contains atoms) (kernel_under general objects 1)
+    count = its.count;
+    fitting =
+        places-fit problem general sorts its_objects its.count replayed.sorts
+        (subst (All (IsWellSortedBy sorts problem)) its.steps_are fit);
+    proper = All-each (λ mark. IsKept problem (steps_under general its_objects) 1 (mark_under its_objects mark)) general.marks
+        (λ mark has. subst (λ (l : List OpInst). IsKept problem l 1 (mark_under its_objects mark)) its.steps_are
+        (All-at (IsKept problem steps 1) (marks_from 1 rows) (mark_under its_objects mark) support.kept (mark-there mark has)));
+    steps_are = its.steps_are;
+    goal_is = its.goal_is;
+    rows_are = its.rows_are;
+    kernel = All-each (Contains atoms) (kernel_under general its_objects 1)
         (λ atom has.
-        let from = Contains-from_map (atom_under objects) (kernel_of general 1) atom has in
+        let from = Contains-from_map (atom_under its_objects) (kernel_of general 1) atom has in
         let mark = from_kernel general 1 from.0 from.1 in
-        subst (Contains atoms) (ap (atom_under objects) mark.2 ∙ from.2)
-        (All-at (λ (m : Mark). m.column ≡ 0 → Contains atoms m.atom) (marks_from 1 rows) (mark_under objects mark.0) support.given
+        subst (Contains atoms) (ap (atom_under its_objects) mark.2 ∙ from.2)
+        (All-at (λ (m : Mark). m.column ≡ 0 → Contains atoms m.atom) (marks_from 1 rows) (mark_under its_objects mark.0) support.given
         (mark-there mark.0 mark.1) (omega (arith, mark.4))));
   }
 
 pub general_for : (problem : Problem) (plan general : Table) (names roots : List Term) → IsTable problem plan → plan.params ≡ 0
     → IsReplayed problem plan general names roots → IsGeneralFor problem plan general
-general_for problem plan general names roots is_table no_params replayed atoms steps goal rows support shape = (
-  objects problem plan general names roots is_table no_params replayed atoms steps goal rows support shape,
-  support-is_instance problem plan general names roots is_table no_params replayed atoms steps goal rows support shape,
-)
+general_for problem plan general names roots is_table no_params replayed more atoms steps goal rows support fit shape =
+    let sorts : List ℕ = problem.object_sorts ++ more in (
+      its_objects problem plan general names roots is_table no_params replayed sorts atoms steps goal rows support fit shape,
+      support-is_instance problem plan general names roots is_table no_params replayed sorts atoms steps goal rows support fit shape,
+    )

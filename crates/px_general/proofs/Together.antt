@@ -20,6 +20,7 @@ generalises problem plan general names roots valid is_table no_params replayed n
       table = is_general;
       goal_vars = replayed.goal_vars;
       numbered = numbered;
-      sound = sound_for problem plan general names roots is_table no_params replayed is_general;
+      sorts = replayed.sorts;
+      sound = sound_for problem valid plan general names roots is_table no_params replayed is_general;
       all = general_for problem plan general names roots is_table no_params replayed;
     }

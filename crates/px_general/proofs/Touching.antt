@@ -1,6 +1,6 @@
 -- The worked plan: what of it holds, by computing, and which tables don't generalise it.
-use Rattle.std.specs.Prelude.{◌≡◌, ◌+◌, ℕ, List, [], ◌∷◌, filter, map, sum_by, Contains}
-use Rattle.std.proofs.Common.{refl, sym, ap, ◌∙◌, arith}
+use Rattle.std.specs.Prelude.{◌≡◌, ◌+◌, ℕ, List, [], ◌∷◌, map, slice_index, sum_by, All, Contains}
+use Rattle.std.proofs.Common.{zero, suc, refl, sym, ap, ◌∙◌, arith}
 use Rattle.std.proofs.lemmas.List.Elements.{All-cons}
 use Rattle.px_terms.specs.declared.atom.Atom.{Atom}
 use Rattle.px_terms.specs.declared.instance.OpInst.{OpInst}
@@ -8,38 +8,25 @@ use Rattle.px_terms.specs.declared.term.Term.{Term}
 use Rattle.px_terms.specs.declared.term.Term.TheVariants.{Obj, Var}
 use Rattle.px_terms.specs.Language.{IsObject, substitute}
 use Rattle.px_terms.specs.MergedNamesLaws.{one}
-use Rattle.px_terms.specs.Order.{term_eq}
+use Rattle.px_terms.specs.Sorts.{IsWellSortedBy}
 use Rattle.px_terms.specs.Validity.{IsGroundInstanceOf}
 use Rattle.px_base.specs.ListLaws.{Contains-first}
 use Rattle.px_proof.specs.Derivation.{Derivation, fact}
-use Rattle.px_proof.specs.LayerLaws.{derivation_of-fact}
 use Rattle.px_table.specs.declared.mark.Mark.{Mark}
-use Rattle.px_table.specs.Once.{each_once}
 use Rattle.px_table.specs.Marks.{IsKept, IsNamed}
 use Rattle.px_table.specs.Supports.{IsProofOf, Supports}
 use Rattle.px_table.specs.SupportShapes.{shape_of_support}
-use Rattle.px_table.specs.Tables.{rows_of}
-use Rattle.px_general.specs.General.{Generalises, IsNumbered, is_parameter, row_terms, shape_of_table}
+use Rattle.px_general.specs.General.{Generalises, IsNumbered, shape_of_table}
 use Rattle.px_replay.specs.FreshVariables.{fresh_in, fresh_variables}
 use Rattle.px_general.specs.WorkedGeneral.{GeneralFacts, of_second, plan, touch, touched, touching, touching_twice}
-
--- the proofs of the table, as derivations
-rows_are : (params : ℕ) (first second : Term)
-    → rows_of (touching_twice params first second).proofs ≡ [] ∷ [] ∷ (fact (of_second second) ∷ []) ∷ []
-rows_are params first second = ap (λ (d : Derivation). [] ∷ [] ∷ (d ∷ []) ∷ []) (derivation_of-fact (of_second second))
+use Rattle.px_general.proofs.TouchingAnswer.{answer, occurring, rows_are, two_sorts}
 
 -- ---- numbers
 
--- the parameters of the table as they occur
-abbrev occurring : Term → Term → List (List Derivation) → List Term
-occurring first second ds = each_once term_eq (filter (is_parameter 2) (second ∷ first ∷ second ∷ second ∷ row_terms ds))
-
-numbered : IsNumbered (touching_twice 2 (Var 1) (Var 0))
-numbered = ap (occurring (Var 1) (Var 0)) (rows_are 2 (Var 1) (Var 0))
-
-misnumbered : ¬ IsNumbered (touching_twice 2 (Var 0) (Var 1))
+misnumbered : ¬ IsNumbered (touching_twice two_sorts (Var 0) (Var 1))
 misnumbered is =
-    let wrong : Var 1 ∷ Var 0 ∷ [] ≡ Var 0 ∷ Var 1 ∷ [] = sym (ap (occurring (Var 0) (Var 1)) (rows_are 2 (Var 0) (Var 1))) ∙ is in
+    let wrong : Var 1 ∷ Var 0 ∷ [] ≡ Var 0 ∷ Var 1 ∷ [] =
+    sym (ap (occurring (Var 0) (Var 1)) (rows_are two_sorts (Var 0) (Var 1))) ∙ is in
     cc
 
 -- ---- another support of the shape touches two things
@@ -78,8 +65,18 @@ supports = record {
   kept = one (IsKept touching other_steps 1) its_mark (λ k inst first after before at deleted. absurd (omega (arith, after, before)));
 }
 
+-- a thing that the problem doesn't have may be of the sort, too
+fits : (n : ℕ) → slice_index two_sorts n ≡ 1 → IsWellSortedBy two_sorts touching (touch (Obj n))
+fits n at zero below other = at
+fits n at (suc k) below other = absurd (omega (arith, below))
+
+steps-fit : All (IsWellSortedBy two_sorts touching) other_steps
+steps-fit =
+    All-cons (IsWellSortedBy two_sorts touching) (touch (Obj 0)) (touch (Obj 1) ∷ []) (fits 0 refl)
+    (one (IsWellSortedBy two_sorts touching) (touch (Obj 1)) (fits 1 refl))
+
 same_shape : shape_of_support other_steps other_goal other_rows ≡ shape_of_table plan
-same_shape = ap (shape_of_support plan.steps plan.goal) (sym (rows_are 0 (Obj 0) (Obj 0)))
+same_shape = ap (shape_of_support plan.steps plan.goal) (sym (rows_are [] (Obj 0) (Obj 0)))
 
 -- both steps of the support aren't one
 two_things : (t : Term) → ¬ (touch (Obj 0) ∷ touch (Obj 1) ∷ [] ≡ touch t ∷ touch t ∷ [])
@@ -90,24 +87,28 @@ two_things t e =
     cc
 
 keeps_things : ¬ Generalises touching plan plan
-keeps_things is = two_things (Obj 0) (is.all [] other_steps other_goal other_rows supports same_shape).1.steps_are
+keeps_things is = two_things (Obj 0) (is.all (1 ∷ []) [] other_steps other_goal other_rows supports steps-fit same_shape).1.steps_are
 
-merges_things : ¬ Generalises touching plan (touching_twice 1 (Var 0) (Var 0))
+merges_things : ¬ Generalises touching plan (touching_twice (1 ∷ []) (Var 0) (Var 0))
 merges_things is =
-    let found = is.all [] other_steps other_goal other_rows supports same_shape in
+    let found = is.all (1 ∷ []) [] other_steps other_goal other_rows supports steps-fit same_shape in
     two_things (substitute (map Obj found.0) (Var 0)) found.1.steps_are
+
+drops_sorts : ¬ Generalises touching plan (touching_twice (0 ∷ 0 ∷ []) (Var 1) (Var 0))
+drops_sorts is = let wrong : 0 ∷ 0 ∷ [] ≡ two_sorts = is.sorts in cc
 
 -- ---- how many variables it takes
 
 fresh : fresh_variables plan ≡ 3
-fresh = ap (λ (ds : List (List Derivation)). 3 + sum_by (sum_by fresh_in) ds) (rows_are 0 (Obj 0) (Obj 0))
+fresh = ap (λ (ds : List (List Derivation)). 3 + sum_by (sum_by fresh_in) ds) (rows_are [] (Obj 0) (Obj 0))
 
 pub general_facts : GeneralFacts
 general_facts = record {
-  numbered = numbered;
+  answer = answer;
   misnumbered = misnumbered;
   keeps_things = keeps_things;
   merges_things = merges_things;
+  drops_sorts = drops_sorts;
   fresh = fresh;
   fresh_in_proof = refl;
 }

@@ -1,15 +1,25 @@
 -- When a plan is too long, its proofs too high, or its generalisation too wide.
-use Rattle.std.specs.Prelude.{◌<◌, length, Any}
+use Rattle.std.specs.Prelude.{◌<◌, ℕ, length, Any}
 use Rattle.px_proof.specs.Derivation.{height}
 use Rattle.px_table.specs.declared.table.Table.{Table}
 use Rattle.px_table.specs.Tables.{rows_of}
 use Rattle.px_replay.specs.FreshVariables.{fresh_variables}
 
+-- the most steps of a plan that is generalised, the greatest height of its proofs, and the most fresh variables that it takes
+abbrev pub most_steps : ℕ
+most_steps = 64
+
+abbrev pub most_proof_height : ℕ
+most_proof_height = 56
+
+abbrev pub most_fresh_variables : ℕ
+most_fresh_variables = 1000000
+
 abbrev pub IsTooLong : Table → Type 0
-IsTooLong table = 64 < length table.steps
+IsTooLong table = most_steps < length table.steps
 
 abbrev pub IsTooDeep : Table → Type 0
-IsTooDeep table = Any (Any (λ d. 56 < height d)) (rows_of table.proofs)
+IsTooDeep table = Any (Any (λ d. most_proof_height < height d)) (rows_of table.proofs)
 
 abbrev pub IsTooWide : Table → Type 0
-IsTooWide table = 1000000 < fresh_variables table
+IsTooWide table = most_fresh_variables < fresh_variables table

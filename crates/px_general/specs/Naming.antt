@@ -16,6 +16,7 @@ use Rattle.px_proof.specs.Substitution.{derivation_under}
 use Rattle.px_terms.specs.Substitution.{substitute_instance, variables_from}
 use Rattle.px_table.specs.Marks.{marks_from, row_leaves}
 use Rattle.px_table.specs.Tables.{rows_of}
+use Rattle.px_table.specs.WellSorted.{sorts_by_places}
 use Rattle.px_table.specs.Once.{each_once}
 use Rattle.px_table.specs.Supports.{variables}
 use Rattle.px_general.specs.General.{is_parameter}
@@ -77,18 +78,20 @@ pub record AreLabels (resolved labels : List Term) (next : ℕ) (walked : List T
   pub exact : (v p : ℕ) → (slice_get labels v ≡ Some (Var p)) ↔ (slice_get (roots_of resolved walked) p ≡ Some (Var v))
 
 -- The table is made of these steps and rows and of the plan's goal, with these names for the variables. Those of the goal's objects begin
--- at number `first`.
-pub record IsMadeOf (steps : List OpInst) (rows : List (List Derivation)) (first : ℕ) (plan general : Table) (names : List Term) : Type 0
-  where
-    pub steps_are : general.steps ≡ map (substitute_instance names) steps
-    pub goal_is : general.goal ≡ named_goal names general.params first plan.goal
-    pub goal_vars : general.goal_vars ≡ plan.goal_vars
-    pub rows_are : rows_of general.proofs ≡ map (map (derivation_under names)) rows
-    pub marks_are : general.marks ≡ marks_from 1 (rows_of general.proofs)
+-- at number `first`. The parameters' sorts are those of the places at which they stand.
+pub record IsMadeOf (problem : Problem) (steps : List OpInst) (rows : List (List Derivation)) (first : ℕ) (plan general : Table)
+    (names : List Term) : Type 0 where
+  pub steps_are : general.steps ≡ map (substitute_instance names) steps
+  pub goal_is : general.goal ≡ named_goal names general.params first plan.goal
+  pub goal_vars : general.goal_vars ≡ plan.goal_vars
+  pub rows_are : rows_of general.proofs ≡ map (map (derivation_under names)) rows
+  pub marks_are : general.marks ≡ marks_from 1 (rows_of general.proofs)
+  pub sorts_are : general.param_sorts ≡ sorts_by_places problem general.steps general.params
 
 -- the table is made of the opened plan with these names
 abbrev pub IsBuilt : Problem → Table → Table → List Term → Type 0
-IsBuilt problem plan general names = IsMadeOf (steps_opened plan) (rows_opened problem plan) (step_variables plan.steps) plan general names
+IsBuilt problem plan general names =
+    IsMadeOf problem (steps_opened plan) (rows_opened problem plan) (step_variables plan.steps) plan general names
 
 -- Bindings of this number of variables fit exactly what makes the pairs equal, and each variable was followed to its end in them.
 pub record IsSolvedBy (changes : List Change) (pairs : List (Atom × Atom)) (count : ℕ) (resolved : List Term) : Type 0 where

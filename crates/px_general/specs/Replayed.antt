@@ -12,6 +12,7 @@ use Rattle.px_proof.specs.Substitution.{derivation_under}
 use Rattle.px_table.specs.declared.table.Table.{Table}
 use Rattle.px_table.specs.Marks.{marks_from}
 use Rattle.px_table.specs.Tables.{rows_of}
+use Rattle.px_table.specs.WellSorted.{sorts_by_places}
 use Rattle.px_replay.specs.Opened.{named_goal, opened_terms, replay_pairs, rows_opened, step_variables, steps_opened}
 
 -- ---- its most general solution
@@ -34,3 +35,4 @@ pub record IsReplayed (problem : Problem) (plan general : Table) (names roots : 
   pub goal_vars : general.goal_vars ≡ plan.goal_vars
   pub rows : rows_of general.proofs ≡ map (map (derivation_under names)) (rows_opened problem plan)
   pub marks : general.marks ≡ marks_from 1 (rows_of general.proofs)
+  pub sorts : general.param_sorts ≡ sorts_by_places problem general.steps general.params

@@ -1,5 +1,6 @@
 //! Generalising a plan.
 ghost use Rattle.std.specs.Prelude.{◌≡◌, ◌↔◌, ◌≤◌, ◌+◌, ◌-◌, ◌^◌, All, Err, IfOk, length, replicate};
+ghost use Rattle.px_base.specs.Bounds.{u32_max};
 ghost use Rattle.px_terms.specs.Language.{IsVariableBelow};
 ghost use Rattle.px_terms.specs.Validity.{IsValid};
 ghost use Rattle.px_unify.specs.declared.change.Change.TheVariants.{Fresh};
@@ -8,21 +9,21 @@ ghost use Rattle.px_table.specs.Tables.{IsTable, rows_of};
 ghost use Rattle.px_replay.specs.FreshVariables.{fresh_variables};
 ghost use Rattle.px_replay.specs.Opened.{goal_objects, rows_pairs};
 ghost use Rattle.px_replay.specs.Replaying.{CanReplayRows, HasSchema};
-ghost use Rattle.px_general.specs.General.{Generalises, row_terms, step_terms};
+ghost use Rattle.px_general.specs.General.{Generalises, KeepsPlan, row_terms, step_terms};
 ghost use Rattle.px_general.specs.Limits.{IsTooDeep, IsTooLong, IsTooWide};
 ghost use Rattle.px_general.specs.Naming.{IsMadeOf, IsSolutionOf};
 
 use crate::building::{named_rows, named_steps};
 use crate::general_err::GeneralErr;
-use crate::limits::is_too_deep;
+use crate::limits::{MOST_STEPS, is_too_deep};
 use crate::naming::{labels_along, resolve_all};
 use crate::walking::walk;
 use px_base::{NoMemory, Sequence};
 use px_proof::substitute_terms;
 use px_replay::{Opened, fresh_count, named_goal, open_plan, replay_rows};
-use px_table::{Table, marks};
+use px_table::{Table, marks, sorts_by_places};
 use px_terms::{Problem, Term};
-use px_unify::{Bind, BindErr};
+use px_unify::{Bind, BindErr, MOST_VARIABLES};
 use std::alloc::Global;
 
 /// Returns the table whose proper instances are the supports of the plan's shape.
@@ -34,8 +35,11 @@ pub fn generalise(alloc: Global, problem: &Problem, table: &Table) -> Result<Tab
     requires problem { IsValid problem.now }
     requires table { IsTable problem.now table.now }
     requires no_params { table.now.params ≡ 0 }
-    // Its proper instances are the supports of the plan's shape, over whatever objects.
+    // Its proper instances are the supports of the plan's shape, over whatever objects, of whatever sorts.
     ensures general { IfOk result (λ general. Generalises problem.now table.now general) }
+
+    // Proper or not: it has the plan's operators and the skeletons of its proofs, and with some of the problem's objects it is the plan.
+    ensures plan { IfOk result (λ general. KeepsPlan problem.now table.now general) }
 
     // Each proper instance of each of its kernels carries the steps that are left to the goal.
     ensures kernels { IfOk result (λ general. KernelsCarry problem.now general) }
@@ -45,14 +49,14 @@ pub fn generalise(alloc: Global, problem: &Problem, table: &Table) -> Result<Tab
     ensures too_deep { (result ≡ Err GeneralErr.TooDeep) ↔ ((¬ IsTooLong table.now) × IsTooDeep table.now) }
     ensures too_wide { (result ≡ Err GeneralErr.TooWide) ↔ ((¬ IsTooLong table.now) × (¬ IsTooDeep table.now) × IsTooWide table.now) }
 {
-    if table.steps.len() > 64 {
+    if table.steps.len() > MOST_STEPS {
         return Err(GeneralErr::TooLong);
     }
     if is_too_deep(table) {
         return Err(GeneralErr::TooDeep);
     }
     let count = fresh_count(table);
-    if count > 1_000_000 {
+    if count > MOST_VARIABLES as usize {
         return Err(GeneralErr::TooWide);
     }
     match general_table(alloc, problem, table, count as u32) {
@@ -72,8 +76,8 @@ fn general_table(
     requires table { IsTable problem.now table.now }
     requires no_params { table.now.params ≡ 0 }
     requires count { count ≡ fresh_variables table.now }
-    requires few { count ≤ 1000000 }
-    ensures { IfOk result (λ general. Generalises problem.now table.now general) }
+    requires few { count ≤ MOST_VARIABLES }
+    ensures { IfOk result (λ general. Generalises problem.now table.now general × KeepsPlan problem.now table.now general) }
 {
     let plan = open_plan(alloc, problem, table)?;
     let resolved = replayed(alloc, problem, &plan, count)?;
@@ -86,7 +90,7 @@ fn general_table(
     )?;
     let labels = labels_along(alloc, &resolved, &walked)?;
     let names = substitute_terms(alloc, &resolved, &labels.terms)?;
-    build_general(alloc, table, &plan, labels.params, &names)
+    build_general(alloc, problem, table, &plan, labels.params, &names)
 }
 
 /// Returns what each of `count` fresh variables is bound to after the replay of the plan.
@@ -98,7 +102,7 @@ fn replayed(
 ) -> Result<Vec<Term>, NoMemory>
     requires problem { IsValid problem.now }
     requires schemas { All (HasSchema problem.now) plan.now.steps.items }
-    requires few { count ≤ 1000000 }
+    requires few { count ≤ MOST_VARIABLES }
     requires can { CanReplayRows problem.now plan.now.steps.items plan.now.goal.items (rows_of plan.now.rows.items)
         (replicate count Fresh) }
     ensures { IfOk result (λ resolved. IsSolutionOf (rows_pairs problem.now plan.now.steps.items plan.now.goal.items
@@ -124,20 +128,21 @@ fn replayed(
 /// Returns the table of the opened plan with these names for its variables.
 fn build_general(
     alloc: Global,
+    problem: &Problem,
     table: &Table,
     plan: &Opened,
     params: u32,
     names: &[Term],
 ) -> Result<Table, NoMemory>
-    requires few { length names.now ≤ 1000000 }
+    requires few { length names.now ≤ MOST_VARIABLES }
     requires steps { All (IsVariableBelow (length names.now)) (step_terms plan.now.steps.items) }
     requires objects { plan.now.first_object + goal_objects table.now.goal ≤ length names.now }
     requires goal { All (λ atom. All (IsVariableBelow (2 ^ 32 - params)) atom.args) table.now.goal }
     requires rows { All (IsVariableBelow (length names.now)) (row_terms (rows_of plan.now.rows.items)) }
-    requires short { length plan.now.rows.items ≤ 4294967295 }
+    requires short { length plan.now.rows.items ≤ u32_max }
     ensures params { IfOk result (λ general. general.params ≡ params) }
-    ensures made { IfOk result (λ general. IsMadeOf plan.now.steps.items (rows_of plan.now.rows.items) plan.now.first_object table.now
-        general names.now) }
+    ensures made { IfOk result (λ general. IsMadeOf problem.now plan.now.steps.items (rows_of plan.now.rows.items)
+        plan.now.first_object table.now general names.now) }
 {
     let steps = named_steps(alloc, names, &plan.steps)?;
     let goal = named_goal(
@@ -149,6 +154,7 @@ fn build_general(
     )?;
     let rows = named_rows(alloc, names, &plan.rows)?;
     let found = marks(alloc, &rows)?;
+    let sorts = sorts_by_places(alloc, problem, &steps, params)?;
     Ok(Table {
         params,
         steps: Sequence::from_vec(steps),
@@ -156,5 +162,6 @@ fn build_general(
         goal_vars: table.goal_vars,
         marks: found,
         proofs: Sequence::from_vec(rows),
+        param_sorts: sorts,
     })
 }

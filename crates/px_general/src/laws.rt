@@ -7,8 +7,9 @@ pub fn general_is_one()
     ensures { GeneralIsOne }
 {}
 
-/// A plan that touches one thing twice: its parameters are numbered as they occur in the marks, and neither the plan itself
-/// generalises it nor the table with one parameter for both things. It takes three variables to generalise it.
+/// A plan that touches one thing twice: its general table has two parameters, numbered as they occur in the marks, both of the one sort.
+/// Neither the plan itself generalises it nor the table with one parameter for both things, though the problem has but one thing of that
+/// sort, nor the one whose parameters have no sort. It takes three variables to generalise it.
 pub fn worked_general()
     ensures { GeneralFacts }
 {}

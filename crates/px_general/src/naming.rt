@@ -7,7 +7,7 @@ ghost use Rattle.px_general.specs.Naming.{AreLabels, HasRootsBelow, IsResolved, 
 
 use px_base::{NoMemory, push};
 use px_terms::{Term, apply_term};
-use px_unify::Bind;
+use px_unify::{Bind, MOST_VARIABLES};
 use std::alloc::Global;
 
 /// Returns what each variable is bound to in the end.
@@ -24,7 +24,7 @@ pub fn resolve_all(alloc: Global, bind: &Bind) -> Result<Vec<Term>, NoMemory>
 
 /// Gives the root of the term the next label, if it is a variable without one. Returns the label that is then next.
 fn label(labels: &mut [Term], next: u32, resolved: &[Term], term: Term) -> u32
-    requires room { next + unlabelled labels.old ≤ 1000000 }
+    requires room { next + unlabelled labels.old ≤ MOST_VARIABLES }
     requires roots { HasRootsBelow (length labels.old) resolved.now }
     requires inside { IsVariableBelow (length resolved.now) term }
     ensures long { length labels.new ≡ length labels.old }
@@ -46,7 +46,7 @@ fn label(labels: &mut [Term], next: u32, resolved: &[Term], term: Term) -> u32
 
 /// Gives the roots of the terms their labels, in order. Returns the label that is then next.
 fn label_each(labels: &mut [Term], next: u32, resolved: &[Term], terms: &[Term]) -> u32
-    requires room { next + unlabelled labels.old ≤ 1000000 }
+    requires room { next + unlabelled labels.old ≤ MOST_VARIABLES }
     requires roots { HasRootsBelow (length labels.old) resolved.now }
     requires inside { All (IsVariableBelow (length resolved.now)) terms.now }
     ensures long { length labels.new ≡ length labels.old }
@@ -80,7 +80,7 @@ pub struct Labels {
 
 /// Numbers the variables that the terms are bound to in the order in which they first occur.
 pub fn labels_along(alloc: Global, resolved: &[Term], walked: &[Term]) -> Result<Labels, NoMemory>
-    requires few { length resolved.now ≤ 1000000 }
+    requires few { length resolved.now ≤ MOST_VARIABLES }
     requires roots { HasRootsBelow (length resolved.now) resolved.now }
     requires inside { All (IsVariableBelow (length resolved.now)) walked.now }
     ensures few { IfOk result (λ labels. labels.params ≤ length resolved.now) }

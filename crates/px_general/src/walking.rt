@@ -13,6 +13,7 @@ use px_proof::{Leaf, Proof, leaves};
 use px_replay::variables;
 use px_table::Row;
 use px_terms::{OpInst, Term};
+use px_unify::MOST_VARIABLES;
 use std::alloc::Global;
 
 /// Returns the terms of the leaves by rows, those of the steps, `objects` variables from number `first` on, and the terms of the proofs.
@@ -23,7 +24,7 @@ pub fn walk(
     first: u32,
     objects: u32,
 ) -> Result<Vec<Term>, NoMemory>
-    requires { first + objects ≤ 1000000 }
+    requires { first + objects ≤ MOST_VARIABLES }
     ensures { IfOk result (λ walked. walked.items ≡ leaf_terms (rows_of rows.now) ++
         (step_terms steps.now ++ (variables_from first objects ++ row_terms (rows_of rows.now)))) }
 {

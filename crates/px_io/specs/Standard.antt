@@ -1,7 +1,13 @@
--- What is known of a standard stream: counts, and nothing of its content.
+-- What contracts see of a source over a reader and of a sink over a writer.
 use Rattle.std.specs.Prelude.{ℕ}
 
--- how many bytes were taken, and how often a read failed
-pub record StreamCounts : Type 0 where
+-- the reader, how many bytes were taken, and how often a read failed
+pub record SourceState (R : Type 0) : Type 0 where
+  pub reader : R
   pub taken : ℕ
+  pub faults : ℕ
+
+-- the writer, and how often a write failed
+pub record SinkState (W : Type 0) : Type 0 where
+  pub writer : W
   pub faults : ℕ

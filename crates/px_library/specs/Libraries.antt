@@ -10,11 +10,15 @@ pub record LibraryValue : Type 0 where
 abbrev pub no_tables : LibraryValue
 no_tables = record { names = []; tables = [] }
 
--- as many tables as names, no name twice, and at most 32 of them
+-- how many tables a library keeps at most
+abbrev pub most_tables : ℕ
+most_tables = 32
+
+-- as many tables as names, no name twice, and not too many of them
 pub record IsLibrary (library : LibraryValue) : Type 0 where
   pub same : length library.tables ≡ length library.names
   pub distinct : AllPairs (λ m n. m ≢ n) library.names
-  pub few : length library.names ≤ 32
+  pub few : length library.names ≤ most_tables
 
 -- the table beside the name, where it stands first
 abbrev pub table_beside : List ℕ → List Table → ℕ → Option Table

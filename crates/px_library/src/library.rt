@@ -1,6 +1,6 @@
 //! Learned tables by name.
 ghost use Rattle.std.specs.Prelude.{◌≡◌, ◌↔◌, Contains, length, OnOk, OnErr, option_map};
-ghost use Rattle.px_library.specs.Libraries.{no_tables, table_named, with_table};
+ghost use Rattle.px_library.specs.Libraries.{most_tables, no_tables, table_named, with_table};
 
 use px_base::push_within;
 use px_table::Table;
@@ -63,7 +63,7 @@ impl Library {
     /// `NoMemory` where there is no memory for one table more. The table is then dropped, and the library is as it was.
     pub fn learn(&mut self, name: u32, table: Table) -> Result<(), LibErr>
         ensures duplicate { (result ≡ Err LibErr.Duplicate) ↔ Contains self.old.names name }
-        ensures full { (result ≡ Err LibErr.Full) ↔ ((¬ Contains self.old.names name) × (length self.old.tables ≡ 32)) }
+        ensures full { (result ≡ Err LibErr.Full) ↔ ((¬ Contains self.old.names name) × (length self.old.tables ≡ most_tables)) }
         ensures learned { OnOk result (self.new ≡ with_table self.old name table) }
         ensures kept { OnErr result (self.new ≡ self.old) }
     {

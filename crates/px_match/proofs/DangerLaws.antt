@@ -19,7 +19,7 @@ use Rattle.px_table.specs.Kernels.{IsInstantiation, IsProper, atom_under, kernel
 use Rattle.px_table.specs.Marks.{IsKept}
 use Rattle.px_match.specs.Matching.{Extends, KernelFits}
 use Rattle.px_match.specs.WorkedDanger.{AreBothChosen, DangerKernels, a_schema, a_step, danger, danger_table, g, g_mark, p, p_mark, q, q_mark, r, r_mark}
-use Rattle.px_match.proofs.DangerTable.{danger-table, danger-valid}
+use Rattle.px_match.proofs.DangerTable.{danger-fit, danger-table, danger-valid}
 
 -- ---- what the first step deletes
 
@@ -135,6 +135,7 @@ module _ (x y : ℕ) where
           to_goal = omega arith;
           instantiation = given are.0;
           extends = are.0.2;
+          fitting = danger-fit (x ∷ y ∷ []);
           proper = proper_where 1 (kept_first are.2);
           holds =
               true_where 1 (each_mark (Needed 1) (λ row column. are.1.0) (λ row column. absurd (omega (arith, column)))
@@ -155,6 +156,7 @@ module _ (x y : ℕ) where
           to_goal = omega arith;
           instantiation = given are.0;
           extends = are.0.2;
+          fitting = danger-fit (x ∷ y ∷ []);
           proper = proper_later 2 (omega arith);
           holds =
               true_where 2 (each_mark (Needed 2) (λ row column. absurd (omega (arith, row))) (λ row column. are.1.0) (λ row column. are.1.1)
@@ -170,6 +172,7 @@ module _ (x y : ℕ) where
           to_goal = omega arith;
           instantiation = given are.0;
           extends = are.0.2;
+          fitting = danger-fit (x ∷ y ∷ []);
           proper = proper_later 3 (omega arith);
           holds =
               true_where 3 (each_mark (Needed 3) (λ row column. absurd (omega (arith, row))) (λ row column. absurd (omega (arith, row)))

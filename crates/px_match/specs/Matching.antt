@@ -8,6 +8,7 @@ use Rattle.px_terms.specs.declared.atom.Atom.{Atom}
 use Rattle.px_terms.specs.declared.problem.Problem.{Problem}
 use Rattle.px_table.specs.declared.table.Table.{Table}
 use Rattle.px_table.specs.Kernels.{IsInstantiation, IsProper, kernel_under}
+use Rattle.px_table.specs.WellSorted.{ParametersFit}
 
 -- the objects extend the binding, whose pairs are a parameter, counted from 1, and its object
 abbrev pub Extends : List (ℕ × ℕ) → List ℕ → Type 0
@@ -18,13 +19,14 @@ abbrev pub first_bad : Table → List (ℕ × ℕ) → Option ℕ
 first_bad table bound =
     option_map (λ (pair : ℕ × ℕ). pair.0) (find (λ (pair : ℕ × ℕ). not (nat_le 1 pair.0 && nat_le pair.0 table.params)) bound)
 
--- the objects make an instance of kernel `i` that is bound as asked, proper, and true in the atoms
+-- the objects fit the parameters, and make an instance of kernel `i` that is bound as asked, proper, and true in the atoms
 pub record KernelFits (problem : Problem) (table : Table) (bound : List (ℕ × ℕ)) (atoms : List Atom)
     (i : ℕ) (objects : List ℕ) : Type 0 where
   pub from_one : 1 ≤ i
   pub to_goal : i ≤ length table.steps + 1
   pub instantiation : IsInstantiation problem table objects
   pub extends : Extends bound objects
+  pub fitting : ParametersFit problem.object_sorts table objects
   pub proper : IsProper problem table objects i
   pub holds : All (Contains atoms) (kernel_under table objects i)
 

@@ -7,12 +7,13 @@ use Rattle.px_terms.specs.declared.problem.Problem.{Problem}
 use Rattle.px_terms.specs.declared.problem.Schema.{Schema}
 use Rattle.px_terms.specs.declared.term.Term.{Term}
 use Rattle.px_terms.specs.declared.term.Term.TheVariants.{Obj, Var}
+use Rattle.px_terms.specs.Problems.{problem_without_sorts, schema_without_sorts}
 use Rattle.px_terms.specs.Validity.{IsValid}
 use Rattle.px_proof.specs.declared.proof.Leaf.{Leaf}
 use Rattle.px_proof.specs.declared.proof.Proof.TheVariants.{Fact}
 use Rattle.px_table.specs.declared.mark.Mark.{Mark}
 use Rattle.px_table.specs.declared.table.Table.{Table}
-use Rattle.px_table.specs.Tables.{IsTable}
+use Rattle.px_table.specs.Tables.{IsTable, table_without_sorts}
 use Rattle.px_match.specs.Matching.{Extends, IsSensed, KernelFits, KernelInstance, first_bad}
 
 -- P(x), Q(x), R(x), G(x)
@@ -30,22 +31,14 @@ abbrev pub g : Term → Atom
 g x = record { pred = 3; args = x ∷ [] }
 
 abbrev pub a_schema : Schema
-a_schema = record { op = 0; params = 1; pre = p (Var 0) ∷ []; del = q (Var 0) ∷ []; add = r (Var 0) ∷ [] }
+a_schema = schema_without_sorts 0 1 (p (Var 0) ∷ []) (q (Var 0) ∷ []) (r (Var 0) ∷ [])
 
 abbrev pub b_schema : Schema
-b_schema = record { op = 1; params = 2; pre = r (Var 0) ∷ q (Var 1) ∷ []; del = []; add = g (Var 0) ∷ [] }
+b_schema = schema_without_sorts 1 2 (r (Var 0) ∷ q (Var 1) ∷ []) [] (g (Var 0) ∷ [])
 
 -- two objects
 abbrev pub danger : Problem
-danger = record {
-  objects = 2;
-  arities = 1 ∷ 1 ∷ 1 ∷ 1 ∷ [];
-  axioms = [];
-  schemas = a_schema ∷ b_schema ∷ [];
-  height = 4;
-  nodes = 10000;
-  shapes = 10000;
-}
+danger = problem_without_sorts 2 (1 ∷ 1 ∷ 1 ∷ 1 ∷ []) [] (a_schema ∷ b_schema ∷ []) 4 10000 10000
 
 abbrev pub a_step : Term → OpInst
 a_step x = record { op = 0; args = x ∷ [] }
@@ -72,18 +65,12 @@ abbrev pub g_mark : Mark
 g_mark = mark_at 3 2 (g (Var 0))
 
 abbrev pub danger_table : Table
-danger_table = record {
-  params = 2;
-  steps = a_step (Var 0) ∷ b_step (Var 0) (Var 1) ∷ [];
-  goal = g (Var 0) ∷ [];
-  goal_vars = 0;
-  marks = p_mark ∷ r_mark ∷ q_mark ∷ g_mark ∷ [];
-  proofs =
-      (Fact (leaf_at 0 (p (Var 0))) ∷ [])
-      ∷ (Fact (leaf_at 1 (r (Var 0))) ∷ Fact (leaf_at 0 (q (Var 1))) ∷ [])
-      ∷ (Fact (leaf_at 2 (g (Var 0))) ∷ [])
-      ∷ [];
-}
+danger_table =
+    table_without_sorts 2 (a_step (Var 0) ∷ b_step (Var 0) (Var 1) ∷ []) (g (Var 0) ∷ []) 0 (p_mark ∷ r_mark ∷ q_mark ∷ g_mark ∷ [])
+    ((Fact (leaf_at 0 (p (Var 0))) ∷ [])
+    ∷ (Fact (leaf_at 1 (r (Var 0))) ∷ Fact (leaf_at 0 (q (Var 1))) ∷ [])
+    ∷ (Fact (leaf_at 2 (g (Var 0))) ∷ [])
+    ∷ [])
 
 -- two objects of the problem, as they are bound
 abbrev pub AreBothChosen : List (ℕ × ℕ) → ℕ → ℕ → Type 0

@@ -3,6 +3,7 @@ ghost use Rattle.std.specs.Prelude.{◌≡◌, ◌↔◌, ◌≤◌, ◌+◌, Is
 ghost use Rattle.px_terms.specs.Validity.{IsValid};
 ghost use Rattle.px_table.specs.Kernels.{IsInstantiation, IsProper};
 ghost use Rattle.px_table.specs.Tables.{IsTable};
+ghost use Rattle.px_table.specs.WellSorted.{ParametersFit};
 ghost use Rattle.px_match.specs.Asking.{AreProperFrom, IsQuestion};
 
 use crate::question::KernelQuestion;
@@ -18,10 +19,11 @@ pub fn goal_number(problem: &Problem, table: &Table, objects: &[u32]) -> u32
     table.steps.len() as u32 + 1
 }
 
-/// Returns whether the kernel's instance with these objects is proper.
+/// Returns whether the kernel's instance with these objects, which fit the parameters, is proper.
 pub fn is_proper(question: &KernelQuestion, work: &[u32]) -> bool
     requires asked { IsQuestion question.now }
     requires work { IsInstantiation question.now.problem.now question.now.table.now work.now }
+    requires fitting { ParametersFit question.now.problem.now.object_sorts question.now.table.now work.now }
     ensures { IsTrue result ↔ IsProper question.now.problem.now question.now.table.now work.now question.now.number }
 {
     if question.proper_from <= question.number && *question.known == *work {

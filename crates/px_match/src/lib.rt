@@ -13,10 +13,10 @@
 //!   [`Matcher::instance`] then gives the first objects with which that kernel fits; where `best` found no kernel they stay, and at
 //!   first there are no objects. Neither takes memory.
 //! - Contracts see a matcher as `MatcherValue`: its problem, table, binding, room and objects. All but the objects stay.
-//! - `KernelFits` says that objects for the parameters extend the binding, that the instance of kernel `i` under them is
-//!   proper, and that all its atoms are true. `IsHighest` is the greatest `i` for which some objects fit, with the first
+//! - `KernelFits` says that objects for the parameters extend the binding and fit the parameters' sorts, that the instance of kernel `i`
+//!   under them is proper, and that all its atoms are true. `IsHighest` is the greatest `i` for which some objects fit, with the first
 //!   such objects, compared parameter by parameter; `NoKernelFits` says that no objects fit. A parameter that stands in no
-//!   mark of the kernel has the least object with which the instance is proper.
+//!   mark of the kernel has the least object that fits it and with which the instance is proper.
 //! - `IsSensed` is what sensing finds in a set of atoms. It is determined ([`sensed_is_one`]).
 //! - A worked example, in `specs/WorkedDanger`, is a plan that would delete what it needs if one object stood for two: when each
 //!   of its kernels fits ([`danger_kernels`]), and what is sensed under some bindings ([`danger_sensed`]).
@@ -30,9 +30,10 @@
 //! model, and where one is, those of later kernels are: so the number from which on they are known to be proper for the objects that were
 //! found last is kept, and it is tested anew only below it or for other objects.
 //!
-//! A kernel is matched parameter by parameter, each from the first object up. Three kinds of objects are passed over: those that no atom
-//! of a mark's list has there, given the objects before; those with which a step deletes a mark whatever comes later; and those with which
-//! no object is left for a later parameter. Each time this has its reasons, the earlier parameters on whose objects it rests. Where no
+//! A kernel is matched parameter by parameter, each from the first object up. Objects that the binding forbids there, or that don't fit the
+//! parameter's sort, are passed over, and three kinds more: those that no atom of a mark's list has there, given the objects before; those
+//! with which a step deletes a mark whatever comes later; and those with which no object is left for a later parameter. For these there are
+//! reasons, the earlier parameters on whose objects it rests. Where no
 //! object is left, the search goes back to the last reason, over all parameters between. What was found for these is kept as long as the
 //! objects on which it rests stand, so that marks without a common parameter aren't searched anew for each other. What is found first is
 //! the first in the order of objects. In a list the atom is found by binary search, since it ascends, where the mark's terms are known

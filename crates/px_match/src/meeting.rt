@@ -1,6 +1,7 @@
 //! Passing over an object because no object is left for a later parameter: marks that have this one and no other parameter after the
 //! place don't agree on its object.
 ghost use Rattle.std.specs.Prelude.{◌≡◌, ◌≢◌, ◌<◌, ◌≤◌, ◌+◌, ℕ, List, Option, All, IsTrue, IfSome, length};
+ghost use Rattle.px_base.specs.Bounds.{u32_max};
 ghost use Rattle.px_match.specs.Asking.{IsFitFor, IsLeft, IsTried};
 ghost use Rattle.px_match.specs.Reasons.{Agree, Grown, IsBlamed, IsNear, object_at};
 
@@ -28,7 +29,7 @@ fn are_near(terms: &[Term], place: usize, later: usize) -> bool
 
 /// Records the parameters among the terms that come before the place as reasons, where that is asked.
 fn blame_if(cells: &mut [bool], params: usize, place: usize, terms: &[Term], is_blamed: bool)
-    requires params { params ≤ 4294967295 }
+    requires params { params ≤ u32_max }
     requires place { place < params }
     ensures grown { Grown cells.old cells.new }
     ensures blamed { IsTrue is_blamed → All (IsBlamed cells.new params place) terms.now }

@@ -1,5 +1,6 @@
 //! Passing over objects that can't stand at a place, with the reasons.
 ghost use Rattle.std.specs.Prelude.{◌≡◌, ◌≢◌, ◌↔◌, ◌<◌, ◌≤◌, ◌+◌, ℕ, List, Option, Some, None, All, IsTrue, IfSome, length};
+ghost use Rattle.px_base.specs.Bounds.{u32_max};
 ghost use Rattle.px_terms.specs.Language.{IsVariableBelow};
 ghost use Rattle.px_table.specs.Kernels.{IsInstantiation};
 ghost use Rattle.px_match.specs.Asking.{Excludes, IsFitFor, IsQuestion, IsRaised, IsTried};
@@ -13,7 +14,7 @@ use crate::question::KernelQuestion;
 use crate::reasons::{blame, make_stale_after};
 use px_ops::schema_of;
 use px_table::atom_with;
-use px_terms::{Atom, Term, apply, instance_of};
+use px_terms::{Atom, Term, apply, fits_sort, instance_of, sort_at};
 
 /// Returns whether the term is no parameter after the place.
 fn is_up_to(term: Term, place: usize) -> bool
@@ -34,7 +35,7 @@ fn are_up_to(terms: &[Term], place: usize) -> bool
 
 /// Returns the least object from `from` on that the binding allows at the place.
 fn least_bound(bound: &[(u32, u32)], place: usize, from: u32) -> Option<u32>
-    requires place { place < 4294967295 }
+    requires place { place < u32_max }
     ensures at_least { IfSome result (λ r. from ≤ r) }
     ensures at_most { (objects : List ℕ) → Extends bound.now objects → from ≤ object_at objects place
         → IsAtMost result (object_at objects place) }
@@ -48,6 +49,24 @@ fn least_bound(bound: &[(u32, u32)], place: usize, from: u32) -> Option<u32>
         }
     }
     Some(from)
+}
+
+/// Returns the least object from `from` on that fits the sort of the parameter of the place.
+fn least_fitting(question: &KernelQuestion, place: usize, from: u32) -> Option<u32>
+    requires asked { IsQuestion question.now }
+    requires place { place < question.now.table.now.params }
+    ensures at_least { IfSome result (λ r. from ≤ r) }
+    ensures at_most { (objects : List ℕ) → IsFitFor question.now objects → from ≤ object_at objects place
+        → IsAtMost result (object_at objects place) }
+{
+    let sorts = question.problem.object_sorts.as_slice();
+    let wanted = sort_at(question.table.param_sorts.as_slice(), place);
+    for object in from..question.objects {
+        if fits_sort(sorts, wanted, object) {
+            return Some(object);
+        }
+    }
+    None
 }
 
 /// Returns the first object from that of the place on that the mark of that number allows.
@@ -168,6 +187,10 @@ fn raise(question: &KernelQuestion, cells: &mut [bool], work: &[u32], place: usi
     if allowed != Some(from) {
         return allowed;
     }
+    let fitting = least_fitting(question, place, from);
+    if fitting != Some(from) {
+        return fitting;
+    }
     let raised = raise_by_marks(question, cells, work, place);
     if raised != Some(from) {
         return raised;
@@ -180,7 +203,7 @@ fn raise(question: &KernelQuestion, cells: &mut [bool], work: &[u32], place: usi
 
 /// Puts the object at the place. Where another one stood, the later places that rest on it are stale.
 fn put_object(cells: &mut [bool], work: &mut [u32], place: usize, object: u32)
-    requires short { length work.old ≤ 4294967295 }
+    requires short { length work.old ≤ u32_max }
     requires place { place < length work.old }
     ensures grown { Grown cells.old cells.new }
     ensures same_length { length work.new ≡ length work.old }
@@ -207,7 +230,7 @@ pub fn try_object(
     from: u32,
 ) -> Option<u32>
     requires asked { IsQuestion question.now }
-    requires short { length work.old ≤ 4294967295 }
+    requires short { length work.old ≤ u32_max }
     requires work { IsInstantiation question.now.problem.now question.now.table.now work.old }
     requires place { place < length work.old }
     ensures same_length { length work.new ≡ length work.old }

@@ -1,7 +1,7 @@
 -- The names of each kind, in the order of their numbers.
 use Rattle.std.specs.Prelude.{◌≡◌, ◌≢◌, ◌≤◌, ◌<◌, Contains, ℕ, Bool, List, [], ◌∷◌, ◌++◌, length, All, AllPairs, nat_lt, if◌then◌else◌, not, Option, None, Some}
 use Rattle.std.specs.List.{list_any}
-use Rattle.std.specs.Str.{bytes_eq}
+use Rattle.std.specs.Str.{IsUtf8, bytes_eq}
 use Rattle.px_names.specs.Name.{is_name_text, IsName}
 use Rattle.px_names.specs.declared.kind.Kind.{Kind}
 use Rattle.px_names.specs.declared.kind.Kind.TheVariants as kind
@@ -19,12 +19,12 @@ pub record NameLists : Type 0 where
 abbrev pub no_names : NameLists
 no_names = record { objects = []; predicates = []; operators = []; results = [] }
 
--- how many names of a kind there may be
+-- how many names of a kind there may be, in a script of any version
 abbrev pub limit_of : Kind → ℕ
-limit_of kind.Object = 256
+limit_of kind.Object = 1024
 limit_of kind.Predicate = 64
 limit_of kind.Operator = 32
-limit_of kind.Result = 512
+limit_of kind.Result = 1056
 
 -- the names of a kind
 abbrev pub names_of : Kind → NameLists → List (List ℕ)
@@ -37,10 +37,11 @@ names_of kind.Result names = names.results
 abbrev pub AreDistinct : List (List ℕ) → Type 0
 AreDistinct names = AllPairs (λ earlier later. earlier ≢ later) names
 
--- the texts are distinct names, at most as many as there may be of the kind
+-- the texts are distinct names in UTF-8, at most as many as there may be of the kind
 pub record AreNames (kind : Kind) (names : List (List ℕ)) : Type 0 where
   pub distinct : AreDistinct names
   pub named : All IsName names
+  pub texts : All IsUtf8 names
   pub fit : length names ≤ limit_of kind
 
 -- the list of each kind is one of names of the kind

@@ -20,15 +20,15 @@ pub enum Kind {
 }
 
 impl Kind {
-    /// Returns how many names of the kind there may be.
+    /// Returns how many names of the kind there may be, in a script of any version. A version may allow fewer.
     pub fn limit(self) -> u32
         ensures { result ≡ limit_of self }
     {
         match self {
-            Kind::Object => 256,
+            Kind::Object => 1024,
             Kind::Predicate => 64,
             Kind::Operator => 32,
-            Kind::Result => 512,
+            Kind::Result => 1056,
         }
     }
 }

@@ -8,7 +8,7 @@
 //!   byte.
 //! - Contracts see a `Names` as four lists of texts, `NameLists` of `specs/Lists.antt`: `names_of kind names` is the
 //!   list of a kind, and a name's number is its place there. `AreNames kind (names_of kind names)`, which `find`, `text`
-//!   and `count` hand out, says that the texts are names, that no two are equal, and that there are at most
+//!   and `count` hand out, says that the texts are names in UTF-8, that no two are equal, and that there are at most
 //!   [`Kind::limit`]. So `find` and `text` are each other's inverse; `specs/NameLaws.antt` has that as a law.
 //! - For callers whose definitions compute, `has_name` and `refusal` of `specs/Lists.antt` are tests, and `NameLaws` has
 //!   that they decide membership and that a name is welcome.

@@ -57,8 +57,8 @@ impl Names {
     /// The first of these is returned, and the names stay as they were.
     /// - `BadName` exactly where the text isn't a name.
     /// - `Duplicate` exactly where the kind has the name.
-    /// - `Full` exactly where the kind has as many names as it may have: 256 objects, 64 predicates, 32 operators or
-    ///   512 results.
+    /// - `Full` exactly where the kind has as many names as it may have: 1,024 objects, 64 predicates, 32 operators or
+    ///   1,056 results.
     /// - `NoMemory` where there is no memory for the name, and none of these causes.
     pub fn declare(&mut self, kind: Kind, name: &str) -> Result<u32, NameErr>
         ensures number { IfOk result (λ number. number ≡ length (names_of kind self.old)) }
@@ -119,7 +119,7 @@ impl Names {
     fn list(&self, kind: Kind) -> &NameList
         ensures list { result.now ≡ names_of kind self.now }
         ensures names { AreNames kind (names_of kind self.now) }
-        ensures small { length (names_of kind self.now) ≤ 512 }
+        ensures small { length (names_of kind self.now) ≤ 1056 }
     {
         match kind {
             Kind::Object => &self.objects,

@@ -20,12 +20,12 @@ fn names_are_numbered_within_their_kind(rt: HostRuntime) {
 #[test]
 fn a_kind_is_full_at_its_limit(rt: HostRuntime) {
     let mut names = Names::new(rt.alloc()).expect(&rt, "ample memory");
-    for number in 0..Kind::Operator.limit() {
+    for number in 0..Kind::Result.limit() {
         let name = format!(in rt.alloc(); "é{number}").expect(&rt, "ample memory");
-        assert!(&rt; names.declare(Kind::Operator, name.as_str()) == Ok(number));
+        assert!(&rt; names.declare(Kind::Result, name.as_str()) == Ok(number));
     }
-    assert!(&rt; names.declare(Kind::Operator, "another") == Err(NameErr::Full));
-    assert!(&rt; names.declare(Kind::Operator, "é7") == Err(NameErr::Duplicate));
+    assert!(&rt; names.declare(Kind::Result, "another") == Err(NameErr::Full));
+    assert!(&rt; names.declare(Kind::Result, "é7") == Err(NameErr::Duplicate));
     assert!(&rt; names.declare(Kind::Predicate, "another") == Ok(0));
 }
 

@@ -17,13 +17,14 @@ pub struct EntryIndex {
 
 impl Model for EntryIndex {
     ghost use Rattle.std.specs.Prelude.{◌≤◌, List, length};
+    ghost use Rattle.px_base.specs.Bounds.{u32_max};
     ghost use Rattle.px_table.specs.declared.entry.Entry.{Entry};
 
     ghost Value = { List Entry };
 
     ghost view = { λ s. s.entries.keys };
 
-    ghost invariant = { λ s. length s.entries.keys ≤ 4294967295 };
+    ghost invariant = { λ s. length s.entries.keys ≤ u32_max };
 }
 
 impl EntryIndex {

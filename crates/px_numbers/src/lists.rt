@@ -16,12 +16,13 @@ pub struct NumberLists {
 
 impl Model for NumberLists {
     ghost use Rattle.std.specs.Prelude.{◌≤◌, ℕ, List, length};
+    ghost use Rattle.px_base.specs.Bounds.{u32_max};
 
     ghost Value = { List (List ℕ) };
 
     ghost view = { λ s. s.lists.keys };
 
-    ghost invariant = { λ s. length s.lists.keys ≤ 4294967295 };
+    ghost invariant = { λ s. length s.lists.keys ≤ u32_max };
 }
 
 impl NumberLists {

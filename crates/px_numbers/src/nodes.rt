@@ -27,13 +27,14 @@ pub struct NodeSet {
 
 impl Model for NodeSet {
     ghost use Rattle.std.specs.Prelude.{◌≤◌, List, length};
+    ghost use Rattle.px_base.specs.Bounds.{u32_max};
     ghost use Rattle.px_numbers.specs.declared.nodes.NodeKey.{NodeKey};
 
     ghost Value = { List NodeKey };
 
     ghost view = { λ s. s.nodes.keys };
 
-    ghost invariant = { λ s. length s.nodes.keys ≤ 4294967295 };
+    ghost invariant = { λ s. length s.nodes.keys ≤ u32_max };
 }
 
 impl NodeSet {

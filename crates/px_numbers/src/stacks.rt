@@ -1,5 +1,6 @@
 //! Stacks by number.
 ghost use Rattle.std.specs.Prelude.{◌≡◌, ◌<◌, ◌≤◌, [], Some, length, slice_get, IfOk, OnErr};
+ghost use Rattle.px_base.specs.Bounds.{u32_max};
 ghost use Rattle.px_ops.specs.Keeping.{Keeps};
 
 use indexmap::IndexSet;
@@ -25,13 +26,14 @@ pub struct StackIndex {
 
 impl Model for StackIndex {
     ghost use Rattle.std.specs.Prelude.{◌≤◌, List, length};
+    ghost use Rattle.px_base.specs.Bounds.{u32_max};
     ghost use Rattle.px_numbers.specs.declared.stacks.Frame.{Frame};
 
     ghost Value = { List Frame };
 
     ghost view = { λ s. s.frames.keys };
 
-    ghost invariant = { λ s. length s.frames.keys ≤ 4294967295 };
+    ghost invariant = { λ s. length s.frames.keys ≤ u32_max };
 }
 
 impl StackIndex {
@@ -50,7 +52,7 @@ impl StackIndex {
     /// `NoMemory` where there is no memory for the stack. The index is then as it was.
     pub fn intern(&mut self, frame: Frame) -> Result<u32, NoMemory>
         ensures kept { IfOk result (Keeps self.old self.new frame) }
-        ensures few { length self.new ≤ 4294967295 }
+        ensures few { length self.new ≤ u32_max }
         ensures err { OnErr result (self.new ≡ self.old) }
     {
         keep(&mut self.frames, frame)

@@ -14,6 +14,7 @@ use Rattle.std.specs.List.Sorted.{IsStrictlySortedBy, IsBinarySearchResult, IsSe
 use Rattle.std.specs.Ordering.{is_eq, ordering_reverse}
 use Rattle.std.specs.declared.cmp.Ordering.{Ordering}
 use Rattle.std.specs.declared.cmp.Ordering.TheVariants.{Less, Equal, Greater}
+use Rattle.px_base.specs.Bounds.{u32_max}
 use Rattle.px_terms.specs.declared.atom.Atom.{Atom}
 use Rattle.px_terms.specs.Instances.{IsGround}
 use Rattle.px_base.specs.ListLaws.{Contains-filter}
@@ -107,7 +108,7 @@ insert-place atoms atom i place =
     sym (with_item-between atom_cmp atom_cmp-total atom (take i atoms) (drop i atoms) place.1.below place.1.above)
     ∙ ap (with_atom atom) (take-append-drop i atoms)
 
-pub with_atom-model : (atoms : List Atom) (atom : Atom) → IsModel atoms → IsGround atom → length (with_atom atom atoms) ≤ 4294967295
+pub with_atom-model : (atoms : List Atom) (atom : Atom) → IsModel atoms → IsGround atom → length (with_atom atom atoms) ≤ u32_max
     → IsModel (with_atom atom atoms)
 with_atom-model atoms atom model is_ground short =
     record {
@@ -161,7 +162,7 @@ filtered_model p atoms model =
     record {
       ascending = IsStrictlySortedBy-filter atom_cmp p atoms model.ascending;
       all_ground = All-members IsGround atoms (filter p atoms) model.all_ground (λ q h. ((Contains-filter p atoms q).0 h).0);
-      short = shorter p atoms 4294967295 model.short;
+      short = shorter p atoms u32_max model.short;
     }
 
 pub without_atom-model : (atoms : List Atom) (atom : Atom) → IsModel atoms → IsModel (without_atom atom atoms)
@@ -182,7 +183,7 @@ pub inserted : (old new : List Atom) (atom : Atom) (i : ℕ) (ok : Bool) → IsP
 inserted old new atom i ok place is done = is ∙ ap (λ b. cond b (insert old i atom) old) done ∙ insert-place old atom i place
 
 inserted_model : (old new : List Atom) (atom : Atom) (i : ℕ) (ok : Bool) → IsPlace old atom (Err i) → new ≡ cond ok (insert old i atom) old
-    → IsModel old → IsGround atom → length new ≤ 4294967295 → IsModel new
+    → IsModel old → IsGround atom → length new ≤ u32_max → IsModel new
 inserted_model old new atom i ok place is model is_ground short =
     elim ok as (λ b. new ≡ cond b (insert old i atom) old → IsModel new) [
       | true ↦ λ e.
@@ -191,10 +192,10 @@ inserted_model old new atom i ok place is model is_ground short =
       | false ↦ λ e. rw e model
     ] is
 
-inserted_short : (old new : List Atom) (atom : Atom) (i : ℕ) (ok : Bool) → new ≡ cond ok (insert old i atom) old → length old < 4294967295
-    → length new ≤ 4294967295
+inserted_short : (old new : List Atom) (atom : Atom) (i : ℕ) (ok : Bool) → new ≡ cond ok (insert old i atom) old → length old < u32_max
+    → length new ≤ u32_max
 inserted_short old new atom i ok is short =
-    elim ok as (λ b. new ≡ cond b (insert old i atom) old → length new ≤ 4294967295) [
+    elim ok as (λ b. new ≡ cond b (insert old i atom) old → length new ≤ u32_max) [
       | true ↦ λ e. rw e (simp (length-append, length-take, length-drop) (omega arith))
       | false ↦ λ e. rw e (omega arith)
     ] is
@@ -202,7 +203,7 @@ inserted_short old new atom i ok is short =
 -- a model stays one when an atom is put at its place, where there is room
 pub put_model : (old new : List Atom) (atom : Atom) (i capacity : ℕ) (ok : Bool) → IsPlace old atom (Err i)
     → new ≡ cond ok (insert old i atom) old → IsModel old → IsGround atom
-    → 1 ≤ min capacity 4294967295 - length old → IsModel new
+    → 1 ≤ min capacity u32_max - length old → IsModel new
 put_model old new atom i capacity ok place is model is_ground room =
     inserted_model old new atom i ok place is model is_ground (inserted_short old new atom i ok is (omega (arith, room)))
 

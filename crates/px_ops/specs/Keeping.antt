@@ -1,5 +1,6 @@
 -- Things that are kept once: each has the number of its place.
 use Rattle.std.specs.Prelude.{◌≡◌, ◌≤◌, ◌⊎◌, ℕ, List, [], ◌∷◌, ◌++◌, Some, length, slice_get, All, Contains}
+use Rattle.px_base.specs.Bounds.{u32_max}
 use Rattle.px_terms.specs.declared.atom.Atom.{Atom}
 use Rattle.px_terms.specs.Instances.{IsGround}
 
@@ -20,4 +21,4 @@ pub record Keeps {X : Type 0} (old new : List X) (item : X) (number : ℕ) : Typ
 pub record IsAtomIndex (atoms : List Atom) : Type 0 where
   pub once : AreOnce atoms
   pub all_ground : All IsGround atoms
-  pub short : length atoms ≤ 4294967295
+  pub short : length atoms ≤ u32_max

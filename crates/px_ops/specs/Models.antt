@@ -4,6 +4,7 @@ use Rattle.std.specs.Hash as fed
 use Rattle.std.specs.Prelude.{◌≡◌, ◌≤◌, ◌<◌, ◌+◌, ℕ, Bool, not, List, length, take, drop, filter, All, Result, Ok, Err, slice_index_or}
 use Rattle.std.specs.List.{AllByRecursion}
 use Rattle.std.specs.declared.cmp.Ordering.TheVariants.{Less}
+use Rattle.px_base.specs.Bounds.{u32_max}
 use Rattle.px_terms.specs.declared.atom.Atom.{Atom}
 use Rattle.px_terms.specs.declared.instance.OpInst.{OpInst}
 use Rattle.px_terms.specs.declared.problem.Schema.{Schema}
@@ -16,7 +17,7 @@ use Rattle.px_ops.specs.ModelValue.{ModelValue}
 pub record IsModel (atoms : List Atom) : Type 0 where
   pub ascending : IsAtomSet atoms
   pub all_ground : All IsGround atoms
-  pub short : length atoms ≤ 4294967295
+  pub short : length atoms ≤ u32_max
 
 -- models are equal where their atoms are; how much room is left doesn't count
 abbrev pub model_eq : ModelValue → ModelValue → Bool

@@ -46,6 +46,7 @@ pub fn apply_in(problem: &Problem, model: &mut Model, inst: &OpInst)
     ensures spare { model.old.spare ≤ model.new.spare + length (adds_of problem.now inst.now) }
 {
     replace(problem, model, inst);
+    // `atoms` says that these are a model, which the contract hands on
     let _known = model.atoms();
 }
 
@@ -71,6 +72,7 @@ fn add_all(schema: &Schema, model: &mut Model, inst: &OpInst)
     ensures atoms { model.new.atoms ≡ atom_set (model.old.atoms ++ atoms_of schema.now.add inst.now) }
     ensures spare { model.old.spare ≤ model.new.spare + length schema.now.add }
 {
+    // `atoms` says that these are a model, on which the proof of the loop rests
     let _known = model.atoms();
     let count = schema.add.len();
     for k in 0..count {

@@ -15,7 +15,7 @@ use std::alloc::Global;
 use std::hash::{Hash, Hasher};
 
 /// The greatest number of atoms that a model may have.
-const MOST_ATOMS: usize = 4_294_967_295;
+const MOST_ATOMS: usize = u32::MAX as usize;
 
 /// A world model: a set of ground atoms, kept as an ascending list (Fikes and Nilsson 1971).
 #[derive(Drop)]
@@ -25,13 +25,14 @@ pub struct Model {
 
 impl std::marker::Model for Model {
     ghost use Rattle.std.specs.Prelude.{◌-◌, length, min, vec_capacity};
+    ghost use Rattle.px_base.specs.Bounds.{u32_max};
     ghost use Rattle.px_ops.specs.ModelValue.{ModelValue};
 
     ghost Value = { ModelValue };
 
     ghost use Rattle.px_ops.specs.Models.{IsModel};
 
-    ghost view = { λ m. record { atoms = m.atoms.items; spare = min (vec_capacity m.atoms) 4294967295 - length m.atoms.items } };
+    ghost view = { λ m. record { atoms = m.atoms.items; spare = min (vec_capacity m.atoms) u32_max - length m.atoms.items } };
 
     ghost invariant = { λ m. IsModel m.atoms.items };
 }

@@ -6,7 +6,7 @@ ghost use Rattle.px_terms.specs.Validity.{IsValid};
 use crate::{
     AtomIndex, Model, adds, apply_op, deletes, is_addable, pre, precondition_of, schema_of,
 };
-use px_terms::{Atom, ClauseArena, NoMemory, OpInst, Problem, Schema, Sequence, Term};
+use px_terms::{Atom, ClauseArena, Limits, NoMemory, OpInst, Problem, Schema, Sequence, Term};
 use std::alloc::Global;
 use std::process::Abort;
 use std::rt::HostRuntime;
@@ -38,22 +38,14 @@ fn moving_problem(alloc: Global, rt: &impl Abort) -> Result<Problem, NoMemory>
     let here = Atom::new(0, &[Term::Var(0)]).expect(rt, "one argument");
     let there = Atom::new(0, &[Term::Var(1)]).expect(rt, "one argument");
     let any = Atom::new(0, &[Term::Any]).expect(rt, "one argument");
-    let schema = Schema {
-        op: 0,
-        params: 2,
-        pre: Sequence::from_slice(alloc, &[here])?,
-        del: Sequence::from_slice(alloc, &[any])?,
-        add: Sequence::from_slice(alloc, &[there])?,
-    };
-    Ok(Problem {
-        objects: 2,
-        arities: Sequence::from_slice(alloc, &[1u8])?,
-        axioms: ClauseArena::new(alloc),
-        schemas: Sequence::from_vec(Vec::from_array(alloc, [schema])?),
+    let schema = Schema::without_sorts(alloc, 0, 2, &[here], &[any], &[there])?;
+    let schemas = Sequence::from_vec(Vec::from_array(alloc, [schema])?);
+    let limits = Limits {
         height: 4,
         nodes: 10000,
         shapes: 10000,
-    })
+    };
+    Problem::without_sorts(alloc, 2, &[1], ClauseArena::new(alloc), schemas, limits)
 }
 
 #[test]

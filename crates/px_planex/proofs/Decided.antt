@@ -1,11 +1,12 @@
 -- What is so or isn't so.
 use Rattle.std.specs.Prelude.{◌≡◌, ◌⊎◌, ◌<◌, ◌≤◌, ℕ, Bool, true, false, List, [], ◌∷◌, All, Contains}
-use Rattle.std.proofs.Common.{refl, subst, inl, inr, arith}
+use Rattle.std.proofs.Common.{zero, suc, refl, sym, subst, inl, inr, arith}
 use Rattle.std.specs.Bool.{Decides}
 use Rattle.std.proofs.lemmas.Bool.{cases_lt}
 use Rattle.std.proofs.lemmas.List.Elements.{All-cons, All-head, All-nil, All-tail}
 use Rattle.px_base.specs.Answers.{both_answers}
 use Rattle.px_base.specs.ListLaws.{Contains-cases, Contains-first, Contains-later, Contains-none}
+use Rattle.px_base.proofs.Loops.{level_or_below}
 use Rattle.px_terms.specs.declared.atom.Atom.{Atom}
 use Rattle.px_terms.specs.Order.{atom_eq}
 use Rattle.px_terms.specs.OrderLaws.{atom_eq-decides}
@@ -31,6 +32,19 @@ decided-le m n = elim (cases_lt n m) [ inl less ↦ inr (λ at_most. omega (arit
 
 pub decided-lt : (m n : ℕ) → Decided (m < n)
 decided-lt m n = elim (cases_lt m n) [ inl less ↦ inl less | inr at_most ↦ inr (λ less. omega (arith, less, at_most)) ]
+
+-- of the numbers below one
+pub decided-below : (P : ℕ → Type 0) (n : ℕ) → ((k : ℕ) → k < n → Decided (P k)) → Decided ((k : ℕ) → k < n → P k)
+decided-below P zero each = inl (λ k below. absurd (omega (arith, below)))
+decided-below P (suc n) each = by (each n (omega arith)) (decided-below P n (λ k below. each k (omega (arith, below))))
+  where
+    by : Decided (P n) → Decided ((k : ℕ) → k < n → P k) → Decided ((k : ℕ) → k < suc n → P k)
+    by (inl last) (inl before) = inl (λ k below. elim (level_or_below k n (omega (arith, below))) [
+      | inl less ↦ before k less
+      | inr same ↦ subst P (sym same) last
+    ])
+    by (inl last) (inr never) = inr (λ all. never (λ k below. all k (omega (arith, below))))
+    by (inr never) before = inr (λ all. never (all n (omega arith)))
 
 -- of the elements of a list
 pub decided-all : {X : Type 0} (P : X → Type 0) (xs : List X) → ((x : X) → Contains xs x → Decided (P x)) → Decided (All P xs)

@@ -1,5 +1,5 @@
 -- Each list of events has a trace: whether a kernel's instance fits can be decided, and there are finitely many instances.
-use Rattle.std.specs.Prelude.{◌≡◌, ◌⊎◌, ◌<◌, ◌≤◌, ◌+◌, ℕ, Bool, true, false, Option, Some, None, List, [], ◌∷◌, length, slice_get, All, Contains}
+use Rattle.std.specs.Prelude.{◌≡◌, ◌≢◌, ◌⊎◌, ◌<◌, ◌≤◌, ◌+◌, ℕ, Bool, true, false, Option, Some, None, List, [], ◌∷◌, length, slice_get, slice_index, All, Contains}
 use Rattle.std.proofs.Common.{zero, suc, refl, sym, ap, ◌∙◌, subst, inl, inr, arith}
 use Rattle.std.proofs.lemmas.Bool.{cases_eq, cases_lt, cases_order}
 use Rattle.px_base.specs.Answers.{some_or_none, some_same}
@@ -9,6 +9,7 @@ use Rattle.px_terms.specs.declared.atom.Atom.{Atom}
 use Rattle.px_terms.specs.declared.instance.OpInst.{OpInst}
 use Rattle.px_terms.specs.declared.problem.Problem.{Problem}
 use Rattle.px_terms.specs.Operators.{IsDeleted, deletes, result_of, schema_of}
+use Rattle.px_terms.specs.Sorts.{FitsSort}
 use Rattle.px_terms.specs.Instances.{IsGround}
 use Rattle.px_terms.specs.Validity.{IsAtomOf, IsGroundInstanceOf, IsInstanceOf, IsValid}
 use Rattle.px_terms.specs.ValidityLaws.{atom_of-is_ground, deletes-false, deletes-true, instance-is_ground}
@@ -18,6 +19,7 @@ use Rattle.px_table.specs.declared.table.Table.{Table}
 use Rattle.px_table.specs.Kernels.{IsInstantiation, IsProper, atom_under, instance_under, kernel_under, mark_under, steps_under}
 use Rattle.px_table.specs.Marks.{IsKept, step_at}
 use Rattle.px_table.specs.Tables.{IsStepOf, IsTable}
+use Rattle.px_table.specs.WellSorted.{ParametersFit}
 use Rattle.px_table.specs.UnderLaws.{atom_under-is_of, from_map, step_at-map, step_under-is_of}
 use Rattle.px_match.specs.Matching.{Extends, IsSensed, KernelFits, KernelInstance}
 use Rattle.px_planex.specs.declared.event.Event.{Event}
@@ -27,7 +29,7 @@ use Rattle.px_planex.specs.declared.event.Outcome.TheVariants.{Disturbed, Sensed
 use Rattle.px_planex.specs.Execution.{Happens, RowFails, KernelRowHolds, Running, Traces, forgetting, sensing, step_of_kernel}
 use Rattle.px_planex.specs.Executors.{IsActable}
 use Rattle.px_planex.specs.Existing.{TracesExist}
-use Rattle.px_planex.proofs.Decided.{Decided, decided-all, decided-contains, decided-if, decided-le, decided-lt, decided-not}
+use Rattle.px_planex.proofs.Decided.{Decided, decided-all, decided-below, decided-contains, decided-if, decided-le, decided-lt, decided-not}
 use Rattle.px_planex.proofs.FirstLists.{FirstOrNone, first-list}
 
 -- ---- the binding
@@ -148,24 +150,40 @@ module _ (problem : Problem) (valid : IsValid problem) (table : Table) (is_table
       by (inl count) (inr never) = inr (λ is. never is.objects)
       by (inr never) below = inr (λ is. never is.count)
 
+  decided-fitting : (objects : List ℕ) → Decided (ParametersFit problem.object_sorts table objects)
+  decided-fitting objects =
+      decided-below (λ v. FitsSort problem.object_sorts (slice_index table.param_sorts v) (slice_index objects v)) (length objects) (λ v below.
+      decided-if (slice_index table.param_sorts v ≢ 0) (slice_index problem.object_sorts (slice_index objects v)
+      ≡ slice_index table.param_sorts v) (decided-not (slice_index table.param_sorts v ≡ 0) (cases_eq (slice_index table.param_sorts v) 0))
+      (cases_eq (slice_index problem.object_sorts (slice_index objects v)) (slice_index table.param_sorts v)))
+
   module _ (bound : List (ℕ × ℕ)) (atoms : List Atom) where
     decided-fits : (i : ℕ) → 1 ≤ i → i ≤ length table.steps + 1 → (objects : List ℕ)
         → Decided (KernelFits problem table bound atoms i objects)
     decided-fits i low high objects = by (decided-instantiation objects)
       where
-        whole : IsInstantiation problem table objects → Decided (Extends bound objects) → Decided (IsProper problem table objects i)
+        whole : IsInstantiation problem table objects → Decided (Extends bound objects)
+            → Decided (ParametersFit problem.object_sorts table objects) → Decided (IsProper problem table objects i)
             → Decided (All (Contains atoms) (kernel_under table objects i)) → Decided (KernelFits problem table bound atoms i objects)
-        whole is (inl extends) (inl proper) (inl holds) =
-            inl (record { from_one = low; to_goal = high; instantiation = is; extends = extends; proper = proper; holds = holds })
-        whole is (inl extends) (inl proper) (inr never) = inr (λ fits. never fits.holds)
-        whole is (inl extends) (inr never) holds = inr (λ fits. never fits.proper)
-        whole is (inr never) proper holds = inr (λ fits. never fits.extends)
+        whole is (inl extends) (inl fitting) (inl proper) (inl holds) = inl (record {
+          from_one = low;
+          to_goal = high;
+          instantiation = is;
+          extends = extends;
+          fitting = fitting;
+          proper = proper;
+          holds = holds;
+        })
+        whole is (inl extends) (inl fitting) (inl proper) (inr never) = inr (λ fits. never fits.holds)
+        whole is (inl extends) (inl fitting) (inr never) holds = inr (λ fits. never fits.proper)
+        whole is (inl extends) (inr never) proper holds = inr (λ fits. never fits.fitting)
+        whole is (inr never) fitting proper holds = inr (λ fits. never fits.extends)
 
         by : Decided (IsInstantiation problem table objects) → Decided (KernelFits problem table bound atoms i objects)
         by (inr never) = inr (λ fits. never fits.instantiation)
         by (inl is) =
-            whole is (decided-all (IsBoundTo objects) bound (λ pair has. decided-bound objects pair)) (decided-proper objects is i)
-            (decided-all (Contains atoms) (kernel_under table objects i) (λ atom has. decided-contains atoms atom))
+            whole is (decided-all (IsBoundTo objects) bound (λ pair has. decided-bound objects pair)) (decided-fitting objects)
+            (decided-proper objects is i) (decided-all (Contains atoms) (kernel_under table objects i) (λ atom has. decided-contains atoms atom))
 
     -- what sensing finds, where no kernel above fits
     abbrev Senses : Type 0

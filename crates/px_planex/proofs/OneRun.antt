@@ -53,7 +53,7 @@ module _ {E : Type 0} (leaves : E → List Atom → List Atom) (problem : Proble
         (IsLastTurn turn.end × (turns ≡ []) × (new ≡ mid))
         ⊎ ((¬ IsLastTurn turn.end) × TakesTurns leaves problem table bound recorded (suc number) mid turns new)
 
-    turns_once : (turns others : List TurnValue) (number : ℕ) (old new later : Running)
+    pub turns_once : (turns others : List TurnValue) (number : ℕ) (old new later : Running)
         → TakesTurns leaves problem table bound recorded number old turns new
         → TakesTurns leaves problem table bound recorded number old others later → (turns ≡ others) × (new ≡ later)
     turns_once [] others number old new later run again = absurd run

@@ -93,6 +93,7 @@ module _ (problem : Problem) (valid : IsValid problem) (table : Table) (is_table
       to_goal = omega arith;
       instantiation = fits.instantiation;
       extends = fits.extends;
+      fitting = fits.fitting;
       proper = λ k d h j q low. fits.proper k d h j q (omega arith);
       holds = All-each (Contains (result_of problem atoms inst)) (kernel_under table objects (suc (suc i))) (λ a has. from_atom a has);
     }

@@ -122,7 +122,7 @@ module _ (p : Problem) (valid : IsValid p) (t : Table) (table : IsTable p t) (bi
   turns_left None number = 1
   turns_left (Some kernel) number = (n + 2 - kernel.number) + (n + 1) * count_after number recorded
 
-  turns_left-any : (answer : Option KernelInstance) (number : ℕ) (atoms : List Atom) → IsSensed p t binding atoms answer
+  pub turns_left-any : (answer : Option KernelInstance) (number : ℕ) (atoms : List Atom) → IsSensed p t binding atoms answer
       → turns_left answer number ≤ (n + 1) + (n + 1) * count_after number recorded
   turns_left-any None number atoms senses = omega arith
   turns_left-any (Some kernel) number atoms senses = omega (arith, senses.fits.from_one)
@@ -183,7 +183,7 @@ module _ (p : Problem) (valid : IsValid p) (t : Table) (table : IsTable p t) (bi
           mul-le-mul_left (n + 1) (count_falls number recorded) in
           omega (arith, left, product, senses.highest (suc kernel.number) kernel.objects next)
 
-  bounded : (turns : List TurnValue) (number : ℕ) (after : List Atom) → RestBounded number turns after
+  pub bounded : (turns : List TurnValue) (number : ℕ) (after : List Atom) → RestBounded number turns after
   bounded [] number after atoms run = absurd run
   bounded (turn ∷ turns) number after atoms run =
       (run.0, run.1, by run.0 run.1 run.2.0 run.2.1 run.2.2 (bounded turns (suc number) after))

@@ -77,5 +77,35 @@ layer_back (layer.Gap atom) = ap proof_of (fold-roll-Proof Derivation derivation
 pub comes_back : (p : Proof) → ComesBack p
 comes_back = ind-Proof ComesBack (λ x y is. subst (λ z. ComesBack (roll-Proof z)) is (layer_back y))
 
+-- ---- and back: the derivation of the proof term, where no open place stands in the derivation
+
+abbrev mutual
+  pub HasNoOpenPlace : Derivation → Type 0
+  HasNoOpenPlace (fact leaf) = Unit {0}
+  HasNoOpenPlace (ancestor i) = Unit {0}
+  HasNoOpenPlace (step number theta place parts) = HaveNoOpenPlace parts
+  HasNoOpenPlace (gap atom) = Unit {0}
+  HasNoOpenPlace open_place = ⊥
+
+  pub HaveNoOpenPlace : Derivations → Type 0
+  HaveNoOpenPlace none = Unit {0}
+  HaveNoOpenPlace (also d ds) = HasNoOpenPlace d × HaveNoOpenPlace ds
+
+mutual
+  pub derivation_of-proof_of : (d : Derivation) → HasNoOpenPlace d → derivation_of (proof_of d) ≡ d
+  derivation_of-proof_of (fact leaf) is = derivation_of-fact leaf
+  derivation_of-proof_of (ancestor i) is = derivation_of-ancestor i
+  derivation_of-proof_of (step number theta place parts) is =
+      derivation_of-step number theta place (proofs_of parts) ∙ ap (λ (ds : Derivations). step number theta place ds)
+      (derivations-proofs_of parts is)
+  derivation_of-proof_of (gap atom) is = derivation_of-gap atom
+  derivation_of-proof_of open_place is = absurd is
+
+  pub derivations-proofs_of : (ds : Derivations) → HaveNoOpenPlace ds → derivations (map derivation_of (proofs_of ds)) ≡ ds
+  derivations-proofs_of none is = refl
+  derivations-proofs_of (also d ds) is = rw (derivation_of-proof_of d is.0, derivations-proofs_of ds is.1) refl
+
+-- ----
+
 pub derivations_tell_proofs : DerivationsTellProofs
 derivations_tell_proofs one other same = sym (comes_back one) ∙ ap proof_of same ∙ comes_back other

@@ -1,6 +1,7 @@
 //! Proofs put in the places of leaves.
 ghost use Rattle.std.specs.Prelude.{◌≡◌, ◌≤◌, ◌+◌, ◌∷◌, [], All, IfOk, OnOk, drop, length, map};
 ghost use Rattle.std.specs.List.{flat_map};
+ghost use Rattle.px_base.specs.Bounds.{u32_max};
 ghost use Rattle.px_proof.specs.Derivation.{derivations, leaves_of, all_leaves_of};
 ghost use Rattle.px_proof.specs.Grafting.{first_leaves, later_leaves, in_place_of, grafted, all_grafted, in_places_of, GraftIsTree, GraftProves};
 ghost use Rattle.px_proof.specs.ProofTerm.{derivation_of};
@@ -18,7 +19,7 @@ use std::alloc::Global;
 /// `NoMemory` where there is no memory for the proof.
 pub fn graft(alloc: Global, proof: &Proof, parts: &[Proof], shift: u32) -> Result<Proof, NoMemory>
     requires parts { length parts.now ≡ length (first_leaves (leaves_of (derivation_of proof.now))) }
-    requires columns { All (λ leaf. leaf.column + shift ≤ 4294967295) (later_leaves (leaves_of (derivation_of proof.now))) }
+    requires columns { All (λ leaf. leaf.column + shift ≤ u32_max) (later_leaves (leaves_of (derivation_of proof.now))) }
     ensures value { IfOk result (λ made. derivation_of made ≡ grafted shift (map derivation_of parts.now) (derivation_of proof.now)) }
     ensures leaves { IfOk result (λ made. leaves_of (derivation_of made) ≡ flat_map leaves_of
         (in_places_of shift (map derivation_of parts.now) (leaves_of (derivation_of proof.now)))) }
@@ -40,7 +41,7 @@ fn graft_all(
     shift: u32,
 ) -> Result<Proof, NoMemory>
     requires parts { used.old + length (first_leaves (leaves_of (derivation_of proof.now))) ≤ length parts.now }
-    requires columns { All (λ leaf. leaf.column + shift ≤ 4294967295) (later_leaves (leaves_of (derivation_of proof.now))) }
+    requires columns { All (λ leaf. leaf.column + shift ≤ u32_max) (later_leaves (leaves_of (derivation_of proof.now))) }
     ensures value { IfOk result (λ made. derivation_of made ≡ grafted shift (drop used.old (map derivation_of parts.now))
         (derivation_of proof.now)) }
     ensures used { OnOk result (used.new ≡ used.old + length (first_leaves (leaves_of (derivation_of proof.now)))) }
@@ -77,7 +78,7 @@ fn graft_each(
     shift: u32,
 ) -> Result<Vec<Proof>, NoMemory>
     requires parts { used.old + length (first_leaves (all_leaves_of (derivations (map derivation_of proofs.now)))) ≤ length parts.now }
-    requires columns { All (λ leaf. leaf.column + shift ≤ 4294967295)
+    requires columns { All (λ leaf. leaf.column + shift ≤ u32_max)
         (later_leaves (all_leaves_of (derivations (map derivation_of proofs.now)))) }
     ensures value { IfOk result (λ made. derivations (map derivation_of made.items) ≡ all_grafted shift
         (drop used.old (map derivation_of parts.now)) (derivations (map derivation_of proofs.now))) }
@@ -94,7 +95,7 @@ fn graft_each(
 /// Returns what comes in the place of a leaf.
 fn graft_leaf(leaf: &Leaf, parts: &[Proof], used: &mut usize, shift: u32) -> Result<Proof, NoMemory>
     requires parts { used.old + length (first_leaves (leaf.now ∷ [])) ≤ length parts.now }
-    requires columns { All (λ leaf. leaf.column + shift ≤ 4294967295) (later_leaves (leaf.now ∷ [])) }
+    requires columns { All (λ leaf. leaf.column + shift ≤ u32_max) (later_leaves (leaf.now ∷ [])) }
     ensures value { IfOk result (λ made. derivation_of made ≡ in_place_of shift (drop used.old (map derivation_of parts.now)) leaf.now) }
     ensures used { OnOk result (used.new ≡ used.old + length (first_leaves (leaf.now ∷ []))) }
 {

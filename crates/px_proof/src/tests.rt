@@ -100,7 +100,7 @@ fn a_proof_by_cases(rt: HostRuntime) -> Result<(), NoMemory> {
     for (ancestor, clause, is_proof) in [
         (1, 1, true),
         (2, 1, false),
-        (4294967295, 1, false),
+        (u32::MAX, 1, false),
         (1, 2, false),
     ] {
         let inner = step(rt.alloc(), clause, 0, Proof::Anc(ancestor))?;

@@ -7,6 +7,7 @@ pub mod Trees
 pub mod Lists
 pub mod Ordering
 pub mod Visits
+pub mod Trails
 pub mod Objects
 pub mod Scoping
 pub mod Partial

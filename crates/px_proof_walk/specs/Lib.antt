@@ -4,6 +4,7 @@ pub mod Scope
 pub mod Possible
 pub mod Order
 pub mod Search
+pub mod Trail
 pub mod Ends
 pub mod GapAtoms
 pub mod Values

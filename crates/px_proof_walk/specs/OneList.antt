@@ -1,5 +1,5 @@
 -- A walk over one list, the empty one.
-use Rattle.std.specs.Prelude.{◌≡◌, List, [], ◌∷◌, ◌++◌, length}
+use Rattle.std.specs.Prelude.{◌≡◌, List, ◌∷◌, length}
 use Rattle.std.proofs.Common.{arith, length-append}
 use Rattle.px_proof.specs.declared.shape.Tick.{Tick}
 use Rattle.px_proof_walk.specs.Order.{IsPrefixClosed}

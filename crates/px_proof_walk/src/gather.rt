@@ -2,8 +2,10 @@
 ghost use Rattle.std.specs.Prelude.{◌≡◌, ◌<◌, ◌≤◌, ◌+◌, ◌++◌, ◌∷◌, [], length, map, List, IfOk, IfSome, IfNone, OnOk};
 ghost use Rattle.px_proof.specs.declared.shape.Tick.{Tick};
 ghost use Rattle.px_proof_walk.specs.Search.{AreAll, LimitComes};
+ghost use Rattle.px_proof_walk.specs.Trail.{shape_with};
 
 use crate::steps::advance;
+use crate::visit::shapes_of;
 use crate::walk::Walk;
 use px_base::{NoMemory, push};
 use px_proof::Shape;
@@ -52,14 +54,16 @@ pub fn walk_to_end<Q, W: Walk<Q>, G: Gather<Q, W>>(
     ensures all { IfOk result (λ met. IfNone met ((seen : List (List Tick)) × AreAll (W.possible question.now) limit seen
         × G.gathered question.now gather.new seen)) }
     ensures limited { IfOk result (λ met. IfSome met (λ shapes. (seen : List (List Tick))
-        × (shapes.items ≡ map (W.shape_of question.now) seen) × LimitComes (W.possible question.now) (λ ticks. ⊥) limit seen)) }
+        × (shapes.items ≡ map (λ ticks. shape_with ticks (W.places question.now ticks)) seen)
+        × LimitComes (W.possible question.now) (λ ticks. ⊥) limit seen)) }
     ensures still { OnOk result (W.stands question.now walk.new) }
 {
-    let mut shapes = Vec::new(alloc);
+    let mut trail = Vec::new(alloc);
     for count in 0..limit {
-        let shape = walk.shape(question)?;
-        push(&mut shapes, shape)?;
+        let visit = walk.visit(question);
+        push(&mut trail, visit)?;
         if count + 1 == limit {
+            let shapes = shapes_of(alloc, &trail)?;
             return Ok(Some(shapes));
         }
         gather.gather(question, walk)?;

@@ -4,11 +4,13 @@ ghost use Rattle.px_proof.specs.declared.shape.Tick.{Tick};
 ghost use Rattle.px_proof_walk.specs.Ends.{MatchEnd};
 ghost use Rattle.px_proof_walk.specs.Order.{IsNext, NoneAfter};
 ghost use Rattle.px_proof_walk.specs.Search.{ComesFirst, NoneComes, LimitComes};
+ghost use Rattle.px_proof_walk.specs.Trail.{BranchesOff, shape_with};
 
 use crate::end::End;
+use crate::visit::shapes_of;
 use crate::walk::Walk;
 use px_base::{NoMemory, push};
-use px_proof::{Shape, Tick};
+use px_proof::Tick;
 use std::alloc::Global;
 
 /// Goes on to the next list of the walk, and returns whether there is one.
@@ -19,6 +21,7 @@ pub fn advance<Q, W: Walk<Q>>(question: &Q, walk: &mut W) -> Result<bool, NoMemo
     requires stands { W.stands question.now walk.old }
     requires room { length (W.ticks walk.old) < W.most question.now }
     ensures next { IfOk result (λ found. found ≡ true → IsNext (W.possible question.now) (W.ticks walk.old) (W.ticks walk.new)) }
+    ensures branches { IfOk result (λ found. found ≡ true → BranchesOff (W.ticks walk.old) (W.ticks walk.new)) }
     ensures none { IfOk result (λ found. found ≡ false → NoneAfter (W.possible question.now) (W.ticks walk.old)) }
     ensures longer { OnOk result (length (W.ticks walk.new) ≤ length (W.ticks walk.old) + 1) }
     ensures still { OnOk result (W.stands question.now walk.new) }
@@ -51,18 +54,19 @@ pub fn walk_to_finished<Q, W: Walk<Q>>(
     ensures end { IfOk result (λ end. MatchEnd end
         (ComesFirst (W.possible question.now) (W.finished question.now) limit (W.ticks walk.new))
         (NoneComes (W.possible question.now) (W.finished question.now) limit)
-        (λ shapes. (seen : List (List Tick)) × (shapes ≡ map (W.shape_of question.now) seen)
+        (λ shapes. (seen : List (List Tick)) × (shapes ≡ map (λ ticks. shape_with ticks (W.places question.now ticks)) seen)
         × LimitComes (W.possible question.now) (W.finished question.now) limit seen)) }
     ensures still { OnOk result (W.stands question.now walk.new) }
 {
-    let mut shapes = Vec::new(alloc);
+    let mut trail = Vec::new(alloc);
     for count in 0..limit {
         if walk.is_finished(question) {
             return Ok(End::Found);
         }
-        let shape = walk.shape(question)?;
-        push(&mut shapes, shape)?;
+        let visit = walk.visit(question);
+        push(&mut trail, visit)?;
         if count + 1 == limit {
+            let shapes = shapes_of(alloc, &trail)?;
             return Ok(End::Limit(shapes));
         }
         if !advance(question, walk)? {

@@ -1,19 +1,15 @@
 //! A walk over one list, which ends in each way and is gathered from.
-ghost use Rattle.std.specs.Prelude.{◌≡◌, ◌∷◌, [], length, true};
-ghost use Rattle.px_proof.specs.declared.shape.Tick.TheVariants.{Open};
+ghost use Rattle.std.specs.Prelude.{◌≡◌, [], length, true};
 ghost use Rattle.px_proof_walk.specs.OneList.{IsStart, start-shorter};
 
-use crate::{End, Gather, Walk, advance, walk_to_end, walk_to_finished};
+use crate::{End, Gather, Visit, Walk, advance, walk_to_end, walk_to_finished};
 use px_base::NoMemory;
-use px_proof::{Shape, Tick};
-use std::alloc::Global;
+use px_proof::Tick;
 use std::rt::HostRuntime;
 
 /// A walk that stands at the empty list, and goes nowhere else. The question says whether a place is open there.
 #[derive(Drop)]
-struct OneList {
-    alloc: Global,
-}
+struct OneList;
 
 impl Walk<bool> for OneList {
     ghost ticks = { λ _. [] };
@@ -26,7 +22,7 @@ impl Walk<bool> for OneList {
 
     ghost finished = { λ finished _. finished ≡ true };
 
-    ghost shape_of = { λ _ _. Open ∷ [] };
+    ghost places = { λ _ _. 1 };
 
     ghost most = { λ _. 1000 };
 
@@ -42,8 +38,12 @@ impl Walk<bool> for OneList {
         *question
     }
 
-    fn shape(&self, _question: &bool) -> Result<Shape, NoMemory> {
-        Ok(Shape::from_ticks(Vec::from_array(self.alloc, [Tick::Open])?))
+    fn visit(&self, _question: &bool) -> Visit {
+        Visit {
+            kept: 0,
+            last: None,
+            places: 1,
+        }
     }
 }
 
@@ -71,7 +71,7 @@ impl Gather<bool, OneList> for Count {
 #[test]
 fn a_walk_ends_in_three_ways(rt: HostRuntime) -> Result<(), NoMemory> {
     let alloc = rt.alloc();
-    let mut walk = OneList { alloc };
+    let mut walk = OneList;
     assert!(&rt; !advance(&false, &mut walk)?);
     assert!(&rt; matches!(walk_to_finished(alloc, &true, &mut walk, 1)?, End::Found));
     assert!(&rt; matches!(walk_to_finished(alloc, &false, &mut walk, 2)?, End::NoMore));
@@ -88,7 +88,7 @@ fn a_walk_ends_in_three_ways(rt: HostRuntime) -> Result<(), NoMemory> {
 #[test]
 fn a_walk_to_the_end_gathers(rt: HostRuntime) -> Result<(), NoMemory> {
     let alloc = rt.alloc();
-    let mut walk = OneList { alloc };
+    let mut walk = OneList;
     let mut count = Count { calls: 0 };
     assert!(&rt; walk_to_end(alloc, &false, &mut walk, &mut count, 2)?.is_none());
     assert!(&rt; count.calls == 1);

@@ -1,9 +1,11 @@
 //! Walks: what a state must do to be walked over.
 ghost use Rattle.std.specs.Prelude.{◌≡◌, ◌++◌, ◌∷◌, [], ◌<◌, ◌≤◌, ◌+◌, ◌↔◌, true, false, length, IfOk, OnOk, IfSome, IfNone, IsTrue};
 ghost use Rattle.px_proof_walk.specs.Order.{TriesAfter};
+ghost use Rattle.px_proof_walk.specs.Trail.{IsVisit};
 
+use crate::visit::Visit;
 use px_base::NoMemory;
-use px_proof::{Shape, Tick};
+use px_proof::Tick;
 
 /// A walk over unfinished proofs, by the ticks that close their places in order.
 ///
@@ -29,8 +31,8 @@ pub trait Walk<Q> {
     // no place of the list is open
     ghost finished: { Q → List Tick → Type 0 };
 
-    // the shape that the list stands for
-    ghost shape_of: { Q → List Tick → List Tick };
+    // how many places are open
+    ghost places: { Q → List Tick → ℕ };
 
     // how many ticks there may be
     ghost most: { Q → ℕ };
@@ -58,11 +60,8 @@ pub trait Walk<Q> {
         requires stands { stands question.now self.now }
         ensures { IsTrue result ↔ finished question.now (ticks self.now) };
 
-    /// Returns the shape, with a tick for each open place too.
-    ///
-    /// # Errors
-    /// `NoMemory` if memory runs out.
-    fn shape(&self, question: &Q) -> Result<Shape, NoMemory>
+    /// Returns what is kept of the list at which the walk stands.
+    fn visit(&self, question: &Q) -> Visit
         requires stands { stands question.now self.now }
-        ensures { IfOk result (λ shape. shape ≡ shape_of question.now (ticks self.now)) };
+        ensures { IsVisit (ticks self.now) (places question.now (ticks self.now)) result };
 }

@@ -1,7 +1,7 @@
 -- How the state of a question goes on, and how it goes back.
-use Rattle.std.proofs.Common.{◌≡◌, ◌↔◌, ℕ, zero, suc, ◌+◌, ◌-◌, ◌<◌, ◌≤◌, Bool, true, false, Option, Some, None, List, [], ◌∷◌, ◌++◌, length, take, map, replicate, slice_get, refl, ap, sym, subst, ◌∙◌, arith, append_assoc}
+use Rattle.std.proofs.Common.{◌≡◌, ◌↔◌, ℕ, zero, suc, ◌+◌, ◌-◌, ◌<◌, ◌≤◌, Bool, true, false, Option, Some, None, List, [], ◌∷◌, ◌++◌, length, take, map, slice_get, refl, ap, sym, subst, ◌∙◌, arith}
 use Rattle.std.specs.Prelude.{reverse}
-use Rattle.std.proofs.lemmas.List.{append-nil, reverse-append, take_all}
+use Rattle.std.proofs.lemmas.List.{length-map, reverse-append}
 use Rattle.std.proofs.lemmas.List.Elements.{All-replicate}
 use Rattle.px_prover.specs.Standing.{ticks_in, IsProperQuestion, IsSound, WasSound, IsStanding}
 use Rattle.px_prover.specs.Tries.{IsReadyToTry, IsLonger, TriesAmong}
@@ -9,7 +9,6 @@ use Rattle.px_prover.proofs.Scopes.{object-there}
 use Rattle.px_proof.specs.Literals.{positive_of}
 use Rattle.px_base.specs.Answers.{some_same}
 use Rattle.px_proof.specs.declared.shape.Tick.{Tick}
-use Rattle.px_proof.specs.declared.shape.Tick.TheVariants.{Open}
 use Rattle.px_question.specs.Settings.{Setting}
 use Rattle.px_proof_state.specs.Arena.{goals_at, AreOlder}
 use Rattle.px_proof_state.specs.Matches.{choice_by}
@@ -26,7 +25,8 @@ use Rattle.px_unify.specs.Changes.{Meets, variables_of}
 use Rattle.px_proof_walk.specs.Order.{IsAfter, TriesAfter}
 use Rattle.px_proof_walk.specs.Pending.{Goal, Pending, open_after, goals_of, Closing, closing_at, fresh_of}
 use Rattle.px_proof_walk.proofs.Lifting.{open_after-step}
-use Rattle.px_proof_walk.specs.Possible.{IsPossible, IsFinished, open_count, left_of, shape_of}
+use Rattle.px_proof_walk.specs.Possible.{IsPossible, IsFinished, open_count, left_of}
+use Rattle.px_proof_walk.specs.Trail.{IsVisit, last_of}
 use Rattle.px_proof_walk.proofs.Objects.{feasible-from_bindings}
 
 module _ (loose : Bool) (s : Setting) (formula : List Atom) (vars : ℕ) where
@@ -246,23 +246,24 @@ open-next arena at g older some is =
     let both = older (at - 1) g is in
     (ap length (ap (goals_at arena) place ∙ goals_at-index arena (at - 1) g is both.1 both.0), both.1)
 
-pub open-moved : (items total new : List Tick) (m n : ℕ) → new ≡ items ++ Open ∷ [] → m ≡ suc n → items ++ replicate m Open ≡ total
-    → new ++ replicate n Open ≡ total
-open-moved items total new m n is more all =
-    rw is (append_assoc items (Open ∷ []) (replicate n Open) ∙ sym (ap (λ k. items ++ replicate k Open) more) ∙ all)
+pub open-none : (arena : List OpenGoal) (at : ℕ) → at ≡ 0 → length (goals_at arena at) ≡ 0
+open-none arena at none = ap length (ap (goals_at arena) none ∙ goals_at-nothing arena)
 
-pub open-ended : (arena : List OpenGoal) (at : ℕ) (items total : List Tick) → at ≡ 0
-    → items ++ replicate (length (goals_at arena at)) Open ≡ total → items ≡ total
-open-ended arena at items total none all =
-    sym (append-nil items) ∙ ap (λ gs. items ++ replicate (length gs) Open) (sym (ap (goals_at arena) none ∙ goals_at-nothing arena)) ∙ all
-
--- the shape has the ticks of the choices, then a tick for each open place
-pub shape-made : (loose : Bool) (s : Setting) (formula : List Atom) (vars : ℕ) (v : ProofStateValue) → IsStanding loose s formula vars v
-    → (choices : List Choice) → reverse choices ≡ v.choices → (front whole : List Tick) (n : ℕ)
-    → length choices ≤ n → front ≡ map (λ (c : Choice). c.tick) (take n choices)
-    → whole ≡ front ++ replicate (length (goals_at v.goals v.first)) Open → whole ≡ shape_of loose s formula vars (ticks_in v.choices)
-shape-made loose s formula vars v standing choices are front whole n past front_is whole_is =
-    let ticks_are : front ≡ ticks_in v.choices =
-    front_is ∙ ap (map (λ (c : Choice). c.tick)) (take_all n choices past) ∙ sym (ticks-map choices) ∙ ap ticks_in are in
-    whole_is ∙ ap (λ ts. ts ++ replicate (length (goals_at v.goals v.first)) Open) ticks_are
-    ∙ ap (λ k. ticks_in v.choices ++ replicate k Open) (sym (count-open loose s formula vars v standing))
+-- the visit is that of the ticks of the choices
+pub visit-made : (loose : Bool) (s : Setting) (formula : List Atom) (vars : ℕ) (v : ProofStateValue) → IsStanding loose s formula vars v
+    → (choices : List Choice) → reverse choices ≡ v.choices → (kept : ℕ) (last : Option Tick) (places : ℕ) → kept ≡ length choices - 1
+    → map (λ (c : Choice). c.tick) choices ≡ take (length choices - 1) (map (λ (c : Choice). c.tick) choices) ++ last_of last
+    → places ≡ length (goals_at v.goals v.first)
+    → IsVisit (ticks_in v.choices) (open_count loose s formula vars (ticks_in v.choices))
+    (record { kept = kept; last = last; places = places })
+visit-made loose s formula vars v standing choices are kept last places kept_is ends places_are =
+    let ticks_are : map (λ (c : Choice). c.tick) choices ≡ ticks_in v.choices = sym (ticks-map choices) ∙ ap ticks_in are in
+    let count : length choices ≡ length (ticks_in v.choices) =
+    sym (length-map choices (λ (c : Choice). c.tick)) ∙ ap length ticks_are in
+    record {
+      kept = kept_is ∙ ap (λ n. n - 1) count;
+      ends =
+          subst (λ (ts : List Tick). ts ≡ take kept ts ++ last_of last) ticks_are
+          (ends ∙ ap (λ n. take n (map (λ (c : Choice). c.tick) choices) ++ last_of last) (sym kept_is));
+      left = places_are ∙ sym (count-open loose s formula vars v standing);
+    }

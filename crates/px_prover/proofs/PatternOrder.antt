@@ -1,11 +1,11 @@
 -- Gap patterns, equal ones once.
-use Rattle.std.proofs.Common.{◌≡◌, ◌↔◌, ℕ, List, refl, sym, ap, subst}
-use Rattle.std.specs.Prelude.{All, Contains}
+use Rattle.std.proofs.Common.{◌≡◌, ◌↔◌, ℕ, List, ap}
+use Rattle.std.specs.Prelude.{Contains}
 use Rattle.std.specs.Bool.{Decides}
 use Rattle.std.specs.Cmp.Lexicographic.{pointwise_decides}
 use Rattle.std.proofs.lemmas.Bool.Decides.{Decides-and, Decides-eqb, Decides-like}
 use Rattle.px_base.specs.ListLaws.{All-at, All-each}
-use Rattle.px_prover.specs.Patterns.{AreGapPatterns, IsPattern, Offers}
+use Rattle.px_prover.specs.Patterns.{AreGapPatterns, IsPattern}
 use Rattle.px_prover.specs.contracts.pattern.GapPatternPartialEq.TheImpl as pattern_equality
 use Rattle.px_prover.specs.declared.pattern.GapPattern.{GapPattern}
 use Rattle.px_question.specs.Settings.{Setting}

@@ -3,7 +3,7 @@ use Rattle.std.specs.Prelude.{List}
 use Rattle.px_prover.specs.declared.question.ProofQuestion.{ProofQuestion}
 use Rattle.px_proof.specs.declared.shape.Tick.{Tick}
 use Rattle.px_question.specs.Settings.{Setting, setting_of}
-use Rattle.px_proof_walk.specs.Possible.{IsPossible, IsFinished, shape_of}
+use Rattle.px_proof_walk.specs.Possible.{IsPossible, IsFinished}
 
 abbrev pub setting_in : ProofQuestion → Setting
 setting_in q = setting_of q.problem.now q.facts.now
@@ -14,6 +14,3 @@ IsPossibleIn q ticks = IsPossible q.loose (setting_in q) q.formula.now q.vars ti
 
 abbrev pub IsFinishedIn : ProofQuestion → List Tick → Type 0
 IsFinishedIn q ticks = IsFinished q.loose (setting_in q) q.formula.now q.vars ticks
-
-abbrev pub shape_in : ProofQuestion → List Tick → List Tick
-shape_in q ticks = shape_of q.loose (setting_in q) q.formula.now q.vars ticks

@@ -4,9 +4,9 @@ ghost use Rattle.px_prover.specs.Passed.{IsSmall};
 
 use crate::question::ProofQuestion;
 use px_base::NoMemory;
-use px_proof::{Shape, Tick};
+use px_proof::Tick;
 use px_proof_state::ProofState;
-use px_proof_walk::Walk;
+use px_proof_walk::{Visit, Walk};
 use px_terms::{Atom, Problem};
 
 /// What is asked where gaps are allowed. The walk over it visits unfinished lists only.
@@ -59,7 +59,7 @@ impl<'a> Walk<GapQuestion<'a>> for ProofState {
     ghost use Rattle.px_prover.specs.GapAsking.{gap_setting, IsGoingOnIn};
     ghost use Rattle.px_prover.specs.Standing.{ticks_in, IsStanding};
     ghost use Rattle.px_proof_walk.proofs.Starts.{going-shorter};
-    ghost use Rattle.px_proof_walk.specs.Possible.{IsFinished, shape_of};
+    ghost use Rattle.px_proof_walk.specs.Possible.{IsFinished, open_count};
 
     ghost ticks = { λ v. ticks_in v.choices };
 
@@ -71,7 +71,7 @@ impl<'a> Walk<GapQuestion<'a>> for ProofState {
 
     ghost finished = { λ q ticks. IsFinished true (gap_setting q) q.formula.now q.vars ticks };
 
-    ghost shape_of = { λ q ticks. shape_of true (gap_setting q) q.formula.now q.vars ticks };
+    ghost places = { λ q ticks. open_count true (gap_setting q) q.formula.now q.vars ticks };
 
     ghost most = { λ q. q.problem.now.shapes };
 
@@ -102,7 +102,7 @@ impl<'a> Walk<GapQuestion<'a>> for ProofState {
         self.first() == 0
     }
 
-    fn shape(&self, question: &GapQuestion<'a>) -> Result<Shape, NoMemory> {
-        self.shape(&question.loose())
+    fn visit(&self, question: &GapQuestion<'a>) -> Visit {
+        self.visit(&question.loose())
     }
 }

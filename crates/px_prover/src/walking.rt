@@ -1,33 +1,47 @@
 //! The prover's state as a walk over unfinished lists.
-ghost use Rattle.std.specs.Prelude.{◌≡◌, ◌≤◌, ◌++◌, ◌∷◌, [], IfOk, length, replicate};
+ghost use Rattle.std.specs.Prelude.{◌≡◌, ◌≤◌, ◌-◌, ◌++◌, take, length, map as map_list};
 ghost use Rattle.px_proof_state.specs.Arena.{goals_at, AreOlder};
+ghost use Rattle.px_proof_state.specs.declared.open.Choice.{Choice as ChoiceValue};
+ghost use Rattle.px_proof_walk.specs.Trail.{last_of};
 
 use crate::attempts::try_later;
 use crate::question::ProofQuestion;
-use px_base::{NoMemory, push};
-use px_proof::{Shape, Tick};
-use px_proof_state::ProofState;
-use px_proof_walk::Walk;
+use px_base::NoMemory;
+use px_proof::Tick;
+use px_proof_state::{Choice, ProofState};
+use px_proof_walk::{Visit, Walk};
 
-/// Appends a tick for each open place.
-fn push_open(state: &ProofState, ticks: &mut Vec<Tick>) -> Result<(), NoMemory>
+/// Returns how many places are open.
+fn open_places(state: &ProofState) -> usize
     requires arena { AreOlder state.now.goals }
     requires within { state.now.first ≤ length state.now.goals }
-    ensures { IfOk result (λ _. ticks.new.items ≡ ticks.old.items ++ replicate (length (goals_at state.now.goals state.now.first))
-        Tick.Open) }
+    ensures { result ≡ length (goals_at state.now.goals state.now.first) }
 {
+    let mut count = 0;
     let mut at = state.first();
     while at > 0 {
-        push(ticks, Tick::Open)?;
+        count += 1;
         at = state.goal_at(at).next;
     }
-    Ok(())
+    count
+}
+
+/// Returns the tick of the last choice.
+fn last_tick(choices: &[Choice]) -> Option<Tick>
+    ensures { let ticks = map_list (λ (c : ChoiceValue). c.tick) choices.now in
+        ticks ≡ take (length choices.now - 1) ticks ++ last_of result }
+{
+    match choices.len().checked_sub(1) {
+        Some(last) => Some(choices[last].tick),
+        None => None,
+    }
 }
 
 impl<'a> Walk<ProofQuestion<'a>> for ProofState {
-    ghost use Rattle.px_prover.specs.Asking.{setting_in, IsPossibleIn, IsFinishedIn, shape_in};
+    ghost use Rattle.px_prover.specs.Asking.{setting_in, IsPossibleIn, IsFinishedIn};
     ghost use Rattle.px_prover.specs.Standing.{ticks_in, IsStanding};
     ghost use Rattle.px_prover.specs.Shorter.{possible-shorter};
+    ghost use Rattle.px_proof_walk.specs.Possible.{open_count};
 
     ghost ticks = { λ v. ticks_in v.choices };
 
@@ -39,7 +53,7 @@ impl<'a> Walk<ProofQuestion<'a>> for ProofState {
 
     ghost finished = { λ q ticks. IsFinishedIn q ticks };
 
-    ghost shape_of = { λ q ticks. shape_in q ticks };
+    ghost places = { λ q ticks. open_count q.loose (setting_in q) q.formula.now q.vars ticks };
 
     ghost most = { λ q. q.problem.now.shapes };
 
@@ -64,12 +78,12 @@ impl<'a> Walk<ProofQuestion<'a>> for ProofState {
         self.first() == 0
     }
 
-    fn shape(&self, _question: &ProofQuestion<'a>) -> Result<Shape, NoMemory> {
-        let mut ticks = Vec::new(*self.allocator());
-        for choice in self.choices() {
-            push(&mut ticks, choice.tick)?;
+    fn visit(&self, _question: &ProofQuestion<'a>) -> Visit {
+        let choices = self.choices();
+        Visit {
+            kept: choices.len().saturating_sub(1),
+            last: last_tick(choices),
+            places: open_places(self),
         }
-        push_open(self, &mut ticks)?;
-        Ok(Shape::from_ticks(ticks))
     }
 }

@@ -249,3 +249,39 @@ fn seventy_thousand_shapes(rt: HostRuntime) {
         _ => assert!(&rt; false),
     }
 }
+
+/// Returns the axioms by which each atom but the last follows from the next one: the first six by a five-fold use, the seventh by a
+/// three-fold one.
+fn fivefold(alloc: Global, rt: &impl Abort) -> ClauseArena {
+    let mut axioms = ClauseArena::new(alloc);
+    for pred in 0..7u32 {
+        let part = no(atom(pred + 1, &[]));
+        let mut literals = [part; 6];
+        literals[0] = yes(atom(pred, &[]));
+        let count = if pred < 6 { 6 } else { 4 };
+        add_axiom(&mut axioms, 0, &literals[..count]).expect(rt, "an axiom");
+    }
+    axioms
+}
+
+/// A proof whose unfinished lists, which are nearly as many as the greatest limit, have two thousand million ticks together.
+#[test]
+fn a_proof_of_many_places(rt: HostRuntime) {
+    let alloc = rt.alloc();
+    let axioms = fivefold(alloc, &rt);
+    let mut problem = problem_of(alloc, 1, &[0; 8], axioms, []).expect(&rt, "memory");
+    (problem.height, problem.shapes) = (8, 70_000);
+    let model = model_of(alloc, &[atom(7, &[])]).expect(&rt, "memory");
+    let formula = [atom(0, &[])];
+    let found = ask(&rt, &problem, about(alloc, &formula, 0, &model));
+    match &found {
+        Ok(answer) => {
+            let (mut marks, mut chosen) = (Vec::new(alloc), Vec::new(alloc));
+            for proof in answer.proofs.as_slice() {
+                collect(proof, &mut marks, &mut chosen).expect(&rt, "memory");
+            }
+            assert!(&rt; marks.len() == 66_406);
+        }
+        Err(_) => assert!(&rt; false),
+    }
+}

@@ -1,4 +1,5 @@
 -- What a script is about, made of what its lines have declared.
+use Rattle.px_base.specs.Bounds.{u32_max}
 use Rattle.px_reader.proofs.Common.{◌≡◌, ◌<◌, ◌≤◌, ◌+◌, ℕ, List, map, length, sym, ap, ◌∙◌, subst, arith, IfSome, Option, None, Some, option_map, Atom, Problem, content_of, facts_of, own_problem, problem_of, Declared, greatest, command_view, script_of, Thing, most_objects, IsBuilding, first_state, rendering, standings, IsInRange, IsBuildingOf}
 use Rattle.px_ops.specs.ModelValue.{ModelValue}
 use Rattle.px_rooms.specs.declared.building.Building.{Building}
@@ -17,7 +18,7 @@ lifted P Q None things is f h = tt
 lifted P Q (Some building) things is f h = f building.things (subst (λ o. IfSome o P) (sym is) h)
 
 module _ (d : Declared) (r : IsInRange (content_of d)) (b : Option Building) (is : things_of b ≡ d.things) where
-  few : length d.names.objects ≤ 256
+  few : length d.names.objects ≤ greatest 1 most_objects
   few = let P : ℕ → Type 0 = λ v. length d.names.objects ≤ greatest v most_objects in subst P r.version r.names.few_objects
 
   each : (Q : List Thing → Type 0)
@@ -28,8 +29,8 @@ module _ (d : Declared) (r : IsInRange (content_of d)) (b : Option Building) (is
   pub is-building : IfSome b (λ building. IsBuilding building.things)
   is-building = each IsBuilding (λ t of_things. of_things.is_building)
 
-  pub is-short : IfSome b (λ building. length building.things < 4294967295)
-  is-short = each (λ t. length t < 4294967295) (λ t of_things. omega (arith, few, of_things.objects, objects_are t of_things.is_building.0))
+  pub is-short : IfSome b (λ building. length building.things < u32_max)
+  is-short = each (λ t. length t < u32_max) (λ t of_things. omega (arith, few, of_things.objects, objects_are t of_things.is_building.0))
 
   pub has-objects : (own : Problem) → own ≡ own_problem d → IfSome b (λ building. own.objects ≡ length (standings building.things) + 1)
   has-objects own own_is = each (λ t. own.objects ≡ length (standings t) + 1) (λ t of_things. ap (λ p. p.objects) own_is

@@ -33,7 +33,8 @@ lists d r =
     let within : (l : Limit) (n : ℕ) → n ≤ greatest d.version l → n ≤ greatest 1 l = λ l n below.
     subst (λ v. n ≤ greatest v l) r.version below in
     record {
-      objects = record { distinct = r.names.objects.distinct; few = within most_objects _ r.names.few_objects };
+      objects = (let few = within most_objects _ r.names.few_objects in
+          record { distinct = r.names.objects.distinct; few = omega (arith, few) });
       predicates = record { distinct = r.names.predicates.distinct; few = r.names.few_predicates };
       operators = record { distinct = r.names.operators.distinct; few = r.names.few_operators };
       results = (let few = within most_commands _ r.commands.few in let results = r.results.few in

@@ -1,11 +1,12 @@
 -- The number of decimal digits, up to 32 bits.
+use Rattle.px_base.specs.Bounds.{u32_max}
 use Rattle.px_reader.proofs.Common.{◌≡◌, ℕ, ◌<◌, ◌^◌, ◌-◌, true, List, [], ◌∷◌, length, min, refl, sym, ◌∙◌, subst, inl, inr, arith, cases_lt, encode_ascii, encodes-chars, is_ascii_digit, Result, Ok, Err, encode_utf8_all, OkIff, result_unwrap_or, IsUtf8, chars, all_ascii_digits, ParsesUnsigned, digits_value, IsNumeralModel, parse_digits, numerals_by_value, tells_all_ascii_digits, number_value, and_parts, digit-range, digits-all, front-all}
 
 pub own : IsNumeralModel (λ ds. all_ascii_digits ds ≡ true) (digits_value 10)
 own = numerals_by_value (λ ds. all_ascii_digits ds ≡ true) tells_all_ascii_digits
 
 capped : {E : Type 0} (r : Result ℕ E) (value : ℕ) (P : Type 0) → P → OkIff r (P × (value < 2 ^ 32)) value
-    → result_unwrap_or r (2 ^ 32 - 1) ≡ min value (2 ^ 32 - 1)
+    → result_unwrap_or r u32_max ≡ min value u32_max
 capped (Ok n) value P p is = omega (arith, is.0.1, is.1)
 capped (Err e) value P p is = elim (cases_lt value (2 ^ 32)) [ inl small ↦ absurd (is (p, small)) | inr large ↦ omega (arith, large) ]
 
@@ -17,7 +18,7 @@ encodes-digits (c ∷ cs) all = let both = and_parts (is_ascii_digit c) (all_asc
 
 -- what `parse` answers for the text of digits, with the greatest number in place of an error
 pub parsed-digits : {E : Type 0} (text : List ℕ) (r : Result ℕ E) → IsUtf8 text → 0 < length (chars text)
-    → all_ascii_digits (chars text) ≡ true → ParsesUnsigned 32 10 text r → result_unwrap_or r (2 ^ 32 - 1) ≡ number_value (chars text)
+    → all_ascii_digits (chars text) ≡ true → ParsesUnsigned 32 10 text r → result_unwrap_or r u32_max ≡ number_value (chars text)
 parsed-digits text r u some all parses = let same : chars text ≡ text = sym (encodes-digits (chars text) all) ∙ encodes-chars text u in
     let P : List ℕ → Type 0 = λ t. ParsesUnsigned 32 10 t r in
     capped r (digits_value 10 (chars text)) _ some (parse_digits own 32 (chars text) r (subst P (sym same) parses) all)

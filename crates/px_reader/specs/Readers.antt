@@ -1,5 +1,6 @@
 -- What the definitions see of the lines so far.
 use Rattle.px_names.specs.Lists.{NameLists}
+use Rattle.px_terms.specs.Problems.{schema_without_sorts}
 use Rattle.px_script.specs.Statements.{Statement, line_of}
 use Rattle.std.specs.Option.{option_map}
 use Rattle.std.specs.Prelude.{ℕ, List, [], ◌++◌, map, length}
@@ -17,13 +18,7 @@ use Rattle.px_reader.specs.declared.blocks.BlockKind as block
 abbrev pub operator_view : ℕ → operator.OpenOperator → OpenOperator
 operator_view number o = record {
   parameters = map string_bytes o.parameters.items;
-  schema = record {
-    op = number;
-    params = length (map string_bytes o.parameters.items);
-    pre = o.pre.items;
-    del = o.delete.items;
-    add = o.add.items;
-  };
+  schema = schema_without_sorts number (length (map string_bytes o.parameters.items)) o.pre.items o.delete.items o.add.items;
 }
 
 abbrev pub kind_view : ℕ → block.BlockKind → BlockKind

@@ -1,5 +1,6 @@
 //! Blocks that are open, and what their lines add.
-ghost use Rattle.std.specs.Prelude.{◌≡◌, ◌<◌, ◌^◌, ◌++◌, ◌∷◌, ℕ, [], length, map, IfOk, OnOk};
+ghost use Rattle.std.specs.Prelude.{◌≡◌, ◌≤◌, ◌++◌, ◌∷◌, ℕ, [], length, map, IfOk, OnOk};
+ghost use Rattle.px_base.specs.Bounds.{u32_max};
 ghost use Rattle.px_script.specs.Statements as spec;
 ghost use Rattle.px_reader.specs.Common.{AreOfKinds, IsFresh, string_bytes, kind_of_block, with_thing, AreInRange, AreReadable, block_view, declared_of, kind_view, leaves, operator_view, in_role, signed_view, text_of};
 
@@ -137,19 +138,20 @@ impl Reader {
     }
 
     fn add_schema(&mut self, operator: OpenOperator) -> Result<(), NoMemory>
-        requires few { length self.old.schemas.items < 2 ^ 32 }
-        requires few_parameters { length operator.parameters.items < 2 ^ 32 }
+        requires few { length self.old.schemas.items ≤ u32_max }
+        requires few_parameters { length operator.parameters.items ≤ u32_max }
         ensures same { OnOk result (self.new ≡ record self.old { schemas = self.new.schemas }) }
         ensures schemas { OnOk result (self.new.schemas.items
             ≡ self.old.schemas.items ++ (operator_view (length self.old.schemas.items) operator).schema ∷ []) }
     {
-        let schema = Schema {
-            op: self.schemas.len() as u32,
-            params: operator.parameters.len() as u32,
-            pre: Sequence::from_vec(operator.pre),
-            del: Sequence::from_vec(operator.delete),
-            add: Sequence::from_vec(operator.add),
-        };
+        let schema = Schema::without_sorts(
+            self.alloc,
+            self.schemas.len() as u32,
+            operator.parameters.len() as u32,
+            &operator.pre,
+            &operator.delete,
+            &operator.add,
+        )?;
         self.schemas.push(schema)?;
         Ok(())
     }

@@ -1,6 +1,7 @@
 //! The limits of a script.
 ghost use Rattle.std.specs.Prelude.{◌≡◌, ◌<◌, ◌+◌, ◌^◌, ◌&&◌, [], ◌∷◌, length, map, nat_lt, IfOk, if◌then◌else◌, Some, None};
 ghost use Rattle.px_script.specs.Limits as limit;
+ghost use Rattle.px_script.specs.Limits.{greatest};
 ghost use Rattle.px_script.specs.Statements as spec;
 ghost use Rattle.px_reader.specs.Common.{IsFirstLimit, list_any, has_long_name, Declared, operator_here, variable_names_of, passed, own_limits, over, outside, disturbance_limits, line_of, AreInRange, early_limits, grown_by, declared_of, signed_view, statement_view};
 
@@ -10,12 +11,47 @@ use crate::statement::{SignedAtom, Statement};
 use crate::terms::has_many_variables;
 use px_base::NoMemory;
 use px_names::Kind;
+use px_terms::{MOST_HEIGHT, MOST_SHAPES};
 
-/// The greatest number of bytes of a name that has a number in its kind.
+// How many there may be of each thing in a script of version 1, by the definition `greatest`.
+
+/// Bytes of a name that has a number in its kind.
 const NAME_BYTES: usize = 64;
+/// Objects of the script.
+const OBJECTS: usize = 256;
+/// Predicates of the script.
+const PREDICATES: u32 = 64;
+/// Arguments of a predicate.
+const ARITY: u32 = 6;
+/// Axioms of the script.
+const AXIOMS: u32 = 64;
+/// Literals of an axiom.
+const LITERALS: usize = 6;
+/// Operators of the script.
+const OPERATORS: u32 = 32;
+/// Parameters of an operator.
+const PARAMETERS: usize = 8;
+/// Atoms of a list of an operator.
+const OPERATOR_ATOMS: usize = 16;
+/// Different facts of the script.
+const FACTS: usize = 512;
+/// Atoms of a goal.
+const GOAL_ATOMS: usize = 16;
+/// Commands of the script.
+const COMMANDS: usize = 512;
+/// Disturbances since the last run.
+const DISTURBS: usize = 64;
+/// Edits of a disturbance.
+const EDITS: usize = 16;
+
+/// The greatest number of nodes that a script may ask for.
+const MOST_NODES: u32 = 50_000;
+
+/// The last turn that a disturbance may name.
+const LAST_TURN: u32 = 9999;
 
 fn any_long(names: &[&str]) -> bool
-    ensures { result ≡ list_any (λ name. nat_lt 64 (length name.now)) names.now }
+    ensures { result ≡ list_any (λ name. nat_lt (greatest 1 limit.name_bytes) (length name.now)) names.now }
 {
     names.iter().any(|name| name.len() > NAME_BYTES)
 }
@@ -73,11 +109,11 @@ impl Reader {
             Statement::Axiom(literals) => self.axiom_limit(literals)?,
             Statement::Operator(_, parameters) => self.operator_limit(parameters.len()),
             Statement::Pre(_) | Statement::Delete(_) | Statement::Add(_) => {
-                passed(self.grown(statement) > 16, Limit::OperatorAtoms)
+                passed(self.grown(statement) > OPERATOR_ATOMS, Limit::OperatorAtoms)
             }
-            Statement::Height(height) => outside(*height, 1, 8),
-            Statement::Nodes(nodes) => outside(*nodes, 1, 50_000),
-            Statement::Shapes(shapes) => outside(*shapes, 2, 70_000),
+            Statement::Height(height) => outside(*height, 1, MOST_HEIGHT),
+            Statement::Nodes(nodes) => outside(*nodes, 1, MOST_NODES),
+            Statement::Shapes(shapes) => outside(*shapes, 2, MOST_SHAPES),
             Statement::Plan(_, goal) => self.plan_limit(goal)?,
             Statement::DisturbAtoms(turn, _, edits) => self.disturbance_limit(*turn, edits.len()),
             Statement::DisturbRooms(turn, _, edits) => self.disturbance_limit(*turn, edits.len()),
@@ -94,7 +130,7 @@ impl Reader {
         ensures { IsFirstLimit result (over (declared_of self.now) limit.objects (length self.now.names.objects + new) ∷ []) }
     {
         let count = self.names.count(Kind::Object) as usize;
-        passed(count + new > 256, Limit::Objects)
+        passed(count + new > OBJECTS, Limit::Objects)
     }
 
     fn predicate_limit(&self, arity: u32) -> Option<Limit>
@@ -102,7 +138,7 @@ impl Reader {
             ∷ over (declared_of self.now) limit.arity arity ∷ []) }
     {
         let count = self.names.count(Kind::Predicate);
-        passed(count + 1 > 64, Limit::Predicates).or(passed(arity > 6, Limit::Arity))
+        passed(count + 1 > PREDICATES, Limit::Predicates).or(passed(arity > ARITY, Limit::Arity))
     }
 
     fn axiom_limit(&self, literals: &[SignedAtom<'_>]) -> Result<Option<Limit>, NoMemory>
@@ -111,8 +147,8 @@ impl Reader {
     {
         let many = has_many_variables(self.alloc, literals)?;
         Ok(
-            passed(self.axioms.count() + 1 > 64, Limit::Axioms)
-                .or(passed(literals.len() > 6, Limit::Literals))
+            passed(self.axioms.count() + 1 > AXIOMS, Limit::Axioms)
+                .or(passed(literals.len() > LITERALS, Limit::Literals))
                 .or(passed(many, Limit::Variables)),
         )
     }
@@ -122,7 +158,10 @@ impl Reader {
             ∷ over (declared_of self.now) limit.parameters parameters ∷ []) }
     {
         let count = self.names.count(Kind::Operator);
-        passed(count + 1 > 32, Limit::Operators).or(passed(parameters > 8, Limit::Parameters))
+        passed(count + 1 > OPERATORS, Limit::Operators).or(passed(
+            parameters > PARAMETERS,
+            Limit::Parameters,
+        ))
     }
 
     fn plan_limit(&self, goal: &[SignedAtom<'_>]) -> Result<Option<Limit>, NoMemory>
@@ -134,7 +173,7 @@ impl Reader {
         let many = has_many_variables(self.alloc, goal)?;
         Ok(
             passed(many, Limit::Variables)
-                .or(passed(goal.len() > 16, Limit::GoalAtoms))
+                .or(passed(goal.len() > GOAL_ATOMS, Limit::GoalAtoms))
                 .or(self.commands_limit()),
         )
     }
@@ -147,9 +186,9 @@ impl Reader {
     }
 
     fn has_too_many_commands(&self) -> bool
-        ensures { result ≡ nat_lt 512 (length self.now.commands.items + 1) }
+        ensures { result ≡ nat_lt (greatest 1 limit.commands) (length self.now.commands.items + 1) }
     {
-        self.commands.len() + 1 > 512
+        self.commands.len() + 1 > COMMANDS
     }
 
     fn disturbance_limit(&self, turn: u32, edits: usize) -> Option<Limit>
@@ -157,9 +196,9 @@ impl Reader {
         ensures { IsFirstLimit result (disturbance_limits (declared_of self.now) turn edits) }
     {
         passed(self.has_too_many_commands(), Limit::Commands)
-            .or(passed(self.disturbs as usize + 1 > 64, Limit::Disturbs))
-            .or(passed(edits > 16, Limit::Edits))
-            .or(outside(turn, 1, 9999))
+            .or(passed(self.disturbs as usize + 1 > DISTURBS, Limit::Disturbs))
+            .or(passed(edits > EDITS, Limit::Edits))
+            .or(outside(turn, 1, LAST_TURN))
     }
 
     /// Returns how many atoms a list of the open operator has with the line's.
@@ -177,10 +216,10 @@ impl Reader {
         }
     }
 
-    /// Returns whether the line is one of facts, and with it there are more than 512 different facts.
+    /// Returns whether the line is one of facts, and with it there are more different facts than there may be.
     pub fn has_too_many_facts(&self, is_fact: bool) -> bool
-        ensures { result ≡ (is_fact && nat_lt 512 (length self.now.facts.atoms)) }
+        ensures { result ≡ (is_fact && nat_lt (greatest 1 limit.facts) (length self.now.facts.atoms)) }
     {
-        is_fact && self.facts.atoms().len() > 512
+        is_fact && self.facts.atoms().len() > FACTS
     }
 }

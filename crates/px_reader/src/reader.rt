@@ -1,7 +1,10 @@
 //! The lines so far, and the next one.
 ghost use Rattle.std.specs.Prelude.{◌≡◌, ◌<◌, ◌≤◌, ◌+◌, true, None, Some, length, IfOk, IfSome, MatchOption, unwrap_or};
+ghost use Rattle.px_base.specs.Bounds.{u32_max};
 ghost use Rattle.px_rooms.specs.States.{IsBuilding, first_state, rendering, standings};
+ghost use Rattle.px_terms.specs.Problems.{problem_without_sorts};
 ghost use Rattle.px_terms.specs.Validity.{IsValid};
+ghost use Rattle.px_script.specs.Limits.{default_height, default_nodes, default_shapes};
 ghost use Rattle.px_script.specs.Ranges.{IsInRange};
 ghost use Rattle.px_reader.specs.Common.{AllByRecursion, IsNameLexeme, spelling, after_line, option_map, chars, content_of, facts_of, problem_of, nothing_declared, begins_with_word, is_formed, line_of, AreInRange, early_fault, refusal_of, HasFault, LineEnds, content, stage_view, declared_of, lexemes_of, statement_view};
 
@@ -17,9 +20,18 @@ use px_base::{NoMemory, Sequence};
 use px_names::{Kind, Names};
 use px_ops::Model;
 use px_rooms::{Building, RoomErr, RoomWorld, rooms_problem};
-use px_terms::{ClauseArena, Problem, Schema};
+use px_terms::{ClauseArena, Limits, Problem, Schema};
 use px_world::Thing;
 use std::alloc::Global;
+
+/// The greatest height of a proof where no line gives it.
+const DEFAULT_HEIGHT: u32 = 4;
+
+/// How many nodes a search may find where no line says it.
+const DEFAULT_NODES: u32 = 10_000;
+
+/// How many shapes a question may meet where no line says it.
+const DEFAULT_SHAPES: u32 = 10_000;
 
 /// What the lines so far have declared.
 #[derive(Drop)]
@@ -179,7 +191,14 @@ impl Reader {
     {
         let names = self.names;
         let limits = (self.height, self.nodes, self.shapes);
-        let own = own_problem(&names, self.arities, self.axioms, self.schemas, limits);
+        let own = own_problem(
+            self.alloc,
+            &names,
+            self.arities,
+            self.axioms,
+            self.schemas,
+            limits,
+        )?;
         let building = building(self.things);
         let (problem, facts) = subject(self.alloc, &building, own, self.facts)?;
         Ok(Script {
@@ -203,31 +222,30 @@ fn building(things: Option<Vec<Thing>>) -> Option<Building>
 
 /// Returns the problem of a script's own lines, with the limits that they give, or those that hold where they give none.
 fn own_problem(
+    alloc: Global,
     names: &Names,
     arities: Vec<u8>,
     axioms: ClauseArena,
     schemas: Vec<Schema>,
     limits: (Option<u32>, Option<u32>, Option<u32>),
-) -> Problem
-    ensures { result ≡ record {
-      objects = length names.now.objects;
-      arities = arities.items;
-      axioms = axioms;
-      schemas = schemas.items;
-      height = unwrap_or limits.0 4;
-      nodes = unwrap_or limits.1 10000;
-      shapes = unwrap_or limits.2 10000;
-    } }
+) -> Result<Problem, NoMemory>
+    ensures { IfOk result (λ problem. problem ≡ problem_without_sorts (length names.now.objects) arities.items axioms schemas.items
+        (unwrap_or limits.0 default_height) (unwrap_or limits.1 default_nodes) (unwrap_or limits.2 default_shapes)) }
 {
-    Problem {
-        objects: names.count(Kind::Object),
-        arities: Sequence::from_vec(arities),
+    let limits = Limits {
+        height: limits.0.unwrap_or(DEFAULT_HEIGHT),
+        nodes: limits.1.unwrap_or(DEFAULT_NODES),
+        shapes: limits.2.unwrap_or(DEFAULT_SHAPES),
+    };
+    let objects = names.count(Kind::Object);
+    Problem::without_sorts(
+        alloc,
+        objects,
+        &arities,
         axioms,
-        schemas: Sequence::from_vec(schemas),
-        height: limits.0.unwrap_or(4),
-        nodes: limits.1.unwrap_or(10_000),
-        shapes: limits.2.unwrap_or(10_000),
-    }
+        Sequence::from_vec(schemas),
+        limits,
+    )
 }
 
 /// Returns the problem and the first facts of a script: its own, or those of its building with the limits of its own problem.
@@ -239,7 +257,7 @@ fn subject(
     facts: Model,
 ) -> Result<(Problem, Model), NoMemory>
     requires building { IfSome building.now (λ building. IsBuilding building.things) }
-    requires short { IfSome building.now (λ building. length building.things < 4294967295) }
+    requires short { IfSome building.now (λ building. length building.things < u32_max) }
     requires objects { IfSome building.now (λ building. own.objects ≡ length (standings building.things) + 1) }
     requires valid { IsValid (problem_of own (option_map (λ building. building.things) building.now)) }
     ensures problem { IfOk result (λ parts. parts.0 ≡ problem_of own (option_map (λ building. building.things) building.now)) }
@@ -257,7 +275,7 @@ fn subject(
 
 /// Returns the facts of a building's first state.
 fn first_facts(alloc: Global, building: &Building) -> Result<Model, NoMemory>
-    requires short { length building.now.things < 4294967295 }
+    requires short { length building.now.things < u32_max }
     requires building { IsBuilding building.now.things }
     ensures { IfOk result (λ facts. facts.atoms ≡ rendering (first_state building.now.things)) }
 {

@@ -1,5 +1,6 @@
 //! Reads all lines of an input.
-ghost use Rattle.std.specs.Prelude.{◌≡◌, ℕ, ◌<◌, ◌+◌, ◌-◌, ◌^◌, ◌==◌, IfOk, IfErr, OnOk, length, map, count_by};
+ghost use Rattle.std.specs.Prelude.{◌≡◌, ℕ, ◌<◌, ◌≤◌, ◌+◌, ◌==◌, IfOk, IfErr, OnOk, length, map, count_by};
+ghost use Rattle.px_base.specs.Bounds.{u32_max};
 ghost use Rattle.px_script.specs.Lines.{without_mark, without_return};
 ghost use Rattle.px_script.specs.Ranges.{IsOfStage};
 ghost use Rattle.px_script.specs.Scripts.{PassAll, IsScript, FirstFault};
@@ -51,7 +52,7 @@ fn refused(line: u32, fault: LineFault) -> ScriptErr
 
 fn read_each(stage: &[&str], reader: &mut Reader, lines: &[&str]) -> Result<(), ScriptErr>
     requires start { declared_of reader.old ≡ nothing_declared }
-    requires few { length lines.now < 2 ^ 32 }
+    requires few { length lines.now ≤ u32_max }
     ensures passes { OnOk result (PassAll (stage_view stage.now) 1 nothing_declared (characters_of lines.now) (declared_of reader.new)) }
     ensures fails { IfErr result (LinesFail (stage_view stage.now) (characters_of lines.now)) }
 {
@@ -67,7 +68,7 @@ fn read_each(stage: &[&str], reader: &mut Reader, lines: &[&str]) -> Result<(), 
 }
 
 fn read_text(alloc: Global, stage: &[&str], text: &str) -> Result<Script, ScriptErr>
-    requires { length text.now < 2 ^ 32 - 1 }
+    requires { length text.now < u32_max }
     ensures script { IfOk result (λ script. IsScript (stage_view stage.now) text.now (content script)) }
     ensures refused { IfErr result (HasFirstFault (stage_view stage.now) text.now) }
 {
@@ -89,7 +90,7 @@ fn read_text(alloc: Global, stage: &[&str], text: &str) -> Result<Script, Script
 
 /// Returns the line of the byte after these.
 fn line_after(front: &[u8]) -> u32
-    requires { length front.now < 2 ^ 32 - 1 }
+    requires { length front.now < u32_max }
     ensures { result ≡ 1 + count_by (λ b. b == 10) front.now }
 {
     front.iter().filter(|byte| **byte == b'\n').count() as u32 + 1
@@ -97,7 +98,7 @@ fn line_after(front: &[u8]) -> u32
 
 /// Reads a script of version 1 where these words are built, or finds its first fault.
 fn read_at(alloc: Global, stage: &[&str], bytes: &[u8]) -> Result<Script, ScriptErr>
-    requires { length bytes.now < 2 ^ 32 - 1 }
+    requires { length bytes.now < u32_max }
     ensures script { IfOk result (λ script. IsScript (stage_view stage.now) bytes.now (content script)) }
     ensures refused { IfErr result (HasFirstFault (stage_view stage.now) bytes.now) }
 {
@@ -115,7 +116,7 @@ fn read_at(alloc: Global, stage: &[&str], bytes: &[u8]) -> Result<Script, Script
 /// # Errors
 /// `Refused` where the bytes are no script, with the first fault. `NoMemory` where memory runs out: no clause says when that is.
 pub fn read_script(alloc: Global, bytes: &[u8]) -> Result<Script, ScriptErr>
-    requires { length bytes.now < 2 ^ 32 - 1 }
+    requires { length bytes.now < u32_max }
     ensures script { IfOk result (λ script. IsScript stage_now bytes.now (content script)) }
     ensures of_stage { IfOk result (λ script. IsOfStage stage_now (content script)) }
     ensures refused { IfErr result (HasFirstFault stage_now bytes.now) }

@@ -109,6 +109,9 @@ fn room_edit<'a>(tokens: &[Token<'a>]) -> Option<(WrittenRoomEdit<'a>, usize)>
     Some((edit, count + 2))
 }
 
+/// The greatest number of a parameter.
+const LAST_PARAMETER: u32 = 9999;
+
 /// Returns the number of a parameter by its name, which is the letter p and the number from 1 to 9999.
 fn parameter_of(name: &str) -> Option<u32>
     ensures { result ≡ parameter_of name.now }
@@ -118,7 +121,7 @@ fn parameter_of(name: &str) -> Option<u32>
         return None;
     }
     match digits.parse() {
-        Ok(number) if number <= 9999 => Some(number),
+        Ok(number) if number <= LAST_PARAMETER => Some(number),
         _ => None,
     }
 }

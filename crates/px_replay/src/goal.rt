@@ -8,6 +8,7 @@ use crate::counting::count_objects;
 use crate::opening::variables;
 use px_base::{NoMemory, push};
 use px_terms::{Atom, Term};
+use px_unify::MOST_VARIABLES;
 use std::alloc::Global;
 
 /// Returns the goal with a fresh variable, from number `first` on, for each of its objects. Its own variables become those from
@@ -17,7 +18,7 @@ use std::alloc::Global;
 /// `NoMemory` where there is no memory for the list.
 pub fn open_goal(alloc: Global, goal: &[Atom], first: u32, own: u32) -> Result<Vec<Atom>, NoMemory>
     requires objects { first + goal_objects goal.now ≤ own }
-    requires few { own ≤ 1000000 }
+    requires few { own ≤ MOST_VARIABLES }
     requires variables { All (λ atom. All (IsVariableBelow (2 ^ 32 - own)) atom.args) goal.now }
     ensures { IfOk result (λ made. made.items ≡ opened_goal first own goal.now) }
 {
@@ -38,7 +39,7 @@ pub fn named_goal(
     goal: &[Atom],
 ) -> Result<Vec<Atom>, NoMemory>
     requires objects { first + goal_objects goal.now ≤ length names.now }
-    requires few { length names.now ≤ 1000000 }
+    requires few { length names.now ≤ MOST_VARIABLES }
     requires variables { All (λ atom. All (IsVariableBelow (2 ^ 32 - own)) atom.args) goal.now }
     ensures { IfOk result (λ made. made.items ≡ goal_named names.now own first goal.now) }
 {
@@ -54,7 +55,7 @@ pub fn named_goal(
 /// Returns the atom with the terms of the list, from number `first` on, for its objects, and its own variables from number `own` on.
 fn named_atom(names: &[Term], own: u32, first: u32, atom: &Atom) -> Atom
     requires objects { first + count_by is_object atom.now.args ≤ length names.now }
-    requires few { length names.now ≤ 1000000 }
+    requires few { length names.now ≤ MOST_VARIABLES }
     requires variables { All (IsVariableBelow (2 ^ 32 - own)) atom.now.args }
     ensures { result ≡ record { pred = atom.now.pred; args = named_args names.now own first atom.now.args } }
 {
@@ -67,7 +68,7 @@ fn named_atom(names: &[Term], own: u32, first: u32, atom: &Atom) -> Atom
 /// Writes the terms for the arguments to the front of `into`.
 fn name_each(names: &[Term], own: u32, first: u32, args: &[Term], into: &mut [Term])
     requires objects { first + count_by is_object args.now ≤ length names.now }
-    requires few { length names.now ≤ 1000000 }
+    requires few { length names.now ≤ MOST_VARIABLES }
     requires variables { All (IsVariableBelow (2 ^ 32 - own)) args.now }
     requires room { length args.now ≤ length into.old }
     ensures front { take (length args.now) into.new ≡ named_args names.now own first args.now }

@@ -16,6 +16,7 @@ use px_base::{NoMemory, Sequence, push};
 use px_proof::{Leaf, Proof};
 use px_table::Row;
 use px_terms::{Atom, OpInst, Problem, Term, apply};
+use px_unify::MOST_VARIABLES;
 use std::alloc::Global;
 
 /// Returns `count` variables, from number `first` on.
@@ -23,7 +24,7 @@ use std::alloc::Global;
 /// # Errors
 /// `NoMemory` where there is no memory for the list.
 pub fn variables(alloc: Global, first: u32, count: u32) -> Result<Vec<Term>, NoMemory>
-    requires { first + count ≤ 1000000 }
+    requires { first + count ≤ MOST_VARIABLES }
     ensures { IfOk result (λ terms. terms.items ≡ variables_from first count) }
 {
     let mut terms = Vec::new(alloc);
@@ -77,7 +78,7 @@ fn open_leaf(
 ) -> Result<Leaf, NoMemory>
     requires problem { IsValid problem.now }
     requires schemas { All (HasSchema problem.now) steps.now }
-    requires room { next.old + fresh_in (fact leaf.now) ≤ 1000000 }
+    requires room { next.old + fresh_in (fact leaf.now) ≤ MOST_VARIABLES }
     ensures leaf { IfOk result (λ made. made ≡ spec_open_leaf (add_at problem.now steps.now) next.old leaf.now) }
     ensures next { IfOk result (λ _. next.new ≡ next.old + fresh_in (fact leaf.now)) }
 {
@@ -100,7 +101,7 @@ fn open_leaf(
 /// Returns the atom with fresh variables from number `first` on for its arguments.
 // Alike: `open_step`, since atoms and steps have no constructor in common.
 fn fresh_atom(alloc: Global, first: u32, atom: &Atom) -> Result<Atom, NoMemory>
-    requires { first + length atom.now.args ≤ 1000000 }
+    requires { first + length atom.now.args ≤ MOST_VARIABLES }
     ensures { IfOk result (λ made. made ≡ record { pred = atom.now.pred; args = variables_from first (length atom.now.args) }) }
 {
     let terms = variables(alloc, first, atom.args().len() as u32)?;
@@ -119,7 +120,7 @@ fn open_proof(
 ) -> Result<Proof, NoMemory>
     requires problem { IsValid problem.now }
     requires schemas { All (HasSchema problem.now) steps.now }
-    requires room { next.old + fresh_of_proof proof.now ≤ 1000000 }
+    requires room { next.old + fresh_of_proof proof.now ≤ MOST_VARIABLES }
     ensures proof { IfOk result (λ made. derivation_of made ≡ opened (add_at problem.now steps.now) next.old (derivation_of proof.now)) }
     ensures next { IfOk result (λ _. next.new ≡ next.old + fresh_of_proof proof.now) }
 {
@@ -158,7 +159,7 @@ fn open_each(
 ) -> Result<Vec<Proof>, NoMemory>
     requires problem { IsValid problem.now }
     requires schemas { All (HasSchema problem.now) steps.now }
-    requires room { next.old + sum_by fresh_of_proof proofs.now ≤ 1000000 }
+    requires room { next.old + sum_by fresh_of_proof proofs.now ≤ MOST_VARIABLES }
     ensures proofs { IfOk result (λ made. map derivation_of made.items ≡ opened_row (add_at problem.now steps.now) next.old
         (map derivation_of proofs.now)) }
     ensures next { IfOk result (λ _. next.new ≡ next.old + sum_by fresh_of_proof proofs.now) }
@@ -185,7 +186,7 @@ pub fn open_rows(
 ) -> Result<Vec<Row>, NoMemory>
     requires problem { IsValid problem.now }
     requires schemas { All (HasSchema problem.now) steps.now }
-    requires room { next.old + sum_by row_fresh rows.now ≤ 1000000 }
+    requires room { next.old + sum_by row_fresh rows.now ≤ MOST_VARIABLES }
     ensures rows { IfOk result (λ made. rows_of made.items ≡ opened_rows (add_at problem.now steps.now) next.old (rows_of rows.now)) }
     ensures next { IfOk result (λ _. next.new ≡ next.old + sum_by row_fresh rows.now) }
 {
@@ -199,7 +200,7 @@ pub fn open_rows(
 
 /// Returns the step with fresh variables from number `first` on for its arguments.
 fn open_step(alloc: Global, first: u32, inst: &OpInst) -> Result<OpInst, NoMemory>
-    requires { first + length inst.now.args ≤ 1000000 }
+    requires { first + length inst.now.args ≤ MOST_VARIABLES }
     ensures { IfOk result (λ made. made ≡ record { op = inst.now.op; args = variables_from first (length inst.now.args) }) }
 {
     let terms = variables(alloc, first, inst.args().len() as u32)?;
@@ -214,7 +215,7 @@ fn open_step(alloc: Global, first: u32, inst: &OpInst) -> Result<OpInst, NoMemor
 /// # Errors
 /// `NoMemory` where there is no memory for the list.
 pub fn open_steps(alloc: Global, steps: &[OpInst]) -> Result<Vec<OpInst>, NoMemory>
-    requires { step_variables steps.now ≤ 1000000 }
+    requires { step_variables steps.now ≤ MOST_VARIABLES }
     ensures { IfOk result (λ made. made.items ≡ opened_steps 0 steps.now) }
 {
     let mut made = Vec::new(alloc);

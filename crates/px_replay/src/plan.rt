@@ -11,6 +11,7 @@ use crate::opening::{open_rows, open_steps};
 use px_base::NoMemory;
 use px_table::{Row, Table};
 use px_terms::{Atom, OpInst, Problem};
+use px_unify::MOST_VARIABLES;
 use std::alloc::Global;
 
 /// A plan with fresh variables for all that its shape leaves open.
@@ -36,7 +37,7 @@ pub fn open_plan(alloc: Global, problem: &Problem, table: &Table) -> Result<Open
     requires problem { IsValid problem.now }
     requires table { IsTable problem.now table.now }
     requires no_params { table.now.params ≡ 0 }
-    requires few { fresh_variables table.now ≤ 1000000 }
+    requires few { fresh_variables table.now ≤ MOST_VARIABLES }
     ensures steps { IfOk result (λ plan. plan.steps.items ≡ steps_opened table.now) }
     ensures goal { IfOk result (λ plan. plan.goal.items ≡ goal_opened table.now) }
     ensures rows { IfOk result (λ plan. rows_of plan.rows.items ≡ rows_opened problem.now table.now) }

@@ -1,6 +1,7 @@
 -- The first state of a building, with its problem, is a world.
 use Rattle.std.specs.Prelude.{◌≡◌, ◌<◌, ◌+◌, ℕ, None, List, [], ◌∷◌, length, All}
 use Rattle.std.proofs.Common.{sym, ap, ◌∙◌, arith}
+use Rattle.px_base.specs.Bounds.{u32_max}
 use Rattle.px_terms.specs.declared.problem.Problem.{Problem}
 use Rattle.px_world.specs.declared.thing.Thing.{Thing}
 use Rattle.px_rooms.specs.declared.standing.Standing.{Standing}
@@ -9,7 +10,7 @@ use Rattle.px_rooms.specs.States.{IsRoomAt, IsRoomWorld, StandsRight, robot_room
 use Rattle.px_rooms.proofs.Starting.{objects_are}
 
 pub first-world : (things given : List Thing) (room : ℕ) (first : List Standing) (rules : Problem) (n : ℕ) → given ≡ things
-    → length things < 4294967295 → robot_rooms given ≡ room ∷ []
+    → length things < u32_max → robot_rooms given ≡ room ∷ []
     → first ≡ standings given → IsRoomAt first room → All (StandsRight first) first → rules ≡ building_problem n 1 1 2 → n ≡ length given
     → IsRoomWorld rules (record { robot_room = room; robot_beside = None; things = first })
 first-world things given room first rules n same short single are at right made count =

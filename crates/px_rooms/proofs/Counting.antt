@@ -122,6 +122,14 @@ rendering-length state is = set-of-once (all_atoms state)
     (λ a has later. let found = from-later 1 state.things a later in
     apart 0 found.0 a (omega (arith, found.1)) (AllByRecursion-at (IsAbout 0) (robot_atoms state) a (all-about state 0) has) found.2))
 
+-- the facts about the robot and those about the things, counted
+pub counted-all : (inside state : RoomState) (robot things : ℕ) → inside ≡ state → IsRoomState state → robot ≡ length (robot_atoms inside)
+    → things ≡ length (atoms_from 1 inside.things) → robot + things ≡ length (rendering state)
+counted-all inside state robot things same is of_robot of_things =
+    let all = ap (λ (s : RoomState). length (all_atoms s)) same in
+    let parts = length-append (robot_atoms inside) (atoms_from 1 inside.things) in
+    omega (arith, of_robot, of_things, parts, all, rendering-length state is)
+
 -- ---- and there are at most four a thing, and two
 
 few-beside : (k : ℕ) (beside : Option ℕ) → length (beside_atoms k beside) ≤ 1

@@ -3,6 +3,7 @@ pub mod Wanted
 pub mod Numbers
 pub mod Instances
 pub mod Valid
+pub mod Instanced
 pub mod About
 pub mod Effects
 pub mod Touched
@@ -15,8 +16,9 @@ pub mod Beginning
 pub mod Worlds
 pub mod Belonging
 pub mod Counting
-pub mod Refusing
+pub mod Interpreting
 pub mod ThingKinds
 pub mod Sensing
 pub mod Meeting
 pub mod Guarding
+pub mod Runs

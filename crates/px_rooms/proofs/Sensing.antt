@@ -60,13 +60,27 @@ from-push n (x ∷ xs) one =
     ∙ ap (λ k. (thing_atoms n x ++ atoms_from (n + 1) xs) ++ thing_atoms k one) (omega arith)
 
 -- the facts of one more thing
+from-more : (things : List Standing) (k : ℕ) (d : Standing) → k < length things
+    → atoms_from 1 (take (k + 1) things) ≡ atoms_from 1 (take k things) ++ thing_atoms (k + 1) (slice_index_or things k d)
+from-more things k d below =
+    let count = length-take-le k things (omega (arith, below)) in
+    ap (atoms_from 1) (take_more things k d below) ∙ from-push 1 (take k things) (slice_index_or things k d)
+    ∙ ap (λ n. atoms_from 1 (take k things) ++ thing_atoms n (slice_index_or things k d)) (omega (arith, count))
+
+-- how many they are
+pub count-next : (things : List Standing) (k : ℕ) (d : Standing) (count more : ℕ) → k < length things
+    → count ≡ length (atoms_from 1 (take k things)) → more ≡ length (thing_atoms (k + 1) (slice_index_or things k d))
+    → count + more ≡ length (atoms_from 1 (take (k + 1) things))
+count-next things k d count more below before one =
+    let parts = length-append (atoms_from 1 (take k things)) (thing_atoms (k + 1) (slice_index_or things k d)) in
+    omega (arith, before, one, parts, ap length (from-more things k d below))
+
+-- those of a predicate
 pub from-next : (pred : ℕ) (things : List Standing) (k : ℕ) (d : Standing) → k < length things
     → of_pred pred (atoms_from 1 (take (k + 1) things))
     ≡ of_pred pred (atoms_from 1 (take k things)) ++ of_pred pred (thing_atoms (k + 1) (slice_index_or things k d))
 from-next pred things k d below =
-    let count = length-take-le k things (omega (arith, below)) in
-    ap (of_pred pred) (ap (atoms_from 1) (take_more things k d below) ∙ from-push 1 (take k things) (slice_index_or things k d)
-    ∙ ap (λ n. atoms_from 1 (take k things) ++ thing_atoms n (slice_index_or things k d)) (omega (arith, count)))
+    ap (of_pred pred) (from-more things k d below)
     ∙ filter-append (λ (a : Atom). a.pred == pred) (atoms_from 1 (take k things)) (thing_atoms (k + 1) (slice_index_or things k d))
 
 from-split : (pred n : ℕ) (one : Standing) (things : List Standing)

@@ -16,7 +16,8 @@ use Rattle.px_terms.specs.declared.term.Term.TheVariants.{Obj, Var, Any as WildC
 use Rattle.px_terms.specs.Clauses.{IsClause}
 use Rattle.px_terms.specs.Language.{IsPlainBelow}
 use Rattle.px_terms.specs.Operators.{no_schema}
-use Rattle.px_terms.specs.Validity.{IsAtomOf, IsAxiomOf, IsPatternOf, IsPatternTermOf, IsSchemaOf, IsTermOf, IsValid}
+use Rattle.px_terms.specs.SortLaws.{no_object_sorts-are, no_sorts-are}
+use Rattle.px_terms.specs.Validity.{AreSortsOf, IsAtomOf, IsAxiomOf, IsPatternOf, IsPatternTermOf, IsSchemaOf, IsShort, IsTermOf}
 use Rattle.px_rooms.specs.Domain.{BuildingsAreValid, RoomPredicate, both_ways, building_problem, room_predicates, room_schemas}
 
 -- ---- tests, which compute on the domain
@@ -92,32 +93,40 @@ module _ (objects height nodes shapes : ℕ) (some : 1 ≤ objects) where
 
   schema-fits : (k : ℕ) (schema : Schema) → schema.op ≡ k → schema.params ≤ 8 → list_all (atom_fits schema.params) schema.pre ≡ true
       → list_all (pattern_fits schema.params) schema.del ≡ true
-      → list_all (atom_fits schema.params) schema.add ≡ true → length schema.pre < 4294967295 → length schema.del < 4294967295
-      → length schema.add < 4294967295 → IsSchemaOf problem k schema
-  schema-fits k schema number params pre del add few_pre few_del few_add = record {
+      → list_all (atom_fits schema.params) schema.add ≡ true → IsShort schema.pre → IsShort schema.del → IsShort schema.add
+      → (length schema.param_sorts ≡ schema.params) × AreSortsOf problem schema.param_sorts → IsSchemaOf problem k schema
+  schema-fits k schema number params pre del add few_pre few_del few_add sorts = record {
     number = number;
     params = params;
     pre = each (atom_fits schema.params) (IsAtomOf problem schema.params) (atom-fits schema.params) schema.pre pre;
     del = each (pattern_fits schema.params) (IsPatternOf problem schema.params) (pattern-fits schema.params) schema.del del;
     add = each (atom_fits schema.params) (IsAtomOf problem schema.params) (atom-fits schema.params) schema.add add;
     short = (few_pre, few_del, few_add);
+    sorts = sorts;
   }
 
-  each-schema : (k : ℕ) → k < 7 → IsSchemaOf problem k (slice_index_or room_schemas k no_schema)
+  pub each-schema : (k : ℕ) → k < 7 → IsSchemaOf problem k (slice_index_or room_schemas k no_schema)
   each-schema zero inside =
       schema-fits 0 (slice_index_or room_schemas 0 no_schema) refl (omega arith) refl refl refl (omega arith) (omega arith) (omega arith)
+      (no_sorts-are problem 2)
   each-schema (suc zero) inside =
       schema-fits 1 (slice_index_or room_schemas 1 no_schema) refl (omega arith) refl refl refl (omega arith) (omega arith) (omega arith)
+      (no_sorts-are problem 3)
   each-schema (suc (suc zero)) inside =
       schema-fits 2 (slice_index_or room_schemas 2 no_schema) refl (omega arith) refl refl refl (omega arith) (omega arith) (omega arith)
+      (no_sorts-are problem 1)
   each-schema (suc (suc (suc zero))) inside =
       schema-fits 3 (slice_index_or room_schemas 3 no_schema) refl (omega arith) refl refl refl (omega arith) (omega arith) (omega arith)
+      (no_sorts-are problem 1)
   each-schema (suc (suc (suc (suc zero)))) inside =
       schema-fits 4 (slice_index_or room_schemas 4 no_schema) refl (omega arith) refl refl refl (omega arith) (omega arith) (omega arith)
+      (no_sorts-are problem 3)
   each-schema (suc (suc (suc (suc (suc zero))))) inside =
       schema-fits 5 (slice_index_or room_schemas 5 no_schema) refl (omega arith) refl refl refl (omega arith) (omega arith) (omega arith)
+      (no_sorts-are problem 4)
   each-schema (suc (suc (suc (suc (suc (suc zero)))))) inside =
       schema-fits 6 (slice_index_or room_schemas 6 no_schema) refl (omega arith) refl refl refl (omega arith) (omega arith) (omega arith)
+      (no_sorts-are problem 4)
   each-schema (suc (suc (suc (suc (suc (suc (suc k))))))) inside = absurd (omega (arith, inside))
 
   axiom-fits : (clause : Clause) → clause.vars ≤ 12 → list_all (literal_fits clause.vars) clause.lits ≡ true → IsAxiomOf problem clause
@@ -137,21 +146,23 @@ module _ (objects height nodes shapes : ℕ) (some : 1 ≤ objects) where
         lits;
   }
 
-  is-valid : 1 ≤ height → height ≤ 8 → 1 ≤ nodes → nodes ≤ 50000 → 2 ≤ shapes → shapes ≤ 70000 → IsValid problem
-  is-valid low_height high_height low_nodes high_nodes low_shapes high_shapes = record {
-    schemas = each-schema;
-    axioms = All-cons (IsAxiomOf problem) both_ways [] (axiom-fits both_ways (omega arith) refl) (All-nil (IsAxiomOf problem));
-    arena = record {
-      each = All-cons IsClause both_ways [] (clause-plain both_ways (omega arith) (omega arith) refl) (All-nil IsClause);
-      most = omega arith;
-    };
-    short = (omega arith, omega arith);
-    height = (low_height, high_height);
-    nodes = (low_nodes, high_nodes);
-    shapes = (low_shapes, high_shapes);
-    no_objects = λ none. absurd (omega (arith, some, none));
-  }
-
 pub buildings_are_valid : BuildingsAreValid
-buildings_are_valid objects height nodes shapes some (low_height, high_height) (low_nodes, high_nodes) (low_shapes, high_shapes) =
-    is-valid objects height nodes shapes some low_height high_height low_nodes high_nodes low_shapes high_shapes
+buildings_are_valid objects height nodes shapes (some, few) of_height of_nodes of_shapes =
+    let rules = building_problem objects height nodes shapes in
+    record {
+      schemas = each-schema objects height nodes shapes some;
+      axioms = All-cons (IsAxiomOf rules) both_ways [] (axiom-fits objects height nodes shapes some both_ways (omega arith) refl)
+          (All-nil (IsAxiomOf rules));
+      arena = record {
+        each = All-cons IsClause both_ways []
+            (clause-plain objects height nodes shapes some both_ways (omega arith) (omega arith) refl) (All-nil IsClause);
+        most = omega arith;
+      };
+      short = (omega arith, omega arith);
+      height = of_height;
+      nodes = of_nodes;
+      shapes = of_shapes;
+      weight = omega arith;
+      sorts = no_object_sorts-are rules objects few;
+      no_objects = λ none. absurd (omega (arith, some, none));
+    }

@@ -2,6 +2,7 @@
 use Rattle.std.specs.Prelude.{◌≡◌, ◌≢◌, ◌<◌, ◌+◌, ℕ, false, None, List, [], ◌∷◌, length}
 use Rattle.std.proofs.Common.{refl, sym, ap, ◌∙◌, subst, arith}
 use Rattle.std.proofs.lemmas.List.Elements.{All-nil, All-cons}
+use Rattle.px_base.specs.Bounds.{u32_max}
 use Rattle.px_terms.specs.declared.instance.OpInst.{OpInst}
 use Rattle.px_terms.specs.declared.problem.Problem.{Problem}
 use Rattle.px_terms.specs.Validity.{IsInstanceOf}
@@ -61,7 +62,7 @@ kind_facts = record {
 pub two_rooms_by : (things : List Thing) → things ≡ two_rooms → IsBuilding things
 two_rooms_by things is = subst IsBuilding (sym is) two_rooms_are
 
-pub two_rooms_short : (things : List Thing) → things ≡ two_rooms → length things < 4294967295
+pub two_rooms_short : (things : List Thing) → things ≡ two_rooms → length things < u32_max
 two_rooms_short things is = omega (arith, ap length is)
 
 -- the first state's problem is that of the building

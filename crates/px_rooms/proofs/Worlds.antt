@@ -27,7 +27,7 @@ use Rattle.px_rooms.proofs.Valid.{buildings_are_valid}
 
 pub rules-valid : (rules : Problem) (state : RoomState) → IsRoomWorld rules state → IsValid rules
 rules-valid rules state is =
-    subst IsValid (sym is.rules) (buildings_are_valid (length state.things + 1) 1 1 2 (omega arith) (omega arith, omega arith)
+    subst IsValid (sym is.rules) (buildings_are_valid (length state.things + 1) 1 1 2 (omega arith, is.few) (omega arith, omega arith)
     (omega arith, omega arith) (omega arith, omega arith))
 
 -- ---- each fact is ground

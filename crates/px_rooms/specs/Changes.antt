@@ -8,6 +8,7 @@ use Rattle.px_terms.specs.declared.term.Term.TheVariants.{Obj, Any as WildCard}
 use Rattle.px_terms.specs.Operators.{result_by}
 use Rattle.px_world.specs.declared.edits.RoomEdit.{RoomEdit}
 use Rattle.px_world.specs.declared.edits.RoomEdit.TheVariants as edit
+use Rattle.px_terms.specs.Problems.{schema_without_sorts}
 use Rattle.px_rooms.specs.Domain.{closed, in_room, next_to, opened_door, robot}
 use Rattle.px_rooms.specs.declared.action.RoomAction.{RoomAction}
 use Rattle.px_rooms.specs.declared.action.RoomAction.TheVariants as act
@@ -100,7 +101,7 @@ IsAdmitted state (edit.Door d is_open) = IsDoorAt state.things d
 
 -- a change of the facts, as an operator that needs nothing: what it deletes, and what it adds
 abbrev pub change_of_facts : List Atom → List Atom → Schema
-change_of_facts del add = record { op = 0; params = 0; pre = []; del = del; add = add }
+change_of_facts del add = schema_without_sorts 0 0 [] del add
 
 abbrev pub edit_schema : RoomEdit → Schema
 edit_schema (edit.Robot r) = change_of_facts (in_room robot WildCard ∷ next_to robot WildCard ∷ []) (in_room robot (Obj r) ∷ [])

@@ -1,12 +1,14 @@
 -- The domain of every building: its predicates, its axiom and its operators, by number, with their names (after Fikes, Hart and
 -- Nilsson 1972).
-use Rattle.std.specs.Prelude.{ℕ, ◌+◌, ◌≤◌, true, false, List, [], ◌∷◌, map, length, codes}
+use Rattle.std.specs.Prelude.{ℕ, ◌+◌, ◌≤◌, ◌<◌, true, false, List, [], ◌∷◌, map, length, codes}
+use Rattle.px_base.specs.Bounds.{u32_max}
 use Rattle.px_terms.specs.declared.atom.Atom.{Atom}
 use Rattle.px_terms.specs.declared.clause.Clause.{Clause}
 use Rattle.px_terms.specs.declared.problem.Problem.{Problem}
 use Rattle.px_terms.specs.declared.problem.Schema.{Schema}
 use Rattle.px_terms.specs.declared.term.Term.{Term}
 use Rattle.px_terms.specs.declared.term.Term.TheVariants.{Obj, Var, Any as WildCard}
+use Rattle.px_terms.specs.Problems.{most_height, most_nodes, most_shapes, problem_without_sorts, schema_without_sorts}
 use Rattle.px_terms.specs.Validity.{IsValid}
 
 -- ---- the predicates
@@ -162,8 +164,7 @@ room_operators = go_to_box ∷ go_to_door ∷ open_door ∷ close_door ∷ go_th
 abbrev pub schemas_from : ℕ → List RoomOperator → List Schema
 schemas_from number [] = []
 schemas_from number (one ∷ operators) =
-    record { op = number; params = length one.parameters; pre = one.pre; del = one.del; add = one.add } ∷ schemas_from (number + 1)
-    operators
+    schema_without_sorts number (length one.parameters) one.pre one.del one.add ∷ schemas_from (number + 1) operators
 
 abbrev pub room_schemas : List Schema
 room_schemas = schemas_from 0 room_operators
@@ -172,18 +173,11 @@ room_schemas = schemas_from 0 room_operators
 
 -- with this number of objects, the robot among them, and these limits
 abbrev pub building_problem : ℕ → ℕ → ℕ → ℕ → Problem
-building_problem objects height nodes shapes = record {
-  objects = objects;
-  arities = map (λ (p : RoomPredicate). p.arity) room_predicates;
-  axioms = room_axioms;
-  schemas = room_schemas;
-  height = height;
-  nodes = nodes;
-  shapes = shapes;
-}
+building_problem objects height nodes shapes =
+    problem_without_sorts objects (map (λ (p : RoomPredicate). p.arity) room_predicates) room_axioms room_schemas height nodes shapes
 
--- it is valid where there is an object and the limits are those of a valid problem
+-- it is valid where there is an object, there are fewer than a list may have, and the limits are those of a valid problem
 abbrev pub BuildingsAreValid : Type 0
-BuildingsAreValid = (objects height nodes shapes : ℕ) → 1 ≤ objects → (1 ≤ height) × (height ≤ 8) → (1 ≤ nodes) × (nodes ≤ 50000)
-    → (2 ≤ shapes) × (shapes ≤ 70000)
+BuildingsAreValid = (objects height nodes shapes : ℕ) → (1 ≤ objects) × (objects < u32_max) → (1 ≤ height) × (height ≤ most_height)
+    → (1 ≤ nodes) × (nodes ≤ most_nodes) → (2 ≤ shapes) × (shapes ≤ most_shapes)
     → IsValid (building_problem objects height nodes shapes)

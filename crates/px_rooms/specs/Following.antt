@@ -1,10 +1,12 @@
 -- What actions and edits change in a state is what operators and edits say of its facts.
-use Rattle.std.specs.Prelude.{◌≡◌, ◌≤◌, ◌+◌, ◌*◌, length, All, Contains}
+use Rattle.std.specs.Prelude.{◌≡◌, ◌↔◌, ◌≤◌, ◌+◌, ◌*◌, [], ◌∷◌, length, All, Contains}
 use Rattle.px_terms.specs.declared.atom.Atom.{Atom}
 use Rattle.px_terms.specs.declared.instance.OpInst.{OpInst}
 use Rattle.px_terms.specs.Instances.{IsGround}
 use Rattle.px_terms.specs.Operators.{precondition, result_of}
-use Rattle.px_terms.specs.Validity.{IsInstanceOf}
+use Rattle.px_terms.specs.Plans.{IsRun}
+use Rattle.px_terms.specs.States.{AxiomsHold, Holds, IsState, State}
+use Rattle.px_terms.specs.Validity.{IsAtomOf, IsInstanceOf}
 use Rattle.px_world.specs.declared.edits.RoomEdit.{RoomEdit}
 use Rattle.px_world.specs.Worlds.{IsActionRefused}
 use Rattle.px_rooms.specs.declared.action.RoomAction.{RoomAction}
@@ -20,6 +22,21 @@ abbrev pub ActionsAreResults : Type 0
 ActionsAreResults = (state : RoomState) (one : RoomAction) → IsRoomState state → IsMet state (instance_of_action one)
     → IsRoomState (acted one state) × (rendering (acted one state)
     ≡ result_of (building_rules state) (rendering state) (instance_of_action one))
+
+-- in the interpretation the axiom holds, and of the building's atoms exactly the facts are true
+pub record IsInterpretationOf (state : RoomState) (interpretation : State) : Type 0 where
+  pub is_state : IsState interpretation
+  pub axioms : AxiomsHold (building_rules state) interpretation
+  pub facts : (atom : Atom) → IsAtomOf (building_rules state) 0 atom → Holds interpretation atom ↔ Contains (rendering state) atom
+
+-- each state of a building has an interpretation. An action whose precondition is met makes a run of one step from each interpretation of
+-- the state to each of the state that it leaves
+pub record ActionsAreRuns : Type 0 where
+  pub interpreted : (state : RoomState) → IsRoomState state → (interpretation : State) × IsInterpretationOf state interpretation
+  pub each : (state : RoomState) (one : RoomAction) (before after : State) → IsRoomState state
+      → IsInstanceOf (building_rules state) (instance_of_action one) → IsMet state (instance_of_action one)
+      → IsInterpretationOf state before → IsInterpretationOf (acted one state) after
+      → IsRun (building_rules state) (before ∷ after ∷ []) (instance_of_action one ∷ [])
 
 -- each instance of an operator over the building's objects is that of one action
 pub record InstancesAreActions : Type 0 where

@@ -1,6 +1,7 @@
 -- Buildings: their states, and the facts of a state.
 use Rattle.std.specs.Prelude.{◌≡◌, ◌≢◌, ◌<◌, ◌⊎◌, ◌+◌, ℕ, Bool, true, false, Option, Some, None, List, [], ◌∷◌, ◌++◌, length, All, slice_get, slice_index}
 use Rattle.std.proofs.Common.{zero, suc}
+use Rattle.px_base.specs.Bounds.{u32_max}
 use Rattle.px_terms.specs.declared.atom.Atom.{Atom}
 use Rattle.px_terms.specs.declared.problem.Problem.{Problem}
 use Rattle.px_terms.specs.declared.term.Term.TheVariants.{Obj}
@@ -120,4 +121,4 @@ building_rules state = building_problem (length state.things + 1) 1 1 2
 pub record IsRoomWorld (problem : Problem) (state : RoomState) : Type 0 where
   pub is_state : IsRoomState state
   pub rules : problem ≡ building_rules state
-  pub few : length state.things < 4294967295
+  pub few : length state.things + 1 < u32_max

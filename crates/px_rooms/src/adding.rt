@@ -1,5 +1,6 @@
 //! Adding the facts of a building to a model, predicate by predicate. Only atoms of the predicate are made.
 ghost use Rattle.std.specs.Prelude.{◌≤◌, ◌<◌, ◌+◌, [], ◌∷◌, length};
+ghost use Rattle.px_base.specs.Bounds.{u32_max};
 ghost use Rattle.px_terms.specs.declared.term.Term.TheVariants.{Obj};
 ghost use Rattle.px_terms.specs.Instances.{IsGround};
 ghost use Rattle.px_rooms.specs.declared.standing.Standing.TheVariants.{Door as a_door};
@@ -75,7 +76,7 @@ fn add_thing(number: u32, standing: &Standing, pred: u32, into: &mut Model)
 
 /// Adds the facts of the predicate about the things to a model that has room for them.
 pub(crate) fn add_things(things: &[Standing], pred: u32, into: &mut Model)
-    requires few { length things.now < 4294967295 }
+    requires few { length things.now < u32_max }
     requires room { length (of_pred pred (atoms_from 1 things.now)) ≤ into.old.spare }
     ensures atoms { AreAdded (of_pred pred (atoms_from 1 things.now)) into.old.atoms into.new.atoms }
     ensures spare { into.old.spare ≤ into.new.spare + length (of_pred pred (atoms_from 1 things.now)) }

@@ -1,11 +1,11 @@
 //! Laws about the definitions. The calls do nothing.
 ghost use Rattle.px_rooms.specs.Domain.{BuildingsAreValid};
 ghost use Rattle.px_rooms.specs.FactSets.{FactsAreAtoms};
-ghost use Rattle.px_rooms.specs.Following.{ActionsAreResults, EditsAreEdits, FactsAreFew, InstancesAreActions, RefusalsAreAllowed};
+ghost use Rattle.px_rooms.specs.Following.{ActionsAreResults, ActionsAreRuns, EditsAreEdits, FactsAreFew, InstancesAreActions, RefusalsAreAllowed};
 ghost use Rattle.px_rooms.specs.WorkedBuilding.{ActionFacts, EditFacts, KindFacts, StateFacts};
 ghost use Rattle.px_rooms.specs.WorkedDomain.{DomainFacts};
 
-/// The problem of a building is valid, with whatever limits a valid problem may have.
+/// The problem of a building is valid, with as many objects and whatever limits a valid problem may have.
 pub fn buildings_are_valid()
     ensures { BuildingsAreValid }
 {}
@@ -26,6 +26,12 @@ pub fn worked_building()
 /// In every state: an action whose precondition is true leaves the facts that its operator describes.
 pub fn actions_are_results()
     ensures { ActionsAreResults }
+{}
+
+/// In every state: an action whose precondition is true is one that its operator describes. Each state has an interpretation, and the
+/// action makes a run from each one of the state before to each one of the state after.
+pub fn actions_are_runs()
+    ensures { ActionsAreRuns }
 {}
 
 /// Each instance of an operator over a building's objects is that of one action.

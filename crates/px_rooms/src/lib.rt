@@ -14,11 +14,15 @@
 //!   [`worked_building`] tries each action and edit on a small building: the facts of the state that it leaves are what the
 //!   operator, or the edit of the facts, says. That is so in every state, and a state of the building is left
 //!   ([`actions_are_results`], [`edits_are_edits`]).
+//! - Each action is one that its operator describes (after Lifschitz 1987): a state has an interpretation, in which exactly its
+//!   facts are true, and an action whose precondition is met makes a run from each interpretation of the state to each one of the
+//!   state that it leaves ([`actions_are_runs`]).
 //! - [`RoomWorld`] is a building as a world, which contracts see as its state. [`RoomWorld::new`] begins with the first state, and
 //!   answers `NoSuchThing` only where the list is no building, and there it answers this or `NoMemory`. `act` answers
 //!   `Guard` exactly where an atom of the precondition isn't a fact, and else does what the action of that instance does
 //!   (`IsMoved`). [`RoomWorld::edit`] answers `NoSuchThing` exactly where the edit isn't admitted. [`RoomWorld::render`] gives
-//!   all facts.
+//!   all facts, and [`RoomWorld::try_copy`] another world in the same state. A world always has room for all its facts, so `regrow`
+//!   does nothing.
 //! - Where an atom of a precondition isn't a fact a world may refuse the action ([`refusals_are_allowed`]). Facts are a set of
 //!   atoms over the building's objects and predicates ([`facts_are_atoms`]), ground, and there are few ([`facts_are_few`]).
 //! - The laws are calls that do nothing. `specs/Added`, `specs/Looking` and `specs/RobotCounts` serve private functions
@@ -34,6 +38,7 @@ mod change;
 #[cfg(test)]
 mod drawing;
 mod errors;
+mod fact_counts;
 mod facts;
 mod laws;
 #[cfg(test)]
@@ -52,8 +57,8 @@ mod world;
 pub use building::Building;
 pub use errors::{NoSuchThing, RoomErr};
 pub use laws::{
-    actions_are_results, buildings_are_valid, edits_are_edits, facts_are_atoms, facts_are_few,
-    instances_are_actions, refusals_are_allowed, worked_building, worked_domain,
+    actions_are_results, actions_are_runs, buildings_are_valid, edits_are_edits, facts_are_atoms,
+    facts_are_few, instances_are_actions, refusals_are_allowed, worked_building, worked_domain,
 };
 pub use problem::rooms_problem;
 pub use world::RoomWorld;

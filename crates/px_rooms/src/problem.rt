@@ -1,6 +1,8 @@
 //! The problem of a building.
 ghost use Rattle.std.specs.Prelude.{◌≡◌, ◌≤◌, ◌<◌, ◌+◌, ◌++◌, ◌∷◌, [], length, take, IfOk, OnOk, slice_index_or};
+ghost use Rattle.px_base.specs.Bounds.{u32_max};
 ghost use Rattle.px_terms.specs.Operators.{no_schema};
+ghost use Rattle.px_terms.specs.Problems.{most_height, most_nodes, most_shapes};
 ghost use Rattle.px_terms.specs.Validity.{IsValid};
 ghost use Rattle.px_rooms.specs.Domain.{building_problem, room_axioms, room_schemas};
 ghost use Rattle.px_rooms.specs.States.{IsBuilding, standings};
@@ -8,7 +10,9 @@ ghost use Rattle.px_rooms.specs.States.{IsBuilding, standings};
 use crate::building::Building;
 use crate::facts::{ROBOT, closed, connects, in_room, is_box, is_door, next_to, opened};
 use px_base::push;
-use px_terms::{ArenaErr, Atom, ClauseArena, Lit, NoMemory, Problem, Schema, Sequence, Term};
+use px_terms::{
+    ArenaErr, Atom, ClauseArena, Limits, Lit, NoMemory, Problem, Schema, Sequence, Term,
+};
 use std::alloc::Global;
 
 /// The number of predicates.
@@ -29,11 +33,11 @@ pub fn rooms_problem(
     nodes: u32,
     shapes: u32,
 ) -> Result<Problem, NoMemory>
-    requires short { length building.now.things < 4294967295 }
+    requires short { length building.now.things < u32_max }
     requires building { IsBuilding building.now.things }
-    requires height { (1 ≤ height) × (height ≤ 8) }
-    requires nodes { (1 ≤ nodes) × (nodes ≤ 50000) }
-    requires shapes { (2 ≤ shapes) × (shapes ≤ 70000) }
+    requires height { (1 ≤ height) × (height ≤ most_height) }
+    requires nodes { (1 ≤ nodes) × (nodes ≤ most_nodes) }
+    requires shapes { (2 ≤ shapes) × (shapes ≤ most_shapes) }
     ensures problem { IfOk result (λ p. p ≡ building_problem (length (standings building.now.things) + 1) height nodes shapes) }
     ensures valid { IfOk result IsValid }
 {
@@ -51,15 +55,13 @@ pub(crate) fn problem_of(
 ) -> Result<Problem, NoMemory>
     ensures { IfOk result (λ p. p ≡ building_problem objects height nodes shapes) }
 {
-    Ok(Problem {
-        objects,
-        arities: Sequence::from_slice(alloc, &ARITIES)?,
-        axioms: axioms(alloc)?,
-        schemas: schemas(alloc)?,
+    let limits = Limits {
         height,
         nodes,
         shapes,
-    })
+    };
+    let axioms = axioms(alloc)?;
+    Problem::without_sorts(alloc, objects, &ARITIES, axioms, schemas(alloc)?, limits)
 }
 
 /// Returns the axiom that a door which connects two rooms in one order connects them in the other, too.
@@ -98,28 +100,6 @@ fn schemas(alloc: Global) -> Result<Sequence<Schema>, NoMemory>
     Ok(Sequence::from_vec(schemas))
 }
 
-// Alike: `schema_of` of `px_bench_relevance`, which stands on its own operators and on none of this crate's.
-
-/// Returns an operator.
-fn schema(
-    alloc: Global,
-    op: u32,
-    params: u32,
-    pre: &[Atom],
-    del: &[Atom],
-    add: &[Atom],
-) -> Result<Schema, NoMemory>
-    ensures { IfOk result (λ s. s ≡ record { op = op; params = params; pre = pre.now; del = del.now; add = add.now }) }
-{
-    Ok(Schema {
-        op,
-        params,
-        pre: Sequence::from_slice(alloc, pre)?,
-        del: Sequence::from_slice(alloc, del)?,
-        add: Sequence::from_slice(alloc, add)?,
-    })
-}
-
 // Alike: the operators from `go_to_box` to `push_through` are written out one by one, as in `specs/Domain`, to be read beside them.
 
 /// Returns the operator with which the robot goes to a box in a room.
@@ -129,7 +109,7 @@ fn go_to_box(alloc: Global) -> Result<Schema, NoMemory>
     let (target, room) = (Term::Var(0), Term::Var(1));
     let pre = [is_box(target), in_room(target, room), in_room(ROBOT, room)];
     let del = [next_to(ROBOT, Term::Any)];
-    schema(alloc, 0, 2, &pre, &del, &[next_to(ROBOT, target)])
+    Schema::without_sorts(alloc, 0, 2, &pre, &del, &[next_to(ROBOT, target)])
 }
 
 /// Returns the operator with which the robot goes to a door of the room in which it is.
@@ -139,7 +119,7 @@ fn go_to_door(alloc: Global) -> Result<Schema, NoMemory>
     let (door, room, other) = (Term::Var(0), Term::Var(1), Term::Var(2));
     let pre = [in_room(ROBOT, room), connects(door, room, other)];
     let del = [next_to(ROBOT, Term::Any)];
-    schema(alloc, 1, 3, &pre, &del, &[next_to(ROBOT, door)])
+    Schema::without_sorts(alloc, 1, 3, &pre, &del, &[next_to(ROBOT, door)])
 }
 
 /// Returns the operator with which the robot opens a door that it is beside.
@@ -148,7 +128,7 @@ fn open_door(alloc: Global) -> Result<Schema, NoMemory>
 {
     let door = Term::Var(0);
     let pre = [is_door(door), next_to(ROBOT, door), closed(door)];
-    schema(alloc, 2, 1, &pre, &[closed(door)], &[opened(door)])
+    Schema::without_sorts(alloc, 2, 1, &pre, &[closed(door)], &[opened(door)])
 }
 
 /// Returns the operator with which the robot closes a door that it is beside.
@@ -157,7 +137,7 @@ fn close_door(alloc: Global) -> Result<Schema, NoMemory>
 {
     let door = Term::Var(0);
     let pre = [is_door(door), next_to(ROBOT, door), opened(door)];
-    schema(alloc, 3, 1, &pre, &[opened(door)], &[closed(door)])
+    Schema::without_sorts(alloc, 3, 1, &pre, &[opened(door)], &[closed(door)])
 }
 
 /// Returns the operator with which the robot goes through an open door.
@@ -171,7 +151,7 @@ fn go_through(alloc: Global) -> Result<Schema, NoMemory>
         opened(door),
     ];
     let del = [in_room(ROBOT, Term::Any), next_to(ROBOT, Term::Any)];
-    schema(alloc, 4, 3, &pre, &del, &[in_room(ROBOT, other)])
+    Schema::without_sorts(alloc, 4, 3, &pre, &del, &[in_room(ROBOT, other)])
 }
 
 /// Returns the operator with which the robot pushes a box that it is beside to a door of the room.
@@ -189,7 +169,7 @@ fn push_to_door(alloc: Global) -> Result<Schema, NoMemory>
     ];
     let del = [next_to(ROBOT, Term::Any), next_to(target, Term::Any)];
     let add = [next_to(ROBOT, target), next_to(target, door)];
-    schema(alloc, 5, 4, &pre, &del, &add)
+    Schema::without_sorts(alloc, 5, 4, &pre, &del, &add)
 }
 
 /// Returns the operator with which the robot pushes a box that it is beside, and which is beside an open door, through it.
@@ -218,5 +198,5 @@ fn push_through(alloc: Global) -> Result<Schema, NoMemory>
         in_room(target, other),
         next_to(ROBOT, target),
     ];
-    schema(alloc, 6, 4, &pre, &del, &add)
+    Schema::without_sorts(alloc, 6, 4, &pre, &del, &add)
 }

@@ -7,12 +7,12 @@ use crate::drawing::Dice;
 use crate::facts::{ROBOT, in_room, next_to, opened};
 use crate::pair::{BegunPair, Pair};
 use crate::{
-    Building, NoSuchThing, actions_are_results, buildings_are_valid, edits_are_edits,
-    facts_are_atoms, facts_are_few, instances_are_actions, refusals_are_allowed, rooms_problem,
-    worked_building, worked_domain,
+    Building, NoSuchThing, RoomWorld, actions_are_results, actions_are_runs, buildings_are_valid,
+    edits_are_edits, facts_are_atoms, facts_are_few, instances_are_actions, refusals_are_allowed,
+    rooms_problem, worked_building, worked_domain,
 };
 use px_terms::{NoMemory, Sequence, Term, is_valid};
-use px_world::{RoomEdit, Thing};
+use px_world::{Regrow, RoomEdit, Thing};
 use std::alloc::Global;
 use std::rt::HostRuntime;
 
@@ -47,6 +47,14 @@ fn a_problem(rt: HostRuntime) -> Result<(), NoMemory> {
     Ok(())
 }
 
+/// Returns whether a copy of the world has its facts, as many as it counts, after room was asked for.
+fn is_copied(alloc: Global, world: &RoomWorld) -> Result<bool, NoMemory> {
+    let mut copy = world.try_copy()?;
+    copy.regrow(8)?;
+    let model = copy.render(alloc)?;
+    Ok(copy.atom_count() == model.atoms().len() && model == world.render(alloc)?)
+}
+
 #[test]
 fn a_closed_door(rt: HostRuntime) -> Result<(), NoMemory> {
     let building = two_rooms(rt.alloc())?;
@@ -56,6 +64,7 @@ fn a_closed_door(rt: HostRuntime) -> Result<(), NoMemory> {
     };
     assert!(&rt; !pair.world_acts(&RoomAction::Open(3)));
     assert!(&rt; pair.world_acts(&RoomAction::GoToDoor(3, 1, 2)));
+    assert!(&rt; is_copied(rt.alloc(), &pair.world)?);
     assert!(&rt; !pair.world_acts(&RoomAction::GoThrough(3, 1, 2)));
     assert!(&rt; pair.world_acts(&RoomAction::Open(3)));
     assert!(&rt; !pair.world_acts(&RoomAction::Open(3)));
@@ -141,6 +150,7 @@ fn laws_are_calls(_rt: HostRuntime) {
     worked_domain();
     worked_building();
     actions_are_results();
+    actions_are_runs();
     instances_are_actions();
     edits_are_edits();
     refusals_are_allowed();

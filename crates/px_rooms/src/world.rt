@@ -1,5 +1,6 @@
 //! The world of a building.
-ghost use Rattle.std.specs.Prelude.{◌≡◌, ◌⊎◌, ◌↔◌, ◌<◌, ◌≤◌, ◌+◌, ℕ, length, Some, Contains, false, IsTrue, IsErrOf, IfOk, MatchResult, OnOk, OnErr, slice_get};
+ghost use Rattle.std.specs.Prelude.{◌≡◌, ◌⊎◌, ◌↔◌, ◌<◌, ◌≤◌, ◌+◌, ℕ, length, Some, Contains, false, IsTrue, IsErrOf, IfOk, IsOk, MatchResult, OnOk, OnErr, slice_get};
+ghost use Rattle.px_base.specs.Bounds.{u32_max};
 ghost use Rattle.px_terms.specs.declared.term.Term.TheVariants.{Obj};
 ghost use Rattle.px_terms.specs.Operators.{result_of};
 ghost use Rattle.px_terms.specs.Validity.{IsInstanceOf};
@@ -16,6 +17,7 @@ use crate::adding::{add_placed, add_things};
 use crate::building::Building;
 use crate::change::ThingChange;
 use crate::errors::{NoSuchThing, RoomErr};
+use crate::fact_counts::{count_placed, count_things};
 use crate::facts::{FewAtoms, ROBOT, in_room, next_to, thing_atoms};
 use crate::problem::{PREDICATES, problem_of};
 use crate::robots::Robots;
@@ -24,7 +26,7 @@ use crate::start::{first_things, robots_of};
 use crate::things::{all_stand_right, change_thing, is_box, is_door, is_room};
 use px_ops::{Model, pre, schema_of};
 use px_terms::{Atom, NoMemory, OpInst, Problem, Term};
-use px_world::{Guard, RoomEdit, World};
+use px_world::{Guard, Regrow, RoomEdit, World};
 use std::alloc::Global;
 
 /// A building with its robot: rooms, doors that are open or closed, and boxes that the robot pushes.
@@ -61,7 +63,7 @@ impl RoomWorld {
     /// `NoSuchThing` where a number names no thing of the kind that is wanted there, a door has one room on both sides, or
     /// there isn't exactly one robot; `NoMemory` where there is no memory for the world.
     pub fn new(alloc: Global, building: &Building) -> Result<RoomWorld, RoomErr>
-        requires short { length building.now.things < 4294967295 }
+        requires short { length building.now.things < u32_max }
         ensures state { IfOk result (λ world. world ≡ first_state building.now.things) }
         ensures building { OnOk result (IsBuilding building.now.things) }
         ensures no_such_thing { IsErrOf result RoomErr.NoSuchThing → ¬ IsBuilding building.now.things }
@@ -87,6 +89,25 @@ impl RoomWorld {
             }),
             Err(NoMemory) => Err(RoomErr::NoMemory),
         }
+    }
+
+    /// Returns a world in the same state, in memory of the same allocator. So far only tests call for it.
+    ///
+    /// # Errors
+    /// `NoMemory` where there is no memory for the copy.
+    pub fn try_copy(&self) -> Result<RoomWorld, NoMemory>
+        ensures { IfOk result (λ copy. copy ≡ self.now) }
+    {
+        self.known();
+        let alloc = *self.things.allocator();
+        let mut things = Vec::new(alloc);
+        things.extend_from_slice(&self.things)?;
+        Ok(RoomWorld {
+            rules: problem_of(alloc, things.len() as u32 + 1, 1, 1, 2)?,
+            robot_room: self.robot_room,
+            robot_beside: self.robot_beside,
+            things,
+        })
     }
 
     /// Returns the model of all facts.
@@ -122,11 +143,12 @@ impl RoomWorld {
         Ok(())
     }
 
-    /// The state is one of a building, of fewer things than there are numbers.
+    /// The state is one of a building, which has fewer things, the robot among them, than a list may have.
     fn known(&self)
         ensures state { IsRoomState self.now }
-        ensures few { length self.now.things < 4294967295 }
+        ensures few { length self.now.things + 1 < u32_max }
     {
+        // Where a field is read, what each world keeps is known.
         let _ = &self.rules;
     }
 
@@ -354,6 +376,23 @@ impl World for RoomWorld {
     {
         self.known();
         self.change(edit);
+    }
+}
+
+impl Regrow for RoomWorld {
+    /// Does nothing: there is room for all facts.
+    fn regrow(&mut self, spare: usize) -> Result<(), NoMemory>
+        ensures always { IsOk result }
+        ensures spare { spare ≤ 18446744073709551615 }
+        ensures state { self.new ≡ self.old }
+    {
+        let _spare = spare;
+        Ok(())
+    }
+
+    fn atom_count(&self) -> usize {
+        self.known();
+        count_placed(self.robot_beside) + count_things(&self.things)
     }
 }
 

@@ -1,5 +1,6 @@
 //! The example of Fikes, Hart and Nilsson (1972): the robot is object 0, the rooms are 1 to 3, the doors 4 and 5, and the box is 6.
 use crate::parts::{add_axiom, atom, model_of, no, o, problem_of, schema, v, yes};
+use px_base::Sequence;
 use px_ops::Model;
 use px_terms::{Atom, ClauseArena, Problem, Schema, Term};
 use std::alloc::Global;
@@ -38,14 +39,33 @@ fn pushing(alloc: Global) -> Option<Schema> {
     schema(alloc, (1, 4), &pre, &del, &add)
 }
 
-/// Returns the problem of these objects, predicates and operators, and of the axiom that a door leads both ways.
-pub fn rooms(alloc: Global) -> Option<Problem> {
+/// Returns the problem of so many objects with these predicates, going and this pushing, and with the axiom that a door leads both ways.
+fn rooms_by(alloc: Global, objects: u32, pushing: Schema) -> Option<Problem> {
     let there = connects(v(0), v(1), v(2));
     let back = connects(v(0), v(2), v(1));
     let mut axioms = ClauseArena::new(alloc);
     add_axiom(&mut axioms, 3, &[no(there), yes(back)])?;
-    let schemas = [going(alloc)?, pushing(alloc)?];
-    problem_of(alloc, 7, &[2, 3, 1], axioms, schemas)
+    problem_of(alloc, objects, &[2, 3, 1], axioms, [going(alloc)?, pushing])
+}
+
+/// Returns the problem of the example.
+pub fn rooms(alloc: Global) -> Option<Problem> {
+    rooms_by(alloc, 7, pushing(alloc)?)
+}
+
+/// Returns the same with one sort, which the box has and what is pushed has to have, and with `more` objects that have none.
+pub fn sorted_rooms(alloc: Global, more: u8) -> Option<Problem> {
+    let mut pushing = pushing(alloc)?;
+    pushing.param_sorts = Sequence::from_slice(alloc, &[1, 0, 0, 0]).ok()?;
+    let mut sorts = Vec::new(alloc);
+    sorts.extend_from_slice(&[0, 0, 0, 0, 0, 0, 1]).ok()?;
+    for _object in 0..more {
+        sorts.push(0).ok()?;
+    }
+    let mut problem = rooms_by(alloc, 7 + u32::from(more), pushing)?;
+    problem.sorts = 1;
+    problem.object_sorts = Sequence::from_vec(sorts);
+    Some(problem)
 }
 
 /// Returns the model with the robot in room 1, the box in room 2, door 4 between rooms 1 and 2, and door 5 between rooms 2 and 3.

@@ -3,7 +3,9 @@ ghost use Rattle.std.specs.Prelude.{◌≤◌, length};
 
 use px_base::Sequence;
 use px_ops::Model;
-use px_terms::{Atom, ClauseArena, Lit, OpInst, Problem, Schema, Term, are_plain_below, is_ground};
+use px_terms::{
+    Atom, ClauseArena, Limits, Lit, OpInst, Problem, Schema, Term, are_plain_below, is_ground,
+};
 use std::alloc::Global;
 
 /// Returns the object of that number.
@@ -68,13 +70,7 @@ pub fn schema(
     del: &[Atom],
     add: &[Atom],
 ) -> Option<Schema> {
-    Some(Schema {
-        op,
-        params,
-        pre: Sequence::from_slice(alloc, pre).ok()?,
-        del: Sequence::from_slice(alloc, del).ok()?,
-        add: Sequence::from_slice(alloc, add).ok()?,
-    })
+    Schema::without_sorts(alloc, op, params, pre, del, add).ok()
 }
 
 /// Returns the problem of that many objects, with predicates of these numbers of arguments, these axioms and these operators.
@@ -85,15 +81,13 @@ pub fn problem_of<const N: usize>(
     axioms: ClauseArena,
     schemas: [Schema; N],
 ) -> Option<Problem> {
-    Some(Problem {
-        objects,
-        arities: Sequence::from_slice(alloc, arities).ok()?,
-        axioms,
-        schemas: Sequence::from_vec(Vec::from_array(alloc, schemas).ok()?),
+    let schemas = Sequence::from_vec(Vec::from_array(alloc, schemas).ok()?);
+    let limits = Limits {
         height: 4,
         nodes: 1,
         shapes: 10_000,
-    })
+    };
+    Problem::without_sorts(alloc, objects, arities, axioms, schemas, limits).ok()
 }
 
 /// Returns the model of the atoms, or `None` where one has a variable.

@@ -132,12 +132,14 @@ pub fn moving(alloc: Global, params: u32, scene: RoomScene) -> Option<Table> {
     ];
     let some = v(params);
     let goal = [is_box(some), is_in(some, scene.end)];
-    Some(Table {
+    let table = Table::without_sorts(
+        alloc,
         params,
-        steps: Sequence::from_slice(alloc, &steps).ok()?,
-        goal: Sequence::from_slice(alloc, &goal).ok()?,
-        goal_vars: 1,
-        marks: Sequence::from_slice(alloc, &moving_marks(scene)).ok()?,
-        proofs: moving_rows(alloc, scene)?,
-    })
+        Sequence::from_slice(alloc, &steps).ok()?,
+        Sequence::from_slice(alloc, &goal).ok()?,
+        1,
+        Sequence::from_slice(alloc, &moving_marks(scene)).ok()?,
+        moving_rows(alloc, scene)?,
+    );
+    table.ok()
 }

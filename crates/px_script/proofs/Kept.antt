@@ -1,5 +1,8 @@
 -- Each line without a fault keeps what was declared in range, and so a script is in range, and of the language as far as it is built.
+use Rattle.std.specs.Prelude.{replicate}
 use Rattle.std.specs.List.Sorted.{IsStrictlySortedBy}
+use Rattle.px_terms.specs.SortLaws.{no_object_sorts-are}
+use Rattle.px_base.specs.Bounds.{u32_max}
 use Rattle.px_rooms.proofs.Valid.{buildings_are_valid}
 use Rattle.px_rooms.proofs.Belonging.{facts-are-atoms}
 use Rattle.px_script.proofs.Common.{both_ways, building_problem, robot_name, room_schemas, building_rules, thing_at, no_schema, ◌≡◌, ◌≢◌, ℕ, ◌+◌, ◌<◌, ◌≤◌, Bool, true, false, not, ◌||◌, List, [], ◌∷◌, ◌++◌, map, length, refl, sym, ap, ◌∙◌, subst, arith, leb-true, append-nil, length-append, nat_lt, Option, None, Some, is_some, IfSome, All, slice_index_or, list_any, option_map, not-false, not-true, length-map, All-append, All-from_recursion, All-nil, both_answers, has_name, bytes_eq, bytes_eq-itself, Standing, a_room, a_door, a_box, IsBoxAt, IsDoorAt, IsRoomAt, first_state, rendering, robot_rooms, standings, standings-more, Atom, Problem, IsAtomOf, IsPatternOf, Thing, codes, All-push, NameLists, IsSchemaOf, Lexeme, lines_of, SignedAtom, is_empty, Statement, Block, plain, inside, operator_block, building_block, line_of, script, object, predicate, «axiom», operator, pre, delete, add, building, room, door, box, robot, end, fact, height, nodes, shapes, plan, learn, show, disturb_atoms, disturb_rooms, run, greatest, of_height, of_nodes, of_shapes, of_version, Command, Declared, OpenBlock, BlockKind, OpenOperator, of_operator, of_building, kind_of_block, number_in, atom_of, nothing_declared, after_line, predicate_names, predicate_arities, operator_names, ScriptValue, own_problem, content_of, is_robot, may_stand, is_long, repeats, same_block, has_two_domains, fault_at, is_formed, AreNamesOf, AreNumbered, HasShortLists, IsInRange, IsThingAfter, PassesLexemes, PassAll, IsScript, IsBuiltCommand, IsOfStage, Stage, whole_language, is_built, facts, get_or-append}
@@ -10,7 +13,7 @@ use Rattle.px_script.proofs.Buildings.{rooms-kind, doors-kind, boxes-kind, IsKin
 use Rattle.px_script.proofs.Commands.{commands-moved}
 use Rattle.px_script.proofs.Faultless.{IsFaultless, no-fault, only-takes-away, stage-takes-away}
 use Rattle.px_script.proofs.Forms.{IsWellFormed, well-formed}
-use Rattle.px_script.proofs.KeptLines.{no-own, settings-kept, in-bounds, still-none, carried, Keeps, object-kept, predicate-kept, axiom-kept, fact-kept, operator-kept, show-kept, facts-kept, disturb-atoms-kept, disturb-rooms-kept, run-kept, learn-kept, plan-kept}
+use Rattle.px_script.proofs.KeptLines.{few-objects, no-own, settings-kept, in-bounds, still-none, carried, Keeps, object-kept, predicate-kept, axiom-kept, fact-kept, operator-kept, show-kept, facts-kept, disturb-atoms-kept, disturb-rooms-kept, run-kept, learn-kept, plan-kept}
 use Rattle.px_script.proofs.Lists.{at-most, each-fails, same-number, at-name, is-new, each-pushed}
 use Rattle.px_script.proofs.Problems.{Grows, alike, atoms-kept, names-more, schema-kept}
 use Rattle.px_script.proofs.States.{AreInRange, AreRolesOf, IsBegun, OperatorsInRange, AreStanding}
@@ -29,7 +32,7 @@ module _ (n : ℕ) (d : Declared) (line : ℕ) (o : OpenOperator) where
   -- a list of the operator with the atoms of a line
   grown : (P : Atom → Type 0) (old : List Atom) (xs : List SignedAtom) → length old + length xs ≤ 16 → All P old
       → All P (map (atom_of c []) xs) → All P (old ++ map (atom_of c []) xs) × (length (old ++ map (atom_of c []) xs) ≤ 16)
-      × (length (old ++ map (atom_of c []) xs) < 4294967295)
+      × (length (old ++ map (atom_of c []) xs) < u32_max)
   grown P old xs few all more = let short : length (old ++ map (atom_of c []) xs) ≤ 16 = rw (length-append, length-map) few in
       (All-append P old (map (atom_of c []) xs) all more, short, omega (arith, short))
 
@@ -55,10 +58,10 @@ module _ (n : ℕ) (d : Declared) (line : ℕ) (o : OpenOperator) where
 
   end-operator : AreInRange c → Keeps n c end
   end-operator r f = let is = r.operators in let all = d.schemas ++ o.schema ∷ [] in
-      let q : Problem = record (own_problem d) { schemas = all } in let more = alike (own_problem d) q refl refl in
+      let q : Problem = record (own_problem d) { schemas = all } in let more = alike (own_problem d) q refl refl refl in
       let old = carried c q d.things r more f.order.after in
       let counts : length d.names.operators ≡ length all = omega (arith, length-append d.schemas (o.schema ∷ []), is.named) in
-      let few = r.names.few_operators in let short : length all < 4294967295 = omega (arith, counts, few) in
+      let few = r.names.few_operators in let short : length all < u32_max = omega (arith, counts, few) in
       let none : length d.names.objects ≡ 0 → All (λ schema. schema.params ≡ 0) all × All (λ clause. clause.vars ≡ 0) d.axioms = λ empty.
       let no = old.no_objects empty in (All-push (λ schema. schema.params ≡ 0) d.schemas o.schema no.0 (is.no_objects empty), no.1) in
       let of = schema-kept (own_problem d) q more _ o.schema is.schema in
@@ -91,18 +94,20 @@ module _ (n : ℕ) (d : Declared) where
   building-begun : not (is_empty d.commands) ≡ false → IsBegunBy [] [] [] []
   building-begun early r = let no_names = record d.names { objects = []; predicates = []; operators = [] } in
       let e = record d { names = no_names; arities = []; things = None; block = None } in
-      let q : Problem = record (own_problem e) { objects = 1; arities = predicate_arities } in
-      let more : Grows (own_problem e) q = record { objects = omega arith; arities = λ k below. absurd (omega (arith, below)) } in
+      let q : Problem = record (own_problem e) { objects = 1; object_sorts = replicate 1 0; arities = predicate_arities } in
+      let more : Grows (own_problem e) q =
+      record { objects = omega arith; arities = λ k below. absurd (omega (arith, below)); sorts = omega arith } in
+      let sorts = no_object_sorts-are q 1 (omega arith) in
       let one : 1 ≤ greatest d.version limit.objects = subst (λ v. 1 ≤ greatest v limit.objects) (sym r.version) (omega arith) in
       let few_predicates : length predicate_names ≤ 64 = omega arith in let few_operators : length operator_names ≤ 32 = omega arith in
-      let short : length predicate_arities < 4294967295 = omega arith in let standing : AreStanding [] = search (All-nil, leb-true) in
+      let short : length predicate_arities < u32_max = omega arith in let standing : AreStanding [] = search (All-nil, leb-true) in
       let objects_are = names-more d.version [] (robot_name ∷ []) r.names.objects refl refl in
       let predicates_are = names-more d.version [] predicate_names r.names.predicates refl refl in
       let operators_are = names-more d.version [] operator_names r.names.operators refl refl in
       let roles = roles-kept [] (robot_name ∷ []) (robot_name ∷ []) [] [] [] d.roles refl refl r.roles in
       let names = record d.names { objects = robot_name ∷ []; predicates = predicate_names; operators = operator_names } in
       let none = no-own [] (d.own_domain || false) names predicate_arities d.version d.facts in let small = small-arities d.version in
-      assumption (objects_are, predicates_are, operators_are, small, carried e q (Some []) r more early, roles, none)
+      assumption (objects_are, predicates_are, operators_are, small, sorts, carried e q (Some []) r more early, roles, none)
 
   building-kept : AreInRange (record d { block = None; things = None }) → IsFaultless (record d { block = None; things = None }) building
       → AreInRange (after_line n (record d { block = None; things = None }) building)
@@ -142,16 +147,19 @@ module _ (n : ℕ) (d : Declared) (line : ℕ) (things : List Thing) where
         begun = true;
       })
   named-kept r name t one rooms doors boxes early stands no_robot single short full right of_things =
-      let objects = d.names.objects ++ name ∷ [] in let q : Problem = record (own_problem d) { objects = length objects } in
+      let objects = d.names.objects ++ name ∷ [] in
+      let q : Problem = record (own_problem d) { objects = length objects; object_sorts = replicate (length objects) 0 } in
       let count = length-append d.names.objects (name ∷ []) in
-      let more : Grows (own_problem d) q = record { objects = omega (arith, count); arities = λ k below. (below, refl) } in
+      let more : Grows (own_problem d) q =
+      record { objects = omega (arith, count); arities = λ k below. (below, refl); sorts = omega arith } in
       let few : length objects ≤ greatest d.version limit.objects = rw length-append (at-most _ _ full) in let is = r.building in
+      let sorts = no_object_sorts-are q (length objects) (few-objects d.version (length objects) r.version few) in
       let begun = begun-kept r objects t right (omega (arith, ap length no_robot, is.standing.one_robot))
       (omega (arith, count, ap length stands))
       (get_or-append d.names.objects (name ∷ []) [] 0 (omega (arith, is.objects_are)) ∙ is.robot_first) in
       let none = no-own (things ++ t ∷ []) (d.own_domain || false) (record d.names { objects = objects }) d.arities d.version d.facts in
       let names = names-more d.version d.names.objects (name ∷ []) r.names.objects single short in
-      assumption (names, carried b q (Some (things ++ t ∷ [])) r more early, begun, none)
+      assumption (names, carried b q (Some (things ++ t ∷ [])) r more early, begun, sorts, none)
 
   -- a name of a room
   room-at : AreInRange b → (name : List ℕ) → has_name name d.roles.rooms ≡ true
@@ -203,7 +211,7 @@ module _ (n : ℕ) (d : Declared) (line : ℕ) (things : List Thing) where
       let roles = roles-kept d.names.objects [] d.names.objects things (things ++ t ∷ []) (standings (t ∷ [])) d.roles
       (sym (append-nil d.names.objects)) (standings-more things t) r.roles in
       let none = no-own (things ++ t ∷ []) (d.own_domain || false) d.names d.arities d.version d.facts in
-      assumption (begun, roles, carried b p (Some (things ++ t ∷ [])) r (alike p p refl refl) f.order.after, none)
+      assumption (begun, roles, carried b p (Some (things ++ t ∷ [])) r (alike p p refl refl refl) f.order.after, none)
 
 -- ---- where lines stand
 
@@ -289,11 +297,11 @@ module _ (n : ℕ) (d : Declared) where
   line-kept r (robot in_room) w = λ f. inside-building n d _ (λ line things. robot-kept n d line things in_room) d.block f.order.stands r f
   line-kept r end w = end-kept n d d.block d.things r
   line-kept r (height most) w = outside _ (λ b. refl) d.block d.things (λ r f. let v = r.problem.valid in settings-kept n d r
-      (Some most) d.nodes d.shapes f.order.after (in-bounds of_height most f.limits.0) v.nodes v.shapes) r
+      (Some most) d.nodes d.shapes f.order.after (in-bounds of_height most f.limits.0) r.problem.nodes v.shapes) r
   line-kept r (nodes most) w = outside _ (λ b. refl) d.block d.things (λ r f. let v = r.problem.valid in settings-kept n d r
       d.height (Some most) d.shapes f.order.after v.height (in-bounds of_nodes most f.limits.0) v.shapes) r
   line-kept r (shapes most) w = outside _ (λ b. refl) d.block d.things (λ r f. let v = r.problem.valid in settings-kept n d r
-      d.height d.nodes (Some most) f.order.after v.height v.nodes (in-bounds of_shapes most f.limits.0)) r
+      d.height d.nodes (Some most) f.order.after v.height r.problem.nodes (in-bounds of_shapes most f.limits.0)) r
   line-kept r (plan name xs) w = outside _ (λ b. refl) d.block d.things (λ r. plan-kept n d r name xs w.filled) r
   line-kept r (learn name source) w = outside _ (λ b. refl) d.block d.things (λ r. learn-kept n d r name source) r
   line-kept r (show name) w = outside _ (λ b. refl) d.block d.things (λ r. show-kept n d r name) r
@@ -350,13 +358,16 @@ module _ (d : Declared) where
       let of_things = is-building things is.standing (robots-some things r.block) in let p : Problem = own_problem d in
       let q : Problem = building_problem p.objects p.height p.nodes p.shapes in let rules = building_rules (first_state things) in
       let facts_are = facts-are-atoms (first_state things) of_things.1 in let l = r.problem.valid in
-      let valid = buildings_are_valid p.objects p.height p.nodes p.shapes (omega (arith, is.objects_are)) l.height l.nodes l.shapes in
+      let some : 1 ≤ p.objects = omega (arith, is.objects_are) in
+      let few_objects = few-objects d.version p.objects r.version r.names.few_objects in
+      let valid =
+      buildings_are_valid p.objects p.height p.nodes p.shapes (some, few_objects) l.height l.nodes l.shapes in
       let laws = All-from_recursion (λ clause. AreNumbered clause.vars (map (λ lit. lit.atom) clause.lits)) (both_ways ∷ []) (refl, tt) in
       let schemas = All-from_recursion (HasShortLists d.version) room_schemas (search leb-true depth 20) in
       let count = sym (ap length is.predicates_are) in let operators = ap length is.operators_are in
       let few = (no-own things true d.names [] d.version (rendering (first_state things))).1 in
-      let atoms = atoms-kept rules q (alike rules q (sym is.objects_are) refl) 0 (rendering (first_state things)) facts_are.1 in
-      let moved = commands-moved d.version p q things _ refl (alike p q refl is.arities_are) d.commands r.commands in
+      let atoms = atoms-kept rules q (alike rules q (sym is.objects_are) refl refl) 0 (rendering (first_state things)) facts_are.1 in
+      let moved = commands-moved d.version p q things _ refl (alike p q refl is.arities_are refl) d.commands r.commands in
       let small = small-arities d.version in
       assumption (valid, laws, schemas, count, operators, few, atoms, moved, small, facts_are.0, is.standing.earlier, of_things)
 

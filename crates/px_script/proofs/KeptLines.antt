@@ -1,7 +1,12 @@
 -- Each line of a domain, each setting and each command keeps what was declared in range.
 use Rattle.std.proofs.lemmas.List.Kept.{AllPairs-cons}
+use Rattle.px_base.specs.Bounds.{u32_max}
 use Rattle.px_script.proofs.Common.{fold-append, flat_map-append, IsClause, no_schema, ◌≡◌, ◌≢◌, ℕ, suc, ◌+◌, ◌<◌, ◌≤◌, Bool, true, false, not, ◌&&◌, ◌||◌, ◌==◌, List, [], ◌∷◌, ◌++◌, map, length, refl, sym, ap, ◌∙◌, subst, arith, leb-true, length-append, nat_lt, Option, None, Some, is_some, unwrap_or, All, AllPairs, AllByRecursion, slice_index_or, list_any, list_all, flat_map, filter, range_with_len, append_assoc, get_or-append, get_or-map, and_parts, or_parts, or_right, nat_tests, length-map, All-append, All-cons, All-map, All-nil, All-push, both_answers, All-at, All-each, set_of-is_sorted, set_of-members, has_name, IsBoxAt, IsDoorAt, IsRoomAt, first_state, standings, Clause, Problem, atom_set, atom_cmp, atom_cmp-total, atom_cmp-same, IsAtomOf, Thing, EachIndex, NameLists, IsAxiomOf, append-nil, IsSchemaOf, Standing, Atom, Named, SignedAtom, Sign, WrittenRoomEdit, Binding, bare, robot_to, box_to, door_to, is_empty, is_parameter_number, wanted_by_edit, an_object, plain, literals, goals, atom_changes, line_of, object, predicate, «axiom», operator, fact, plan, learn, disturb_atoms, disturb_rooms, run, Statement, show, Bounds, greatest, of_height, of_nodes, of_shapes, of_turn, facts, Command, Plan, Learn, DisturbAtoms, DisturbRooms, Run, Facts, Show, Declared, Roles, operator_here, parameters_here, parameters_of, names_here, number_in, variable_names_of, atom_of, literal_of, clause_of, atom_edit_of, edit_by, room_edit_of, binding_of, after_line, own_problem, is_long, repeats, disturbance_limits, AreNumbered, AreRoomEditsOf, CommandsInRange, HasTurn, IsAmong, IsBindingOf, IsCommandOf, IsEditOf, IsWithin, NamesEarlier, disturbs_after, plan_given, result_given, AreNamesOf, all_disturbs}
+use Rattle.std.specs.Prelude.{replicate}
 use Rattle.px_rooms.specs.Changes.{IsAdmitted}
+use Rattle.px_terms.specs.Problems.{most_nodes}
+use Rattle.px_terms.specs.SortLaws.{no_sorts-are, no_object_sorts-are}
+use Rattle.px_script.specs.Limits.{default_height, default_nodes, default_shapes}
 use Rattle.px_script.specs.Limits as limit
 use Rattle.px_script.proofs.Atoms.{HasAtoms, numbered, atoms-right, atoms-with, atoms-open, no-variables, empty-length}
 use Rattle.px_script.proofs.Buildings.{roles-kept, AreOfKind}
@@ -20,6 +25,11 @@ in-bounds bounds n e = let outside = or_parts (nat_lt n bounds.least) (nat_lt bo
 pub some-items : {A : Type 0} (xs : List A) → (not (is_empty xs) && true) ≡ true → 1 ≤ length xs
 some-items [] e = cc
 some-items (x ∷ xs) e = omega arith
+
+-- so many objects are few
+pub few-objects : (version n : ℕ) → version ≡ 1 → n ≤ greatest version limit.objects → n < u32_max
+few-objects version n is few =
+    let most : n ≤ greatest 1 limit.objects = subst (λ v. n ≤ greatest v limit.objects) is few in omega (arith, most)
 
 -- a declaration stands before all commands
 pub no-commands : {A : Type 0} (commands : List A) → not (is_empty commands) ≡ false → length commands ≡ 0
@@ -93,12 +103,18 @@ module _ (n : ℕ) (d : Declared) where
 
   module _ (r : AreInRange alone) where
     pub object-kept : (ns : List (List ℕ)) → Keeps n alone (object ns)
-    object-kept ns f = let all = d.names.objects ++ ns in let q : Problem = record p { objects = length all } in
-        let more : Grows p q = record { objects = omega (arith, length-append d.names.objects ns); arities = λ k below. (below, refl) } in
+    object-kept ns f = let all = d.names.objects ++ ns in
+        let q : Problem = record p { objects = length all; object_sorts = replicate (length all) 0 } in
+        let more : Grows p q = record {
+          objects = omega (arith, length-append d.names.objects ns);
+          arities = λ k below. (below, refl);
+          sorts = omega arith;
+        } in
         let few : length all ≤ greatest d.version limit.objects = rw length-append (at-most _ _ f.limits.0) in
         let names = names-more d.version d.names.objects ns r.names.objects f.single.0 f.short.0 in
         let roles = roles-kept d.names.objects ns all [] [] [] d.roles refl refl r.roles in
-        assumption (names, carried alone q None r more f.order.after, roles, owned (record d.names { objects = all }) d.arities)
+        let sorts = no_object_sorts-are q (length all) (few-objects d.version (length all) r.version few) in
+        assumption (names, carried alone q None r more f.order.after, roles, sorts, owned (record d.names { objects = all }) d.arities)
 
     pub predicate-kept : (name : List ℕ) (arity : ℕ) → Keeps n alone (predicate name arity)
     predicate-kept name arity f = let all = d.names.predicates ++ name ∷ [] in let arities = d.arities ++ arity ∷ [] in
@@ -106,10 +122,11 @@ module _ (n : ℕ) (d : Declared) where
         let more : Grows p q = record {
           objects = omega arith;
           arities = λ k below. (omega (arith, below, count), get_or-append d.arities (arity ∷ []) 0 k below);
+          sorts = omega arith;
         } in
         let few : length all ≤ 64 = rw length-append (at-most _ _ f.limits.0) in
         let same : length arities ≡ length all = omega (arith, count, length-append d.names.predicates (name ∷ []), r.problem.predicates) in
-        let short : length arities < 4294967295 = omega (arith, same, few) in
+        let short : length arities < u32_max = omega (arith, same, few) in
         let names = names-more d.version d.names.predicates (name ∷ []) r.names.predicates f.single.0 f.short.0 in
         let small = All-push (λ k. k ≤ greatest d.version limit.arity) d.arities arity r.problem.arities (at-most _ _ f.limits.1.0) in
         assumption (names, carried alone q None r more f.order.after, small, owned (record d.names { predicates = all }) arities)
@@ -120,7 +137,7 @@ module _ (n : ℕ) (d : Declared) where
         let count : length c.lits ≡ length xs = length-map xs (literal_of alone vars) in let least = some-items xs filled in
         let most : length xs ≤ 6 = at-most _ _ f.limits.1.0 in
         let atoms = atoms-open alone r xs refl literals refl (atoms-right alone («axiom» xs) xs has f.right) in
-        let all = d.axioms ++ c ∷ [] in let q : Problem = record p { axioms = all } in let more = alike p q refl refl in
+        let all = d.axioms ++ c ∷ [] in let q : Problem = record p { axioms = all } in let more = alike p q refl refl refl in
         let few : length all ≤ 64 = rw length-append (at-most _ _ f.limits.0) in
         let lits = All-map (λ lit. IsAtomOf p (length vars) lit.atom) (literal_of alone vars) xs
         (unmap (atom_of alone vars) (IsAtomOf p (length vars)) xs atoms) in
@@ -162,7 +179,7 @@ module _ (n : ℕ) (d : Declared) where
         let none : length d.names.objects ≡ 0 → length ps ≡ 0 =
         λ empty. no-varying ps (is_empty d.names.objects) f.order.early (empty-length d.names.objects empty) in
         let names = names-more d.version d.names.operators (name ∷ []) r.names.operators f.single.0 f.short.0 in
-        search (names, owned new d.arities, All-nil, leb-true)
+        search (names, owned new d.arities, no_sorts-are p (length ps), All-nil, leb-true)
       where
         no-varying : (ps : List (List ℕ)) (empty : Bool) → ((false || (not (is_empty ps) || false)) && empty) ≡ false → empty ≡ true
             → length ps ≡ 0
@@ -173,11 +190,17 @@ module _ (n : ℕ) (d : Declared) where
 
   module _ (r : AreInRange top) where
     pub settings-kept : (tall many wide : Option ℕ) → not (is_empty d.commands) ≡ false
-        → IsWithin of_height (unwrap_or tall 4) → IsWithin of_nodes (unwrap_or many 10000) → IsWithin of_shapes (unwrap_or wide 10000)
+        → IsWithin of_height (unwrap_or tall default_height) → IsWithin of_nodes (unwrap_or many default_nodes)
+        → IsWithin of_shapes (unwrap_or wide default_shapes)
         → AreInRange (record top { height = tall; nodes = many; shapes = wide; own_domain = d.own_domain || false; begun = true })
     settings-kept tall many wide early in_height in_nodes in_shapes =
-        let q : Problem = record p { height = unwrap_or tall 4; nodes = unwrap_or many 10000; shapes = unwrap_or wide 10000 } in
-        assumption (still-none top r, in_height, in_nodes, in_shapes, carried top q d.things r (alike p q refl refl) early)
+        let q : Problem = record p {
+          height = unwrap_or tall default_height;
+          nodes = unwrap_or many default_nodes;
+          shapes = unwrap_or wide default_shapes;
+        } in
+        let most : q.nodes ≤ most_nodes = omega (arith, in_nodes.1) in
+        assumption (still-none top r, in_height, in_nodes, most, in_shapes, carried top q d.things r (alike p q refl refl refl) early)
 
     -- what is declared after a command, with the results and the roles after it
     abbrev given : Command → List (List ℕ) → Roles → Declared

@@ -1,6 +1,7 @@
 -- Names and a problem stay in range where there are more of them, and what is of a problem is of one with more objects and predicates.
 use Rattle.px_script.proofs.Common.{IsClause, HasClauseLength, ◌≡◌, ℕ, ◌<◌, ◌≤◌, false, List, ◌++◌, length, refl, sym, ◌∙◌, arith, list_any, All, slice_index, All-append, Atom, Clause, Problem, Schema, Term, Obj, HasArity, IsTermOf, IsPatternTermOf, IsAtomOf, IsPatternOf, IsSchemaOf, IsAxiomOf, greatest, repeats, is_long, AreNamesOf}
 use Rattle.px_terms.specs.Language.{IsPlainBelow}
+use Rattle.px_terms.specs.Validity.{AreSortsOf}
 use Rattle.px_script.specs.Limits as limit
 use Rattle.px_script.proofs.Lists.{at-most, each-fails, more-distinct}
 
@@ -20,10 +21,15 @@ names-more version old ns r new short = record {
 pub record Grows (p q : Problem) : Type 0 where
   pub objects : p.objects ≤ q.objects
   pub arities : (k : ℕ) → k < length p.arities → (k < length q.arities) × (slice_index q.arities k ≡ slice_index p.arities k)
+  pub sorts : p.sorts ≤ q.sorts
 
--- another problem with the same objects and predicates
-pub alike : (p q : Problem) → p.objects ≡ q.objects → p.arities ≡ q.arities → Grows p q
-alike p q objects arities = record { objects = omega (arith, objects); arities = λ k below. rw (sym arities) (below, refl) }
+-- another problem with the same objects, predicates and sorts
+pub alike : (p q : Problem) → p.objects ≡ q.objects → p.arities ≡ q.arities → p.sorts ≡ q.sorts → Grows p q
+alike p q objects arities sorts = record {
+  objects = omega (arith, objects);
+  arities = λ k below. rw (sym arities) (below, refl);
+  sorts = omega (arith, sorts);
+}
 
 module _ (p q : Problem) (more : Grows p q) where
   term-kept : (vars : ℕ) (t : Term) → IsTermOf p vars t → IsTermOf q vars t
@@ -46,7 +52,8 @@ module _ (p q : Problem) (more : Grows p q) where
 
   pub schema-kept : (place : ℕ) (schema : Schema) → IsSchemaOf p place schema → IsSchemaOf q place schema
   schema-kept place schema h = let deletes = patterns-kept schema.params schema.del h.del in
-      assumption (atoms-kept schema.params schema.pre h.pre, deletes, atoms-kept schema.params schema.add h.add)
+      let sorts : AreSortsOf q schema.param_sorts = λ k d below. let one = h.sorts.1 k d below in omega (arith, one, more.sorts) in
+      assumption (atoms-kept schema.params schema.pre h.pre, deletes, atoms-kept schema.params schema.add h.add, sorts)
 
   pub of-axiom-kept : (clause : Clause) → IsAxiomOf p clause → IsAxiomOf q clause
   of-axiom-kept clause is = record {

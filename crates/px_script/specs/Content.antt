@@ -1,8 +1,10 @@
 -- What a script is about: what its lines declared, with the limits that they leave at their defaults.
 use Rattle.std.specs.Prelude.{ℕ, List, length, Option, None, Some, unwrap_or}
+use Rattle.px_terms.specs.Problems.{problem_without_sorts}
 use Rattle.px_script.specs.Common.{NameLists, building_problem, first_state, rendering, Atom, Problem, Thing}
 use Rattle.px_script.specs.Commands.{Command}
 use Rattle.px_script.specs.Declarations.{Declared}
+use Rattle.px_script.specs.Limits.{default_height, default_nodes, default_shapes}
 
 pub record ScriptValue : Type 0 where
   pub version : ℕ
@@ -14,15 +16,8 @@ pub record ScriptValue : Type 0 where
 
 -- the problem by the script's own axioms and operators
 abbrev pub own_problem : Declared → Problem
-own_problem d = record {
-  objects = length d.names.objects;
-  arities = d.arities;
-  axioms = d.axioms;
-  schemas = d.schemas;
-  height = unwrap_or d.height 4;
-  nodes = unwrap_or d.nodes 10000;
-  shapes = unwrap_or d.shapes 10000;
-}
+own_problem d = problem_without_sorts (length d.names.objects) d.arities d.axioms d.schemas
+    (unwrap_or d.height default_height) (unwrap_or d.nodes default_nodes) (unwrap_or d.shapes default_shapes)
 
 -- A building has the axiom and the operators of every building, and the facts of its first state (`px_rooms`).
 abbrev pub problem_of : Problem → Option (List Thing) → Problem

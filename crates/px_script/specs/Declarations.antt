@@ -3,6 +3,7 @@ use Rattle.std.specs.Prelude.{ℕ, ◌+◌, Bool, true, false, List, [], ◌∷�
 use Rattle.std.specs.List.{flat_map}
 use Rattle.std.specs.Option.{option_map}
 use Rattle.std.specs.Str.{bytes_eq}
+use Rattle.px_terms.specs.Problems.{schema_without_sorts}
 use Rattle.px_script.specs.Common.{Clause, NameLists, no_names, has_name, RoomOperator, RoomPredicate, robot_name, room_operators, room_predicates, Atom, Lit, Schema, Term, Obj, Var, Any, atom_set, AtomEdit, RoomEdit, Thing}
 use Rattle.px_world.specs.declared.edits.AtomEdit.TheVariants as atom_edit
 use Rattle.px_world.specs.declared.edits.RoomEdit.TheVariants as room_edit
@@ -274,8 +275,7 @@ declares n d (object ns) = d
 declares n d (predicate p arity) = record d { arities = d.arities ++ arity ∷ [] }
 declares n d («axiom» xs) = record d { axioms = d.axioms ++ clause_of d xs ∷ [] }
 declares n d (operator o ps) =
-    let schema : Schema = record { op = length d.schemas; params = length ps; pre = []; del = []; add = [] } in
-    open_block n (of_operator (record { parameters = ps; schema = schema })) d
+    open_block n (of_operator (record { parameters = ps; schema = schema_without_sorts (length d.schemas) (length ps) [] [] [] })) d
 declares n d (pre xs) = in_schema (λ schema. record schema { pre = schema.pre ++ map (atom_of d []) xs }) d
 declares n d (delete xs) = in_schema (λ schema. record schema { del = schema.del ++ map (atom_of d []) xs }) d
 declares n d (add xs) = in_schema (λ schema. record schema { add = schema.add ++ map (atom_of d []) xs }) d

@@ -2,6 +2,7 @@
 use Rattle.std.specs.Prelude.{ℕ, Bool, List, [], ◌∷◌, ◌++◌, codes, if◌then◌else◌, ◌==◌}
 use Rattle.std.specs.List.{list_any}
 use Rattle.std.specs.Str.{bytes_eq}
+use Rattle.px_terms.specs.Problems.{most_height, most_shapes}
 
 -- the words that may begin a line in every version
 abbrev pub words_of_all : List (List ℕ)
@@ -88,13 +89,23 @@ abbrev pub of_version : Bounds
 of_version = bounds 1 1
 
 abbrev pub of_height : Bounds
-of_height = bounds 1 8
+of_height = bounds 1 most_height
 
 abbrev pub of_nodes : Bounds
 of_nodes = bounds 1 50000
 
 abbrev pub of_shapes : Bounds
-of_shapes = bounds 2 70000
+of_shapes = bounds 2 most_shapes
 
 abbrev pub of_turn : Bounds
 of_turn = bounds 1 9999
+
+-- the height, the nodes and the shapes of a script whose lines give none
+abbrev pub default_height : ℕ
+default_height = 4
+
+abbrev pub default_nodes : ℕ
+default_nodes = 10000
+
+abbrev pub default_shapes : ℕ
+default_shapes = 10000

@@ -6,7 +6,7 @@ use Rattle.px_world.specs.declared.edits.AtomEdit.TheVariants as atom_edit
 use Rattle.px_world.specs.declared.thing.Thing.TheVariants.{Room, Door, Box, Robot}
 use Rattle.px_script.specs.Items.{last_parameter}
 use Rattle.px_script.specs.Limits as limit
-use Rattle.px_script.specs.Limits.{Bounds, greatest, of_turn}
+use Rattle.px_script.specs.Limits.{Bounds, greatest, of_nodes, of_turn}
 use Rattle.px_script.specs.Commands.{Command, Plan, Learn, Show, DisturbAtoms, DisturbRooms, Run, Facts}
 use Rattle.px_script.specs.Declarations.{operator_names, predicate_names}
 use Rattle.px_script.specs.Content.{ScriptValue}
@@ -26,6 +26,9 @@ pub record NamesInRange (version : ℕ) (names : NameLists) : Type 0 where
   pub few_objects : length names.objects ≤ greatest version limit.objects
   pub few_predicates : length names.predicates ≤ greatest version limit.predicates
   pub few_operators : length names.operators ≤ greatest version limit.operators
+
+abbrev pub IsWithin : Bounds → ℕ → Type 0
+IsWithin bounds n = (bounds.least ≤ n) × (n ≤ bounds.most)
 
 -- the problem
 
@@ -48,9 +51,11 @@ HasShortLists version schema =
     (length schema.pre ≤ greatest version limit.operator_atoms) × (length schema.del ≤ greatest version limit.operator_atoms)
     × (length schema.add ≤ greatest version limit.operator_atoms)
 
--- The problem is valid, and its objects and predicates have names. Variables of axioms are numbered as they occur.
+-- The problem is valid, with no more nodes than a script may ask for, and its objects and predicates have names. Variables of axioms are
+-- numbered as they occur.
 pub record ProblemInRange (version : ℕ) (names : NameLists) (problem : Problem) : Type 0 where
   pub valid : IsValid problem
+  pub nodes : IsWithin of_nodes problem.nodes
   pub objects : problem.objects ≡ length names.objects
   pub predicates : length problem.arities ≡ length names.predicates
   pub arities : All (λ n. n ≤ greatest version limit.arity) problem.arities
@@ -91,9 +96,6 @@ IsEditOf problem (atom_edit.Remove atom) = IsAtomOf problem 0 atom
 abbrev pub AreRoomEditsOf : Option (List Thing) → List RoomEdit → Type 0
 AreRoomEditsOf None edits = ⊥
 AreRoomEditsOf (Some things) edits = All (IsAdmitted (first_state things)) edits
-
-abbrev pub IsWithin : Bounds → ℕ → Type 0
-IsWithin bounds n = (bounds.least ≤ n) × (n ≤ bounds.most)
 
 -- the turn of a disturbance is in range, and so is the number of its edits
 abbrev pub HasTurn : ℕ → ℕ → ℕ → Type 0

@@ -1,27 +1,33 @@
 -- Small texts, and what the definitions say of them.
 use Rattle.std.specs.Prelude.{ℕ, false, List, [], ◌∷◌, ◌++◌, codes, None, Some}
 use Rattle.std.specs.List.{AllByRecursion}
-use Rattle.px_script.specs.Common.{no_names, building_problem, closed, connects, in_room, is_box, is_door, is_room, Obj, Var}
+use Rattle.px_terms.specs.Problems.{problem_without_sorts, schema_without_sorts}
+use Rattle.px_script.specs.Common.{no_names, building_problem, closed, connects, in_room, is_box, is_door, is_room, Obj, Problem, Var}
 use Rattle.px_world.specs.declared.edits.RoomEdit.TheVariants as room_edit
 use Rattle.px_world.specs.declared.thing.Thing.TheVariants as thing
 use Rattle.px_script.specs.Commands.{Plan, Show, DisturbRooms, Facts}
 use Rattle.px_script.specs.Content.{ScriptValue}
+use Rattle.px_script.specs.Limits.{default_height, default_nodes, default_shapes}
 use Rattle.px_script.specs.Lines.{mark}
 use Rattle.px_script.specs.Declarations.{predicate_names, operator_names}
 use Rattle.px_script.specs.Stages.{stage_now}
 use Rattle.px_script.specs.Scripts.{IsScript, FirstFault}
-use Rattle.px_script.specs.WorkedLines.{asserted, clause, denied, long_name, numbered, schema, words_in}
+use Rattle.px_script.specs.WorkedLines.{asserted, clause, denied, long_name, numbered, words_in}
 
 -- the first fault of the bytes: its line, its code and its limit
 abbrev pub IsTextRefused : List ℕ → ℕ → ℕ → ℕ → Type 0
 IsTextRefused bytes line code limit = FirstFault stage_now bytes line (record { code = code; limit = limit })
+
+-- the problem of a script that declares this many objects
+abbrev of_objects : ℕ → Problem
+of_objects n = problem_without_sorts n [] [] [] default_height default_nodes default_shapes
 
 -- what a script that declares nothing is about
 abbrev pub nothing : ScriptValue
 nothing = record {
   version = 1;
   names = no_names;
-  problem = record { objects = 0; arities = []; axioms = []; schemas = []; height = 4; nodes = 10000; shapes = 10000 };
+  problem = of_objects 0;
   facts = [];
   building = None;
   commands = [];
@@ -39,11 +45,11 @@ pub record WorkedScripts : Type 0 where
           operators = words_in (codes "A B");
           results = codes "N" ∷ [];
         };
-        problem = record nothing.problem {
-          objects = 2;
+        problem = record (of_objects 2) {
           arities = 1 ∷ 1 ∷ 1 ∷ 1 ∷ [];
-          schemas = schema 0 1 (numbered 0 (Var 0 ∷ []) ∷ []) (numbered 1 (Var 0 ∷ []) ∷ []) (numbered 2 (Var 0 ∷ []) ∷ [])
-              ∷ schema 1 2 (numbered 2 (Var 0 ∷ []) ∷ numbered 1 (Var 1 ∷ []) ∷ []) [] (numbered 3 (Var 0 ∷ []) ∷ []) ∷ [];
+          schemas =
+              schema_without_sorts 0 1 (numbered 0 (Var 0 ∷ []) ∷ []) (numbered 1 (Var 0 ∷ []) ∷ []) (numbered 2 (Var 0 ∷ []) ∷ [])
+              ∷ schema_without_sorts 1 2 (numbered 2 (Var 0 ∷ []) ∷ numbered 1 (Var 1 ∷ []) ∷ []) [] (numbered 3 (Var 0 ∷ []) ∷ []) ∷ [];
         };
         facts = numbered 0 (Obj 0 ∷ []) ∷ numbered 1 (Obj 1 ∷ []) ∷ [];
         commands = Plan 0 (numbered 3 (Obj 0 ∷ []) ∷ []) 0 ∷ Facts ∷ [];
@@ -52,21 +58,20 @@ pub record WorkedScripts : Type 0 where
   pub blanks : IsScript stage_now
       (codes "script 1\r\n\r\n# object c\nobject\ta b#c\npredicate P 01\nfact P(b)P( a )\nfact P (a)\nnodes 007\r") (record nothing {
         names = record no_names { objects = codes "a" ∷ codes "b" ∷ []; predicates = codes "P" ∷ [] };
-        problem = record nothing.problem { objects = 2; arities = 1 ∷ []; nodes = 7 };
+        problem = record (of_objects 2) { arities = 1 ∷ []; nodes = 7 };
         facts = numbered 0 (Obj 0 ∷ []) ∷ numbered 0 (Obj 1 ∷ []) ∷ [];
       })
   -- a byte order mark in front
   pub marked : IsScript stage_now (mark ++ codes "object a\nfacts\n") (record nothing {
     names = record no_names { objects = codes "a" ∷ [] };
-    problem = record nothing.problem { objects = 1 };
+    problem = of_objects 1;
     commands = Facts ∷ [];
   })
   -- an axiom, the numbers of the search, a goal with a variable, and a plan that is shown
   pub shown : IsScript stage_now (codes "object a b\npredicate P 2\naxiom ~P(?x,?y) P(?y,?x)\nheight 3\nshapes 900\nfact P(a,b)\n"
       ++ codes "plan N P(?z,a)\nshow N") (record nothing {
         names = record no_names { objects = codes "a" ∷ codes "b" ∷ []; predicates = codes "P" ∷ []; results = codes "N" ∷ [] };
-        problem = record nothing.problem {
-          objects = 2;
+        problem = record (of_objects 2) {
           arities = 2 ∷ [];
           height = 3;
           shapes = 900;
@@ -85,7 +90,7 @@ pub record WorkedScripts : Type 0 where
           operators = operator_names;
           results = codes "Q" ∷ [];
         };
-        problem = building_problem 5 4 500 10000;
+        problem = building_problem 5 default_height 500 default_shapes;
         facts = in_room (Obj 0) (Obj 1) ∷ in_room (Obj 4) (Obj 2) ∷ connects (Obj 3) (Obj 1) (Obj 2) ∷ connects (Obj 3) (Obj 2) (Obj 1)
             ∷ closed (Obj 3) ∷ is_room (Obj 1) ∷ is_room (Obj 2) ∷ is_door (Obj 3) ∷ is_box (Obj 4) ∷ [];
         building = Some (thing.Room ∷ thing.Room ∷ thing.Door 1 2 false ∷ thing.Box 2 ∷ thing.Robot 1 ∷ []);

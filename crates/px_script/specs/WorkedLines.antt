@@ -1,7 +1,9 @@
 -- How small lines are worked: after lines that have no fault, what the next ones leave, or their fault, where all of version 1 is built.
 use Rattle.std.specs.Prelude.{◌≡◌, ℕ, ◌==◌, true, false, List, [], ◌∷◌, map, replicate, codes, Some, ◌++◌}
 use Rattle.std.specs.List.{AllByRecursion, flat_map, range_with_len, slice_split}
-use Rattle.px_script.specs.Common.{Atom, Clause, Lit, Schema, Term, Obj, Var, Any}
+use Rattle.px_terms.specs.Problems.{schema_without_sorts}
+use Rattle.px_base.specs.Bounds.{u32_max}
+use Rattle.px_script.specs.Common.{Atom, Clause, Lit, Term, Obj, Var, Any}
 use Rattle.px_world.specs.declared.edits.AtomEdit.TheVariants as atom_edit
 use Rattle.px_world.specs.declared.edits.RoomEdit.TheVariants as room_edit
 use Rattle.px_world.specs.declared.thing.Thing.TheVariants as thing
@@ -77,10 +79,6 @@ denied atom = record { positive = false; atom = atom }
 abbrev pub clause : ℕ → List Lit → Clause
 clause n literals = record { vars = n; lits = literals }
 
--- the schema of an operator by its number, with this many parameters, and its preconditions, deletes and adds
-abbrev pub schema : ℕ → ℕ → List Atom → List Atom → List Atom → Schema
-schema n count needed deleted new = record { op = n; params = count; pre = needed; del = deleted; add = new }
-
 abbrev pub small : List ℕ
 small = codes "object a b\npredicate P 1\npredicate Q 0"
 
@@ -118,7 +116,8 @@ pub record WorkedDomains : Type 0 where
       (clause 3 (asserted (numbered 0 (Var 0 ∷ Var 1 ∷ [])) ∷ asserted (numbered 0 (Var 1 ∷ Var 2 ∷ [])) ∷ []) ∷ [])
   pub operators : LeaveBoth (in_operator ++ codes "\npre P(x)\npre Q\ndelete P($)\nadd P(a)\nend") (λ d. d.names.operators) (codes "O" ∷ [])
       (λ d. d.schemas)
-      (schema 0 1 (numbered 0 (Var 0 ∷ []) ∷ numbered 1 [] ∷ []) (numbered 0 (Any ∷ []) ∷ []) (numbered 0 (Obj 0 ∷ []) ∷ []) ∷ [])
+      (schema_without_sorts 0 1 (numbered 0 (Var 0 ∷ []) ∷ numbered 1 [] ∷ []) (numbered 0 (Any ∷ []) ∷ [])
+      (numbered 0 (Obj 0 ∷ []) ∷ []) ∷ [])
   pub without_parameters : Leave (codes "operator a\nend\noperator x\nend") (λ d. map (λ s. s.op) d.schemas) (0 ∷ 1 ∷ [])
   pub like_its_operator : Leave (codes "object a\noperator x(x)") (λ d. d.names.operators) (codes "x" ∷ [])
   pub long_parameter : Leave (codes "object a\noperator x(" ++ long_name ++ codes ")") (λ d. d.names.operators) (codes "x" ∷ [])
@@ -324,7 +323,7 @@ pub record WorkedSpellings : Type 0 where
   pub a_box : Spell (codes "box B R") (box (codes "B") (codes "R"))
   pub a_robot : Spell (codes "robot R") (robot (codes "R"))
   pub a_height : Spell (codes "height 04") (height 4)
-  pub many_shapes : Spell (codes "shapes 99999999999") (shapes 4294967295)
+  pub many_shapes : Spell (codes "shapes 99999999999") (shapes u32_max)
   pub a_goal : Spell (codes "plan N P(?x) Q") (plan (codes "N") (with_sign bare (codes "P") (open_variable (codes "x") ∷ []) ∷ q ∷ []))
   pub learning : Spell (codes "learn M from N") (learn (codes "M") (codes "N"))
   pub showing : Spell (codes "show M") (show (codes "M"))

@@ -20,7 +20,7 @@ use Rattle.px_table.specs.declared.entry.Entry.{Entry}
 use Rattle.px_table.specs.declared.entry.Entry.TheVariants.{Op, Macro}
 use Rattle.px_table.specs.declared.table.Table.{Table}
 use Rattle.px_table.specs.Kernels.{instance_under, steps_under}
-use Rattle.px_table.specs.Tables.{IsStepOf, IsTable}
+use Rattle.px_table.specs.Tables.{IsStepOf, IsTable, empty_table}
 use Rattle.px_terms.specs.ValidityLaws.{instance-is_ground}
 use Rattle.px_table.specs.UnderLaws.{step_under-objects}
 
@@ -67,7 +67,7 @@ effect-macro problem tables number prefix sigma given entry table steps is_entry
     let at : slice_get tables number ≡ Some table =
     slice_get_read tables (length tables) number table refl (slice_get_within tables number e.0 e.1) table_is in
     let same : table_at tables number ≡ table =
-    ap (λ (o : Option Table). unwrap_or o (record { params = 0; steps = []; goal = []; goal_vars = 0; marks = []; proofs = [] })) at in
+    ap (λ (o : Option Table). unwrap_or o empty_table) at in
     (λ i. map (instance_under (given_is i)) (take prefix (steps_are i))) ∙ sym (take-map (instance_under sigma) prefix table.steps)
     ∙ ap (λ (t : Table). take prefix (steps_under t sigma)) (sym same) ∙ ap (effect_of tables) (sym entry_is)
 
@@ -80,7 +80,7 @@ module _ (problem : Problem) (tables : List Table) (learned : AreLearned problem
       → All (IsStepOf problem (length sigma)) (take prefix (table_at tables number).steps)
   steps-are number prefix sigma (table, at, macro) =
       let same : table_at tables number ≡ table =
-      ap (λ (o : Option Table). unwrap_or o (record { params = 0; steps = []; goal = []; goal_vars = 0; marks = []; proofs = [] })) at
+      ap (λ (o : Option Table). unwrap_or o empty_table) at
       in
       let is = (table-is number table at).in_range.steps in
       subst (λ (t : Table). All (IsStepOf problem (length sigma)) (take prefix t.steps)) (sym same)
@@ -91,7 +91,7 @@ module _ (problem : Problem) (tables : List Table) (learned : AreLearned problem
   pub effect-ground : (entry : Entry) → IsEntry problem tables entry → All (IsGroundInstanceOf problem) (effect_of tables entry)
   effect-ground (Op inst) is =
       All-each (IsGroundInstanceOf problem) (inst ∷ [])
-      (λ step has. subst (IsGroundInstanceOf problem) (Contains-one inst step has) (instance-is_ground problem inst is))
+      (λ step has. subst (IsGroundInstanceOf problem) (Contains-one inst step has) (instance-is_ground problem inst is.of))
   effect-ground (Macro number prefix sigma) is =
       subst (All (IsGroundInstanceOf problem)) (sym (take-map (instance_under sigma) prefix (table_at tables number).steps))
       (All-map (IsGroundInstanceOf problem) (instance_under sigma) (take prefix (table_at tables number).steps)

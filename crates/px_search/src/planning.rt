@@ -1,7 +1,9 @@
 //! The search.
 ghost use Rattle.std.specs.Prelude.{◌≡◌, ◌<◌, ◌≤◌, ◌⊎◌, ℕ, List, [], length, All, IfOk, IfErr, IsErrOf, IsTrue};
+ghost use Rattle.px_base.specs.Bounds.{u32_max};
 ghost use Rattle.px_terms.specs.declared.atom.Atom.{Atom};
 ghost use Rattle.px_terms.specs.Plans.{Carries};
+ghost use Rattle.px_terms.specs.Sorts.{IsWellSorted};
 ghost use Rattle.px_terms.specs.Validity.{IsValid, IsAtomOf, IsInstanceOf};
 ghost use Rattle.px_proof.specs.declared.shape.Tick.{Tick};
 ghost use Rattle.px_table.specs.declared.entry.Move.{Move};
@@ -80,8 +82,9 @@ pub fn search(
     ensures supports { IfOk result (λ plan. Supports problem.now initial.now.atoms plan.steps goal.now vars (rows_of plan.support.items)) }
     ensures of_problem { IfOk result (λ plan. AreOfProblem problem.now (rows_of plan.support.items)) }
     ensures instances { IfOk result (λ plan. All (IsInstanceOf problem.now) plan.steps) }
+    ensures fitting { IfOk result (λ plan. All (IsWellSorted problem.now) plan.steps) }
     ensures carries { IfOk result (λ plan. Carries problem.now initial.now.atoms plan.steps vars goal.now) }
-    ensures short { IfOk result (λ plan. length plan.steps < 4294967295) }
+    ensures short { IfOk result (λ plan. length plan.steps < u32_max) }
     ensures exhausted { IsErrOf result SearchErr.Exhausted → IsExhausted (task_of problem.now tables.now initial.now.atoms goal.now vars) }
     ensures node_limit { (nodes : List Node) (moves : ℕ) → IsErrOf result (SearchErr.NodeLimit nodes moves)
         → IsNodeLimit (task_of problem.now tables.now initial.now.atoms goal.now vars) nodes moves }

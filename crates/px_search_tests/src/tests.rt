@@ -1,9 +1,11 @@
 //! What is answered where a box is to be in room 1.
 ghost use Rattle.px_terms.specs.Validity.{IsValid};
 
-use crate::samples::{learned, rooms_within, there_and_back};
+use crate::samples::{
+    learned, rooms_within, sorted_within, spread_apart, spreading, there_and_back,
+};
 use px_entries::are_learned;
-use px_samples::{ROBOT, box_in_first_room, is_box, opening};
+use px_samples::{ROBOT, atom, box_in_first_room, is_box, opening, v};
 use px_search::{Found, SearchErr, search};
 use px_table::{Entry, Move, Table, marks};
 use px_terms::{Atom, Problem, Sequence, are_atoms_of};
@@ -73,6 +75,44 @@ fn eighty_eight_nodes_are_too_few(rt: HostRuntime) {
     let found = answer_within(alloc, &rt, (88, 10000), &box_in_first_room());
     let facts = facts_of_last(alloc, &rt, &found);
     assert!(&rt; facts == 5);
+}
+
+/// Returns how many moves lead to the first node that isn't kept within this limit, where only the box can be pushed; 0 where the goal is
+/// reached by going there and pushing the box back.
+fn moves_beyond(alloc: Global, rt: &impl Abort, nodes: u32) -> Option<u32> {
+    let problem = sorted_within(alloc, rt, nodes);
+    match &answer(alloc, rt, &problem, &box_in_first_room(), &[]) {
+        Ok(plan) if is_there_and_back(alloc, rt, plan) => Some(0),
+        Err(SearchErr::NodeLimit { moves, .. }) => Some(*moves),
+        _ => None,
+    }
+}
+
+#[test]
+fn only_the_box_is_pushed(rt: HostRuntime) {
+    let alloc = rt.alloc();
+    for (nodes, moves) in [(1, 1), (2, 2), (5, 2), (6, 3), (11, 4), (12, 0)] {
+        assert!(&rt; moves_beyond(alloc, &rt, nodes) == Some(moves));
+    }
+}
+
+/// Returns the answer where some object is to have atom 1, and the operator's parameter has this sort.
+fn answer_spreading(alloc: Global, rt: &impl Abort, wanted: u32) -> Result<Found, SearchErr> {
+    let problem = spreading(alloc, rt, wanted);
+    let initial = spread_apart(alloc, rt);
+    let goal = [atom(1, &[v(0)])];
+    assert!(rt; are_atoms_of(&problem, 1, &goal));
+    assert!(rt; are_learned(&problem, &[]));
+    assert!(rt; problem.objects > 0);
+    search(alloc, &problem, &initial, &goal, 1, &[])
+}
+
+#[test]
+fn nothing_is_asked_about_what_does_not_fit(rt: HostRuntime) {
+    let found = answer_spreading(rt.alloc(), &rt, 1);
+    assert!(&rt; matches!(&found, Ok(plan) if plan.steps.len() == 1));
+    let limited = answer_spreading(rt.alloc(), &rt, 0);
+    assert!(&rt; matches!(&limited, Err(SearchErr::ShapeLimit { .. })));
 }
 
 #[test]

@@ -3,6 +3,7 @@ use Rattle.std.specs.Prelude.{◌≡◌, ◌≢◌, ◌⊎◌, ◌<◌, ◌≤�
 use Rattle.std.proofs.Common.{refl, sym, ap, ◌∙◌, subst, arith, get_or, zero, suc, inl}
 use Rattle.std.proofs.lemmas.List.{get_or-map, length-append, length-map}
 use Rattle.std.proofs.lemmas.List.Elements.{All-nil, All-weaker, Contains-append_cases}
+use Rattle.px_base.specs.Bounds.{u32_max}
 use Rattle.px_terms.specs.declared.problem.Problem.{Problem}
 use Rattle.px_table.specs.Kernels.{KernelsCarry}
 use Rattle.px_printer.specs.Replies.{IsReplyNamed}
@@ -77,9 +78,9 @@ ready-at script range k c below =
     (each-building (IsBuildingOf script.names script.problem script.facts) (OwnsRoomEdits script.problem) script.building
     (owns-room-edits script.names script.problem script.facts) range.building) (range.commands.each k c below)
 
-few-commands : (version count : ℕ) → version ≡ 1 → count ≤ greatest version limit.commands → count < 4294967295
+few-commands : (version count : ℕ) → version ≡ 1 → count ≤ greatest version limit.commands → count < u32_max
 few-commands version count is_one few =
-    let most : count ≤ 512 = subst (λ (v : ℕ). count ≤ greatest v limit.commands) is_one few in
+    let most : count ≤ greatest 1 limit.commands = subst (λ (v : ℕ). count ≤ greatest v limit.commands) is_one few in
     omega (arith, most)
 
 -- a session keeps what it is to keep before its first command

@@ -15,10 +15,10 @@ use Rattle.px_table.specs.declared.entry.Move.{Move}
 use Rattle.px_table.specs.declared.mark.Mark.{Mark}
 use Rattle.px_table.specs.declared.table.Table.{Table}
 use Rattle.px_table.specs.Kernels.{IsProper, instance_under, mark_under}
-use Rattle.px_table.specs.Marks.{IsKept, marks_from}
+use Rattle.px_table.specs.Marks.{IsKept}
 use Rattle.px_table.specs.SupportLaws.{marks-are_of}
 use Rattle.px_table.specs.Supports.{Supports}
-use Rattle.px_table.specs.Tables.{AreOfProblem, IsTable, rows_of}
+use Rattle.px_table.specs.Tables.{AreOfProblem, IsTable, rows_of, table_of_rows}
 use Rattle.px_ends.specs.Made.{IsTableOfMoves, MovesRows}
 use Rattle.px_ends.specs.Tasks.{Task, initial_node, steps_of}
 use Rattle.px_library.specs.Libraries.{with_table}
@@ -77,8 +77,7 @@ kept-proper problem table instances atoms kept =
 
 -- the table that is built of a support
 abbrev pub built : List OpInst → List Atom → ℕ → List (List Proof) → Table
-built steps goal vars support =
-    record { params = 0; steps = steps; goal = goal; goal_vars = vars; marks = marks_from 1 (rows_of support); proofs = support }
+built steps goal vars support = table_of_rows 0 [] steps goal vars support
 
 pub built-plan : (problem : Problem) (atoms : List Atom) (steps : List OpInst) (goal : List Atom) (vars : ℕ) (support : List (List Proof))
     → All (IsInstanceOf problem) steps → Supports problem atoms steps goal vars (rows_of support) → AreOfProblem problem (rows_of support)
@@ -93,7 +92,7 @@ pub built-moves : (task : Task) (moves : List Move) (steps : List OpInst) (suppo
     → steps ≡ steps_of task.tables [] moves
     → MovesRows task (initial_node task) [] moves (rows_of support) → IsTableOfMoves task moves (built steps task.goal task.vars support)
 built-moves task moves steps support taken rows =
-    record { params = refl; steps = taken; goal = refl; goal_vars = refl; rows = rows; marks = refl }
+    record { params = refl; steps = taken; goal = refl; goal_vars = refl; rows = rows; marks = refl; param_sorts = refl }
 
 -- what is reported of a plan that is found, where its table is stored
 pub finds-plan : (task : Task) (name count : ℕ) (old new : SessionState) (plan : Found) (made : Table) → IsFoundPlan task plan

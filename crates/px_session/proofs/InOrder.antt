@@ -8,7 +8,7 @@ use Rattle.px_library.specs.Libraries.{table_named}
 use Rattle.px_ends.specs.Tasks.{Task, task_of}
 use Rattle.px_ends.specs.WorkedEnds.{idle, p}
 use Rattle.px_ends.proofs.Exclusion.{ends_are_one}
-use Rattle.px_ends.proofs.Smallest.{end_facts}
+use Rattle.px_ends.proofs.Operators.{end_facts}
 use Rattle.px_printer.specs.declared.reply.Reply.{Reply}
 use Rattle.px_printer.specs.declared.reply.Reply.TheVariants as reply
 use Rattle.px_printer.specs.declared.reply.Why.{Why}

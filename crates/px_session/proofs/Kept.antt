@@ -7,6 +7,7 @@ use Rattle.px_base.specs.ListLaws.{All-at, All-each}
 use Rattle.px_terms.specs.declared.atom.Atom.{Atom}
 use Rattle.px_terms.specs.declared.problem.Problem.{Problem}
 use Rattle.px_terms.specs.AtomSets.{IsAtomSet}
+use Rattle.px_library.specs.Libraries.{most_tables}
 use Rattle.px_table.specs.declared.table.Table.{Table}
 use Rattle.px_table.specs.KernelLaws.{kernels_carry}
 use Rattle.px_table.specs.Kernels.{KernelsCarry}
@@ -34,7 +35,7 @@ opened problem facts set = record {
 one-more : (P : Table → Type 0) (tables : List Table) (one : Table) → All P tables → P one → All P (tables ++ one ∷ [])
 one-more P tables one all is = All-append P tables (one ∷ []) all (All-cons P one [] is (All-nil P))
 
-length-more : (tables : List Table) (one : Table) → ¬ (32 ≤ length tables) → length (tables ++ one ∷ []) ≤ 32
+length-more : (tables : List Table) (one : Table) → ¬ (most_tables ≤ length tables) → length (tables ++ one ∷ []) ≤ most_tables
 length-more tables one few = grind (arith, length-append tables (one ∷ []), few)
 
 learned-kept : (problem : Problem) (old : SessionState) → IsSession problem old → (name source params steps : ℕ) (new : SessionState)

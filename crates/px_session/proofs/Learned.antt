@@ -9,7 +9,7 @@ use Rattle.px_entries.specs.Learned.{AreLearned}
 use Rattle.px_general.specs.declared.general_err.GeneralErr.{GeneralErr}
 use Rattle.px_general.specs.General.{Generalises}
 use Rattle.px_general.specs.Limits.{IsTooDeep, IsTooLong, IsTooWide}
-use Rattle.px_library.specs.Libraries.{LibraryValue, table_named}
+use Rattle.px_library.specs.Libraries.{LibraryValue, most_tables, table_named}
 use Rattle.px_printer.specs.declared.reply.Reply.{Reply}
 use Rattle.px_printer.specs.declared.reply.Reply.TheVariants as reply
 use Rattle.px_printer.specs.declared.reply.Why.{Why}
@@ -53,7 +53,7 @@ general-few problem old session source plan general named short is =
 
 -- none of the causes
 allowed : (state : SessionState) (plan : Table) → ¬ IsTooLong plan → ¬ IsTooDeep plan → ¬ IsTooWide plan
-    → ¬ (32 ≤ length state.learned.tables)
+    → ¬ (most_tables ≤ length state.learned.tables)
     → (why : Why) → ¬ RefusesLearning state plan why
 allowed state plan short low narrow room TooLong is = short is
 allowed state plan short low narrow room TooDeep is = low is.1

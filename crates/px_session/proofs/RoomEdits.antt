@@ -4,6 +4,7 @@ use Rattle.std.specs.Option.{option_map}
 use Rattle.std.proofs.Common.{zero, suc, refl, sym, ap, ◌∙◌, subst, arith}
 use Rattle.std.proofs.lemmas.List.Elements.{All-cons, All-map, All-weaker}
 use Rattle.std.proofs.lemmas.Option.{slice_get_within}
+use Rattle.px_base.specs.Bounds.{u32_max}
 use Rattle.px_names.specs.Lists.{NameLists}
 use Rattle.px_terms.specs.declared.atom.Atom.{Atom}
 use Rattle.px_terms.specs.declared.problem.Problem.{Problem}
@@ -145,7 +146,7 @@ read-building P (Some building) is = is
 
 -- its things are few
 pub few-things : (version : ℕ) (names : NameLists) (problem : Problem) (facts : List Atom) (things : List Thing) → version ≡ 1
-    → length names.objects ≤ greatest version limit.objects → IsBuildingOf names problem facts things → length things < 4294967295
+    → length names.objects ≤ greatest version limit.objects → IsBuildingOf names problem facts things → length things < u32_max
 few-things version names problem facts things is_one few is =
-    let most : length names.objects ≤ 256 = subst (λ (v : ℕ). length names.objects ≤ greatest v limit.objects) is_one few in
+    let most : length names.objects ≤ greatest 1 limit.objects = subst (λ (v : ℕ). length names.objects ≤ greatest v limit.objects) is_one few in
     omega (arith, most, is.objects, objects_are things is.is_building.0)

@@ -2,7 +2,6 @@
 use Rattle.std.specs.Prelude.{◌≡◌, ◌+◌, ◌<◌, List, [], ◌∷◌, map, length, Any}
 use Rattle.std.proofs.Common.{zero, suc, refl, sym, ap, ◌∙◌, subst, arith}
 use Rattle.std.proofs.lemmas.List.{length-map}
-use Rattle.std.proofs.lemmas.List.Elements.{All-contains_itself}
 use Rattle.px_terms.specs.declared.instance.OpInst.{OpInst}
 use Rattle.px_terms.specs.declared.problem.Problem.{Problem}
 use Rattle.px_terms.specs.declared.term.Term.{Term}
@@ -11,8 +10,7 @@ use Rattle.px_proof.specs.Derivation.{Derivation, Derivations, fact, ancestor, s
 use Rattle.px_proof.specs.Substitution.{derivation_under}
 use Rattle.px_proof.specs.SubstitutionLaws.{skeleton-under}
 use Rattle.px_table.specs.declared.table.Table.{Table}
-use Rattle.px_table.specs.Kernels.{IsProper, goal_under, instance_under, kernel_under, rows_under, steps_under}
-use Rattle.px_table.specs.SupportShapes.{SupportShape}
+use Rattle.px_table.specs.Kernels.{IsProper, instance_under}
 use Rattle.px_table.specs.Tables.{IsTable, rows_of}
 use Rattle.px_general.specs.General.{Generalises}
 use Rattle.px_general.specs.Limits.{IsTooDeep, IsTooLong}
@@ -80,22 +78,13 @@ pub general-alike : (problem : Problem) (plan general : Table) → IsTable probl
     → Generalises problem plan general → IsAlike plan general
 general-alike problem plan general is_table no_params proper is =
     let own = has_instance problem plan is_table no_params proper general is in
-    let shape = (is.sound own.0 (kernel_under general own.0 1) (steps_under general own.0) (goal_under general own.0)
-    (rows_under general own.0)
-    (record {
-      count = own.1;
-      proper = own.2;
-      steps_are = refl;
-      goal_is = refl;
-      rows_are = refl;
-      kernel = All-contains_itself (kernel_under general own.0 1);
-    })).1 in
-    let ops = ap (λ (s : SupportShape). length s.operators) shape in
     record {
       steps =
-          sym (length-map (steps_under general own.0) (λ (s : OpInst). s.op) ∙ length-map general.steps (instance_under own.0))
-          ∙ ops ∙ length-map plan.steps (λ (s : OpInst). s.op);
-      rows = sym (rows-under (map Obj own.0) (rows_of general.proofs)) ∙ ap (λ (s : SupportShape). s.rows) shape;
+          sym (length-map general.steps (instance_under own.0)) ∙ sym (ap length own.1.steps_are)
+          ∙ length-map plan.steps (instance_under []);
+      rows =
+          sym (rows-under (map Obj own.0) (rows_of general.proofs)) ∙ ap (map (map skeleton)) (sym own.1.rows_are)
+          ∙ rows-under [] (rows_of plan.proofs);
     }
 
 pub general-short : (plan general : Table) → IsAlike plan general → ¬ IsTooLong plan → ¬ IsTooLong general

@@ -19,7 +19,7 @@ use Rattle.px_proof.specs.Derivation.{Derivation, fact}
 use Rattle.px_proof.specs.LayerLaws.{derivation_of-fact}
 use Rattle.px_proof.specs.declared.proof.Leaf.{Leaf}
 use Rattle.px_table.specs.declared.mark.Mark.{Mark}
-use Rattle.px_table.specs.Deciding.{is_atom_of, is_in_range, is_named, is_table, rows_prove}
+use Rattle.px_table.specs.Deciding.{is_table, rows_are_table}
 use Rattle.px_table.specs.KernelLaws.{kernels_carry}
 use Rattle.px_table.specs.Kernels.{IsProper, atom_under, kernel_under}
 use Rattle.px_table.specs.Marks.{IsKept, mark_eq, marks_from, step_at}
@@ -31,7 +31,7 @@ use Rattle.px_planex.specs.Execution.{nothing_sensed}
 use Rattle.px_planex.specs.Turns.{Recorded}
 use Rattle.px_ends.specs.WorkedEnds.{idle, p, p_at_once}
 use Rattle.px_ends.specs.Tasks.{task_of}
-use Rattle.px_ends.proofs.Smallest.{end_facts}
+use Rattle.px_ends.proofs.Operators.{end_facts}
 use Rattle.px_world.specs.declared.edits.AtomEdit.TheVariants.{Add, Remove}
 use Rattle.px_library.specs.Libraries.{no_tables, with_table}
 use Rattle.px_session.specs.Lawful.{FindsPlan, IsRunOf, recorded_for}
@@ -54,11 +54,8 @@ rows-are = λ i. (derivation_of-fact p_leaf i ∷ []) ∷ []
 -- Alike: `test` of `px_match/proofs/DangerTable`, since a table is tested part by part, by names that compute.
 tested : is_table idle p_at_once ≡ true
 tested =
-    subst (λ (made : List (List Derivation)). (is_in_range idle p_at_once
-    && (rows_prove idle.objects p_at_once.params idle.axioms idle p_at_once.steps p_at_once.goal made
-    && (pointwise mark_eq p_at_once.marks (marks_from 1 made)
-    && (list_all (λ mark. is_atom_of idle p_at_once.params mark.atom) p_at_once.marks
-    && list_all (is_named idle p_at_once.steps) p_at_once.marks)))) ≡ true)
+    subst (λ (made : List (List Derivation)). (rows_are_table idle p_at_once.params p_at_once.param_sorts p_at_once.steps p_at_once.goal
+    p_at_once.goal_vars made && pointwise mark_eq p_at_once.marks (marks_from 1 made)) ≡ true)
     (sym rows-are) refl
 
 is-table : IsTable idle p_at_once
@@ -132,6 +129,7 @@ goal-fits = record {
     to_goal = omega arith;
     instantiation = record { count = refl; objects = All-nil (λ n. n < 0) };
     extends = All-nil (λ (pair : ℕ × ℕ). (k : ℕ) × (pair.0 ≡ suc k) × (slice_get [] k ≡ Some pair.1));
+    fitting = λ k below. absurd (omega (arith, below));
     proper = is-proper [] 1;
     holds = one (Contains (p ∷ [])) p (Contains-first p []);
   };

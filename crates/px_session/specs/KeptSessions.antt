@@ -1,5 +1,6 @@
 -- What a session keeps.
 use Rattle.std.specs.Prelude.{◌≢◌, ◌<◌, ◌≤◌, ℕ, Option, List, length, take, flat_map, All, AllPairs, Contains}
+use Rattle.px_base.specs.Bounds.{u32_max}
 use Rattle.px_terms.specs.declared.atom.Atom.{Atom}
 use Rattle.px_terms.specs.declared.problem.Problem.{Problem}
 use Rattle.px_terms.specs.Validity.{IsAtomOf, IsValid}
@@ -52,5 +53,5 @@ pub record IsKeptSession (building : Option RoomState) (session : SessionValue) 
   pub tellable : All (IsTellable session.problem (length session.names.results)) session.commands
   pub once : AllPairs (λ one other. one ≢ other) (flat_map result_given session.commands)
   pub learned : All (Contains (flat_map result_given (take session.done session.commands))) session.state.learned.names
-  pub few : length session.commands < 4294967295
+  pub few : length session.commands < u32_max
   pub recorded : length session.state.recorded ≤ session.done

@@ -9,7 +9,7 @@ use Rattle.px_table.specs.declared.entry.Move.{Move}
 use Rattle.px_table.specs.declared.table.Table.{Table}
 use Rattle.px_general.specs.General.{Generalises}
 use Rattle.px_general.specs.Limits.{IsTooDeep, IsTooLong, IsTooWide}
-use Rattle.px_library.specs.Libraries.{table_named, with_table}
+use Rattle.px_library.specs.Libraries.{most_tables, table_named, with_table}
 use Rattle.px_planex.specs.Turns.{AtGoal, AtNoKernel, ByActing, BySlipping, Recorded, RunsTable, TurnValue}
 use Rattle.px_planex.specs.Turns as executed
 use Rattle.px_ends.specs.Ends.{IsExhausted, IsFound, IsNodeLimit, IsShapeLimit}
@@ -56,7 +56,7 @@ abbrev pub RefusesLearning : SessionState → Table → Why → Type 0
 RefusesLearning state plan TooLong = IsTooLong plan
 RefusesLearning state plan TooDeep = (¬ IsTooLong plan) × IsTooDeep plan
 RefusesLearning state plan TooWide = (¬ IsTooLong plan) × (¬ IsTooDeep plan) × IsTooWide plan
-RefusesLearning state plan Full = (¬ IsTooLong plan) × (¬ IsTooDeep plan) × (¬ IsTooWide plan) × (32 ≤ length state.learned.tables)
+RefusesLearning state plan Full = (¬ IsTooLong plan) × (¬ IsTooDeep plan) × (¬ IsTooWide plan) × (most_tables ≤ length state.learned.tables)
 
 -- the stored plan may not be learned for this cause, and nothing changes
 pub record IsNotLearned (source : ℕ) (old : SessionState) (why : Why) (new : SessionState) : Type 0 where

@@ -1,6 +1,8 @@
 -- What a search hands to a session.
 use Rattle.std.specs.Prelude.{◌≡◌, ◌<◌, [], length, All}
+use Rattle.px_base.specs.Bounds.{u32_max}
 use Rattle.px_terms.specs.Plans.{Carries}
+use Rattle.px_terms.specs.Sorts.{IsWellSorted}
 use Rattle.px_terms.specs.Validity.{IsInstanceOf}
 use Rattle.px_table.specs.Supports.{Supports}
 use Rattle.px_table.specs.Tables.{AreOfProblem, rows_of}
@@ -17,6 +19,7 @@ pub record IsFoundPlan (task : Task) (plan : Found) : Type 0 where
   pub rows : MovesRows task (initial_node task) [] plan.moves (rows_of plan.support.items)
   pub supports : Supports task.problem task.initial plan.steps task.goal task.vars (rows_of plan.support.items)
   pub instances : All (IsInstanceOf task.problem) plan.steps
+  pub fitting : All (IsWellSorted task.problem) plan.steps
   pub of_problem : AreOfProblem task.problem (rows_of plan.support.items)
   pub carries : Carries task.problem task.initial plan.steps task.vars task.goal
-  pub short : length plan.steps < 4294967295
+  pub short : length plan.steps < u32_max

@@ -9,7 +9,7 @@ use Rattle.px_table.specs.Tables.{IsTable}
 use Rattle.px_world.specs.Worlds.{edited}
 use Rattle.px_rooms.specs.Changes.{facts_edited}
 use Rattle.px_general.specs.Limits.{IsTooDeep, IsTooLong}
-use Rattle.px_library.specs.Libraries.{LibraryValue, no_tables, table_named}
+use Rattle.px_library.specs.Libraries.{LibraryValue, most_tables, no_tables, table_named}
 use Rattle.px_planex.specs.Turns.{Recorded}
 pub use Rattle.px_session.specs.declared.edit.Edit.{Edit}
 pub use Rattle.px_session.specs.declared.edit.Edit.TheVariants.{OfAtoms as of_atoms, OfRooms as of_rooms}
@@ -60,4 +60,4 @@ pub record IsSession (problem : Problem) (state : SessionState) : Type 0 where
   pub atoms : IsAtomSet state.atoms
   pub plans : All (IsPlanTable problem) state.plans.tables
   pub learned : All (IsLearnedTable problem) state.learned.tables
-  pub few : length state.learned.tables ≤ 32
+  pub few : length state.learned.tables ≤ most_tables

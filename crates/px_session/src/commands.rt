@@ -1,5 +1,6 @@
 //! Runs one command.
 ghost use Rattle.std.specs.Prelude.{◌≡◌, ◌<◌, ◌++◌, All, Contains, IfOk, OnErr, OnOk, length, map};
+ghost use Rattle.px_base.specs.Bounds.{u32_max};
 ghost use Rattle.px_terms.specs.Validity.{IsValid};
 ghost use Rattle.px_reader.specs.CommandViews.{binding_pair, command_view};
 ghost use Rattle.px_script.specs.Ranges.{result_given};
@@ -34,7 +35,7 @@ pub(crate) fn run_command(
     requires state { IsSession problem.now state.old }
     requires placed { IsPlaced problem.now building.old state.old }
     requires runnable { IsRunnable problem.now building.old (command_view command.now) }
-    requires few { length state.old.recorded < 4294967295 }
+    requires few { length state.old.recorded < u32_max }
     requires new_names { All (λ name. ¬ Contains state.old.learned.names name) (result_given (command_view command.now)) }
     ensures lawful { IfOk result (λ reply. Lawful problem.now state.old (command_view command.now) reply state.new) }
     ensures placed { OnOk result (IsPlaced problem.now building.new state.new) }

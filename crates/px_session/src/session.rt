@@ -1,6 +1,7 @@
 //! A session: the commands of a script, and the state that those which are done have left.
 ghost use Rattle.std.specs.Prelude.{◌≡◌, ◌+◌, ◌<◌, All, IfOk, IfSome, OnOk, OnErr, length, slice_index_or};
 ghost use Rattle.std.specs.Option.{option_map};
+ghost use Rattle.px_base.specs.Bounds.{u32_max};
 ghost use Rattle.px_printer.specs.Replies.{IsReplyNamed};
 ghost use Rattle.px_reader.specs.LineReads.{content};
 ghost use Rattle.px_script.specs.Commands.{Facts};
@@ -139,7 +140,7 @@ impl Session {
 /// Returns the world of a building as it stands at first, if there is a building.
 fn world_of(alloc: Global, building: &Option<Building>) -> Result<Option<RoomWorld>, NoMemory>
     requires buildings { IfSome building.now (λ building. IsBuilding building.things) }
-    requires short { IfSome building.now (λ building. length building.things < 4294967295) }
+    requires short { IfSome building.now (λ building. length building.things < u32_max) }
     ensures { IfOk result (λ world. world ≡ option_map (λ building. first_state building.things) building.now) }
 {
     let Some(building) = building else {

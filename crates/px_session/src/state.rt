@@ -1,5 +1,6 @@
 //! What a session holds, and the commands that show some of it or record something.
 ghost use Rattle.std.specs.Prelude.{◌≡◌, ◌<◌, IfOk, OnErr, length, option_map};
+ghost use Rattle.px_base.specs.Bounds.{u32_max};
 ghost use Rattle.px_session.specs.Lawful.{Notes, TellsFacts, TellsShow, recorded_for};
 ghost use Rattle.px_session.specs.Sessions.{any_table, opening};
 
@@ -100,7 +101,7 @@ impl State {
         between: bool,
         edits: Sequence<Edit>,
     ) -> Result<Reply, NoMemory>
-        requires few { length self.old.recorded < 4294967295 }
+        requires few { length self.old.recorded < u32_max }
         ensures told { IfOk result (λ reply. Notes self.old (recorded_for turn between edits) reply self.new) }
         ensures kept { OnErr result (self.new ≡ self.old) }
     {

@@ -1,5 +1,6 @@
 //! The turns of a run.
 ghost use Rattle.std.specs.Prelude.{◌≡◌, ◌≢◌, ◌<◌, ◌≤◌, [], All, MatchBool, None, length, map, vec_capacity};
+ghost use Rattle.px_base.specs.Bounds.{u32_max};
 ghost use Rattle.px_terms.specs.Validity.{IsValid};
 ghost use Rattle.px_table.specs.Tables.{IsTable};
 ghost use Rattle.px_world.specs.Worlds.{HaveSameRules};
@@ -85,7 +86,7 @@ fn take_turn(
 ) -> Turn
     requires taken { TakesAll (building_of world.old) recorded.now }
     requires table { planex.old.table ≡ table.now }
-    requires short { length table.now.steps < 4294967295 }
+    requires short { length table.now.steps < u32_max }
     requires places { HasPlaces planex.old (places_of_turn planex.old.problem recorded.now number) world.old }
     ensures takes { TakesNumbered planex.old recorded.now number (place_atoms world.old) result (place_atoms world.new) planex.new.memory }
     ensures frame { planex.new ≡ record planex.old { memory = planex.new.memory } }

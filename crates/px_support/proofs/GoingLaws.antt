@@ -144,7 +144,7 @@ module _ (task : Task) (learned : AreLearned task.problem task.tables) where
   entry-ground : (entry : Entry) → IsEntry task.problem task.tables entry
       → All (IsGroundInstanceOf task.problem) (effect_of task.tables entry)
   entry-ground (Op inst) is =
-      All-cons (IsGroundInstanceOf task.problem) inst [] (instance-is_ground task.problem inst is)
+      All-cons (IsGroundInstanceOf task.problem) inst [] (instance-is_ground task.problem inst is.of)
       (All-nil (IsGroundInstanceOf task.problem))
   entry-ground (Macro number prefix sigma) is =
       let found = macro-table task.problem task.tables learned number prefix sigma is in

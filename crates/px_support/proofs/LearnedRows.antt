@@ -3,6 +3,7 @@ use Rattle.std.specs.Prelude.{◌≡◌, ◌≤◌, ◌<◌, ◌+◌, ◌==◌, 
 use Rattle.std.proofs.Common.{zero, suc, refl, sym, ap, ◌∙◌, subst, inl, inr, arith}
 use Rattle.std.proofs.lemmas.List.{length-map}
 use Rattle.std.proofs.lemmas.List.Elements.{Contains-append_left, Contains-append_right}
+use Rattle.px_base.specs.Bounds.{u32_max}
 use Rattle.px_base.specs.ListLaws.{All-at, All-each, Contains-cases, Contains-filter, Contains-none}
 use Rattle.px_terms.specs.declared.atom.Atom.{Atom}
 use Rattle.px_terms.specs.declared.instance.OpInst.{OpInst}
@@ -94,7 +95,7 @@ is-here : (mark : Mark) (row : ℕ) → mark.row ≡ row → (mark.column == 0) 
 is-here mark row same first = grind (arith, same, first)
 
 module _ (problem : Problem) (table : Table) (is : IsTable problem table) (prefix : ℕ) (sigma : List ℕ)
-    (m : IsMacro problem table prefix sigma) (shift : ℕ) (room : shift + prefix ≤ 4294967295)
+    (m : IsMacro problem table prefix sigma) (shift : ℕ) (room : shift + prefix ≤ u32_max)
     (place : ℕ) (early : place < prefix) (row : List Derivation) (at : slice_get (rows_of table.proofs) place ≡ Some row) (d : Derivation)
     (has : Contains row d) where
   marked : (leaf : Leaf) → Contains (leaves_of d) leaf → Contains table.marks (mark_of (suc place) leaf)
@@ -125,7 +126,7 @@ module _ (problem : Problem) (table : Table) (is : IsTable problem table) (prefi
       each-mapped P (leaf_under (map Obj sigma)) (leaves_of d) each leaf
       (subst (λ (ls : List Leaf). Contains ls leaf) (leaves-under (map Obj sigma) d) inside)
 
-  column-early : (leaf : Leaf) → Contains (leaves_of d) leaf → leaf.column + shift ≤ 4294967295
+  column-early : (leaf : Leaf) → Contains (leaves_of d) leaf → leaf.column + shift ≤ u32_max
   column-early leaf inside =
       let named = All-at (IsNamed problem table.steps) table.marks (mark_of (suc place) leaf) is.named (marked leaf inside) in
       omega (arith, named.earlier, early, room)
@@ -140,8 +141,8 @@ module _ (problem : Problem) (table : Table) (is : IsTable problem table) (prefi
         each-leaf (λ (l : Leaf). (l.column == 0) ≡ true → Contains (initial_atoms table sigma (suc place)) l.atom) initial leaf both.0
         both.1);
     columns =
-        All-each (λ (leaf : Leaf). leaf.column + shift ≤ 4294967295) (later_leaves (leaves_of (derivation_under (map Obj sigma) d)))
+        All-each (λ (leaf : Leaf). leaf.column + shift ≤ u32_max) (later_leaves (leaves_of (derivation_under (map Obj sigma) d)))
         (λ leaf inside.
         let both = (Contains-filter (λ (l : Leaf). not (l.column == 0)) (leaves_of (derivation_under (map Obj sigma) d)) leaf).0 inside in
-        each-leaf (λ (l : Leaf). l.column + shift ≤ 4294967295) column-early leaf both.0);
+        each-leaf (λ (l : Leaf). l.column + shift ≤ u32_max) column-early leaf both.0);
   }

@@ -6,6 +6,7 @@ pub mod RowLeaves
 pub mod TreesUnder
 pub mod GraftedRows
 pub mod MacroTables
+pub mod FittingSteps
 pub mod Supporting
 pub mod FewMoves
 pub mod Found

@@ -5,6 +5,7 @@ use Rattle.std.specs.List.{AllZip}
 use Rattle.std.proofs.lemmas.List.{append-nil, length-map}
 use Rattle.std.proofs.lemmas.List.Elements.{All-append, All-cons, All-head, All-nil, All-tail}
 use Rattle.std.proofs.lemmas.Option.{slice_get_read, slice_get_within}
+use Rattle.px_base.specs.Bounds.{u32_max}
 use Rattle.px_base.specs.declared.no_memory.NoMemory.{NoMemory}
 use Rattle.px_base.specs.ListLaws.{All-each}
 use Rattle.px_terms.specs.declared.atom.Atom.{Atom}
@@ -24,7 +25,7 @@ use Rattle.px_table.specs.declared.entry.Entry.TheVariants.{Macro}
 use Rattle.px_table.specs.declared.table.Table.{Table}
 use Rattle.px_table.specs.Kernels.{steps_under}
 use Rattle.px_table.specs.Prefixes.{IsMacro}
-use Rattle.px_table.specs.Tables.{IsTable, rows_of}
+use Rattle.px_table.specs.Tables.{IsTable, empty_table, rows_of}
 use Rattle.px_entries.proofs.RowSteps.{steps-count, steps-ground}
 use Rattle.px_entries.proofs.RowTurns.{in_turn, row_obligations}
 use Rattle.px_entries.specs.Entries.{IsEntry, effect_of, initial_atoms, obligations_of, row_needs, table_at}
@@ -287,7 +288,7 @@ module _ (problem : Problem) (tables : List Table) (all : AreLearned problem tab
     (entry : IsEntry problem tables (Macro number prefix sigma)) (table : Table) (is : table ≡ slice_index_or tables number table) where
   found : table_at tables number ≡ table
   found =
-      ap (λ (o : Option Table). unwrap_or o (record { params = 0; steps = []; goal = []; goal_vars = 0; marks = []; proofs = [] }))
+      ap (λ (o : Option Table). unwrap_or o empty_table)
       (slice_get_read tables (length tables) number table refl (slice_get_within tables number entry.0 entry.1) is)
 
   pub table-learned : IsTable problem table × IsMacro problem table prefix sigma × (length table.steps ≤ 64)
@@ -296,7 +297,7 @@ module _ (problem : Problem) (tables : List Table) (all : AreLearned problem tab
       (macro-table problem tables all number prefix sigma entry)
 
   pub learned-is : (learned : Learned) → learned.table.now ≡ table → learned.prefix ≡ prefix → learned.sigma.now ≡ sigma
-      → learned.terms.now ≡ map Obj sigma → learned.shift + 64 ≤ 4294967295 → IsLearnedOf problem learned
+      → learned.terms.now ≡ map Obj sigma → learned.shift + 64 ≤ u32_max → IsLearnedOf problem learned
   learned-is learned table_is prefix_is sigma_is terms room = record {
     table = subst (IsTable problem) (sym table_is) table-learned.0;
     is_macro = rw (table_is, prefix_is, sigma_is) table-learned.1;

@@ -14,7 +14,7 @@ use Rattle.px_table.specs.declared.entry.Entry.TheVariants.{Macro}
 use Rattle.px_table.specs.declared.table.Table.{Table}
 use Rattle.px_table.specs.Kernels.{instance_under, steps_under}
 use Rattle.px_table.specs.Prefixes.{IsMacro}
-use Rattle.px_table.specs.Tables.{IsStepOf, IsTable}
+use Rattle.px_table.specs.Tables.{IsStepOf, IsTable, empty_table}
 use Rattle.px_ops.specs.KeepLaws.{has_at}
 use Rattle.px_entries.proofs.RowSteps.{object-of}
 use Rattle.px_entries.specs.Entries.{IsEntry, table_at}
@@ -25,7 +25,7 @@ module _ (problem : Problem) (tables : List Table) (learned : AreLearned problem
     (entry : IsEntry problem tables (Macro number prefix sigma)) where
   pub table-same : table_at tables number ≡ entry.0
   table-same =
-      ap (λ (o : Option Table). unwrap_or o (record { params = 0; steps = []; goal = []; goal_vars = 0; marks = []; proofs = [] })) entry.1
+      ap (λ (o : Option Table). unwrap_or o empty_table) entry.1
 
   pub macro-table : IsTable problem (table_at tables number) × IsMacro problem (table_at tables number) prefix sigma
       × (length (table_at tables number).steps ≤ 64)

@@ -6,6 +6,7 @@ use Rattle.px_base.proofs.Loops.{ok_map}
 use Rattle.px_base.specs.declared.no_memory.NoMemory.{NoMemory}
 use Rattle.px_terms.specs.declared.instance.OpInst.{OpInst}
 use Rattle.px_terms.specs.Plans.{Carries}
+use Rattle.px_terms.specs.Sorts.{IsWellSorted}
 use Rattle.px_terms.specs.Validity.{IsAtomOf, IsInstanceOf, IsValid}
 use Rattle.px_table.specs.declared.entry.Move.{Move}
 use Rattle.px_table.specs.Supports.{Supports}
@@ -26,6 +27,7 @@ pub record IsSupport (task : Task) (support : Support) : Type 0 where
   pub of_problem : AreOfProblem task.problem (rows_of support.rows.items)
   pub carries : Carries task.problem task.initial support.steps task.vars task.goal
   pub instances : All (IsInstanceOf task.problem) support.steps
+  pub fitting : All (IsWellSorted task.problem) support.steps
 
 by-steps : (task : Task) (moves : List Move) (support : Support) → support.steps ≡ steps_of task.tables [] moves
     → AreSupport task moves (rows_of support.rows.items) → IsSupport task support
@@ -36,6 +38,7 @@ by-steps task moves support steps is = record {
   of_problem = is.of_problem;
   carries = subst (λ (s : List OpInst). Carries task.problem task.initial s task.vars task.goal) (sym steps) is.carries;
   instances = subst (All (IsInstanceOf task.problem)) (sym steps) is.instances;
+  fitting = subst (All (IsWellSorted task.problem)) (sym steps) is.fitting;
 }
 
 module _ (law : MovesSupport) (task : Task) (moves : List Move) (result : Result Support NoMemory) (valid : IsValid task.problem)
@@ -66,6 +69,10 @@ module _ (law : MovesSupport) (task : Task) (moves : List Move) (result : Result
   pub if_instances : IfOk result (λ support. All (IsInstanceOf task.problem) support.steps)
   if_instances =
       ok_map (IsSupport task) (λ support. All (IsInstanceOf task.problem) support.steps) (λ support is. is.instances) result if_support
+
+  pub if_fitting : IfOk result (λ support. All (IsWellSorted task.problem) support.steps)
+  if_fitting =
+      ok_map (IsSupport task) (λ support. All (IsWellSorted task.problem) support.steps) (λ support is. is.fitting) result if_support
 
   pub if_carries : IfOk result (λ support. Carries task.problem task.initial support.steps task.vars task.goal)
   if_carries =

@@ -42,6 +42,7 @@ use Rattle.px_support.proofs.Marking.{AreSupportedRows, rows-marked}
 use Rattle.px_support.proofs.RowLeaves.{first_row-supported, others-in}
 use Rattle.px_support.proofs.Staying.{results-more}
 use Rattle.px_support.specs.MadeSupports.{MovesSupport}
+use Rattle.px_support.proofs.FittingSteps.{steps-fit}
 
 -- only what belongs to the problem stands in the row
 abbrev pub IsRowOfProblem : Problem → List Derivation → Type 0
@@ -234,7 +235,7 @@ module _ (answers-support : AnswersSupport) (task : Task) (valid : IsValid task.
       (λ mark has. subst (λ (marks : List Mark). Contains marks mark) (sym found.0.marks) has) found.0.prove
       (λ a g has. subst (λ (atoms : List Atom). Contains atoms a) is has) made_rows.2 rest)
   moves-supported model (Op inst ∷ below) made (Apply ∷ moves) rows entries is ground_steps can made_rows =
-      let instance : IsInstanceOf task.problem inst = All-head (IsEntry task.problem task.tables) (Op inst) below entries in
+      let instance : IsInstanceOf task.problem inst = (All-head (IsEntry task.problem task.tables) (Op inst) below entries).of in
       let row = made_rows.2 in
       let grown =
       All-append (IsGroundInstanceOf task.problem) made (inst ∷ []) ground_steps
@@ -272,4 +273,6 @@ moves_support answers-support task moves rows valid goal_of learned can made_row
       of_problem = s.of_problem;
       carries = support_carries task.problem task.initial (steps_of task.tables [] moves) task.goal task.vars rows s.of_problem supports;
       instances = s.instances;
+      fitting =
+          steps-fit task task.initial [] moves (All-nil (IsEntry task.problem task.tables)) can;
     }

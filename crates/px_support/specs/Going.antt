@@ -1,5 +1,6 @@
 -- How far the code has gone through the moves, and what a move adds to that.
 use Rattle.std.specs.Prelude.{◌≡◌, ◌≤◌, ◌+◌, ◌*◌, List, [], ◌∷◌, ◌++◌, All, length, reverse}
+use Rattle.px_base.specs.Bounds.{u32_max}
 use Rattle.px_terms.specs.declared.instance.OpInst.{OpInst}
 use Rattle.px_terms.specs.declared.problem.Problem.{Problem}
 use Rattle.px_terms.specs.Operators.{results_of}
@@ -20,7 +21,7 @@ use Rattle.px_support.specs.Asking.{IsFindable}
 -- the steps that are taken have objects for arguments, and there are numbers for the columns of those that one entry more makes
 pub record HasRoom (problem : Problem) (walk : Walk) : Type 0 where
   pub all_ground : All (IsGroundInstanceOf problem) walk.steps.items
-  pub short : length walk.steps.items + 64 ≤ 4294967295
+  pub short : length walk.steps.items + 64 ≤ u32_max
 
 -- the node that is reached; the code has the top entry last
 abbrev pub node_in : Walk → Node

@@ -1,6 +1,7 @@
 -- How a row of a learned table is put onto the first proofs of its initial facts, as the code does it.
 use Rattle.std.specs.Prelude.{◌≡◌, ◌≤◌, ◌+◌, ℕ, Some, List, map, length, slice_get, All, Contains}
 use Rattle.std.specs.List.{AllZip}
+use Rattle.px_base.specs.Bounds.{u32_max}
 use Rattle.px_terms.specs.declared.atom.Atom.{Atom}
 use Rattle.px_terms.specs.declared.term.Term.{Term}
 use Rattle.px_terms.specs.Language.{IsVariableBelow}
@@ -19,7 +20,7 @@ use Rattle.px_support.specs.Sources.{HasFirstLeaves}
 pub record IsReady (graft : Graft) : Type 0 where
   pub valid : IsValid graft.problem.now
   pub all_ground : All (IsGroundInstanceOf graft.problem.now) graft.steps.now
-  pub short : length graft.steps.now ≤ 4294967295
+  pub short : length graft.steps.now ≤ u32_max
   pub formula : All (IsAtomOf graft.problem.now 0) graft.formula.now
 
 -- a proof for each of the initial facts, whose leaves are all in column 0
@@ -40,7 +41,7 @@ AreParts graft firsts = AllZip (λ (leaf : Leaf) (part : Derivation). IsPartFor 
 pub record IsGraftable (formula : List Atom) (terms : List Term) (shift : ℕ) (d : Derivation) : Type 0 where
   pub variables : All (IsVariableBelow (length terms)) (terms_of d)
   pub given : All (λ leaf. Contains formula leaf.atom) (first_leaves (leaves_of (derivation_under terms d)))
-  pub columns : All (λ leaf. leaf.column + shift ≤ 4294967295) (later_leaves (leaves_of (derivation_under terms d)))
+  pub columns : All (λ leaf. leaf.column + shift ≤ u32_max) (later_leaves (leaves_of (derivation_under terms d)))
 
 abbrev pub IsGraftableBy : Graft → Derivation → Type 0
 IsGraftableBy graft = IsGraftable graft.formula.now graft.terms.now graft.shift

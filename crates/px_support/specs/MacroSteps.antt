@@ -1,6 +1,7 @@
 -- What applying a MACROP does, step by step.
 use Rattle.std.specs.Prelude.{◌≡◌, ◌+◌, ◌≤◌, ℕ, not, Some, List, [], ◌∷◌, ◌++◌, map, filter, take, slice_get}
 use Rattle.std.specs.List.{AllZip}
+use Rattle.px_base.specs.Bounds.{u32_max}
 use Rattle.px_terms.specs.declared.atom.Atom.{Atom}
 use Rattle.px_terms.specs.declared.instance.OpInst.{OpInst}
 use Rattle.px_terms.specs.declared.problem.Problem.{Problem}
@@ -27,7 +28,7 @@ pub record IsLearnedOf (problem : Problem) (learned : Learned) : Type 0 where
   pub table : IsTable problem learned.table.now
   pub is_macro : IsMacro problem learned.table.now learned.prefix learned.sigma.now
   pub terms : learned.terms.now ≡ map Obj learned.sigma.now
-  pub room : learned.shift + learned.prefix ≤ 4294967295
+  pub room : learned.shift + learned.prefix ≤ u32_max
 
 -- what the steps need, from this model
 abbrev pub NeedsOfMacro : Problem → Learned → List Atom → (List Obligation → Type 0) → Type 0

@@ -1,6 +1,7 @@
 -- The rows of moves are a support of the steps that the moves take.
 use Rattle.std.specs.Prelude.{List, [], All}
 use Rattle.px_terms.specs.Plans.{Carries}
+use Rattle.px_terms.specs.Sorts.{IsWellSorted}
 use Rattle.px_terms.specs.Validity.{IsAtomOf, IsInstanceOf, IsValid}
 use Rattle.px_proof.specs.Derivation.{Derivation}
 use Rattle.px_table.specs.declared.entry.Move.{Move}
@@ -17,9 +18,10 @@ pub record AreSupport (task : Task) (moves : List Move) (rows : List (List Deriv
   pub of_problem : AreOfProblem task.problem rows
   pub carries : Carries task.problem task.initial (steps_of task.tables [] moves) task.vars task.goal
   pub instances : All (IsInstanceOf task.problem) (steps_of task.tables [] moves)
+  pub fitting : All (IsWellSorted task.problem) (steps_of task.tables [] moves)
 
--- Where moves can be made, their rows are a support of their steps and the goal, over the problem's numbers. So the steps lead from the
--- initial model to the goal in each run.
+-- Where moves can be made, their rows are a support of their steps, which fit, and the goal, over the problem's numbers. So the steps lead
+-- from the initial model to the goal in each run.
 abbrev pub MovesSupport : Type 0
 MovesSupport = (task : Task) (moves : List Move) (rows : List (List Derivation)) → IsValid task.problem
     → All (IsAtomOf task.problem task.vars) task.goal

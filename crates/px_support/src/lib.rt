@@ -8,8 +8,9 @@
 //!   step needs in the model before it, where each fact names the last step before that adds it, or the initial model. The steps of
 //!   a MACROP have the table's rows, with such proofs in the places of their initial facts. `build` of `px_table` makes a triangle
 //!   table of these (Fikes, Hart and Nilsson 1972).
-//! - The rows are a support of the steps and the goal, over the problem's numbers, so that the initial model carries the steps
-//!   to the goal. `NoMemory` is the only error: all that is proved has an answer below the limit of shapes, which the search saw.
+//! - The steps are instances of the problem's operators, whose objects fit the parameters. The rows are a support of the steps and the
+//!   goal, over the problem's numbers, so that the initial model carries the steps to the goal. `NoMemory` is the only error: all that is
+//!   proved has an answer below the limit of shapes, which the search saw.
 //! - [`moves_have_supports`] is the law for definitions: whatever rows a list of moves has, they are a support of its steps
 //!   (`MovesSupport` of `specs/MadeSupports`). The call does nothing.
 //! - No public clause cites `specs/Going`, `specs/Grafted`, `specs/MacroSteps` and `specs/Sources`.

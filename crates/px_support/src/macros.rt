@@ -1,5 +1,6 @@
 //! Applying a MACROP: the first steps of a learned table, with the table's rows put onto the first proofs of their initial facts.
 ghost use Rattle.std.specs.Prelude.{◌≡◌, ◌+◌, ◌<◌, ◌≤◌, length, slice_get, All, IfOk, Some};
+ghost use Rattle.px_base.specs.Bounds.{u32_max};
 ghost use Rattle.px_terms.specs.Validity.{IsGroundInstanceOf};
 ghost use Rattle.px_entries.specs.Entries.{IsEntry, initial_atoms, obligations_of};
 ghost use Rattle.px_table.specs.declared.entry.Entry.{Entry};
@@ -60,7 +61,7 @@ fn take_step(
     requires findable { IsFindable asked.now.problem.now (record
         { formula = initial_atoms learned.now.table.now learned.now.sigma.now (place + 1); vars = 0; facts = within.facts.atoms }) }
     requires steps { All (IsGroundInstanceOf asked.now.problem.now) within.walk.steps.items }
-    requires short { length within.walk.steps.items ≤ 4294967295 }
+    requires short { length within.walk.steps.items ≤ u32_max }
     ensures { IfOk result (IsStepTaken asked.now.problem.now learned.now place within) }
 {
     let step = step_under(learned.table, learned.sigma, place);

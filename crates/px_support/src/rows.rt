@@ -1,6 +1,7 @@
 //! Rows of first proofs whose facts name where they come from.
 ghost use Rattle.std.specs.Prelude.{◌≤◌, ◌<◌, length, map, All, IfOk};
 ghost use Rattle.std.specs.List.{AllZip};
+ghost use Rattle.px_base.specs.Bounds.{u32_max};
 ghost use Rattle.px_terms.specs.Validity.{IsAtomOf, IsGroundInstanceOf, IsValid};
 ghost use Rattle.px_proof.specs.ProofTerm.{derivation_of};
 ghost use Rattle.px_ends.specs.Made.{IsFirstRow, IsSourced};
@@ -25,7 +26,7 @@ fn sourced_row(
 ) -> Result<Row, NoMemory>
     requires problem { IsValid problem.now }
     requires steps { All (IsGroundInstanceOf problem.now) steps.now }
-    requires short { length steps.now ≤ 4294967295 }
+    requires short { length steps.now ≤ u32_max }
     requires leaves { All HasFirstLeaves (map derivation_of proofs.now) }
     ensures { IfOk result (λ row. AllZip (IsSourced problem.now steps.now) (map derivation_of proofs.now) (map derivation_of row)) }
 {
@@ -48,7 +49,7 @@ pub fn first_row(
 ) -> Result<Row, NoMemory>
     requires problem { IsValid problem.now }
     requires steps { All (IsGroundInstanceOf problem.now) steps.now }
-    requires short { length steps.now ≤ 4294967295 }
+    requires short { length steps.now ≤ u32_max }
     requires formula { All (IsAtomOf problem.now vars) formula.now }
     requires few_variables { vars ≤ 12 }
     requires some_object { 0 < vars → 0 < problem.now.objects }

@@ -1,5 +1,6 @@
 //! Where the facts of a proof come from: the last step that adds them, or the initial model.
 ghost use Rattle.std.specs.Prelude.{◌≡◌, ◌≤◌, None, length, map, All, Contains, IfOk, IfSome};
+ghost use Rattle.px_base.specs.Bounds.{u32_max};
 ghost use Rattle.px_terms.specs.Operators.{adds as adds_of};
 ghost use Rattle.px_terms.specs.Validity.{IsGroundInstanceOf, IsValid};
 ghost use Rattle.px_proof.specs.ProofTerm.{derivation_of};
@@ -34,7 +35,7 @@ fn first_place(problem: &Problem, inst: &OpInst, atom: &Atom) -> Option<u32>
 fn source_of(problem: &Problem, steps: &[OpInst], atom: &Atom) -> Leaf
     requires problem { IsValid problem.now }
     requires steps { All (IsGroundInstanceOf problem.now) steps.now }
-    requires short { length steps.now ≤ 4294967295 }
+    requires short { length steps.now ≤ u32_max }
     ensures source { IsSource problem.now steps.now result }
     ensures atom { result.atom ≡ atom.now }
 {
@@ -66,7 +67,7 @@ fn source_each(
 ) -> Result<Vec<Proof>, NoMemory>
     requires problem { IsValid problem.now }
     requires steps { All (IsGroundInstanceOf problem.now) steps.now }
-    requires short { length steps.now ≤ 4294967295 }
+    requires short { length steps.now ≤ u32_max }
     ensures { IfOk result (λ parts. AreSources problem.now steps.now leaves.now (map derivation_of parts.items)) }
 {
     let mut parts = Vec::new(alloc);
@@ -86,7 +87,7 @@ pub fn sourced(
 ) -> Result<Proof, NoMemory>
     requires problem { IsValid problem.now }
     requires steps { All (IsGroundInstanceOf problem.now) steps.now }
-    requires short { length steps.now ≤ 4294967295 }
+    requires short { length steps.now ≤ u32_max }
     requires leaves { HasFirstLeaves (derivation_of proof.now) }
     ensures { IfOk result (λ new. IsSourced problem.now steps.now (derivation_of proof.now) (derivation_of new)) }
 {

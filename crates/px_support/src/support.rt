@@ -1,6 +1,8 @@
 //! The support of the moves that a search found.
 ghost use Rattle.std.specs.Prelude.{◌≡◌, ◌<◌, ◌*◌, [], length, All, IfOk};
+ghost use Rattle.px_base.specs.Bounds.{u32_max};
 ghost use Rattle.px_terms.specs.Plans.{Carries};
+ghost use Rattle.px_terms.specs.Sorts.{IsWellSorted};
 ghost use Rattle.px_terms.specs.Validity.{IsInstanceOf};
 ghost use Rattle.px_table.specs.Supports.{Supports};
 ghost use Rattle.px_table.specs.Tables.{AreOfProblem, rows_of};
@@ -31,11 +33,11 @@ pub struct Support {
 fn with_goal(asked: &Asked, walk: Walk, moves: &[Move]) -> Result<Support, NoMemory>
     requires asked { IsAskable asked.now }
     requires taken { AreMovesTaken (task_for asked.now) moves.now walk }
-    requires short { 64 * length moves.now < 4294967295 }
+    requires short { 64 * length moves.now < u32_max }
     ensures steps { IfOk result (λ support. support.steps ≡ steps_of asked.now.tables.now [] moves.now) }
     ensures rows { IfOk result (λ support. MovesRows (task_for asked.now) (initial_node (task_for asked.now)) [] moves.now
         (rows_of support.rows.items)) }
-    ensures short { IfOk result (λ support. length support.steps < 4294967295) }
+    ensures short { IfOk result (λ support. length support.steps < u32_max) }
 {
     let Walk {
         model,
@@ -74,9 +76,10 @@ pub fn support_of(asked: &Asked, moves: &[Move]) -> Result<Support, NoMemory>
         asked.now.vars (rows_of support.rows.items)) }
     ensures of_problem { IfOk result (λ support. AreOfProblem asked.now.problem.now (rows_of support.rows.items)) }
     ensures instances { IfOk result (λ support. All (IsInstanceOf asked.now.problem.now) support.steps) }
+    ensures fitting { IfOk result (λ support. All (IsWellSorted asked.now.problem.now) support.steps) }
     ensures carries { IfOk result (λ support. Carries asked.now.problem.now asked.now.initial.now.atoms support.steps asked.now.vars
         asked.now.goal.now) }
-    ensures short { IfOk result (λ support. length support.steps < 4294967295) }
+    ensures short { IfOk result (λ support. length support.steps < u32_max) }
 {
     moves_have_supports();
     let walk = take_all(asked, moves)?;

@@ -1,10 +1,12 @@
 -- The test of tables decides.
-use Rattle.std.proofs.Common.{◌≡◌, ℕ, zero, suc, ◌+◌, ◌<◌, true, false, Some, None, List, [], ◌∷◌, ◌++◌, length, map, slice_get, refl, sym, ap, ◌∙◌, subst, inl, inr, arith}
-use Rattle.std.specs.Prelude.{Bool, ◌&&◌, ◌||◌, ◌==◌, Option, cond, not, slice_index, All, Contains}
+use Rattle.std.proofs.Common.{◌≡◌, ℕ, zero, suc, ◌+◌, ◌<◌, true, false, Some, None, List, [], ◌∷◌, ◌++◌, length, map, slice_get, refl, sym, ap, ◌∙◌, subst, inl, inr, arith, eq-eqb}
+use borrow.Author.Tests.{eqb-true}
+use Rattle.std.specs.Prelude.{Bool, ◌&&◌, ◌||◌, ◌==◌, Option, ◌≤◌, cond, nat_le, not, slice_index, slice_index_or, All, Contains}
 use Rattle.std.specs.Bool.{Decides}
 use Rattle.std.specs.List.{list_all, list_any}
 use Rattle.std.specs.Cmp.Lexicographic.{pointwise_decides}
-use Rattle.std.proofs.lemmas.Bool.Decides.{Decides-and, Decides-like, Decides-eqb, Decides-ltb, Decides-by_and}
+use Rattle.std.proofs.lemmas.Bool.Decides.{Decides-and, Decides-like, Decides-eqb, Decides-ltb, Decides-by_and, leb_tells}
+use Rattle.px_base.specs.Bounds.{u32_max}
 use Rattle.px_base.specs.ListLaws.{Contains-none, Contains-first, Contains-later, Contains-cases}
 use Rattle.px_terms.specs.declared.atom.Atom.{Atom}
 use Rattle.px_terms.specs.declared.clause.Clause.{Clause}
@@ -17,7 +19,9 @@ use Rattle.px_terms.specs.Operators.{adds, precondition, schema_of}
 use Rattle.px_terms.specs.Order.{atom_eq}
 use Rattle.px_terms.specs.OrderLaws.{atom_eq-decides}
 use Rattle.px_terms.specs.Substitution.{substitute_atom}
-use Rattle.px_terms.specs.Validity.{IsAtomOf, IsTermOf}
+use Rattle.px_terms.specs.Sorts.{FitsSort, IsOfSort, MayStand}
+use Rattle.px_terms.specs.Validity.{AreSortsOf, IsAtomOf, IsTermOf}
+use Rattle.px_proof.specs.declared.proof.Proof.{Proof}
 use Rattle.px_proof.specs.Derivation.{Derivation, Derivations, fact, ancestor, step, gap, open_place, none, also, leaf_atoms, leaves_of}
 use Rattle.px_proof.specs.Literals.{complement_of, positive_of}
 use Rattle.px_base.specs.Answers.{some_same}
@@ -26,11 +30,12 @@ use Rattle.px_proof.specs.Proves.{IsObjectOrParameter, Proves, ProvesEach, from_
 use Rattle.px_table.specs.declared.mark.Mark.{Mark}
 use Rattle.px_table.specs.declared.table.Table.{Table}
 use Rattle.px_table.specs.Choices.{atom_by}
-use Rattle.px_table.specs.Deciding.{TablesAreDecided, atom_or_no_atom, clause_at, conclusion_of, is_adder, is_atom_of, is_in_range, is_object_or_parameter, is_named, is_proof_of, is_source, is_step_of, is_table, is_term_of, is_there, lit_eq, proves, proves_all, proves_each_of, proves_goal, rows_prove}
+use Rattle.px_table.specs.Deciding.{TablesAreDecided, atom_or_no_atom, clause_at, conclusion_of, is_adder, are_in_range, are_well_sorted, is_atom_of, is_object_or_parameter, is_named, is_of_sort, is_proof_of, is_source, is_step_of, is_table, is_term_of, is_there, is_well_sorted_step, lit_eq, proves, proves_all, proves_each_of, proves_goal, rows_are_table, rows_prove}
 use Rattle.px_table.specs.MarkLaws.{mark_eq-decides}
 use Rattle.px_table.specs.Marks.{IsNamed, marks_from, step_at}
 use Rattle.px_table.specs.Supports.{IsProofOf, ProvesEachOf, ProvesGoal, RowsProve, variables}
-use Rattle.px_table.specs.Tables.{IsTableInRange, IsStepOf, rows_of}
+use Rattle.px_table.specs.Tables.{IsStepOf, IsTable, rows_of, table_of_rows}
+use Rattle.px_table.specs.WellSorted.{IsWellSortedStep, paired}
 use Rattle.px_table.proofs.Choosing.{choices_give, made_by_choices}
 
 -- ---- tests of lists and options
@@ -87,15 +92,69 @@ step-decides problem params inst =
     (Decides-and _ _ (Decides-eqb (length inst.args) (schema_of problem inst).params)
     (all-decides (is_term_of problem params) (IsTermOf problem params) (term-decides problem params) inst.args)))
 
-range-decides : (problem : Problem) (table : Table) → Decides (is_in_range problem table) (IsTableInRange problem table)
-range-decides problem table =
-    Decides-like (is_in_range problem table) (λ h. record { short = h.0; steps = h.1.0; goal = h.1.1 })
-    (λ is. (is.short, (is.steps, is.goal)))
-    (Decides-and _ _ (Decides-ltb (length table.steps) 4294967295)
-    (Decides-and _ _ (all-decides (is_step_of problem table.params) (IsStepOf problem table.params)
-    (step-decides problem table.params) table.steps)
-    (all-decides (is_atom_of problem (table.params + table.goal_vars)) (IsAtomOf problem (table.params + table.goal_vars))
-    (atom-decides problem (table.params + table.goal_vars)) table.goal)))
+range-decides : (problem : Problem) (params : ℕ) (steps : List OpInst) (goal : List Atom) (goal_vars : ℕ)
+    → Decides (are_in_range problem params steps goal goal_vars)
+    ((length steps < u32_max) × (All (IsStepOf problem params) steps × All (IsAtomOf problem (params + goal_vars)) goal))
+range-decides problem params steps goal goal_vars =
+    Decides-and _ _ (Decides-ltb (length steps) u32_max)
+    (Decides-and _ _ (all-decides (is_step_of problem params) (IsStepOf problem params) (step-decides problem params) steps)
+    (all-decides (is_atom_of problem (params + goal_vars)) (IsAtomOf problem (params + goal_vars))
+    (atom-decides problem (params + goal_vars)) goal))
+
+-- ---- sorts
+
+-- a place without a sort takes anything
+fits-decides : (sorts : List ℕ) (wanted object : ℕ) → Decides ((wanted == 0) || (slice_index sorts object == wanted))
+    (FitsSort sorts wanted object)
+fits-decides sorts wanted object =
+    elim (wanted == 0) as (λ b. (wanted == 0) ≡ b → Decides (b || (slice_index sorts object == wanted)) (FitsSort sorts wanted object)) [
+      | true ↦ λ none. (λ _ sorted. absurd (sorted (eqb-true wanted 0 none)), λ _. refl)
+      | false ↦ λ some. (
+        λ same _. eqb-true (slice_index sorts object) wanted same,
+        λ fits. eq-eqb (slice_index sorts object) wanted (fits (λ none. let e = eq-eqb wanted 0 none in absurd (cc))),
+      )
+    ] refl
+
+sort-decides : (sorts params : List ℕ) (wanted : ℕ) (t : Term) → Decides (is_of_sort sorts params wanted t) (IsOfSort sorts params wanted t)
+sort-decides sorts params wanted (Obj n) = fits-decides sorts wanted n
+sort-decides sorts params wanted (Var v) = fits-decides params wanted v
+sort-decides sorts params wanted Any = (λ h. tt, λ h. refl)
+
+-- a place past the end of the sorts has none
+stands-nowhere : (sorts params : List ℕ) (t : Term) → IsOfSort sorts params 0 t
+stands-nowhere sorts params (Obj n) = λ sorted. absurd (sorted refl)
+stands-nowhere sorts params (Var v) = λ sorted. absurd (sorted refl)
+stands-nowhere sorts params Any = tt
+
+stands-decides : (sorts params wanted : List ℕ) (args : List Term)
+    → Decides (list_all (λ (place : ℕ × Term). is_of_sort sorts params place.0 place.1) (paired wanted args)) (MayStand sorts params wanted args)
+stands-decides sorts params [] args = (λ _ k below. stands-nowhere sorts params (slice_index_or args k Any), λ _. refl)
+stands-decides sorts params (w ∷ wanted) [] = (λ _ k below. absurd (omega (arith, below)), λ _. refl)
+stands-decides sorts params (w ∷ wanted) (t ∷ args) =
+    Decides-like _ together apart (Decides-and _ _ (sort-decides sorts params w t) (stands-decides sorts params wanted args))
+  where
+    together : IsOfSort sorts params w t × MayStand sorts params wanted args → MayStand sorts params (w ∷ wanted) (t ∷ args)
+    together h zero below = h.0
+    together h (suc k) below = h.1 k (omega (arith, below))
+
+    apart : MayStand sorts params (w ∷ wanted) (t ∷ args) → IsOfSort sorts params w t × MayStand sorts params wanted args
+    apart all = (all 0 (omega arith), λ k below. all (suc k) (omega (arith, below)))
+
+at_most-decides : (a b : ℕ) → Decides (nat_le a b) (a ≤ b)
+at_most-decides a b = elim (leb_tells a b) [
+  | inl less ↦ (λ _. less.1, λ _. less.0)
+  | inr more ↦ (λ h. let e = sym h ∙ more.0 in absurd (cc), λ h. absurd (omega (arith, h, more.1)))
+]
+
+sorts-decide : (problem : Problem) (params : ℕ) (param_sorts : List ℕ) (steps : List OpInst)
+    → Decides (are_well_sorted problem params param_sorts steps)
+    ((length param_sorts ≡ params) × (AreSortsOf problem param_sorts × All (IsWellSortedStep problem param_sorts) steps))
+sorts-decide problem params param_sorts steps =
+    Decides-and _ _ (Decides-eqb (length param_sorts) params)
+    (Decides-and _ _ (all-decides (λ (sort : ℕ). nat_le sort problem.sorts) (λ sort. sort ≤ problem.sorts)
+    (λ sort. at_most-decides sort problem.sorts) param_sorts)
+    (all-decides (is_well_sorted_step problem param_sorts) (IsWellSortedStep problem param_sorts)
+    (λ inst. stands-decides problem.object_sorts param_sorts (schema_of problem inst).param_sorts inst.args) steps))
 
 -- ---- proofs
 
@@ -282,19 +341,68 @@ named-decides problem steps mark =
 
 -- ---- tables
 
+-- what the test of rows tells, and all of it
+abbrev AreTable : Problem → ℕ → List ℕ → List OpInst → List Atom → ℕ → List (List Derivation) → Type 0
+AreTable problem params param_sorts steps goal goal_vars rows =
+    ((length steps < u32_max) × (All (IsStepOf problem params) steps × All (IsAtomOf problem (params + goal_vars)) goal))
+    × (((length param_sorts ≡ params) × (AreSortsOf problem param_sorts × All (IsWellSortedStep problem param_sorts) steps))
+    × (RowsProve (IsObjectOrParameter problem.objects params) problem params steps goal goal_vars rows
+    × (All (λ (mark : Mark). IsAtomOf problem params mark.atom) (marks_from 1 rows) × All (IsNamed problem steps) (marks_from 1 rows))))
+
+rows_are_table-decides : (problem : Problem) (params : ℕ) (param_sorts : List ℕ) (steps : List OpInst) (goal : List Atom) (goal_vars : ℕ)
+    (rows : List (List Derivation)) → Decides (rows_are_table problem params param_sorts steps goal goal_vars rows)
+    (AreTable problem params param_sorts steps goal goal_vars rows)
+rows_are_table-decides problem params param_sorts steps goal goal_vars rows =
+    and-decides _ _ (range-decides problem params steps goal goal_vars) (λ range.
+    Decides-and _ _ (sorts-decide problem params param_sorts steps)
+    (Decides-and _ _ (rows-decide problem params goal_vars goal range.1.1 steps rows)
+    (Decides-and _ _ (all-decides (λ (mark : Mark). is_atom_of problem params mark.atom) (λ (mark : Mark). IsAtomOf problem params mark.atom)
+    (λ mark. atom-decides problem params mark.atom) (marks_from 1 rows))
+    (all-decides (is_named problem steps) (IsNamed problem steps) (named-decides problem steps) (marks_from 1 rows)))))
+
+-- with the marks of its rows it is a table
+abbrev RowsOfTable : Problem → Table → Type 0
+RowsOfTable problem table =
+    AreTable problem table.params table.param_sorts table.steps table.goal table.goal_vars (rows_of table.proofs)
+
+table-from : (problem : Problem) (table : Table) → RowsOfTable problem table → table.marks ≡ marks_from 1 (rows_of table.proofs)
+    → IsTable problem table
+table-from problem table h marks = record {
+  in_range = record { short = h.0.0; steps = h.0.1.0; goal = h.0.1.1 };
+  prove = h.1.1.0;
+  marks = marks;
+  atoms = subst (All (λ (mark : Mark). IsAtomOf problem table.params mark.atom)) (sym marks) h.1.1.1.0;
+  named = subst (All (IsNamed problem table.steps)) (sym marks) h.1.1.1.1;
+  sorted = record { count = h.1.0.0; sorts = h.1.0.1.0; steps = h.1.0.1.1 };
+}
+
+table-gives : (problem : Problem) (table : Table) → IsTable problem table → RowsOfTable problem table
+table-gives problem table is = (
+  (is.in_range.short, (is.in_range.steps, is.in_range.goal)),
+  (
+    (is.sorted.count, (is.sorted.sorts, is.sorted.steps)),
+    (
+      is.prove,
+      (
+        subst (All (λ (mark : Mark). IsAtomOf problem table.params mark.atom)) is.marks is.atoms,
+        subst (All (IsNamed problem table.steps)) is.marks is.named,
+      ),
+    ),
+  ),
+)
+
 pub tables_are_decided : TablesAreDecided
 tables_are_decided problem table =
-    Decides-like (is_table problem table) (λ h. record {
-      in_range = h.0;
-      prove = h.1.0;
-      marks = h.1.1.0;
-      atoms = h.1.1.1.0;
-      named = h.1.1.1.1;
-    })
-    (λ is. (is.in_range, (is.prove, (is.marks, (is.atoms, is.named)))))
-    (and-decides _ _ (range-decides problem table) (λ range.
-    Decides-and _ _ (rows-decide problem table.params table.goal_vars table.goal range.goal table.steps (rows_of table.proofs))
-    (Decides-and _ _ (pointwise_decides mark_eq-decides table.marks (marks_from 1 (rows_of table.proofs)))
-    (Decides-and _ _ (all-decides (λ (mark : Mark). is_atom_of problem table.params mark.atom)
-    (λ (mark : Mark). IsAtomOf problem table.params mark.atom) (λ mark. atom-decides problem table.params mark.atom) table.marks)
-    (all-decides (is_named problem table.steps) (IsNamed problem table.steps) (named-decides problem table.steps) table.marks)))))
+    Decides-like (is_table problem table) (λ h. table-from problem table h.0 h.1) (λ is. (table-gives problem table is, is.marks))
+    (Decides-and _ _ (rows_are_table-decides problem table.params table.param_sorts table.steps table.goal table.goal_vars
+    (rows_of table.proofs)) (pointwise_decides mark_eq-decides table.marks (marks_from 1 (rows_of table.proofs))))
+
+-- the test of rows is true exactly where the table of the rows is one
+pub rows_are_decided : (problem : Problem) (params : ℕ) (param_sorts : List ℕ) (steps : List OpInst) (goal : List Atom) (goal_vars : ℕ)
+    (rows : List (List Proof)) → Decides (rows_are_table problem params param_sorts steps goal goal_vars (rows_of rows))
+    (IsTable problem (table_of_rows params param_sorts steps goal goal_vars rows))
+rows_are_decided problem params param_sorts steps goal goal_vars rows =
+    Decides-like (rows_are_table problem params param_sorts steps goal goal_vars (rows_of rows))
+    (λ h. table-from problem (table_of_rows params param_sorts steps goal goal_vars rows) h refl)
+    (table-gives problem (table_of_rows params param_sorts steps goal goal_vars rows))
+    (rows_are_table-decides problem params param_sorts steps goal goal_vars (rows_of rows))

@@ -1,16 +1,18 @@
 -- One mark more, in a kernel and in the marks of rows.
-use Rattle.std.proofs.Common.{◌≡◌, ℕ, ◌+◌, ◌<◌, Bool, true, false, cond, ◌&&◌, List, [], ◌∷◌, ◌++◌, length, map, take, get_or, sym, ap, ◌∙◌, arith, append-nil, length-take}
+use Rattle.std.proofs.Common.{◌≡◌, ℕ, ◌+◌, ◌<◌, Bool, true, false, cond, ◌&&◌, ◌||◌, List, [], ◌∷◌, ◌++◌, length, map, take, get_or, refl, sym, ap, ◌∙◌, arith, append-nil, length-take}
 use Rattle.std.specs.Prelude.{filter, nat_le, nat_lt}
+use Rattle.std.specs.List.{list_any}
 use Rattle.std.proofs.lemmas.List.{take_more, map-append, length-map}
 use Rattle.std.proofs.lemmas.List.Elements.{filter-append}
+use Rattle.indexmap.specs.IndexSet.{insert_key}
 use Rattle.px_terms.specs.declared.atom.Atom.{Atom}
 use Rattle.px_terms.specs.Order.{atom_eq}
-use Rattle.px_terms.specs.OrderLaws.{atom_eq-decides}
+use Rattle.px_terms.specs.OrderLaws.{atom_eq-decides, decides_equiv}
 use Rattle.px_proof.specs.declared.proof.Proof.{Proof}
 use Rattle.px_proof.specs.Derivation.{leaves_of}
 use Rattle.px_proof.specs.ProofTerm.{derivation_of}
 use Rattle.px_table.specs.declared.mark.Mark.{Mark}
-use Rattle.px_table.specs.MarkLaws.{marks_from-push, row_leaves-append}
+use Rattle.px_table.specs.MarkLaws.{mark_eq-decides, marks_from-push, row_leaves-append}
 use Rattle.px_table.specs.Marks.{mark_eq, mark_of, marks_from, row_leaves, row_marks}
 use Rattle.px_table.specs.Once.{each_once, put_each, put_once}
 use Rattle.px_table.specs.OnceLaws.{each_once-push, put_each-append}
@@ -62,3 +64,11 @@ rows-more rows k row is below =
     sym (ap (λ rs. marks_from 1 (rows_of rs)) (take_more rows k row below ∙ ap (λ r. take k rows ++ r ∷ []) (sym is))
     ∙ ap (marks_from 1) (map-append (map derivation_of) (take k rows) (row ∷ []))
     ∙ marks_from-push 1 (k + 1) (rows_of (take k rows)) (map derivation_of row) count)
+
+-- the keys of a set of marks, with a mark inserted, are the marks with this one put
+pub insert_key-put_once : (marks : List Mark) (mark : Mark) → insert_key mark_eq marks mark ≡ put_once mark_eq marks mark
+insert_key-put_once marks mark = ap (λ (b : Bool). cond b marks (marks ++ mark ∷ [])) (among marks)
+  where
+    among : (ms : List Mark) → list_any (mark_eq mark) ms ≡ list_any (λ other. mark_eq other mark) ms
+    among [] = refl
+    among (m ∷ ms) = λ i. (decides_equiv mark_eq mark_eq-decides).symm mark m i || among ms i

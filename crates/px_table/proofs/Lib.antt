@@ -5,6 +5,8 @@ pub mod Fronts
 pub mod KeptSteps
 pub mod KernelSteps
 pub mod Layers
+pub mod LeafSteps
 pub mod Loops
 pub mod PrefixSteps
 pub mod RowSteps
+pub mod SortSteps

@@ -1,9 +1,10 @@
 -- A test that decides by computing whether a table is one, for definitions that have to compute.
-use Rattle.std.specs.Prelude.{ℕ, ◌+◌, ◌==◌, ◌&&◌, Bool, true, false, cond, not, nat_lt, Option, Some, None, List, [], ◌∷◌, length, map, slice_get, slice_index, slice_index_or}
+use Rattle.std.specs.Prelude.{ℕ, ◌+◌, ◌==◌, ◌&&◌, ◌||◌, Bool, true, false, cond, not, nat_le, nat_lt, Option, Some, None, List, [], ◌∷◌, length, map, slice_get, slice_index, slice_index_or}
 use Rattle.std.proofs.Common.{zero, suc}
 use Rattle.std.specs.Bool.{Decides}
 use Rattle.std.specs.Cmp.Lexicographic.{pointwise}
 use Rattle.std.specs.List.{list_all, list_any}
+use Rattle.px_base.specs.Bounds.{u32_max}
 use Rattle.px_terms.specs.declared.atom.Atom.{Atom}
 use Rattle.px_terms.specs.declared.clause.Clause.{Clause}
 use Rattle.px_terms.specs.declared.clause.Lit.{Lit}
@@ -21,6 +22,7 @@ use Rattle.px_table.specs.declared.table.Table.{Table}
 use Rattle.px_table.specs.Choices.{atom_by}
 use Rattle.px_table.specs.Marks.{mark_eq, marks_from}
 use Rattle.px_table.specs.Tables.{IsTable, rows_of}
+use Rattle.px_table.specs.WellSorted.{paired}
 
 -- the option has what is the same as the item
 abbrev pub is_there : {A : Type 0} → (A → A → Bool) → Option A → A → Bool
@@ -42,10 +44,28 @@ abbrev pub is_step_of : Problem → ℕ → OpInst → Bool
 is_step_of problem params inst = nat_lt inst.op (length problem.schemas) &&
     ((length inst.args == (schema_of problem inst).params) && list_all (is_term_of problem params) inst.args)
 
-abbrev pub is_in_range : Problem → Table → Bool
-is_in_range problem table =
-    nat_lt (length table.steps) 4294967295 && (list_all (is_step_of problem table.params) table.steps && list_all
-    (is_atom_of problem (table.params + table.goal_vars)) table.goal)
+-- there are fewer than `u32_max` steps, and the numbers of the steps and the goal are in range
+abbrev pub are_in_range : Problem → ℕ → List OpInst → List Atom → ℕ → Bool
+are_in_range problem params steps goal goal_vars =
+    nat_lt (length steps) u32_max && (list_all (is_step_of problem params) steps && list_all (is_atom_of problem (params + goal_vars)) goal)
+
+-- ---- sorts
+
+abbrev pub is_of_sort : List ℕ → List ℕ → ℕ → Term → Bool
+is_of_sort sorts params wanted (Obj n) = (wanted == 0) || (slice_index sorts n == wanted)
+is_of_sort sorts params wanted (Var v) = (wanted == 0) || (slice_index params v == wanted)
+is_of_sort sorts params wanted Any = true
+
+abbrev pub is_well_sorted_step : Problem → List ℕ → OpInst → Bool
+is_well_sorted_step problem params inst =
+    list_all (λ (place : ℕ × Term). is_of_sort problem.object_sorts params place.0 place.1)
+    (paired (schema_of problem inst).param_sorts inst.args)
+
+-- there is a sort of the problem for each parameter, and each term of each step may stand at its place
+abbrev pub are_well_sorted : Problem → ℕ → List ℕ → List OpInst → Bool
+are_well_sorted problem params param_sorts steps =
+    (length param_sorts == params) && (list_all (λ (sort : ℕ). nat_le sort problem.sorts) param_sorts
+    && list_all (is_well_sorted_step problem param_sorts) steps)
 
 -- ---- proofs
 
@@ -138,12 +158,18 @@ is_named problem steps mark = nat_lt mark.column mark.row && is_source problem s
 
 -- ---- tables
 
+-- with the marks of the rows these make a table
+abbrev pub rows_are_table : Problem → ℕ → List ℕ → List OpInst → List Atom → ℕ → List (List Derivation) → Bool
+rows_are_table problem params param_sorts steps goal goal_vars rows =
+    are_in_range problem params steps goal goal_vars && (are_well_sorted problem params param_sorts steps &&
+    (rows_prove problem.objects params problem.axioms problem steps goal rows
+    && (list_all (λ (mark : Mark). is_atom_of problem params mark.atom) (marks_from 1 rows)
+    && list_all (is_named problem steps) (marks_from 1 rows))))
+
 abbrev pub is_table : Problem → Table → Bool
 is_table problem table =
-    is_in_range problem table && (rows_prove problem.objects table.params problem.axioms problem table.steps table.goal
-    (rows_of table.proofs)
-    && (pointwise mark_eq table.marks (marks_from 1 (rows_of table.proofs)) &&
-    (list_all (λ mark. is_atom_of problem table.params mark.atom) table.marks && list_all (is_named problem table.steps) table.marks)))
+    rows_are_table problem table.params table.param_sorts table.steps table.goal table.goal_vars (rows_of table.proofs)
+    && pointwise mark_eq table.marks (marks_from 1 (rows_of table.proofs))
 
 -- the test is true of tables alone, and of each
 abbrev pub TablesAreDecided : Type 0

@@ -5,6 +5,7 @@ pub mod Conclusions
 pub mod Deciding
 pub mod EntryLaws
 pub mod EntryOrder
+pub mod GrowthLaws
 pub mod KernelLaws
 pub mod Kernels
 pub mod MarkLaws
@@ -15,6 +16,8 @@ pub mod Nodes
 pub mod ObjectLaws
 pub mod Once
 pub mod OnceLaws
+pub mod Parameters
+pub mod PrefixLaws
 pub mod Prefixes
 pub mod RowLaws
 pub mod SupportClaimLaws
@@ -22,5 +25,8 @@ pub mod SupportClaims
 pub mod SupportLaws
 pub mod SupportShapes
 pub mod Supports
+pub mod TableLaws
 pub mod Tables
 pub mod UnderLaws
+pub mod WellSorted
+pub mod WellSortedLaws

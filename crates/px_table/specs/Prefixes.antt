@@ -4,6 +4,7 @@ use Rattle.std.specs.Prelude.{◌≡◌, ◌⊎◌, ◌<◌, ◌≤◌, ℕ, Lis
 use Rattle.px_terms.specs.declared.instance.OpInst.{OpInst}
 use Rattle.px_terms.specs.declared.problem.Problem.{Problem}
 use Rattle.px_terms.specs.declared.term.Term.TheVariants.{Var}
+use Rattle.px_terms.specs.Sorts.{IsWellSorted}
 use Rattle.px_table.specs.declared.mark.Mark.{Mark}
 use Rattle.px_table.specs.declared.table.Table.{Table}
 use Rattle.px_table.specs.Kernels.{mark_under, steps_under}
@@ -25,7 +26,8 @@ abbrev pub IsAllowedNumber : Problem → Table → ℕ → ℕ → ℕ → Type 
 IsAllowedNumber problem table prefix v number = (IsUsed table prefix v → number < problem.objects) × (¬ IsUsed table prefix v → number ≡ 0)
 
 -- Two or more of the table's first steps, with an object of the problem for each parameter that they use and object 0 for each
--- other one, where no step deletes a mark of their rows that it stands between.
+-- other one, where each of these steps fits and none deletes a mark of their rows that it stands between. An object need not fit the sort
+-- that its parameter has in the table, if that comes from later steps alone.
 pub record IsMacro (problem : Problem) (table : Table) (prefix : ℕ) (sigma : List ℕ) : Type 0 where
   pub several : 2 ≤ prefix
   pub within : prefix ≤ length table.steps
@@ -33,3 +35,4 @@ pub record IsMacro (problem : Problem) (table : Table) (prefix : ℕ) (sigma : L
   pub used : (v : ℕ) → v < table.params → IsUsed table prefix v → slice_index sigma v < problem.objects
   pub unused : (v : ℕ) → v < table.params → ¬ IsUsed table prefix v → slice_index sigma v ≡ 0
   pub kept : IsProperPrefix problem table prefix sigma
+  pub fitting : All (IsWellSorted problem) (take prefix (steps_under table sigma))

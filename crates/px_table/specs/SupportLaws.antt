@@ -1,17 +1,20 @@
 -- A support carries its steps to the goal, and over the problem's numbers it makes a table.
-use Rattle.std.specs.Prelude.{◌≡◌, ℕ, ◌+◌, ◌<◌, Some, List, [], ◌∷◌, length, map, slice_index_or, All, Contains}
+use Rattle.std.specs.Prelude.{◌≡◌, ℕ, ◌+◌, ◌<◌, ◌≤◌, Some, List, [], ◌∷◌, length, map, slice_index, slice_index_or, All, Contains}
 use Rattle.std.proofs.Common.{zero, suc, refl, sym, ap, ◌∙◌, subst, inl, inr, arith}
 use Rattle.std.proofs.lemmas.List.{length-map}
-use Rattle.std.proofs.lemmas.List.Elements.{All-map, Contains-append_cases}
+use Rattle.std.proofs.lemmas.List.Elements.{All-map, All-nil, Contains-append_cases}
+use Rattle.px_base.specs.Bounds.{u32_max}
 use Rattle.px_base.specs.ListLaws.{All-at, All-each, Contains-none, Contains-first, Contains-later, Contains-cases}
 use Rattle.px_terms.specs.declared.atom.Atom.{Atom}
 use Rattle.px_terms.specs.declared.clause.Lit.{Lit}
 use Rattle.px_terms.specs.declared.instance.OpInst.{OpInst}
 use Rattle.px_terms.specs.declared.problem.Problem.{Problem}
 use Rattle.px_terms.specs.declared.term.Term.{Term}
-use Rattle.px_terms.specs.Language.{IsObject}
-use Rattle.px_terms.specs.Operators.{precondition}
+use Rattle.px_terms.specs.declared.term.Term.TheVariants.{Obj, Var, Any}
+use Rattle.px_terms.specs.Language.{IsObject, object_of}
+use Rattle.px_terms.specs.Operators.{precondition, schema_of}
 use Rattle.px_terms.specs.Plans.{Carries, GoalHolds}
+use Rattle.px_terms.specs.Sorts.{FitsSort, IsOfSort, IsWellSorted}
 use Rattle.px_terms.specs.States.{State, IsState, Holds, HoldsUnder, AxiomsHold, element_of}
 use Rattle.px_terms.specs.Substitution.{substitute_atom}
 use Rattle.px_terms.specs.Validity.{HasArity, IsAtomOf, IsAxiomOf, IsInstanceOf, IsTermOf, IsValid}
@@ -31,8 +34,9 @@ use Rattle.px_table.specs.Marks.{IsKept, mark_eq, mark_of, marks_from, row_leave
 use Rattle.px_table.specs.OnceLaws.{Contains-from_each_once}
 use Rattle.px_table.specs.RowLaws.{row_of_goal, row_of_step, row_true}
 use Rattle.px_table.specs.Supports.{IsProofOf, ProvesEachOf, RowsProve, Supports}
-use Rattle.px_table.specs.Tables.{AreOfProblem, IsStepOf, IsTable, rows_of}
+use Rattle.px_table.specs.Tables.{AreOfProblem, IsStepOf, IsTable, rows_of, table_of_rows}
 use Rattle.px_table.specs.UnderLaws.{from_map, term-within}
+use Rattle.px_table.specs.WellSorted.{IsWellSortedStep}
 
 -- ---- a support carries
 
@@ -259,20 +263,26 @@ rows_over_problem problem valid goal goal_vars (inst ∷ steps) (row ∷ rows) a
 step_of : (problem : Problem) (inst : OpInst) → IsInstanceOf problem inst → IsStepOf problem 0 inst
 step_of problem inst is = record { op = is.op; count = is.count; terms = is.objects }
 
--- a support over the problem's numbers makes a table
+-- an object that fits a place may stand there
+object-stands : (problem : Problem) (wanted : ℕ) (t : Term) → IsTermOf problem 0 t → FitsSort problem.object_sorts wanted (object_of t)
+    → IsOfSort problem.object_sorts [] wanted t
+object-stands problem wanted (Obj n) is fits = fits
+object-stands problem wanted (Var v) is fits = absurd (omega (arith, is))
+object-stands problem wanted Any is fits = tt
+
+instance-stands : (problem : Problem) (inst : OpInst) → IsInstanceOf problem inst → IsWellSorted problem inst
+    → IsWellSortedStep problem [] inst
+instance-stands problem inst is fits k below =
+    object-stands problem (slice_index (schema_of problem inst).param_sorts k) (slice_index_or inst.args k Any) (is.objects k Any below)
+    (fits k below)
+
+-- a support over the problem's numbers, whose steps fit, makes a table
 pub support_table : (problem : Problem) → IsValid problem → (atoms : List Atom) (steps : List OpInst) (goal : List Atom) (goal_vars : ℕ)
     (support : List (List Proof)) → Supports problem atoms steps goal goal_vars (rows_of support)
     → All (IsInstanceOf problem) steps → All (IsAtomOf problem goal_vars) goal → AreOfProblem problem (rows_of support)
-    → length steps < 4294967295
-    → IsTable problem (record {
-      params = 0;
-      steps = steps;
-      goal = goal;
-      goal_vars = goal_vars;
-      marks = marks_from 1 (rows_of support);
-      proofs = support;
-    })
-support_table problem valid atoms steps goal goal_vars support supports instances goal_atoms are short = record {
+    → length steps < u32_max → All (IsWellSorted problem) steps
+    → IsTable problem (table_of_rows 0 [] steps goal goal_vars support)
+support_table problem valid atoms steps goal goal_vars support supports instances goal_atoms are short fitting = record {
   in_range = record {
     short = short;
     steps = λ k d below. step_of problem _ (instances k d below);
@@ -282,4 +292,9 @@ support_table problem valid atoms steps goal goal_vars support supports instance
   marks = refl;
   atoms = marks-are_of problem (rows_of support) are;
   named = supports.named;
+  sorted = record {
+    count = refl;
+    sorts = All-nil (λ sort. sort ≤ problem.sorts);
+    steps = λ k d below. instance-stands problem _ (instances k d below) (fitting k d below);
+  };
 }

@@ -6,6 +6,7 @@ ghost use Rattle.px_table.specs.Marks.{mark_eq, mark_of};
 ghost use Rattle.px_table.specs.Once.{put_once, put_each};
 
 use crate::mark::Mark;
+use indexmap::IndexSet;
 use px_base::{NoMemory, push};
 use px_proof::Leaf;
 use px_terms::Atom;
@@ -39,19 +40,17 @@ pub fn put_atom(atoms: &mut Vec<Atom>, atom: Atom) -> Result<(), NoMemory>
     push(atoms, atom)
 }
 
-/// Appends the mark, unless it is there.
-fn put_mark(marks: &mut Vec<Mark>, mark: Mark) -> Result<(), NoMemory>
-    ensures { IfOk result (λ _. marks.new.items ≡ put_once mark_eq marks.old.items mark) }
+/// Puts the mark last, unless it is there.
+fn put_mark(marks: &mut IndexSet<Mark>, mark: Mark) -> Result<(), NoMemory>
+    ensures { IfOk result (λ _. marks.new.keys ≡ put_once mark_eq marks.old.keys mark) }
 {
-    if has_mark(marks, &mark) {
-        return Ok(());
-    }
-    push(marks, mark)
+    marks.insert(mark)?;
+    Ok(())
 }
 
-/// Appends the marks of the leaves, but for those that are there.
-pub fn put_leaves(marks: &mut Vec<Mark>, row: u32, leaves: &[Leaf]) -> Result<(), NoMemory>
-    ensures { IfOk result (λ _. marks.new.items ≡ put_each mark_eq marks.old.items (map (mark_of row) leaves.now)) }
+/// Puts the marks of the leaves last, but for those that are there.
+pub fn put_leaves(marks: &mut IndexSet<Mark>, row: u32, leaves: &[Leaf]) -> Result<(), NoMemory>
+    ensures { IfOk result (λ _. marks.new.keys ≡ put_each mark_eq marks.old.keys (map (mark_of row) leaves.now)) }
 {
     for leaf in leaves {
         put_mark(marks, leaf_mark(row, leaf))?;

@@ -3,7 +3,7 @@ use px_terms::Atom;
 
 /// A fact that a row of a triangle table rests on, with where it comes from (Fikes, Hart and Nilsson 1972). In what
 /// `check_table` accepts, the fields say this:
-#[derive(Clone, Copy, PartialEq, Eq, Debug)]
+#[derive(Clone, Copy, PartialEq, Eq, Hash, Debug)]
 pub struct Mark {
     pub atom: Atom,
     /// The number of the row, counted from 1.

@@ -1,5 +1,6 @@
 //! Whether the marks of a table are the leaves of its rows, each once in its row.
 ghost use Rattle.std.specs.Prelude.{◌≡◌, ◌↔◌, ◌<◌, ◌≤◌, [], ◌∷◌, IsTrue, length, map, take, drop};
+ghost use Rattle.px_base.specs.Bounds.{u32_max};
 ghost use Rattle.px_proof.specs.Derivation.{derivations, leaves_of, all_leaves_of};
 ghost use Rattle.px_proof.specs.ProofTerm.{derivation_of};
 ghost use Rattle.px_table.specs.Marks.{mark_eq, mark_of, marks_from, row_marks};
@@ -65,7 +66,7 @@ fn after_row(marks: &[Mark], row: u32, proofs: &[Proof]) -> Option<usize>
 
 /// Returns whether the marks are the leaves of the rows, each once in its row.
 pub fn marks_are_leaves(table: &Table) -> bool
-    requires { length table.now.proofs ≤ 4294967295 }
+    requires { length table.now.proofs ≤ u32_max }
     ensures { IsTrue result ↔ (table.now.marks ≡ marks_from 1 (rows_of table.now.proofs)) }
 {
     let marks = table.marks.as_slice();

@@ -10,11 +10,13 @@ ghost use Rattle.px_table.specs.Tables.{IsStepOf, IsTable};
 use crate::mark::Mark;
 use crate::proper_instance::is_kept;
 use crate::table::Table;
+use crate::well_sorted::steps_fit;
 use px_terms::{OpInst, Problem, Term};
 
 /// Returns whether a search may take these first steps of the table, with the objects, as one operator (Fikes, Hart and Nilsson 1972):
 /// whether they are two or more, there is an object of the problem for each parameter that these steps or the marks of their rows use, and
-/// object 0 for each other one, and no step deletes a mark of their rows that it stands between (`proper_prefix`). Does not allocate.
+/// object 0 for each other one, each of these steps fits, and none deletes a mark of their rows that it stands between (`proper_prefix`).
+/// Does not allocate.
 pub fn is_macro(problem: &Problem, table: &Table, prefix: u32, sigma: &[u32]) -> bool
     requires problem { IsValid problem.now }
     requires table { IsTable problem.now table.now }
@@ -23,7 +25,10 @@ pub fn is_macro(problem: &Problem, table: &Table, prefix: u32, sigma: &[u32]) ->
     if prefix < 2 || prefix as usize > table.steps.len() || sigma.len() != table.params as usize {
         return false;
     }
-    are_allowed(problem, table, prefix, sigma) && proper_prefix(problem, table, prefix, sigma)
+    if !are_allowed(problem, table, prefix, sigma) {
+        return false;
+    }
+    steps_fit(problem, table, prefix, sigma) && proper_prefix(problem, table, prefix, sigma)
 }
 
 /// Returns whether no step, with the objects of `sigma` for the parameters, deletes a mark of the first rows between whose column and row

@@ -6,15 +6,18 @@ ghost use Rattle.px_terms.specs.Validity.{IsAtomOf, IsValid};
 ghost use Rattle.px_table.specs.Kernels.{IsInstantiation, IsProper, TailCarries, instance_under, mark_under, steps_under};
 ghost use Rattle.px_table.specs.Marks.{IsKept};
 ghost use Rattle.px_table.specs.Tables.{IsStepOf, IsTable};
+ghost use Rattle.px_table.specs.WellSorted.{ParametersFit};
 
 use crate::mark::Mark;
 use crate::table::Table;
 use crate::under_objects::{atom_with, instance_with};
+use crate::well_sorted::fit_parameters;
 use px_ops::{deletes, schema_of};
 use px_terms::{Atom, OpInst, Problem, Schema};
 
-/// Returns whether the instance of kernel `i` under the objects of `sigma` is proper: whether no step from `i` on deletes the instance of
-/// a mark between whose column and row it stands. Two parameters may have one object, and a step may then delete what a later one needs.
+/// Returns whether the instance of kernel `i` under the objects of `sigma` is proper: whether each object fits its parameter's sort, and no
+/// step from `i` on deletes the instance of a mark between whose column and row it stands. Two parameters may have one object, and a step
+/// may then delete what a later one needs.
 ///
 /// A proper instance carries the steps from `i` on: in each run of them that begins in a state in which the instance holds,
 /// in which the axioms hold throughout, and each step of which leaves what its operator describes, each precondition is
@@ -24,10 +27,12 @@ pub fn proper(problem: &Problem, table: &Table, sigma: &[u32], i: u32) -> bool
     requires table { IsTable problem.now table.now }
     requires sigma { IsInstantiation problem.now table.now sigma.now }
     requires number { (1 ≤ i) × (i ≤ length table.now.steps + 1) }
-    ensures exact { IsTrue result ↔ IsProper problem.now table.now sigma.now i }
+    ensures exact { IsTrue result ↔ (ParametersFit problem.now.object_sorts table.now sigma.now
+        × IsProper problem.now table.now sigma.now i) }
     ensures carries { IsTrue result → TailCarries problem.now table.now sigma.now i }
 {
-    are_kept(problem, table, sigma, i)
+    let objects_fit = fit_parameters(problem, table, sigma);
+    objects_fit && are_kept(problem, table, sigma, i)
 }
 
 /// Returns whether the instance of each mark is kept by the steps from `first` on.

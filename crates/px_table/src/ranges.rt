@@ -1,9 +1,10 @@
 //! Whether the numbers of a table are in range.
-ghost use Rattle.std.specs.Prelude.{◌≡◌, ◌↔◌, ◌+◌, ◌<◌, All, IsTrue};
-ghost use Rattle.px_table.specs.Tables.{IsTableInRange, IsStepOf};
+ghost use Rattle.std.specs.Prelude.{◌≡◌, ◌↔◌, ◌+◌, ◌<◌, All, IsTrue, length};
+ghost use Rattle.px_base.specs.Bounds.{u32_max};
+ghost use Rattle.px_terms.specs.Validity.{IsAtomOf};
+ghost use Rattle.px_table.specs.Tables.{IsStepOf};
 
-use crate::table::Table;
-use px_terms::{OpInst, Problem, are_atoms_of, is_term_of};
+use px_terms::{Atom, OpInst, Problem, are_atoms_of, is_term_of};
 
 /// Returns whether it is an instance of an operator of the problem over its objects and the first `params` parameters.
 // Alike: `is_instance_of` of `px_terms`, which is the test of an instance without parameters by a definition of its own.
@@ -28,12 +29,19 @@ fn are_steps_of(problem: &Problem, params: u32, steps: &[OpInst]) -> bool
     steps.iter().all(|inst| is_step_of(problem, params, inst))
 }
 
-/// Returns whether the numbers of the table's steps and goal are in range.
-pub fn is_in_range(problem: &Problem, table: &Table) -> bool
-    ensures { IsTrue result ↔ IsTableInRange problem.now table.now }
+/// Returns whether there are fewer than `u32::MAX` steps, and the numbers of the steps and the goal are in range.
+pub fn are_in_range(
+    problem: &Problem,
+    params: u32,
+    steps: &[OpInst],
+    goal: &[Atom],
+    goal_vars: u32,
+) -> bool
+    ensures { IsTrue result ↔ ((length steps.now < u32_max) × All (IsStepOf problem.now params) steps.now
+        × All (IsAtomOf problem.now (params + goal_vars)) goal.now) }
 {
-    let vars = u64::from(table.params) + u64::from(table.goal_vars);
-    table.steps.len() < 4294967295
-        && are_steps_of(problem, table.params, table.steps.as_slice())
-        && are_atoms_of(problem, vars, table.goal.as_slice())
+    let vars = u64::from(params) + u64::from(goal_vars);
+    steps.len() < u32::MAX as usize
+        && are_steps_of(problem, params, steps)
+        && are_atoms_of(problem, vars, goal)
 }

@@ -1,10 +1,12 @@
 //! Triangle tables and their rows.
 ghost use Rattle.std.specs.Prelude.{◌≡◌, IfOk};
+ghost use Rattle.px_table.specs.Tables.{table_without_sorts};
 
 use crate::mark::Mark;
 use px_base::{NoMemory, Sequence, push};
 use px_proof::Proof;
 use px_terms::{Atom, OpInst};
+use std::alloc::Global;
 use std::marker::Model;
 
 /// A row of a triangle table: a proof for each atom of a step's precondition, or of the goal. Contracts see it as the
@@ -83,9 +85,38 @@ pub struct Table {
     pub marks: Sequence<Mark>,
     /// In what `check_table` accepts: a row for each step, and one for the goal.
     pub proofs: Sequence<Row>,
+    /// In what `check_table` accepts: the sort of each parameter; 0 is no sort.
+    pub param_sorts: Sequence<u32>,
 }
 
 impl Table {
+    /// Returns the table none of whose parameters has a sort.
+    ///
+    /// # Errors
+    /// `NoMemory` where there is no memory for the list of sorts. The parts are then dropped.
+    pub fn without_sorts(
+        alloc: Global,
+        params: u32,
+        steps: Sequence<OpInst>,
+        goal: Sequence<Atom>,
+        goal_vars: u32,
+        marks: Sequence<Mark>,
+        proofs: Sequence<Row>,
+    ) -> Result<Table, NoMemory>
+        ensures { IfOk result (λ table. table ≡ table_without_sorts params steps goal goal_vars marks proofs) }
+    {
+        let param_sorts = Sequence::from_vec(vec![in alloc; 0; params as usize]?);
+        Ok(Table {
+            params,
+            steps,
+            goal,
+            goal_vars,
+            marks,
+            proofs,
+            param_sorts,
+        })
+    }
+
     /// Returns an equal table.
     ///
     /// # Errors
@@ -97,6 +128,7 @@ impl Table {
         let goal = self.goal.try_copy()?;
         let marks = self.marks.try_copy()?;
         let proofs = copy_rows(&self.proofs)?;
+        let param_sorts = self.param_sorts.try_copy()?;
         Ok(Table {
             params: self.params,
             steps,
@@ -104,6 +136,7 @@ impl Table {
             goal_vars: self.goal_vars,
             marks,
             proofs,
+            param_sorts,
         })
     }
 }

@@ -21,4 +21,6 @@ mod slow_executor;
 #[cfg(test)]
 mod small_tables;
 #[cfg(test)]
+mod sorted;
+#[cfg(test)]
 mod tables;

@@ -43,14 +43,16 @@ pub fn plan_of(
     ensures { result.params ≡ 0 }
 {
     assert!(rt; rows.len() <= 66);
-    Table {
-        params: 0,
-        steps: Sequence::from_slice(alloc, steps).expect(rt, "memory"),
-        goal: Sequence::from_slice(alloc, goal).expect(rt, "memory"),
+    let table = Table::without_sorts(
+        alloc,
+        0,
+        Sequence::from_slice(alloc, steps).expect(rt, "memory"),
+        Sequence::from_slice(alloc, goal).expect(rt, "memory"),
         goal_vars,
-        marks: marks(alloc, &rows).expect(rt, "memory"),
-        proofs: Sequence::from_vec(rows),
-    }
+        marks(alloc, &rows).expect(rt, "memory"),
+        Sequence::from_vec(rows),
+    );
+    table.expect(rt, "memory")
 }
 
 /// Returns the table of no steps that proves these atoms by facts.
@@ -63,14 +65,16 @@ pub fn table_of_facts(alloc: Global, rt: &impl Abort, params: u32, atoms: &[Atom
     }
     let mut rows = Vec::new(alloc);
     rows.push(Row::from_proofs(proofs)).expect(rt, "memory");
-    Table {
+    let table = Table::without_sorts(
+        alloc,
         params,
-        steps: Sequence::from_vec(Vec::new(alloc)),
-        goal: Sequence::from_slice(alloc, atoms).expect(rt, "memory"),
-        goal_vars: 0,
-        marks: Sequence::from_vec(marks),
-        proofs: Sequence::from_vec(rows),
-    }
+        Sequence::from_vec(Vec::new(alloc)),
+        Sequence::from_slice(alloc, atoms).expect(rt, "memory"),
+        0,
+        Sequence::from_vec(marks),
+        Sequence::from_vec(rows),
+    );
+    table.expect(rt, "memory")
 }
 
 /// Returns whether there is an object of the problem for each parameter.

@@ -37,14 +37,16 @@ fn table_of(
         }
         rows.push(Row::from_proofs(row)).expect(rt, "memory");
     }
-    Table {
+    let table = Table::without_sorts(
+        alloc,
         params,
-        steps: Sequence::from_slice(alloc, steps).expect(rt, "memory"),
-        goal: Sequence::from_slice(alloc, &[goal]).expect(rt, "memory"),
-        goal_vars: 0,
-        marks: Sequence::from_vec(marks),
-        proofs: Sequence::from_vec(rows),
-    }
+        Sequence::from_slice(alloc, steps).expect(rt, "memory"),
+        Sequence::from_slice(alloc, &[goal]).expect(rt, "memory"),
+        0,
+        Sequence::from_vec(marks),
+        Sequence::from_vec(rows),
+    );
+    table.expect(rt, "memory")
 }
 
 /// Returns the operator of that number and that many parameters that turns one fact into another, where it finds all these.

@@ -5,7 +5,9 @@ ghost use Rattle.px_terms.specs.Validity.{IsAtomOf, IsValid};
 use crate::samples::{is_instantiation, valid};
 use px_general::generalise;
 use px_proof::{Leaf, Proof};
-use px_samples::{ROBOT, connects, is_box, is_in, mark, moving, o, objects, parameters, rooms};
+use px_samples::{
+    ROBOT, connects, is_box, is_in, mark, moving, o, objects, parameters, rooms, sorted_rooms,
+};
 use px_table::{Row, Table, build, check_table, kernel, marks, proper};
 use px_terms::{Atom, Problem, is_atom_of};
 use std::alloc::Global;
@@ -49,6 +51,18 @@ fn the_plan_is_generalised(rt: HostRuntime) {
     assert!(&rt; general.steps == wanted.steps);
     assert!(&rt; general.goal == wanted.goal);
     assert!(&rt; general.marks == wanted.marks);
+    assert!(&rt; general.param_sorts == wanted.param_sorts);
+}
+
+/// The parameter that is pushed has the sort of the place at which it stands.
+#[test]
+fn what_is_pushed_keeps_its_sort(rt: HostRuntime) {
+    let problem = valid(&rt, sorted_rooms(rt.alloc(), 0));
+    let plan = moving(rt.alloc(), 0, objects()).expect(&rt, "memory");
+    assert!(&rt; check_table(&problem, &plan));
+    assert!(&rt; plan.params == 0);
+    let general = generalise(rt.alloc(), &problem, &plan).expect(&rt, "memory");
+    assert!(&rt; general.param_sorts.as_slice() == [0u32, 0, 0, 1, 0, 0].as_slice());
 }
 
 #[test]

@@ -10,6 +10,7 @@ use Rattle.px_terms.specs.Lamps.{claim, denial, contradiction, ContradictionFact
 use Rattle.px_terms.specs.Language.{IsPlainBelow}
 use Rattle.px_terms.specs.MergedNamesLaws.{All-nothing, one}
 use Rattle.px_terms.specs.Plans.{IsRun, Carries}
+use Rattle.px_terms.specs.SortLaws.{no_object_sorts-are}
 use Rattle.px_terms.specs.States.{State, AreValues, AxiomsHold, LiteralHoldsUnder}
 use Rattle.px_terms.specs.Validity.{IsAtomOf, IsAxiomOf, IsTermOf, IsValid}
 use Rattle.px_terms.proofs.LampLaws.{two}
@@ -38,6 +39,8 @@ valid =
       height = (omega arith, omega arith);
       nodes = (omega arith, omega arith);
       shapes = (omega arith, omega arith);
+      weight = omega arith;
+      sorts = no_object_sorts-are contradiction 0 (omega arith);
       no_objects = λ _. (All-nothing _, two (λ (clause : Clause). clause.vars ≡ 0) claim denial refl refl);
     }
 

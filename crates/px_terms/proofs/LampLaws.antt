@@ -14,6 +14,7 @@ use Rattle.px_terms.specs.Language.{IsPlainBelow}
 use Rattle.px_terms.specs.MergedNamesLaws.{All-nothing, one}
 use Rattle.px_terms.specs.Operators.{IsDeleted, deletes, no_schema}
 use Rattle.px_terms.specs.Plans.{IsRun, MeetsEach, Carries, GoalHolds, last_of}
+use Rattle.px_terms.specs.SortLaws.{no_object_sorts-are, no_sorts-are}
 use Rattle.px_terms.specs.States.{State, IsState, Holds, HoldsUnder, AreValues, AxiomsHold, Described, LiteralHoldsUnder}
 use Rattle.px_terms.specs.Validity.{IsAtomOf, IsAxiomOf, IsInstanceOf, IsPatternOf, IsPatternTermOf, IsSchemaOf, IsTermOf, IsValid}
 use Rattle.px_terms.specs.ValidityLaws.{atom_of-is_ground, deletes-true, instance-is_ground}
@@ -55,6 +56,7 @@ module _ (axioms : List Clause) where
     del = one (IsPatternOf (lamp_with axioms) 1) (off (Var 0)) off_pattern;
     add = one (IsAtomOf (lamp_with axioms) 1) (on (Var 0)) on_parameter;
     short = (omega arith, omega arith, omega arith);
+    sorts = no_sorts-are (lamp_with axioms) 1;
   }
 
   each_schema : (k : ℕ) → k < 1 → IsSchemaOf (lamp_with axioms) k (slice_index_or (switch_schema ∷ []) k no_schema)
@@ -70,6 +72,8 @@ module _ (axioms : List Clause) where
     height = (omega arith, omega arith);
     nodes = (omega arith, omega arith);
     shapes = (omega arith, omega arith);
+    weight = omega arith;
+    sorts = no_object_sorts-are (lamp_with axioms) 1 (omega arith);
     no_objects = λ none_there. absurd (omega (arith, none_there));
   }
 

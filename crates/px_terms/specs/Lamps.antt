@@ -8,6 +8,7 @@ use Rattle.px_terms.specs.declared.problem.Schema.{Schema}
 use Rattle.px_terms.specs.declared.term.Term.{Term}
 use Rattle.px_terms.specs.declared.term.Term.TheVariants.{Obj, Var}
 use Rattle.px_terms.specs.Plans.{Carries}
+use Rattle.px_terms.specs.Problems.{problem_without_sorts, schema_without_sorts}
 use Rattle.px_terms.specs.States.{State, IsState, AxiomsHold}
 use Rattle.px_terms.specs.Validity.{IsInstanceOf, IsValid}
 
@@ -34,19 +35,11 @@ on_shines = record {
 
 -- SWITCH_ON(x) needs OFF(x), deletes it and adds ON(x)
 abbrev pub switch_schema : Schema
-switch_schema = record { op = 0; params = 1; pre = off (Var 0) ∷ []; del = off (Var 0) ∷ []; add = on (Var 0) ∷ [] }
+switch_schema = schema_without_sorts 0 1 (off (Var 0) ∷ []) (off (Var 0) ∷ []) (on (Var 0) ∷ [])
 
 -- one object, the lamp, with these axioms
 abbrev pub lamp_with : List Clause → Problem
-lamp_with axioms = record {
-  objects = 1;
-  arities = 1 ∷ 1 ∷ 1 ∷ [];
-  axioms = axioms;
-  schemas = switch_schema ∷ [];
-  height = 1;
-  nodes = 1;
-  shapes = 2;
-}
+lamp_with axioms = problem_without_sorts 1 (1 ∷ 1 ∷ 1 ∷ []) axioms (switch_schema ∷ []) 1 1 2
 
 abbrev pub lamp : Problem
 lamp = lamp_with (on_or_off ∷ on_shines ∷ [])
@@ -96,7 +89,7 @@ abbrev pub denial : Clause
 denial = record { vars = 0; lits = record { positive = false; atom = record { pred = 0; args = [] } } ∷ [] }
 
 abbrev pub contradiction : Problem
-contradiction = record { objects = 0; arities = 0 ∷ []; axioms = claim ∷ denial ∷ []; schemas = []; height = 1; nodes = 1; shapes = 2 }
+contradiction = problem_without_sorts 0 (0 ∷ []) (claim ∷ denial ∷ []) [] 1 1 2
 
 -- No state meets axioms that contradict each other. So there is no run, and any facts carry any steps to any goal.
 pub record ContradictionFact : Type 0 where

@@ -16,7 +16,11 @@ pub mod Order
 pub mod OrderLaws
 pub mod Padding
 pub mod Plans
+pub mod Problems
 pub mod SchemaLaws
+pub mod SortLaws
+pub mod SortedInstances
+pub mod Sorts
 pub mod Soundness
 pub mod States
 pub mod Substitution

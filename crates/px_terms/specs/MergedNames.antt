@@ -9,6 +9,7 @@ use Rattle.px_terms.specs.declared.problem.Schema.{Schema}
 use Rattle.px_terms.specs.declared.term.Term.{Term}
 use Rattle.px_terms.specs.declared.term.Term.TheVariants.{Obj, Var}
 use Rattle.px_terms.specs.Operators.{precondition}
+use Rattle.px_terms.specs.Problems.{problem_without_sorts, schema_without_sorts}
 use Rattle.px_terms.specs.States.{State, IsState, Holds, Described}
 use Rattle.px_terms.specs.Validity.{IsInstanceOf, IsValid}
 
@@ -18,10 +19,10 @@ at x = record { pred = 0; args = x ∷ [] }
 
 -- DROP(x) needs AT(x) and deletes it
 abbrev pub drop_schema : Schema
-drop_schema = record { op = 0; params = 1; pre = at (Var 0) ∷ []; del = at (Var 0) ∷ []; add = [] }
+drop_schema = schema_without_sorts 0 1 (at (Var 0) ∷ []) (at (Var 0) ∷ []) []
 
 abbrev pub two_names : Problem
-two_names = record { objects = 2; arities = 1 ∷ []; axioms = []; schemas = drop_schema ∷ []; height = 1; nodes = 1; shapes = 2 }
+two_names = problem_without_sorts 2 (1 ∷ []) [] (drop_schema ∷ []) 1 1 2
 
 abbrev pub drop_first : OpInst
 drop_first = record { op = 0; args = Obj 0 ∷ [] }

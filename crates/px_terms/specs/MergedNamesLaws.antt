@@ -9,6 +9,7 @@ use Rattle.px_terms.specs.declared.term.Term.TheVariants.{Obj, Var, Any as WildC
 use Rattle.px_terms.specs.Clauses.{IsClause}
 use Rattle.px_terms.specs.Operators.{IsDeleted, deletes, no_schema}
 use Rattle.px_terms.specs.MergedNames.{at, drop_schema, two_names, drop_first, merged, apart, apart_after, MergedNamesFact}
+use Rattle.px_terms.specs.SortLaws.{no_object_sorts-are, no_sorts-are}
 use Rattle.px_terms.specs.States.{State, IsState, Holds, Described, element_of}
 use Rattle.px_terms.specs.Validity.{IsAtomOf, IsInstanceOf, IsPatternOf, IsPatternTermOf, IsSchemaOf, IsTermOf, IsValid}
 use Rattle.px_terms.specs.ValidityLaws.{atom_of-is_ground, deletes-false, deletes-true, instance-is_ground}
@@ -35,6 +36,7 @@ drop_is_schema = record {
   del = one (IsPatternOf two_names 1) (at (Var 0)) at_pattern;
   add = All-nothing (IsAtomOf two_names 1);
   short = (omega arith, omega arith, omega arith);
+  sorts = no_sorts-are two_names 1;
 }
 
 each_schema : (k : ℕ) → k < 1 → IsSchemaOf two_names k (slice_index_or (drop_schema ∷ []) k no_schema)
@@ -50,6 +52,8 @@ valid = record {
   height = (omega arith, omega arith);
   nodes = (omega arith, omega arith);
   shapes = (omega arith, omega arith);
+  weight = omega arith;
+  sorts = no_object_sorts-are two_names 2 (omega arith);
   no_objects = λ none_there. absurd (omega (arith, none_there));
 }
 

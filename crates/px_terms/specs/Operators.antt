@@ -27,7 +27,7 @@ result_by schema atoms inst = atom_set (filter (λ atom. not (is_deleted schema 
 
 -- stands for the operator where there is none
 abbrev pub no_schema : Schema
-no_schema = record { op = 0; params = 0; pre = []; del = []; add = [] }
+no_schema = record { op = 0; params = 0; pre = []; del = []; add = []; param_sorts = [] }
 
 -- the operator of an instance
 abbrev pub schema_of : Problem → OpInst → Schema

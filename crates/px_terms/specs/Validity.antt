@@ -1,5 +1,6 @@
 -- Problems whose numbers are in range, and the atoms and operator instances that belong to them.
 use Rattle.std.specs.Prelude.{◌≡◌, ℕ, ◌<◌, ◌≤◌, List, length, All, slice_index, slice_index_or, EachIndex}
+use Rattle.px_base.specs.Bounds.{u32_max}
 use Rattle.px_terms.specs.declared.atom.Atom.{Atom}
 use Rattle.px_terms.specs.declared.clause.Clause.{Clause}
 use Rattle.px_terms.specs.declared.instance.OpInst.{OpInst}
@@ -10,6 +11,7 @@ use Rattle.px_terms.specs.declared.term.Term.TheVariants.{Obj, Var, Any}
 use Rattle.px_terms.specs.Clauses.{IsArena}
 use Rattle.px_terms.specs.Language.{IsObject, IsPlainBelow, IsVariableBelow}
 use Rattle.px_terms.specs.Operators.{no_schema, schema_of}
+use Rattle.px_terms.specs.Problems.{most_height, most_nodes, most_shapes, most_weight}
 
 -- the term is one of the problem's objects or one of `vars` variables
 abbrev pub IsTermOf : Problem → ℕ → Term → Type 0
@@ -43,9 +45,14 @@ pub record IsSchemaWellFormed (schema : Schema) : Type 0 where
 
 -- the list has fewer than 4,294,967,295 entries
 abbrev pub IsShort : {X : Type 0} → List X → Type 0
-IsShort xs = length xs < 4294967295
+IsShort xs = length xs < u32_max
 
--- the operator at a place of the problem: its number is the place, it has at most eight parameters, and its atoms are the problem's
+-- the numbers are sorts of the problem; 0 is no sort
+abbrev pub AreSortsOf : Problem → List ℕ → Type 0
+AreSortsOf problem sorts = All (λ sort. sort ≤ problem.sorts) sorts
+
+-- The operator at a place of the problem: its number is the place, it has at most eight parameters, its atoms are the problem's, and
+-- so are its sorts, one for each parameter.
 pub record IsSchemaOf (problem : Problem) (place : ℕ) (schema : Schema) : Type 0 where
   pub number : schema.op ≡ place
   pub params : schema.params ≤ 8
@@ -53,22 +60,25 @@ pub record IsSchemaOf (problem : Problem) (place : ℕ) (schema : Schema) : Type
   pub del : All (IsPatternOf problem schema.params) schema.del
   pub add : All (IsAtomOf problem schema.params) schema.add
   pub short : IsShort schema.pre × IsShort schema.del × IsShort schema.add
+  pub sorts : (length schema.param_sorts ≡ schema.params) × AreSortsOf problem schema.param_sorts
 
 -- an axiom of the problem has at most twelve variables, and its atoms are the problem's
 pub record IsAxiomOf (problem : Problem) (clause : Clause) : Type 0 where
   pub vars : clause.vars ≤ 12
   pub lits : All (λ lit. IsAtomOf problem clause.vars lit.atom) clause.lits
 
--- All numbers of the problem are in range, its limits too, and there is an object where a variable or parameter is declared. Each
--- of its lists is short; the axioms are at most 64 clauses of one to six literals.
+-- All numbers of the problem are in range, its limits too, there is a sort for each object, and there is an object where a variable or
+-- parameter is declared. Each of its lists is short; the axioms are at most 64 clauses of one to six literals.
 pub record IsValid (problem : Problem) : Type 0 where
   pub schemas : EachIndex problem.schemas (λ k. IsSchemaOf problem k (slice_index_or problem.schemas k no_schema))
   pub axioms : All (IsAxiomOf problem) problem.axioms
   pub arena : IsArena problem.axioms
   pub short : IsShort problem.arities × IsShort problem.schemas
-  pub height : (1 ≤ problem.height) × (problem.height ≤ 8)
-  pub nodes : (1 ≤ problem.nodes) × (problem.nodes ≤ 50000)
-  pub shapes : (2 ≤ problem.shapes) × (problem.shapes ≤ 70000)
+  pub height : (1 ≤ problem.height) × (problem.height ≤ most_height)
+  pub nodes : (1 ≤ problem.nodes) × (problem.nodes ≤ most_nodes)
+  pub shapes : (2 ≤ problem.shapes) × (problem.shapes ≤ most_shapes)
+  pub weight : problem.weight ≤ most_weight
+  pub sorts : (length problem.object_sorts ≡ problem.objects) × AreSortsOf problem problem.object_sorts × IsShort problem.object_sorts
   pub no_objects : problem.objects ≡ 0 → All (λ schema. schema.params ≡ 0) problem.schemas × All (λ clause. clause.vars ≡ 0) problem.axioms
 
 -- a ground instance of one of the problem's operators, over any objects

@@ -3,6 +3,7 @@ ghost use Rattle.px_terms.specs.Before.{AtomsAreOrdered};
 ghost use Rattle.px_terms.specs.DropPlan.{DropPlanFact};
 ghost use Rattle.px_terms.specs.Lamps.{ContradictionFact, LampFact};
 ghost use Rattle.px_terms.specs.MergedNames.{MergedNamesFact};
+ghost use Rattle.px_terms.specs.SortedInstances.{SortedInstancesFact};
 
 /// Two objects may be one thing (Lifschitz 1987). Where they are, dropping the first by an operator that deletes its atom leaves the
 /// atom of the second; where they are two, the state without either is a successor that the operator describes.
@@ -32,4 +33,10 @@ pub fn contradiction()
 /// before variables, and these before the wild card. `==` of each is equality.
 pub fn atoms_are_ordered()
     ensures { AtomsAreOrdered }
+{}
+
+/// Of two objects one has a sort, and of an operator's two parameters one: of its four instances those fit whose object at the sorted
+/// parameter has the sort.
+pub fn sorted_instances()
+    ensures { SortedInstancesFact }
 {}

@@ -11,7 +11,11 @@
 //!   pattern with wild cards, [`fills`] any atom.
 //! - A [`ClauseArena`] keeps the axioms by number. `push` refuses a clause of no literal or more than six, then a
 //!   sixty-fifth clause; a refused clause leaves it as it was.
-//! - A [`Schema`] is an operator, a [`Problem`] all that a search is about. Fields that are lists are [`Sequence`]s.
+//! - A [`Schema`] is an operator, a [`Problem`] all that a search is about. Fields that are lists are [`Sequence`]s. `without_sorts` of
+//!   each makes one without sorts; a problem's [`Limits`] are at most `MOST_HEIGHT`, `MOST_NODES` and `MOST_SHAPES`.
+//! - Each object and each parameter has a sort, a number; 0 is no sort. An object fits a place that wants no sort or the object's
+//!   ([`fits_sort`]), and an instance fits where each of its objects does ([`fits`]). [`sort_at`] reads a list of sorts, and
+//!   [`are_sorts_of`] tests one. What isn't said to fit is whatever the sorts: states, runs, and what a plan is worth.
 //!   Calls of other crates that borrow a problem ask that it is valid: `IsValid` in `specs/Validity.antt`. [`is_valid`] tests
 //!   it; [`is_atom_of`], [`are_atoms_of`], [`is_instance_of`] and [`is_term_of`] test what belongs to a problem; [`is_ground`],
 //!   [`are_objects_below`], [`are_variables_below`] and [`are_plain_below`] test the conditions of other calls. Each answers exactly.
@@ -20,9 +24,9 @@
 //! - Laws about the definitions are calls that do nothing: [`merged_names`], the worked example that two objects may be
 //!   one thing; [`drop_plan`], what a plan over them carries and what it doesn't; [`lit_lamp`], axioms that hold in some
 //!   states and fail in others, and a goal with a variable that a plan reaches only by them; [`contradiction`], axioms that
-//!   no state meets; [`atoms_are_ordered`], the order in words.
+//!   no state meets; [`sorted_instances`], which of four instances fit; [`atoms_are_ordered`], the order in words.
 //! - No public clause cites `specs/Soundness` and the files of laws (`DropPlanLaws`, `InstanceLaws`, `MergedNamesLaws`, `OperatorLaws`,
-//!   `SchemaLaws`, `ValidityLaws`).
+//!   `SchemaLaws`, `SortLaws`, `ValidityLaws`).
 #![tactic(auto)]
 
 mod atom;
@@ -30,6 +34,7 @@ mod clause;
 mod instance;
 mod laws;
 mod problem;
+mod sorts;
 mod substitution;
 mod term;
 #[cfg(test)]
@@ -39,12 +44,16 @@ mod validity;
 pub use atom::{Atom, apply, equal, fills, instance_of};
 pub use clause::{ArenaErr, Clause, ClauseArena, Lit};
 pub use instance::{OpInst, apply_inst};
-pub use laws::{atoms_are_ordered, contradiction, drop_plan, lit_lamp, merged_names};
-pub use problem::{Problem, Schema};
+pub use laws::{
+    atoms_are_ordered, contradiction, drop_plan, lit_lamp, merged_names, sorted_instances,
+};
+pub use problem::{Limits, Problem, Schema};
 pub use px_base::{NoMemory, Sequence};
+pub use sorts::{fits, fits_sort, sort_at};
 pub use substitution::apply_term;
 pub use term::{Term, object_of};
 pub use validity::{
-    are_atoms_of, are_objects_below, are_plain_below, are_variables_below, is_atom_of, is_ground,
-    is_instance_of, is_term_of, is_valid,
+    MOST_HEIGHT, MOST_NODES, MOST_SHAPES, MOST_WEIGHT, are_atoms_of, are_objects_below,
+    are_plain_below, are_sorts_of, are_variables_below, is_atom_of, is_ground, is_instance_of,
+    is_term_of, is_valid,
 };

@@ -1,7 +1,7 @@
 //! Each public call once, with memory.
 use crate::{
-    ArenaErr, Atom, ClauseArena, Lit, NoMemory, OpInst, Problem, Schema, Sequence, Term, apply,
-    apply_inst, are_atoms_of, are_plain_below, are_variables_below, atoms_are_ordered,
+    ArenaErr, Atom, ClauseArena, Limits, Lit, NoMemory, OpInst, Problem, Schema, Sequence, Term,
+    apply, apply_inst, are_atoms_of, are_plain_below, are_variables_below, atoms_are_ordered,
     contradiction, drop_plan, equal, instance_of, is_atom_of, is_ground, is_instance_of, is_valid,
     lit_lamp, merged_names,
 };
@@ -77,22 +77,14 @@ fn a_clause_is_kept_as_it_was_pushed(rt: HostRuntime) -> Result<(), ArenaErr> {
 
 /// Returns the problem of two objects without axioms in which `DROP(x)` needs `AT(x)` and deletes it.
 fn dropping(alloc: Global, at: Atom) -> Result<Problem, NoMemory> {
-    let schema = Schema {
-        op: 0,
-        params: 1,
-        pre: Sequence::from_slice(alloc, &[at])?,
-        del: Sequence::from_slice(alloc, &[at])?,
-        add: Sequence::from_vec(Vec::new(alloc)),
-    };
-    Ok(Problem {
-        objects: 2,
-        arities: Sequence::from_slice(alloc, &[1u8])?,
-        axioms: ClauseArena::new(alloc),
-        schemas: Sequence::from_vec(Vec::from_array(alloc, [schema])?),
+    let schema = Schema::without_sorts(alloc, 0, 1, &[at], &[at], &[])?;
+    let schemas = Sequence::from_vec(Vec::from_array(alloc, [schema])?);
+    let limits = Limits {
         height: 1,
         nodes: 1,
         shapes: 2,
-    })
+    };
+    Problem::without_sorts(alloc, 2, &[1], ClauseArena::new(alloc), schemas, limits)
 }
 
 #[test]

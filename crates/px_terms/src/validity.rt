@@ -4,7 +4,8 @@ ghost use Rattle.px_terms.specs.Clauses.{ArePlainBelow, IsArena};
 ghost use Rattle.px_terms.specs.Instances.{IsGround};
 ghost use Rattle.px_terms.specs.Language.{IsObject, IsObjectBelow, IsPlainBelow, IsVariableBelow};
 ghost use Rattle.px_terms.specs.Operators.{no_schema};
-ghost use Rattle.px_terms.specs.Validity.{HasArity, IsAtomOf, IsAxiomOf, IsInstanceOf, IsPatternOf, IsPatternTermOf, IsSchemaOf, IsShort, IsTermOf, IsValid};
+ghost use Rattle.px_terms.specs.Problems.{most_height, most_nodes, most_shapes, most_weight};
+ghost use Rattle.px_terms.specs.Validity.{AreSortsOf, HasArity, IsAtomOf, IsAxiomOf, IsInstanceOf, IsPatternOf, IsPatternTermOf, IsSchemaOf, IsShort, IsTermOf, IsValid};
 
 use crate::atom::Atom;
 use crate::clause::{Clause, Lit};
@@ -184,7 +185,15 @@ fn is_axiom_of(problem: &Problem, clause: &Clause) -> bool
 }
 
 /// A length that no list of a problem reaches.
-const TOO_LONG: usize = 4_294_967_295;
+const TOO_LONG: usize = u32::MAX as usize;
+/// The greatest height of a proof that a problem may ask for.
+pub const MOST_HEIGHT: u32 = 8;
+/// The most nodes that a problem may ask for.
+pub const MOST_NODES: u32 = 1_000_000;
+/// The most shapes that a problem may ask for.
+pub const MOST_SHAPES: u32 = 70_000;
+/// The greatest weight of a problem.
+pub const MOST_WEIGHT: u32 = 1_000;
 
 /// Returns whether the schema's lists are short.
 fn has_short_lists(schema: &Schema) -> bool
@@ -212,11 +221,40 @@ fn is_numbered(place: usize, schema: &Schema) -> bool
     schema.op as usize == place && schema.params <= 8
 }
 
+/// Returns whether the numbers are sorts of the problem, or 0, which is no sort.
+pub fn are_sorts_of(problem: &Problem, sorts: &[u32]) -> bool
+    ensures { IsTrue result ↔ AreSortsOf problem.now sorts.now }
+{
+    let most = problem.sorts;
+    sorts.iter().all(|sort| *sort <= most)
+}
+
+/// Returns whether the schema has a sort of the problem for each parameter.
+fn has_sorts_of(problem: &Problem, schema: &Schema) -> bool
+    ensures { IsTrue result ↔ ((length schema.now.param_sorts ≡ schema.now.params) × AreSortsOf problem.now schema.now.param_sorts) }
+{
+    schema.param_sorts.len() == schema.params as usize
+        && are_sorts_of(problem, schema.param_sorts.as_slice())
+}
+
+/// Returns whether the problem has one of its sorts for each object, and their list is short.
+fn has_sorts(problem: &Problem) -> bool
+    ensures { IsTrue result ↔ ((length problem.now.object_sorts ≡ problem.now.objects)
+        × AreSortsOf problem.now problem.now.object_sorts × IsShort problem.now.object_sorts) }
+{
+    problem.object_sorts.len() == problem.objects as usize
+        && are_sorts_of(problem, problem.object_sorts.as_slice())
+        && problem.object_sorts.len() < TOO_LONG
+}
+
 /// Returns whether the schema is the operator at the place of the problem.
 fn is_schema_of(problem: &Problem, place: usize, schema: &Schema) -> bool
     ensures { IsTrue result ↔ IsSchemaOf problem.now place schema.now }
 {
-    is_numbered(place, schema) && has_atoms_of(problem, schema) && has_short_lists(schema)
+    is_numbered(place, schema)
+        && has_atoms_of(problem, schema)
+        && has_short_lists(schema)
+        && has_sorts_of(problem, schema)
 }
 
 /// Returns whether the schema at the place is the operator of that number.
@@ -270,27 +308,39 @@ fn has_objects(problem: &Problem) -> bool
                 .all(|clause| clause.vars == 0))
 }
 
+/// Returns whether the problem has one of its sorts for each object, and an object where it needs one.
+fn are_objects_sorted(problem: &Problem) -> bool
+    ensures { IsTrue result ↔ (((length problem.now.object_sorts ≡ problem.now.objects)
+        × AreSortsOf problem.now problem.now.object_sorts × IsShort problem.now.object_sorts)
+        × (problem.now.objects ≡ 0 → All (λ schema. schema.params ≡ 0) problem.now.schemas
+        × All (λ clause. clause.vars ≡ 0) problem.now.axioms)) }
+{
+    has_sorts(problem) && has_objects(problem)
+}
+
 /// Returns whether the problem's limits are in range, and its lists short.
 fn is_limited(problem: &Problem) -> bool
     ensures { IsTrue result ↔ ((IsShort problem.now.arities × IsShort problem.now.schemas)
-        × ((1 ≤ problem.now.height) × (problem.now.height ≤ 8))
-        × ((1 ≤ problem.now.nodes) × (problem.now.nodes ≤ 50000)) × ((2 ≤ problem.now.shapes) × (problem.now.shapes ≤ 70000))) }
+        × ((1 ≤ problem.now.height) × (problem.now.height ≤ most_height))
+        × ((1 ≤ problem.now.nodes) × (problem.now.nodes ≤ most_nodes)) × ((2 ≤ problem.now.shapes) × (problem.now.shapes ≤ most_shapes))
+        × (problem.now.weight ≤ most_weight)) }
 {
     problem.arities.len() < TOO_LONG
         && problem.schemas.len() < TOO_LONG
         && 1 <= problem.height
-        && problem.height <= 8
+        && problem.height <= MOST_HEIGHT
         && 1 <= problem.nodes
-        && problem.nodes <= 50_000
+        && problem.nodes <= MOST_NODES
         && 2 <= problem.shapes
-        && problem.shapes <= 70_000
+        && problem.shapes <= MOST_SHAPES
+        && problem.weight <= MOST_WEIGHT
 }
 
-/// Returns whether the problem is valid: all its numbers are in range, its limits too, its lists are short, and there is an
-/// object where an operator has a parameter or an axiom a variable.
+/// Returns whether the problem is valid: all its numbers are in range, its limits too, its lists are short, there is a sort for each
+/// object and each parameter, and there is an object where an operator has a parameter or an axiom a variable.
 pub fn is_valid(problem: &Problem) -> bool
     ensures { IsTrue result ↔ IsValid problem.now }
 {
     let has_axioms = are_axioms_of(problem);
-    has_axioms && are_schemas_of(problem) && is_limited(problem) && has_objects(problem)
+    has_axioms && are_schemas_of(problem) && is_limited(problem) && are_objects_sorted(problem)
 }

@@ -11,6 +11,7 @@ use Rattle.px_terms.specs.Clauses.{IsClause}
 use Rattle.px_terms.specs.Language.{IsPlainBelow}
 use Rattle.px_terms.specs.MergedNamesLaws.{All-nothing, one}
 use Rattle.px_terms.specs.Operators.{no_schema}
+use Rattle.px_terms.specs.SortLaws.{no_object_sorts-are, no_sorts-are}
 use Rattle.px_terms.specs.States.{AreValues, State, Holds, LiteralHoldsUnder}
 use Rattle.px_terms.specs.Validity.{IsAtomOf, IsAxiomOf, IsInstanceOf, IsPatternOf, IsSchemaOf, IsTermOf, IsValid}
 use Rattle.px_world.specs.WorkedGuard.{GuardFact, go, guarded, needs_p, p, p_is_true, p_or_not_q, q, q_is_false}
@@ -32,6 +33,7 @@ is_schema = record {
   del = All-nothing (IsPatternOf guarded 0);
   add = one (IsAtomOf guarded 0) q q_is_atom;
   short = (omega arith, omega arith, omega arith);
+  sorts = no_sorts-are guarded 0;
 }
 
 each_schema : (k : ℕ) → k < 1 → IsSchemaOf guarded k (slice_index_or (needs_p ∷ []) k no_schema)
@@ -61,6 +63,8 @@ valid = record {
   height = (omega arith, omega arith);
   nodes = (omega arith, omega arith);
   shapes = (omega arith, omega arith);
+  weight = omega arith;
+  sorts = no_object_sorts-are guarded 0 (omega arith);
   no_objects = λ _. (one (λ (schema : Schema). schema.params ≡ 0) needs_p refl, one (λ (clause : Clause). clause.vars ≡ 0) p_or_not_q refl);
 }
 

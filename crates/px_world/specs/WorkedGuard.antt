@@ -6,6 +6,7 @@ use Rattle.px_terms.specs.declared.clause.Lit.{Lit}
 use Rattle.px_terms.specs.declared.instance.OpInst.{OpInst}
 use Rattle.px_terms.specs.declared.problem.Problem.{Problem}
 use Rattle.px_terms.specs.declared.problem.Schema.{Schema}
+use Rattle.px_terms.specs.Problems.{problem_without_sorts, schema_without_sorts}
 use Rattle.px_terms.specs.Validity.{IsInstanceOf, IsValid}
 use Rattle.px_world.specs.Worlds.{IsActionRefused}
 
@@ -25,10 +26,10 @@ abbrev pub p_or_not_q : Clause
 p_or_not_q = record { vars = 0; lits = p_is_true ∷ q_is_false ∷ [] }
 
 abbrev pub needs_p : Schema
-needs_p = record { op = 0; params = 0; pre = p ∷ []; del = []; add = q ∷ [] }
+needs_p = schema_without_sorts 0 0 (p ∷ []) [] (q ∷ [])
 
 abbrev pub guarded : Problem
-guarded = record { objects = 0; arities = 0 ∷ 0 ∷ []; axioms = p_or_not_q ∷ []; schemas = needs_p ∷ []; height = 1; nodes = 1; shapes = 2 }
+guarded = problem_without_sorts 0 (0 ∷ 0 ∷ []) (p_or_not_q ∷ []) (needs_p ∷ []) 1 1 2
 
 abbrev pub go : OpInst
 go = record { op = 0; args = [] }

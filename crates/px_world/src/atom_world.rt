@@ -6,6 +6,7 @@ ghost use Rattle.px_world.specs.declared.edits.AtomEdit.{AtomEdit};
 ghost use Rattle.px_world.specs.Worlds.{IsActionRefused, edited, IsGroundEdit};
 
 use crate::edits::AtomEdit;
+use crate::regrow::Regrow;
 use crate::world::{Guard, World};
 use px_ops::{Model, apply_in};
 use px_terms::{Atom, NoMemory, OpInst, Problem};
@@ -66,6 +67,7 @@ impl<'a> World for AtomWorld<'a> {
     ghost spare = { λ w. w.spare };
 
     fn holds(&self, atom: &Atom) -> bool {
+        // This call tells that the atoms are a set of ground atoms.
         let _known = self.atoms.atoms();
         self.atoms.holds(atom)
     }
@@ -101,5 +103,15 @@ impl<'a> World for AtomWorld<'a> {
                 let _ = self.atoms.remove(atom);
             }
         }
+    }
+}
+
+impl<'a> Regrow for AtomWorld<'a> {
+    fn regrow(&mut self, spare: usize) -> Result<(), NoMemory> {
+        self.atoms.reserve(spare)
+    }
+
+    fn atom_count(&self) -> usize {
+        self.atoms.atoms().len()
     }
 }

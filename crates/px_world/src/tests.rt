@@ -3,9 +3,9 @@ ghost use Rattle.std.specs.Prelude.{◌≡◌, IfOk, length, slice_index_or};
 ghost use Rattle.px_terms.specs.Operators.{no_schema};
 ghost use Rattle.px_terms.specs.Validity.{IsValid};
 
-use crate::{AtomEdit, AtomWorld, World, worked_guard};
+use crate::{AtomEdit, AtomWorld, Regrow, World, worked_guard};
 use px_ops::Model;
-use px_terms::{Atom, ClauseArena, NoMemory, OpInst, Problem, Schema, Sequence};
+use px_terms::{Atom, ClauseArena, Limits, NoMemory, OpInst, Problem, Schema, Sequence};
 use std::alloc::Global;
 use std::process::Abort;
 use std::rt::HostRuntime;
@@ -20,22 +20,14 @@ fn switch_problem(alloc: Global, rt: &impl Abort) -> Result<Problem, NoMemory>
 {
     let off = Atom::new(0, &[]).expect(rt, "no arguments");
     let on = Atom::new(1, &[]).expect(rt, "no arguments");
-    let schema = Schema {
-        op: 0,
-        params: 0,
-        pre: Sequence::from_vec(Vec::from_array(alloc, [off])?),
-        del: Sequence::from_vec(Vec::from_array(alloc, [off])?),
-        add: Sequence::from_vec(Vec::from_array(alloc, [on])?),
-    };
-    Ok(Problem {
-        objects: 0,
-        arities: Sequence::from_vec(Vec::from_array(alloc, [0u8, 0u8])?),
-        axioms: ClauseArena::new(alloc),
-        schemas: Sequence::from_vec(Vec::from_array(alloc, [schema])?),
+    let schema = Schema::without_sorts(alloc, 0, 0, &[off], &[off], &[on])?;
+    let schemas = Sequence::from_vec(Vec::from_array(alloc, [schema])?);
+    let limits = Limits {
         height: 4,
         nodes: 10000,
         shapes: 10000,
-    })
+    };
+    Problem::without_sorts(alloc, 0, &[0, 0], ClauseArena::new(alloc), schemas, limits)
 }
 
 #[test]
@@ -57,6 +49,8 @@ fn a_world_of_atoms(rt: HostRuntime) -> Result<(), NoMemory> {
     world.disturb(&AtomEdit::Remove(on));
     world.disturb(&AtomEdit::Add(off));
     assert!(&rt; world.holds(&off) & !world.holds(&on));
+    world.regrow(9)?;
+    assert!(&rt; world.atom_count() == 1 && world.holds(&off));
     Ok(())
 }
 

@@ -1,13 +1,22 @@
 -- Proofs of the goals that `keep_all` of src/macros.rt leaves open.
-use Rattle.std.proofs.Common.{◌≡◌, ◌∙◌, ◌<◌, List, set, sym, subst, arith}
+use Rattle.std.proofs.Common.{◌≡◌, ◌∙◌, ◌<◌, ℕ, List, set, sym, subst, arith}
 use Rattle.std.proofs.lemmas.Option.{slice_get_within}
+use Rattle.px_terms.specs.Sorts.{FitsSort}
 use Rattle.px_terms.specs.declared.term.Term.{Term}
 use Rattle.px_terms.specs.declared.term.Term.TheVariants.{Obj, Var}
 use Rattle.px_gaps.specs.Bindings.{IsBinding, open_term_count}
 use Rattle.px_gaps.proofs.Choosing.{bound-binding, count-falls}
 use Rattle.px_diff.proofs.GatherLemmas.{objects-all, objects-closed, objects-next, objects-none}
-use Rattle.px_base.proofs.Loops.{on_ok}
+use Rattle.px_diff.proofs.SortedLemmas.{objects-passed, objects-unfit}
+use Rattle.px_base.proofs.Loops.{on_ok, said_no}
 use Rattle.px_diff.proofs.macros.+keep_all.Goals as goal
+
+pub returns-then-not-steps_may_fit-clause-gathers : goal.returns-then-not-steps_may_fit-clause-gathers
+returns-then-not-steps_may_fit-clause-gathers t c =
+    objects-unfit c.args.front.now.request.problem.now c.args.front.now.request.tables.now c.args.front.now.request.wanted.now
+    c.args.front.now.request.stack.now c.args.front.now.request.model.now.atoms c.args.front.now.number c.args.front.now.count
+    c.args.front.now.table.now c.requires.front.table c.args.terms.now c.args.found.now.items
+    (c.steps_may_fit.ensures c.if-not-steps_may_fit.true)
 
 pub first_unbound-requires : goal.first_unbound-requires
 first_unbound-requires t c = record { binding = (c.args.front.now.request.problem.now.objects, c.requires.binding) }
@@ -38,6 +47,16 @@ loop-object-init t c =
     objects-none c.args.front.now.request.problem.now c.args.front.now.request.tables.now c.args.front.now.request.wanted.now
     c.args.front.now.request.stack.now c.args.front.now.request.model.now.atoms c.args.front.now.number c.args.front.now.count
     c.args.terms.now c.in-Some.parameter c.args.found.now.items c.in-Some.ensures.some
+
+pub loop-object-preserved-then-not-fits_sort : goal.loop-object-preserved-then-not-fits_sort
+loop-object-preserved-then-not-fits_sort t c =
+    objects-passed c.args.front.now.request.problem.now c.args.front.now.request.tables.now c.args.front.now.request.wanted.now
+    c.args.front.now.request.stack.now c.args.front.now.request.model.now.atoms c.args.front.now.number c.args.front.now.count
+    c.args.front.now.table.now c.requires.front.table c.args.terms.now c.in-Some.parameter c.loop-object.object c.parameter_sort-sort.result
+    c.args.found.now.items c.loop-object.found.items c.in-Some.ensures.some c.parameter_sort-sort.ensures
+    (λ fits. said_no c.fits_sort.result c.fits_sort.ensures c.if-not-fits_sort.true
+    (subst (λ (sorts : List ℕ). FitsSort sorts c.parameter_sort-sort.result c.loop-object.object) (sym c.as_slice-in-loop-object.ensures)
+    fits)) c.loop-object.invariant
 
 pub loop-object-preserved : goal.loop-object-preserved
 loop-object-preserved t c =

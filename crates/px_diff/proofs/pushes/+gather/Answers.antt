@@ -18,9 +18,15 @@ use Rattle.px_diff.proofs.Opening.{all-gathered}
 use Rattle.px_entries.proofs.RestLaws.{rest-all}
 use Rattle.px_diff.proofs.RestOpening.{rest-gathered}
 use Rattle.px_diff.proofs.Gathered.{gathers_less, gathers_part}
+use Rattle.px_diff.proofs.SortedLemmas.{gathers-unfit}
 use Rattle.px_base.proofs.Loops.{level_or_below, on_ok}
 use Rattle.px_entries.proofs.PartialLemmas.{needs-are, stands-closed}
 use Rattle.px_diff.proofs.pushes.+gather.Goals as goal
+
+pub returns-then-not-may_fit-clause-gathers : goal.returns-then-not-may_fit-clause-gathers
+returns-then-not-may_fit-clause-gathers t c =
+    gathers-unfit c.args.request.now.problem.now c.args.request.now.tables.now c.args.request.now.wanted.now c.args.request.now.stack.now
+    c.args.request.now.model.now.atoms c.args.partial.now c.args.found.now.items (c.may_fit.ensures c.if-not-may_fit.true)
 
 pub precondition_of-requires-clause-count : goal.precondition_of-requires-clause-count
 precondition_of-requires-clause-count t c = c.requires.partial.count

@@ -1,9 +1,8 @@
 -- Proofs of the goals that `add_choices` of src/row_questions.rt leaves open.
-use Rattle.std.proofs.Common.{◌≡◌, ◌∙◌, ◌<◌, List, length, set, ap, sym, subst, arith}
+use Rattle.std.proofs.Common.{◌≡◌, ◌∙◌, ◌<◌, length, set, ap, sym, subst, arith}
 use Rattle.std.proofs.lemmas.List.{length-set}
 use Rattle.std.proofs.lemmas.Option.{slice_get_within}
 use Rattle.px_question.specs.Settings.{setting_of}
-use Rattle.px_terms.specs.declared.term.Term.{Term}
 use Rattle.px_terms.specs.declared.term.Term.TheVariants.{Obj, Var}
 use Rattle.px_gaps.specs.Bindings.{IsBinding, open_term_count}
 use Rattle.px_gaps.proofs.Choosing.{bound-binding, count-falls}

@@ -11,16 +11,16 @@ use Rattle.px_entries.proofs.RowSteps.{macro-known, macro-within}
 use Rattle.px_entries.proofs.entry_rows.known_entry.Goals as goal
 
 pub precondition_of-requires-clause-op : goal.precondition_of-requires-clause-op
-precondition_of-requires-clause-op c = (subst (IsEntry c.args.problem.now c.args.tables.now) c.in-Op.is c.requires.entry).op
+precondition_of-requires-clause-op c = (subst (IsEntry c.args.problem.now c.args.tables.now) c.in-Op.is c.requires.entry).of.op
 
 pub precondition_of-requires-clause-count : goal.precondition_of-requires-clause-count
-precondition_of-requires-clause-count c = (subst (IsEntry c.args.problem.now c.args.tables.now) c.in-Op.is c.requires.entry).count
+precondition_of-requires-clause-count c = (subst (IsEntry c.args.problem.now c.args.tables.now) c.in-Op.is c.requires.entry).of.count
 
 pub known_row-requires-clause-formula : goal.known_row-requires-clause-formula
 known_row-requires-clause-formula c =
     subst (All (IsAtomOf c.args.problem.now 0)) (sym (c.deref.ensures.value ∙ c.in_ok-formula-in-Op.ensures))
     (precondition-is_of c.args.problem.now c.in-Op.inst c.requires.problem
-    (subst (IsEntry c.args.problem.now c.args.tables.now) c.in-Op.is c.requires.entry))
+    (subst (IsEntry c.args.problem.now c.args.tables.now) c.in-Op.is c.requires.entry).of)
 
 pub returns-in_ok-formula-in-Op : goal.returns-in_ok-formula-in-Op
 returns-in_ok-formula-in-Op c =

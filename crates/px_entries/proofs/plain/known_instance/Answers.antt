@@ -12,7 +12,7 @@ use Rattle.px_entries.proofs.plain.known_instance.Goals as goal
 pub known_plain-requires-clause-formula : goal.known_plain-requires-clause-formula
 known_plain-requires-clause-formula c =
     subst (All (IsAtomOf c.args.problem.now 0)) (sym (c.deref.ensures.value ∙ c.in_ok-formula.ensures))
-    (precondition-is_of c.args.problem.now c.args.inst.now c.requires.problem c.requires.inst)
+    (precondition-is_of c.args.problem.now c.args.inst.now c.requires.problem c.requires.inst.of)
 
 pub known_plain-requires-clause-unlimited : goal.known_plain-requires-clause-unlimited
 known_plain-requires-clause-unlimited c =

@@ -11,7 +11,8 @@ use Rattle.px_gaps.specs.Bindings.{ArePlain, IsBinding, open_term_count}
 use Rattle.px_gaps.proofs.Choosing.{before-all, before-next, bound-binding, bound-plain, count-falls, met-none, none-open}
 use Rattle.px_gaps.proofs.Describing.{then-same}
 use Rattle.px_gaps.proofs.Grows.{grouped, grown}
-use Rattle.px_base.proofs.Loops.{said_yes}
+use Rattle.px_gaps.proofs.SortedChoices.{fit-same, fit-split, none-fits, passed-over}
+use Rattle.px_base.proofs.Loops.{said_no, said_yes}
 use Rattle.px_gaps.proofs.choices.+push_open.Goals as goal
 
 pub first_of-requires-clause-binding : goal.first_of-requires-clause-binding
@@ -21,12 +22,12 @@ pub meets_under-requires : goal.meets_under-requires
 meets_under-requires t c = c.requires.bound.plain
 
 pub returns-then-meets_under : goal.returns-then-meets_under
-returns-then-meets_under t c =
-    none-open c.args.avoidance.now.limit c.args.terms.now c.args.avoidance.now.atoms.now c.args.avoidance.now.set.now.atoms
+returns-then-meets_under t c = λ objects.
+    none-fits (none-open c.args.avoidance.now.limit c.args.terms.now c.args.avoidance.now.atoms.now c.args.avoidance.now.set.now.atoms
     (λ values. map (object_under values) c.args.targets.now) c.args.found.now.items
     (met-none c.args.avoidance.now.limit c.args.terms.now c.requires.bound.binding c.args.avoidance.now.atoms.now
     c.args.avoidance.now.set.now.atoms c.requires.bound.plain c.requires.bound.is_ground
-    (said_yes c.meets_under.result c.meets_under.ensures c.if-meets_under.true))
+    (said_yes c.meets_under.result c.meets_under.ensures c.if-meets_under.true)) objects)
 
 pub bound-requires : goal.bound-requires
 bound-requires t c = slice_get_within c.args.terms.now c.in-Some.variable (Var c.in-Some.variable) c.in-Some.ensures.some
@@ -61,12 +62,22 @@ push_open-requires t c =
 pub loop-object-preserved : goal.loop-object-preserved
 loop-object-preserved t c = λ objects.
     grown (c.loop-object.invariant objects) (c.in_ok-push_open.ensures objects)
-    (grouped (before-next c.args.avoidance.now.limit c.args.terms.now c.args.avoidance.now.atoms.now c.args.avoidance.now.set.now.atoms
+    (grouped (fit-split (before-next c.args.avoidance.now.limit c.args.terms.now c.args.avoidance.now.atoms.now
+    c.args.avoidance.now.set.now.atoms
     (λ values. map (object_under values) c.args.targets.now) c.in-Some.variable c.in-Some.ensures.some c.loop-object.object
-    c.deref.result.now (c.deref.ensures.value ∙ c.in_ok-next.ensures) objects))
+    c.deref.result.now (c.deref.ensures.value ∙ c.in_ok-next.ensures) objects)))
+
+pub loop-object-preserved-then-not-fits_sort : goal.loop-object-preserved-then-not-fits_sort
+loop-object-preserved-then-not-fits_sort t c = λ objects.
+    then-same (c.loop-object.invariant objects)
+    (passed-over c.args.avoidance.now.limit c.args.terms.now c.args.avoidance.now.atoms.now c.args.avoidance.now.set.now.atoms
+    c.args.sorting.now.object_sorts.now c.args.sorting.now.wanted.now c.args.targets.now c.in-Some.variable c.sort_of-sort.result
+    c.loop-object.object (slice_get_within c.args.terms.now c.in-Some.variable (Var c.in-Some.variable) c.in-Some.ensures.some)
+    c.sort_of-sort.ensures (said_no c.fits_sort.result c.fits_sort.ensures c.if-not-fits_sort.true) objects)
 
 pub returns : goal.returns
 returns t c = λ objects.
-    then-same (c.loop-object.invariant objects) (before-all c.args.avoidance.now.limit c.args.terms.now c.args.avoidance.now.atoms.now
+    then-same (c.loop-object.invariant objects) (fit-same (before-all c.args.avoidance.now.limit c.args.terms.now
+    c.args.avoidance.now.atoms.now
     c.args.avoidance.now.set.now.atoms (λ values. map (object_under values) c.args.targets.now) c.in-Some.variable
-    c.in-Some.ensures.some c.loop-object.object c.loop-object-test.false objects)
+    c.in-Some.ensures.some c.loop-object.object c.loop-object-test.false objects))

@@ -3,10 +3,12 @@ use Rattle.std.proofs.Common.{◌⊎◌, ◌∙◌, ℕ, List, length, map, sym,
 use Rattle.std.specs.Prelude.{◌↔◌, All, Contains}
 use Rattle.px_prover.specs.Patterns.{object_under}
 use Rattle.px_terms.specs.Language.{IsVariableBelow}
+use Rattle.px_terms.specs.Sorts.{ObjectsFit}
 use Rattle.px_terms.specs.declared.atom.Atom.{Atom}
 use Rattle.px_terms.specs.declared.term.Term.{Term}
 use Rattle.px_gaps.specs.Bindings.{ArePlain, AreUnbound, IsBinding, IsOpenChoice}
 use Rattle.px_gaps.proofs.Describing.{then-same, unbound-binding, unbound-open}
+use Rattle.px_gaps.proofs.SortedChoices.{fit-same}
 use Rattle.px_base.proofs.Loops.{on_ok}
 use Rattle.px_gaps.proofs.choices.push_choices.Goals as goal
 
@@ -35,16 +37,18 @@ returns c = on_ok c.push_open.result (λ made objects.
     let limit = c.args.limit in
     let pattern = c.args.pattern.now in
     let provable = c.args.provable.now.atoms in
+    let Fits : List ℕ → Type 0 = ObjectsFit c.args.sorting.now.object_sorts.now c.args.sorting.now.wanted.now in
     let are : AreUnbound pattern.vars c.deref.result.now =
     subst (AreUnbound pattern.vars) (sym c.deref.ensures.value) c.in_ok-terms.ensures in
     let here =
     subst (λ (xs : List Atom). Contains c.push_open.new.found.items objects
     ↔ (Contains c.args.found.now.items objects
-    ⊎ IsOpenChoice limit c.deref.result.now xs provable c.as_slice-targets.result.now objects)) c.as_slice-atoms.ensures
+    ⊎ (IsOpenChoice limit c.deref.result.now xs provable c.as_slice-targets.result.now objects × Fits objects))) c.as_slice-atoms.ensures
     (made objects) in
     let whole =
     subst (λ (ts : List Term). Contains c.push_open.new.found.items objects
-    ↔ (Contains c.args.found.now.items objects ⊎ IsOpenChoice limit c.deref.result.now pattern.atoms provable ts objects))
+    ↔ (Contains c.args.found.now.items objects
+    ⊎ (IsOpenChoice limit c.deref.result.now pattern.atoms provable ts objects × Fits objects)))
     c.as_slice-targets.ensures here in
-    then-same whole (unbound-open limit pattern.vars c.deref.result.now pattern.atoms provable
-    (λ values. map (object_under values) pattern.terms) objects are)) c.push_open.ensures
+    then-same whole (fit-same (unbound-open limit pattern.vars c.deref.result.now pattern.atoms provable
+    (λ values. map (object_under values) pattern.terms) objects are))) c.push_open.ensures

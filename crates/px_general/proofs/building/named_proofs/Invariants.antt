@@ -1,6 +1,5 @@
 -- What the loops of `named_proofs` in src/building.rt keep true.
-use Rattle.std.proofs.Common.{◌≡◌, ◌++◌, List, take, map}
-use Rattle.std.specs.Prelude.{flat_map}
+use Rattle.std.proofs.Common.{◌≡◌, take, map}
 use Rattle.px_proof.specs.ProofTerm.{derivation_of}
 use Rattle.px_proof.specs.Substitution.{derivation_under}
 use Rattle.px_general.proofs.building.named_proofs.Given as goal

@@ -1,6 +1,5 @@
 -- What the loops of `named_steps` in src/building.rt keep true.
-use Rattle.std.proofs.Common.{◌≡◌, ◌++◌, List, take, map}
-use Rattle.std.specs.Prelude.{flat_map}
+use Rattle.std.proofs.Common.{◌≡◌, take, map}
 use Rattle.px_terms.specs.Substitution.{substitute_instance}
 use Rattle.px_general.proofs.building.named_steps.Given as goal
 

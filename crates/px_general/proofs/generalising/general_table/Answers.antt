@@ -12,7 +12,7 @@ use Rattle.px_table.specs.Tables.{rows_of}
 use Rattle.px_replay.specs.Opened.{rows_pairs}
 use Rattle.px_replay.specs.Replaying.{HasSchema}
 use Rattle.px_replay.proofs.PlanSteps.{schemas_opened}
-use Rattle.px_general.specs.General.{Generalises, row_terms, step_terms}
+use Rattle.px_general.specs.General.{Generalises, KeepsPlan, row_terms, step_terms}
 use Rattle.px_general.specs.Naming.{AreLabels, HasRootsBelow, IsBuilt, IsMadeOf, walked_terms}
 use Rattle.px_general.proofs.GeneralSteps.{built_is, can_here, few_rows, length-resolved, made_general, plan_can, resolved-below, rows_below, solution_back, solution_roots, steps_below, variables_all, walked_below, walked_is}
 use Rattle.px_general.proofs.generalising.general_table.Goals as goal
@@ -119,8 +119,8 @@ returns c =
     ∙ ap (λ (l : List Term). map (substitute l) c.deref-5.result.now) c.deref-6.ensures.value
     ∙ ap (map (substitute labels.terms.items)) c.deref-5.ensures.value in
     ok_map_both (λ general. general.params ≡ labels.params)
-    (λ general. IsMadeOf plan.steps.items (rows_of plan.rows.items) plan.first_object table general c.deref-7.result.now)
-    (Generalises problem table)
+    (λ general. IsMadeOf problem plan.steps.items (rows_of plan.rows.items) plan.first_object table general c.deref-7.result.now)
+    (λ general. Generalises problem table general × KeepsPlan problem table general)
     (λ general params_is made.
     made_general problem table c.requires.problem c.requires.table c.requires.no_params c.args.count c.requires.count general resolved
     labels.terms.items solution

@@ -1,6 +1,5 @@
 -- What the loops of `add_args` in src/walking.rt keep true.
-use Rattle.std.proofs.Common.{◌≡◌, ◌++◌, List, take, map}
-use Rattle.std.specs.Prelude.{flat_map}
+use Rattle.std.proofs.Common.{◌≡◌, ◌++◌, take}
 use Rattle.px_general.specs.Naming.{args_of_leaves}
 use Rattle.px_general.proofs.walking.add_args.Given as goal
 

@@ -1,5 +1,5 @@
 -- What the loops of `add_rows` in src/walking.rt keep true.
-use Rattle.std.proofs.Common.{◌≡◌, ◌++◌, List, take, map}
+use Rattle.std.proofs.Common.{◌≡◌, ◌++◌, take}
 use Rattle.std.specs.Prelude.{flat_map}
 use Rattle.px_general.proofs.WalkSteps.{row_terms_of}
 use Rattle.px_general.proofs.walking.add_rows.Given as goal

@@ -1,5 +1,5 @@
 -- Proofs of the goals that `is_listed` of src/checking.rt leaves open.
-use Rattle.std.specs.Prelude.{◌≡◌, ◌<◌, length}
+use Rattle.std.specs.Prelude.{◌<◌, length}
 use Rattle.std.proofs.Common.{rules, refl, sym, ◌∙◌}
 use Rattle.px_match.proofs.Renewed.{met}
 use Rattle.px_match.proofs.checking.is_listed.Goals as goal

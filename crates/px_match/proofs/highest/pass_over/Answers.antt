@@ -1,6 +1,6 @@
 -- Proofs of the goals that `pass_over` of src/highest.rt leaves open.
 use Rattle.std.specs.Prelude.{◌≡◌, ◌<◌, ◌≤◌, ◌-◌, ℕ, List, All, Contains, length}
-use Rattle.std.proofs.Common.{rules, sym, ap, ◌∙◌, subst, get_or, arith}
+use Rattle.std.proofs.Common.{rules, sym, ap, subst, get_or, arith}
 use Rattle.px_table.specs.declared.mark.Mark.{Mark}
 use Rattle.px_table.specs.Kernels.{atom_under, kernel_under}
 use Rattle.px_match.proofs.Down.{passed_mark}

@@ -2,6 +2,7 @@
 use Rattle.std.proofs.Common.{rules, ◌≤◌, ◌+◌, length, map, drop, ap, sym, subst, arith}
 use Rattle.std.specs.Prelude.{All}
 use Rattle.std.proofs.lemmas.List.{drop_all}
+use Rattle.px_base.specs.Bounds.{u32_max}
 use Rattle.px_proof.specs.declared.proof.Leaf.{Leaf}
 use Rattle.px_proof.specs.declared.proof.Proof.{Proof}
 use Rattle.px_proof.specs.declared.proof.Proof.TheViews.{the_lemmas}
@@ -16,11 +17,11 @@ graft_each-graft_all-requires t c =
     let here = take_next c.args.proofs.now c.loop-proof.proof-index c.proof-item.result c.proof-item.is c.loop-proof-test.true in
     let enough : c.loop-proof.used + takes (derivation_of c.proof-item.result) ≤ length c.args.parts.now =
     omega (arith, here, c.loop-proof.invariant.used, c.requires.parts) in
-    let columns : All (λ (leaf : Leaf). leaf.column + c.args.shift ≤ 4294967295)
+    let columns : All (λ (leaf : Leaf). leaf.column + c.args.shift ≤ u32_max)
     (later_leaves (leaves_of (derivation_of c.proof-item.result))) =
-    subst (λ (p : Proof). All (λ (leaf : Leaf). leaf.column + c.args.shift ≤ 4294967295) (later_leaves (leaves_of (derivation_of p))))
+    subst (λ (p : Proof). All (λ (leaf : Leaf). leaf.column + c.args.shift ≤ u32_max) (later_leaves (leaves_of (derivation_of p))))
     (sym c.proof-item.is)
-    (later_of_one (λ (leaf : Leaf). leaf.column + c.args.shift ≤ 4294967295) c.args.proofs.now c.loop-proof.proof-index c.proof-item.result
+    (later_of_one (λ (leaf : Leaf). leaf.column + c.args.shift ≤ u32_max) c.args.proofs.now c.loop-proof.proof-index c.proof-item.result
     c.loop-proof-test.true c.requires.columns) in
     (search (rules, the_lemmas), (enough, columns))
 

@@ -1,8 +1,10 @@
 -- Proofs of the goals that `walk_to_end` of src/gather.rt leaves open.
-use Rattle.std.proofs.Common.{List, [], ◌∷◌, ◌++◌, ◌+◌, ◌<◌, refl, length, arith, ap, subst}
+use Rattle.std.proofs.Common.{List, [], ◌∷◌, ◌++◌, ◌+◌, ◌<◌, refl, length, arith, ap, subst, ◌∙◌}
 use Rattle.px_proof.specs.declared.shape.Tick.{Tick}
 use Rattle.px_proof_walk.specs.Order.{IsNext, NoneAfter}
-use Rattle.px_proof_walk.proofs.Visits.{seen-start, seen-next, all-come, limit-comes, length-seen, shapes-push}
+use Rattle.px_proof_walk.proofs.Visits.{seen-start, seen-next, all-come, limit-comes, length-seen}
+use Rattle.px_proof_walk.proofs.Trails.{trail-next, trail-shapes}
+use Rattle.px_proof_walk.specs.Trail.{BranchesOff, shapes_along}
 use Rattle.px_proof_walk.proofs.gather.walk_to_end.Goals as goal
 
 pub loop-count-init : goal.loop-count-init
@@ -13,7 +15,7 @@ loop-count-init g c = record {
   here = rw c.requires.start c.requires.possible;
   visits = (
     [],
-    c.new-shapes.ensures.items,
+    rw c.new-trail.ensures.items (record { branches = rw c.requires.start refl; shapes = refl }),
     refl,
     rw c.requires.start (seen-start (g.W.Walk.possible c.args.question.now) (λ ticks. ⊥)),
     c.requires.nothing,
@@ -24,7 +26,9 @@ pub returns-then-count-limit-clause-limited : goal.returns-then-count-limit-clau
 returns-then-count-limit-clause-limited g c =
     let visits = c.loop-count.invariant.visits in (
       visits.0 ++ g.W.Walk.ticks c.loop-count.walk ∷ [],
-      rw (c.in_ok-push.ensures.ok, c.in_ok-shape.ensures) (shapes-push (g.W.Walk.shape_of c.args.question.now) _ visits.0 _ visits.1),
+      c.in_ok-shapes.ensures ∙ ap (shapes_along []) (c.deref.ensures.value ∙ c.in_ok-push.ensures.ok)
+          ∙ trail-shapes (g.W.Walk.places c.args.question.now) c.loop-count.trail.items visits.0 (g.W.Walk.ticks c.loop-count.walk)
+          c.visit-visit.result visits.1 c.visit-visit.ensures,
       limit-comes (g.W.Walk.possible c.args.question.now) (λ ticks. ⊥) visits.0 _ visits.3 c.loop-count.invariant.here (λ h. h) c.args.limit
           (rw visits.2 c.if-count-limit.true),
     )
@@ -48,6 +52,9 @@ loop-count-preserved g c =
     let next : IsNext (g.W.Walk.possible c.args.question.now) (g.W.Walk.ticks c.loop-count.walk) (g.W.Walk.ticks c.advance.new.walk) =
     subst (λ (ticks : List Tick). IsNext (g.W.Walk.possible c.args.question.now) ticks (g.W.Walk.ticks c.advance.new.walk))
     c.in_ok-gather.ensures.there (c.in_ok-advance.ensures.next c.if-not-branch.false) in
+    let branches : BranchesOff (g.W.Walk.ticks c.loop-count.walk) (g.W.Walk.ticks c.advance.new.walk) =
+    subst (λ (ticks : List Tick). BranchesOff ticks (g.W.Walk.ticks c.advance.new.walk))
+    c.in_ok-gather.ensures.there (c.in_ok-advance.ensures.branches c.if-not-branch.false) in
     record {
       within = omega (arith, c.if-count-limit.false, c.loop-count.invariant.within);
       stands = c.in_ok-advance.ensures.still;
@@ -55,7 +62,9 @@ loop-count-preserved g c =
       here = next.holds;
       visits = (
         visits.0 ++ g.W.Walk.ticks c.loop-count.walk ∷ [],
-        rw (c.in_ok-push.ensures.ok, c.in_ok-shape.ensures) (shapes-push (g.W.Walk.shape_of c.args.question.now) _ visits.0 _ visits.1),
+        rw c.in_ok-push.ensures.ok (trail-next (g.W.Walk.places c.args.question.now) c.loop-count.trail.items visits.0
+            (g.W.Walk.ticks c.loop-count.walk) c.visit-visit.result visits.1 c.visit-visit.ensures
+            (g.W.Walk.ticks c.advance.new.walk) branches),
         rw (
           length-seen (g.W.Walk.possible c.args.question.now) (λ ticks. ⊥) visits.0 _ visits.3 c.loop-count.invariant.here (λ h. h),
           visits.2,

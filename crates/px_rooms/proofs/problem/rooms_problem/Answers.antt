@@ -17,4 +17,4 @@ returns-clause-valid c =
     let objects = c.len-objects.ensures ∙ objects_are c.args.building.now.things c.requires.building.0 in
     valid-of c.problem_of.result (building_problem c.len-objects.result c.args.height c.args.nodes c.args.shapes) c.problem_of.ensures
     (buildings_are_valid c.len-objects.result c.args.height c.args.nodes c.args.shapes
-    (omega (arith, objects)) c.requires.height c.requires.nodes c.requires.shapes)
+    (omega (arith, objects), omega (arith, c.len-objects.ensures, c.requires.short)) c.requires.height c.requires.nodes c.requires.shapes)

@@ -1,7 +1,9 @@
 -- Proofs of the goals that `search` of src/planning.rt leaves open.
 use Rattle.std.proofs.Common.{◌≡◌, ◌<◌, [], length}
 use Rattle.std.specs.Prelude.{All}
+use Rattle.px_base.specs.Bounds.{u32_max}
 use Rattle.px_terms.specs.Plans.{Carries}
+use Rattle.px_terms.specs.Sorts.{IsWellSorted}
 use Rattle.px_terms.specs.Validity.{IsInstanceOf}
 use Rattle.px_table.specs.Supports.{Supports}
 use Rattle.px_table.specs.Tables.{AreOfProblem, rows_of}
@@ -55,6 +57,12 @@ returns-in-Ok-clause-instances c =
     each_plan task c.found_plan.result c.found_plan.ensures.planned (λ plan. All (IsInstanceOf c.args.problem.now) plan.steps)
     (λ plan is. is.instances)
 
+pub returns-in-Ok-clause-fitting : goal.returns-in-Ok-clause-fitting
+returns-in-Ok-clause-fitting c =
+    let task = task_of c.args.problem.now c.args.tables.now c.args.initial.now.atoms c.args.goal.now c.args.vars in
+    each_plan task c.found_plan.result c.found_plan.ensures.planned (λ plan. All (IsWellSorted c.args.problem.now) plan.steps)
+    (λ plan is. is.fitting)
+
 pub returns-in-Ok-clause-carries : goal.returns-in-Ok-clause-carries
 returns-in-Ok-clause-carries c =
     let task = task_of c.args.problem.now c.args.tables.now c.args.initial.now.atoms c.args.goal.now c.args.vars in
@@ -64,7 +72,7 @@ returns-in-Ok-clause-carries c =
 pub returns-in-Ok-clause-short : goal.returns-in-Ok-clause-short
 returns-in-Ok-clause-short c =
     let task = task_of c.args.problem.now c.args.tables.now c.args.initial.now.atoms c.args.goal.now c.args.vars in
-    each_plan task c.found_plan.result c.found_plan.ensures.planned (λ plan. length plan.steps < 4294967295) (λ plan is. is.short)
+    each_plan task c.found_plan.result c.found_plan.ensures.planned (λ plan. length plan.steps < u32_max) (λ plan is. is.short)
 
 pub returns-in-Ok-clause-exhausted : goal.returns-in-Ok-clause-exhausted
 returns-in-Ok-clause-exhausted c =

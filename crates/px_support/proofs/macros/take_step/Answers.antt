@@ -1,6 +1,7 @@
 -- Proofs of the goals that `take_step` of src/macros.rt leaves open.
 use Rattle.std.proofs.Common.{◌∙◌, ◌≤◌, ◌+◌, List, length, arith, refl, sym, subst}
 use Rattle.std.specs.Prelude.{All}
+use Rattle.px_base.specs.Bounds.{u32_max}
 use Rattle.px_terms.specs.declared.atom.Atom.{Atom}
 use Rattle.px_terms.specs.declared.instance.OpInst.{OpInst}
 use Rattle.px_terms.specs.Validity.{IsAtomOf, IsGroundInstanceOf}
@@ -31,7 +32,7 @@ pub learned_row-requires-clause-graft : goal.learned_row-requires-clause-graft
 learned_row-requires-clause-graft c = record {
   valid = c.requires.asked.valid;
   all_ground = subst (All (IsGroundInstanceOf c.args.asked.now.problem.now)) (sym c.deref.ensures.value) c.requires.steps;
-  short = subst (λ (s : List OpInst). length s ≤ 4294967295) (sym c.deref.ensures.value) c.requires.short;
+  short = subst (λ (s : List OpInst). length s ≤ u32_max) (sym c.deref.ensures.value) c.requires.short;
   formula = subst (All (IsAtomOf c.args.asked.now.problem.now 0)) (sym (c.deref-2.ensures.value ∙ c.in_ok-formula.ensures))
       (initial-are_of c.args.asked.now.problem.now c.args.learned.now.table.now c.args.learned.now.prefix c.args.learned.now.sigma.now
       c.requires.learned.table c.requires.learned.is_macro (c.args.place + 1) (omega (arith, c.requires.place)));

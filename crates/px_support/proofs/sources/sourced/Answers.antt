@@ -1,5 +1,6 @@
 -- Proofs of the goals that `sourced` of src/sources.rt leaves open.
 use Rattle.std.proofs.Common.{◌≤◌, ◌+◌, ◌∙◌, List, map, sym, subst}
+use Rattle.px_base.specs.Bounds.{u32_max}
 use Rattle.px_proof.specs.declared.proof.Leaf.{Leaf}
 use Rattle.px_proof.specs.declared.proof.Proof.{Proof}
 use Rattle.px_proof.specs.Derivation.{leaves_of}
@@ -18,7 +19,7 @@ graft-requires-clause-parts c =
 
 pub graft-requires-clause-columns : goal.graft-requires-clause-columns
 graft-requires-clause-columns c =
-    no_later_columns (λ (leaf : Leaf). leaf.column + 0 ≤ 4294967295) (derivation_of c.args.proof.now) c.requires.leaves
+    no_later_columns (λ (leaf : Leaf). leaf.column + 0 ≤ u32_max) (derivation_of c.args.proof.now) c.requires.leaves
 
 pub returns : goal.returns
 returns c =

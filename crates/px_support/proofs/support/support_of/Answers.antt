@@ -3,7 +3,7 @@ use Rattle.std.proofs.Common.{arith}
 use Rattle.px_support.specs.Asking.{task_for}
 use Rattle.px_support.proofs.FewMoves.{few-moves}
 use Rattle.px_support.proofs.Found.{found-takeable}
-use Rattle.px_support.proofs.Supported.{if_carries, if_instances, if_of_problem, if_supports}
+use Rattle.px_support.proofs.Supported.{if_carries, if_fitting, if_instances, if_of_problem, if_supports}
 use Rattle.px_support.proofs.support.support_of.Goals as goal
 
 pub take_all-requires-clause-takeable : goal.take_all-requires-clause-takeable
@@ -35,6 +35,12 @@ returns-clause-of_problem c =
 pub returns-clause-instances : goal.returns-clause-instances
 returns-clause-instances c =
     if_instances c.moves_have_supports.ensures (task_for c.args.asked.now) c.args.moves.now c.with_goal.result c.requires.asked.valid
+    c.requires.asked.goal c.requires.asked.tables c.requires.found
+    c.with_goal.ensures.steps c.with_goal.ensures.rows
+
+pub returns-clause-fitting : goal.returns-clause-fitting
+returns-clause-fitting c =
+    if_fitting c.moves_have_supports.ensures (task_for c.args.asked.now) c.args.moves.now c.with_goal.result c.requires.asked.valid
     c.requires.asked.goal c.requires.asked.tables c.requires.found
     c.with_goal.ensures.steps c.with_goal.ensures.rows
 

@@ -10,7 +10,8 @@ use Rattle.px_support.proofs.RowSteps.{instance-findable}
 use Rattle.px_support.proofs.walk.apply_entry.Goals as goal
 
 pub apply_instance-requires-clause-inst : goal.apply_instance-requires-clause-inst
-apply_instance-requires-clause-inst c = subst (IsEntry c.args.asked.now.problem.now c.args.asked.now.tables.now) c.in-Op.is c.requires.entry
+apply_instance-requires-clause-inst c =
+    (subst (IsEntry c.args.asked.now.problem.now c.args.asked.now.tables.now) c.in-Op.is c.requires.entry).of
 
 pub apply_instance-requires-clause-findable : goal.apply_instance-requires-clause-findable
 apply_instance-requires-clause-findable c =

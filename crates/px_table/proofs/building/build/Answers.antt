@@ -32,12 +32,17 @@ returns-in_err-table_goal-clause-carries c =
     λ atoms supports. support_carries c.args.problem.now atoms c.args.steps.now c.args.goal.now c.args.goal_vars
     (rows_of c.args.support.items) c.requires.rows supports
 
+pub returns-in_err-table-clause-carries : goal.returns-in_err-table-clause-carries
+returns-in_err-table-clause-carries c =
+    λ atoms supports. support_carries c.args.problem.now atoms c.args.steps.now c.args.goal.now c.args.goal_vars
+    (rows_of c.args.support.items) c.requires.rows supports
+
 pub returns-clause-table : goal.returns-clause-table
 returns-clause-table c =
     let marks = c.in_ok-table_marks.ensures ∙ ap (λ rows. marks_from 1 (rows_of rows)) c.deref.ensures.value in
-    rw (c.in_ok-table_steps.ensures, c.in_ok-table_goal.ensures, marks, c.from_vec.ensures)
+    rw (c.in_ok-table.ensures, c.in_ok-table_steps.ensures, c.in_ok-table_goal.ensures, marks, c.from_vec-proofs.ensures)
     (support_table c.args.problem.now c.requires.problem c.requires.supports.0 c.args.steps.now c.args.goal.now c.args.goal_vars
-    c.args.support.items c.requires.supports.1 c.requires.steps c.requires.goal c.requires.rows c.requires.short)
+    c.args.support.items c.requires.supports.1 c.requires.steps c.requires.goal c.requires.rows c.requires.short c.requires.fitting)
 
 pub returns-clause-kernels : goal.returns-clause-kernels
 returns-clause-kernels c = kernels_carry _ _ (returns-clause-table c)

@@ -16,7 +16,7 @@ use Rattle.px_table.proofs.building.marks_of_row.Goals as goal
 pub loop-proof-preserved : goal.loop-proof-preserved
 loop-proof-preserved c =
     c.in_ok-put_leaves.ensures
-    ∙ ap (λ (ls : List Leaf). put_each mark_eq c.loop-proof.marks.items (map (mark_of c.args.number) ls))
+    ∙ ap (λ (ls : List Leaf). put_each mark_eq c.loop-proof.marks.keys (map (mark_of c.args.number) ls))
     (c.deref.ensures.value ∙ c.in_ok-found.ensures)
     ∙ ap (λ (l : List Mark). put_each mark_eq l (map (mark_of c.args.number) (leaves_of (derivation_of c.proof-item.result))))
     c.loop-proof.invariant

@@ -7,4 +7,4 @@ use Rattle.px_table.proofs.building.marks_of_row.Given as goal
 
 abbrev pub invariant-loop-proof : goal.invariant-loop-proof
 invariant-loop-proof l =
-    l.marks.items ≡ put_each mark_eq [] (map (mark_of l.number) (row_leaves (map derivation_of (take l.proof-index l.proofs))))
+    l.marks.keys ≡ put_each mark_eq [] (map (mark_of l.number) (row_leaves (map derivation_of (take l.proof-index l.proofs))))

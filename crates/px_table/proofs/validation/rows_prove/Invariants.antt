@@ -8,8 +8,8 @@ use Rattle.px_table.proofs.validation.rows_prove.Given as goal
 -- what is left to be proved, where the rows up to here prove what they have to
 abbrev pub invariant-loop-k : goal.invariant-loop-k
 invariant-loop-k l =
-    RowsProve (IsObjectOrParameter l.problem.objects l.table.params) l.problem l.table.params
-    (drop l.k l.table.steps) l.table.goal l.table.goal_vars
-    (drop l.k (rows_of l.table.proofs))
-    ↔ RowsProve (IsObjectOrParameter l.problem.objects l.table.params) l.problem l.table.params l.table.steps l.table.goal l.table.goal_vars
-    (rows_of l.table.proofs)
+    RowsProve (IsObjectOrParameter l.problem.objects l.params) l.problem l.params
+    (drop l.k l.steps) l.goal l.goal_vars
+    (drop l.k (rows_of l.rows))
+    ↔ RowsProve (IsObjectOrParameter l.problem.objects l.params) l.problem l.params l.steps l.goal l.goal_vars
+    (rows_of l.rows)

@@ -1,6 +1,7 @@
 -- Proofs of the goals that `Model::put` of src/model.rt leaves open.
 use Rattle.std.proofs.Common.{◌≤◌, ◌-◌, length, is_ok, min, arith}
 use Rattle.std.specs.Prelude.{vec_capacity}
+use Rattle.px_base.specs.Bounds.{u32_max}
 use Rattle.px_ops.proofs.ModelLemmas.{inserted, put_model}
 use Rattle.px_ops.proofs.model.Model.put.Goals as goal
 
@@ -12,7 +13,7 @@ invariant_of-self c =
 
 pub returns-clause-atoms : goal.returns-clause-atoms
 returns-clause-atoms c =
-    let room : 1 ≤ min (vec_capacity c.self.inside.atoms) 4294967295 - length c.self.inside.atoms.items =
+    let room : 1 ≤ min (vec_capacity c.self.inside.atoms) u32_max - length c.self.inside.atoms.items =
     rw (← c.self.view_is) at c.requires.room in
     rw (← c.self.view_is)
     (inserted c.self.inside.atoms.items c.insert.new.self.items c.args.atom c.args.place (is_ok c.insert.result)

@@ -11,10 +11,10 @@ subject-requires-clause-short c = is-short (declared_of c.args.self) c.requires 
 
 pub subject-requires-clause-objects : goal.subject-requires-clause-objects
 subject-requires-clause-objects c =
-    has-objects (declared_of c.args.self) c.requires c.building-building.result c.building-building.ensures c.own_problem-own.result
-    c.own_problem-own.ensures
+    has-objects (declared_of c.args.self) c.requires c.building-building.result c.building-building.ensures c.in_ok-own.own
+    c.in_ok-own.ensures
 
 pub subject-requires-clause-valid : goal.subject-requires-clause-valid
 subject-requires-clause-valid c =
-    is-valid (declared_of c.args.self) c.requires c.building-building.result c.building-building.ensures c.own_problem-own.result
-    c.own_problem-own.ensures
+    is-valid (declared_of c.args.self) c.requires c.building-building.result c.building-building.ensures c.in_ok-own.own
+    c.in_ok-own.ensures

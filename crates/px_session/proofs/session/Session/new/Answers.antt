@@ -1,6 +1,7 @@
 -- Proofs of the goals that `Session::new` of src/session.rt leaves open.
 use Rattle.std.proofs.Common.{◌<◌, List, map, length, sym, ◌∙◌, subst}
 use Rattle.std.specs.Prelude.{Option}
+use Rattle.px_base.specs.Bounds.{u32_max}
 use Rattle.px_world.specs.declared.thing.Thing.{Thing}
 use Rattle.px_rooms.specs.States.{IsBuilding, RoomState}
 use Rattle.px_reader.specs.CommandViews.{command_view}
@@ -24,7 +25,7 @@ pub world_of-requires-clause-short : goal.world_of-requires-clause-short
 world_of-requires-clause-short c =
     let script = content c.args.script in
     let range = c.args.script.in_range in
-    let IsShort : List Thing → Type 0 = λ things. length things < 4294967295 in
+    let IsShort : List Thing → Type 0 = λ things. length things < u32_max in
     read-building IsShort c.args.script.building
     (each-building (IsBuildingOf script.names script.problem script.facts) IsShort script.building
     (λ things is. few-things script.version script.names script.problem script.facts things range.version range.names.few_objects is)

@@ -1,0 +1,10 @@
+-- What the loops of `shapes_of` in src/visit.rt keep true.
+use Rattle.std.proofs.Common.{◌≡◌, [], take}
+use Rattle.px_proof_walk.specs.Trail.{led_to, shapes_along}
+use Rattle.px_proof_walk.proofs.visit.shapes_of.Given as goal
+
+abbrev pub invariant-loop-visit : goal.invariant-loop-visit
+invariant-loop-visit l = record {
+  there : l.ticks.items ≡ led_to [] (take l.visit-index l.trail);
+  made : l.shapes.items ≡ shapes_along [] (take l.visit-index l.trail);
+}
