@@ -136,6 +136,11 @@ def picture(layout, state, title):
     return svg(*layout.size, f'{title}: {state.words()}', parts_of(layout, state))
 
 
+def captions(steps):
+    """What is said of the facts before and after each step."""
+    return ['at the start'] + [f'after step {number}, {step}' for number, step in enumerate(steps, 1)]
+
+
 def strip(layout, states, titles, name):
     """The floors of several states, one below the other, as a picture that stands alone."""
     wide, high = layout.size

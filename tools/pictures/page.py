@@ -3,7 +3,8 @@ import html
 
 from pictures import floor, triangle
 from pictures.drawing import style
-from pictures.transcript import in_order
+from pictures.floor import captions
+from planex import Facts, Noted, Plan, Run, Table, Unknown, in_order
 
 STYLE = """
 :root { color-scheme: light dark; font-family: system-ui, sans-serif; line-height: 1.4; }
@@ -93,7 +94,7 @@ def choices(table, unique):
     for number in range(1, last + 1):
         lead = f'steps {number} to {last - 1} lead from them to the goal' if number < last - 1 else \
             f'step {number} leads from them to the goal' if number < last else 'the goal rests on them'
-        said = f'Kernel {number}: {", ".join(triangle.kernel_of(table, number)) or "no facts"}; {lead}.'
+        said = f'Kernel {number}: {", ".join(map(str, table.kernel(number))) or "no facts"}; {lead}.'
         yield f'<label><input type="radio" name="{unique}" value="{number}" data-said="{text(said)}"> {number}</label>'
     yield '</fieldset>'
 
@@ -125,7 +126,7 @@ def walk(caption, first, items, layout, beside=''):
 
 def plan_part(item, script, layout):
     """A plan: its steps, and for a building the floor after each."""
-    steps = item.reply.atoms
+    steps = item.reply.steps
     inner = listed(steps, 'ol') if steps else '<p>No step: the goal holds already.</p>'
     if layout:
         floors = []
@@ -135,11 +136,6 @@ def plan_part(item, script, layout):
         inner += f'<p class="note">The floor, {COMPUTED}. Rooms stand in the order of the script, which doesn\'t say how they lie.</p>'
         inner += walk(f'step of {item.reply.name}', 0, floors, layout)
     return f'<section><h3>{text(item.reply.text)}</h3>{inner}</section>'
-
-
-def captions(steps):
-    """What is said of the facts before and after each step."""
-    return ['at the start'] + [f'after step {number}, {step}' for number, step in enumerate(steps, 1)]
 
 
 def values_of(table, turn, objects):
@@ -196,15 +192,16 @@ def parts(story, unique):
     layout = floor.layout_of(story)
     for number, item in enumerate(story.told):
         reply = item.reply
-        if reply.word == 'table':
+        if isinstance(reply, Table):
             yield table_part(reply, script, f'k{unique}-{number}')
-        elif reply.word == 'run':
+        elif isinstance(reply, Run):
             yield run_part(item, script, tables.get(reply.name), layout)
-        elif reply.word == 'plan':
+        elif isinstance(reply, Plan):
             yield plan_part(item, script, layout)
         else:
-            said = f'<p>{text(item.command.text)}</p>' if item.command and reply.word in ('noted', 'unknown') else ''
-            yield f'<section><h3>{text(reply.text)}</h3>{said}{listed(reply.atoms, name="facts") if reply.atoms else ""}</section>'
+            said = f'<p>{text(item.command.text)}</p>' if item.command and isinstance(reply, (Noted, Unknown)) else ''
+            atoms = reply.atoms if isinstance(reply, Facts) else []
+            yield f'<section><h3>{text(reply.text)}</h3>{said}{listed(atoms, name="facts") if atoms else ""}</section>'
     yield '</section>'
 
 

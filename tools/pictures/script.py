@@ -5,8 +5,8 @@ The program alone decides what a script is. What is read here is one that it too
 from dataclasses import dataclass, field
 from typing import NamedTuple
 
-from pictures import Unread
-from pictures.atoms import Atom, Change
+from pictures.changes import Change
+from planex import Atom, Unread
 
 COMMANDS = ('plan', 'learn', 'show', 'disturb', 'run', 'facts')
 # What a building gives to its script: as the table of operators in docs/LANGUAGE.md, without the preconditions.

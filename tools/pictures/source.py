@@ -1,23 +1,9 @@
 """Where transcripts come from: standard input, or the program, which is run on a script and asked for the tables of its runs."""
-import pathlib
-import subprocess
 import sys
 
-from pictures import Unread
 from pictures.script import read_script
 from pictures.story import with_script, without_script
-from pictures.transcript import read_transcript
-
-PROGRAM = pathlib.Path(__file__).resolve().parent.parent.parent / 'planex'
-MOST_COMMANDS, MOST_BYTES = 512, 1048576  # of a script
-
-
-def text_of(data):
-    """Bytes as text."""
-    try:
-        return data.decode()
-    except UnicodeDecodeError as error:
-        raise Unread(data[:error.start].count(b'\n') + 1, 'this is no text: a byte belongs to no character') from error
+from planex import MOST_BYTES, MOST_COMMANDS, NoProgram, PlanexError, Refused, Stopped, Unread, replies_of, text_of, transcript_of
 
 
 def script_of(path, data):
@@ -29,13 +15,17 @@ def script_of(path, data):
         raise
 
 
-def answer(path):
+def answer(path, data):
     """What the program prints for a script. Where that isn't answered whole the program says why, and this is the end."""
-    with open(path, 'rb') as opened:
-        ran = subprocess.run([PROGRAM, 'run'], stdin=opened, stdout=subprocess.PIPE, check=False)
-    if ran.returncode:
-        sys.exit(f'view: {path}: planex ends with status {ran.returncode}')
-    return ran.stdout
+    try:
+        transcript, said = transcript_of(data)
+    except (Refused, Stopped) as error:
+        sys.stderr.write(error.said)
+        sys.exit(f'view: {path}: {error}')
+    except NoProgram as error:
+        sys.exit(f'view: {path}: {error}')
+    sys.stderr.write(said)
+    return transcript
 
 
 def asking(data, script):
@@ -54,13 +44,15 @@ def answers(path, data, script):
     """The replies to a script, and besides those to `show` lines that are asked where the script has room for them."""
     asked, places = asking(data, script)
     if places and len(script.commands) + len(places) <= MOST_COMMANDS and len(asked) <= MOST_BYTES:
-        ran = subprocess.run([PROGRAM, 'run'], input=asked, stdout=subprocess.PIPE, stderr=subprocess.PIPE, check=False)
-        if not ran.returncode:
-            sys.stderr.buffer.write(ran.stderr)
-            replies = read_transcript(text_of(ran.stdout))
-            return ([reply for place, reply in enumerate(replies) if place not in places],
-                    [reply for place, reply in enumerate(replies) if place in places])
-    return read_transcript(text_of(answer(path))), []
+        try:
+            transcript, said = transcript_of(asked)
+        except PlanexError:
+            return replies_of(answer(path, data)), []
+        sys.stderr.write(said)
+        replies = replies_of(transcript)
+        return ([reply for place, reply in enumerate(replies) if place not in places],
+                [reply for place, reply in enumerate(replies) if place in places])
+    return replies_of(answer(path, data)), []
 
 
 def from_script(path):
@@ -69,14 +61,14 @@ def from_script(path):
     try:
         script = script_of(path, data)
     except Unread:
-        answer(path)
+        answer(path, data)
         raise
     return with_script(path.stem, script, *answers(path, data, script))
 
 
 def from_input(data, path):
     """The story of a transcript, with its script where a path of one is given."""
-    replies = read_transcript(text_of(data))
+    replies = replies_of(text_of(data))
     if path:
         return with_script(path.stem, script_of(path, path.read_bytes()), replies)
     return without_script('transcript', replies)

@@ -4,7 +4,7 @@ The facts are worked out from the script's facts, operators and disturbances, an
 """
 from dataclasses import dataclass, field
 
-from pictures import Unread
+from planex import Facts, Noted, Plan, Run, Table, Unread
 
 # The replies that a command may have.
 ANSWERS = {
@@ -92,9 +92,9 @@ def with_script(title, script, replies, asked=()):
 
 def tables_of(told, replies):
     """The tables that are told, by name. A run that goes through steps that its table hasn't is refused."""
-    tables = {reply.name: reply for reply in told if reply.word == 'table'}
+    tables = {reply.name: reply for reply in told if isinstance(reply, Table)}
     for reply in replies:
-        if reply.word == 'run' and reply.name in tables:
+        if isinstance(reply, Run) and reply.name in tables:
             check_run(reply, tables[reply.name])
     return tables
 
@@ -112,6 +112,13 @@ def check_run(reply, table):
                 raise Unread(reply.line, 'a step here is none of the table')
 
 
+def steps_of(reply):
+    """The steps of a plan, or of a run."""
+    if isinstance(reply, Run):
+        return [turn.step for turn in reply.turns if turn.step]
+    return reply.steps if isinstance(reply, Plan) else []
+
+
 def tell(script, replies):
     """The replies with what the script tells of them. A transcript that isn't the script's is refused."""
     told, facts, recorded = [], frozenset(script.facts), []
@@ -119,21 +126,20 @@ def tell(script, replies):
         if not fit(command, reply):
             raise Unread(reply.line, f'line {command.line} of the script isn\'t answered so: {command.text}')
         item = Told(reply, command)
-        steps = reply.atoms if reply.word == 'plan' else [turn.step for turn in reply.turns if turn.step]
-        if not all(map(script.has_step, steps)):
+        if not all(map(script.has_step, steps_of(reply))):
             raise Unread(reply.line, 'a step here is of no operator of the script')
-        if reply.word == 'plan':
+        if isinstance(reply, Plan):
             item.states = [facts]
-            for step in steps:
+            for step in reply.steps:
                 item.states.append(script.change_of(step).of(item.states[-1]))
-        elif reply.word == 'noted':
+        elif isinstance(reply, Noted):
             recorded.append(command)
-            if reply.numbers != [len(recorded)]:
+            if reply.count != len(recorded):
                 raise Unread(reply.line, f'{len(recorded)} disturbances are recorded here')
-        elif reply.word == 'run':
+        elif isinstance(reply, Run):
             item.turns = turns_of(script, facts, recorded, reply)
             facts, recorded = item.turns[-1].left, []
-        elif reply.word == 'facts' and facts != frozenset(reply.atoms):
+        elif isinstance(reply, Facts) and facts != frozenset(reply.atoms):
             raise Unread(reply.line, 'these aren\'t the facts to which the script\'s operators and disturbances lead')
         told.append(item)
     if len(replies) != len(script.commands):

@@ -26,11 +26,6 @@ def grid(table):
     return cells
 
 
-def kernel_of(table, number):
-    """The atoms of a kernel, each once: the marks of the rows from its number on that come from before."""
-    return list(dict.fromkeys(str(atom) for row in table.rows[number - 1:] for column, atom in row.marks if column < number))
-
-
 def told(row, column, last):
     """What a cell means, in words."""
     if row == column:
@@ -80,4 +75,4 @@ def picture(table, objects=(), alone=False):
     for kernel in range(1, last + 1):
         parts.append(f'<rect class="kernel" data-kernel="{kernel}" x="{xs[0]:.0f}" y="{ys[kernel - 1]:.0f}" '
                      f'width="{xs[kernel] - xs[0]:.0f}" height="{ys[-1] - ys[kernel - 1]:.0f}"/>')
-    return svg(xs[-1] + 4, ys[-1] + 4, f'triangle table {table.name}, {table.numbers[1]} steps', parts, parameters if alone else None)
+    return svg(xs[-1] + 4, ys[-1] + 4, f'triangle table {table.name}, {len(table.steps)} steps', parts, parameters if alone else None)
